@@ -1,14 +1,146 @@
--- The units of a stream that is written of units.
-use Rattle.std.proofs.Common.{◌≡◌, ℕ, zero, suc, ◌+◌, ◌-◌, ◌^◌, ◌<◌, ◌≤◌, List, [], ◌∷◌, ◌++◌, length, map, drop, flat_map, slice_get, slice_index, All}
-use Rattle.std.proofs.Common.{Bool, true, false, nat_le, Option, Some, None, is_some, refl, ap, ◌∙◌, sym, subst, arith, append_assoc, length-append}
-use Rattle.avc_annexb.proofs.Common.{Decides-eqb, map-append, All-head, All-tail, same_Some, slice_get_within, get_or_from_slice_get, Unit}
-use Rattle.std.proofs.lemmas.Slice.Eq.{starts_is}
-use Rattle.avc_annexb.specs.Units.{PlacedUnit, saturated, is_start, before_end, unit_at, unit_bytes, placed_units, unit_of, numbered, units}
-use Rattle.avc_annexb.specs.Written.{start_code, written}
-use Rattle.avc_annexb.specs.Laws.{contents, contents_within, body_within, IsUnitOf, WrittenUnitsStand, WrittenUnitsStandAlone, UnitsAreNumbered, UnitsAreFew}
-use Rattle.avc_annexb.proofs.Scanning.{found_start, closes, ends, placed_units-more}
-use Rattle.avc_annexb.proofs.Staying.{IsUnitBytes, HasUnitBytes, units_have_bytes}
-use Rattle.avc_annexb.proofs.Taking.{closed_some}
+-- Units as they are numbered, joined and written: those that are over stay, and a stream has the units that it was written of.
+pub mod Scanning
+unfoldable pub use Scanning.*
+
+-- ---- units that are numbered, and bytes that join a unit
+
+pub numbered-append : (max index : ℕ) (done more : List PlacedUnit) → numbered max index (done ++ more) ≡ numbered max index done ++ numbered max (index + length done) more
+numbered-append max index [] more = ap (λ n. numbered max n more) (omega arith)
+numbered-append max index (unit ∷ done) more =
+    ap (λ us. unit_of max index unit ∷ us) (numbered-append max (index + 1) done more ∙ ap (λ n. numbered max (index + 1) done ++ numbered max n more) (omega arith))
+
+one_closed_at : (offset : ℕ) (bytes : List ℕ) → (length bytes ≡ 0 → ⊥) → unit_at offset (Some bytes) ≡ record { offset = offset; bytes = bytes } ∷ []
+one_closed_at offset [] some = absurd (some refl)
+one_closed_at offset (b ∷ bytes) some = refl
+
+-- a unit with bytes is added
+pub closed_some : (unit : PlacedUnit) → (length unit.bytes ≡ 0 → ⊥) → closed_unit (Some unit) ≡ unit ∷ []
+closed_some unit some = one_closed_at unit.offset unit.bytes some
+
+pub keeps-append : (max : ℕ) (o : OpenUnit max) (unit : PlacedUnit) (a b : List ℕ) → IsOpenUnit max o (with_bytes (with_bytes unit a) b) → IsOpenUnit max o (with_bytes unit (a ++ b))
+keeps-append max o unit a b k = rw append_assoc at k
+
+pub units_pushed : (max : ℕ) (given : List Unit) (done : List PlacedUnit) (unit : PlacedUnit) (old : List Unit) (u : Unit) → given ++ old ≡ numbered max 0 done → u ≡ unit_of max (length done) unit →
+    given ++ (old ++ u ∷ []) ≡ numbered max 0 (done ++ unit ∷ [])
+units_pushed max given done unit old u is made =
+    sym (append_assoc given old (u ∷ [])) ∙ ap (λ us. us ++ u ∷ []) is ∙ ap (λ v. numbered max 0 done ++ v ∷ []) made
+    ∙ ap (λ n. numbered max 0 done ++ unit_of max n unit ∷ []) (omega arith) ∙ sym (numbered-append max 0 done (unit ∷ []))
+
+pub first_and_rest : (bytes : List ℕ) → 1 ≤ length bytes → get_or bytes 0 0 ∷ take (length bytes - 1) (drop 1 bytes) ≡ bytes
+first_and_rest [] some = absurd (omega arith)
+first_and_rest (b ∷ bytes) some = ap (λ t. b ∷ t) (take_all (suc (length bytes) - 1) bytes (omega arith))
+
+-- what comes next is what is ready first
+pub next_in : (p : SplitterPhase) (max : ℕ) (s : Scanner max) (bytes : List ℕ) (unit : Option Unit) → IsSplitterStateIn p max s bytes → (p ≡ Running) ⊎ (p ≡ Ended) →
+    ((done : List PlacedUnit) → AreReady max s.ready done → unit ≡ slice_get (numbered max 0 done) (length s.ready.given.items)) →
+    unit ≡ next_unit_of max (record { bytes = bytes; ended = has_ended p; taken = length s.ready.given.items; failed = has_failed p })
+next_in Running max s bytes unit is going first = rw (scanned_so_far bytes is.done is.current s.zeros is.scanned) (first is.done is.ready)
+next_in Ended max s bytes unit is going first = first (placed_units 0 true bytes) is
+next_in Failed max s bytes unit is (inl e) first = (cc)
+next_in Failed max s bytes unit is (inr e) first = (cc)
+
+-- one more was taken, if there was one
+pub taken_more : (s : SplitterState) (given given' : List Unit) (unit : Option Unit) → s.taken ≡ length given → given' ≡ given ++ option_to_list unit → record s { taken = length given' } ≡ after_next_unit s unit
+taken_more s given given' None count is = ap (λ n. record s { taken = n }) (ap length (is ∙ append-nil given) ∙ sym count)
+taken_more s given given' (Some unit) count is = ap (λ n. record s { taken = n }) (ap length is ∙ length_push given unit ∙ ap (λ n. n + 1) (sym count))
+
+-- fewer wait once one was taken
+there_is : (failed : Bool) (us : List Unit) (taken : ℕ) (unit : Unit) → Some unit ≡ (if failed then None else slice_get us taken) → taken < length us
+there_is true us taken unit is = (cc)
+there_is false us taken unit is = slice_get_within us taken unit (sym is)
+
+pub fewer_wait : (max : ℕ) (s new : SplitterState) (unit : Option Unit) → unit ≡ next_unit_of max s → new ≡ after_next_unit s unit → IfSome unit (λ _. units_waiting max new < units_waiting max s)
+fewer_wait max s new None is after = tt
+fewer_wait max s new (Some unit) is after =
+    let within : s.taken < length (units max s.bytes s.ended) = there_is s.failed (units max s.bytes s.ended) s.taken unit is in
+    let fewer : units_waiting max (after_next_unit s (Some unit)) < units_waiting max s = omega arith in
+    rw after fewer
+
+-- ---- the units that are over stay, and a unit's bytes have no boundary in them
+
+-- the bytes of a unit
+pub record IsUnitBytes (bytes : List ℕ) : Type 0 where
+  pub some : 0 < length bytes
+  pub passes : HasNoBoundary bytes
+
+abbrev pub HasUnitBytes : PlacedUnit → Type 0
+HasUnitBytes unit = IsUnitBytes unit.bytes
+
+at_has_bytes : (offset : ℕ) (bytes : List ℕ) → HasNoBoundary bytes → All HasUnitBytes (unit_at offset (Some bytes))
+at_has_bytes offset [] p = All-nil HasUnitBytes
+at_has_bytes offset (b ∷ bytes) p =
+    All-cons HasUnitBytes (record { offset = offset; bytes = b ∷ bytes }) [] (record { some = omega arith; passes = p }) (All-nil HasUnitBytes)
+
+closed_has_bytes : (n : ℕ) (current : Option PlacedUnit) (count : ℕ) → IsAt n current count → All HasUnitBytes (closed_unit current)
+closed_has_bytes n None count p = All-nil HasUnitBytes
+closed_has_bytes n (Some unit) count p = at_has_bytes unit.offset unit.bytes p.1
+
+-- a scanner may have gone through these bytes
+record Reached (bytes : List ℕ) : Type 0 where
+  done : List PlacedUnit
+  current : Option PlacedUnit
+  count : ℕ
+  scanned : ScannedBytes bytes done current count
+  have : All HasUnitBytes done
+
+have_more : (bytes : List ℕ) (done : List PlacedUnit) (current : Option PlacedUnit) (count : ℕ) →
+    ScannedBytes bytes done current count → All HasUnitBytes done → All HasUnitBytes (done ++ closed_unit current)
+have_more bytes done current count s have =
+    All-append HasUnitBytes done (closed_unit current) have (closed_has_bytes (length bytes) current count s.place)
+
+reached_run : (bytes : List ℕ) (done : List PlacedUnit) (current : Option PlacedUnit) (count b : ℕ) →
+    ScannedBytes bytes done current count → All HasUnitBytes done → b ≢ 0 → (2 ≤ count → b ≢ 1) → Reached (bytes ++ b ∷ [])
+reached_run bytes done current count b s have other no_start =
+    record { done = _; current = _; count = _; scanned = scanned_run bytes done current count (b ∷ []) s lone (omega arith) (λ _. other) no_start; have = have }
+  where
+    lone : HasLoneZeros (b ∷ [])
+    lone zero within is = absurd (other is)
+    lone (suc k) within is = absurd (omega arith)
+
+reached_byte : (b : ℕ) (bytes : List ℕ) (done : List PlacedUnit) (current : Option PlacedUnit) (count : ℕ) →
+    ScannedBytes bytes done current count → All HasUnitBytes done → Reached (bytes ++ b ∷ [])
+reached_byte zero bytes done current zero s h =
+    record { done = _; current = _; count = _; scanned = scanned_zero bytes done current 0 s (omega arith); have = h }
+reached_byte zero bytes done current (suc zero) s h =
+    record { done = _; current = _; count = _; scanned = scanned_zero bytes done current 1 s (omega arith); have = h }
+reached_byte zero bytes done current (suc (suc zero)) s h =
+    record { done = _; current = _; count = _; scanned = scanned_third bytes done current s; have = have_more bytes done current 2 s h }
+reached_byte (suc zero) bytes done current (suc (suc zero)) s h =
+    record { done = _; current = _; count = _; scanned = scanned_start bytes done current s; have = have_more bytes done current 2 s h }
+reached_byte (suc zero) bytes done current zero s h = reached_run bytes done current 0 1 s h (omega arith) (λ two. omega arith)
+reached_byte (suc zero) bytes done current (suc zero) s h = reached_run bytes done current 1 1 s h (omega arith) (λ two. omega arith)
+reached_byte (suc (suc b)) bytes done current count s h = reached_run bytes done current count (suc (suc b)) s h (omega arith) (λ _. omega arith)
+reached_byte _ bytes done current (suc (suc (suc _))) s h = absurd (omega (arith, s.few))
+
+reached-append : (bytes more : List ℕ) → Reached bytes → Reached (bytes ++ more)
+reached-append bytes [] r = subst Reached (sym (append-nil bytes)) r
+reached-append bytes (b ∷ more) r =
+    subst Reached (append_assoc bytes (b ∷ []) more)
+    (reached-append (bytes ++ b ∷ []) more (reached_byte b bytes r.done r.current r.count r.scanned r.have))
+
+reached : (bytes : List ℕ) → Reached bytes
+reached bytes = reached-append [] bytes (record { done = []; current = None; count = 0; scanned = scanned_first; have = All-nil HasUnitBytes })
+
+pub units_stay_first : UnitsStay
+units_stay_first max bytes more ended =
+    let r = reached bytes in
+    let others = placed_units_after (length bytes) r.current r.count ended more in (
+      numbered max (0 + length r.done) others,
+      ap (numbered max 0) (r.scanned.rest ended more) ∙ numbered-append max 0 r.done others
+          ∙ ap (λ d. numbered max 0 d ++ numbered max (0 + length r.done) others) (sym (scanned_so_far bytes r.done r.current r.count r.scanned)),
+    )
+
+-- Each unit's bytes are some, and no unit ends or begins in them.
+pub units_have_bytes : (ended : Bool) (bytes : List ℕ) → All HasUnitBytes (placed_units 0 ended bytes)
+units_have_bytes true bytes =
+    let r = reached bytes in
+    All-same HasUnitBytes (placed_units 0 true bytes) (r.done ++ closed_unit r.current)
+    (scanned_end bytes r.done r.current r.count r.scanned) (have_more bytes r.done r.current r.count r.scanned r.have)
+units_have_bytes false bytes =
+    let r = reached bytes in
+    All-same HasUnitBytes (placed_units 0 false bytes) r.done (scanned_so_far bytes r.done r.current r.count r.scanned) r.have
+
+-- ---- the units of a stream that is written of units
 
 -- the n-th unit that is given out is made of the n-th that was placed
 record IsNumbered (max index : ℕ) (us : List PlacedUnit) (n : ℕ) (u : Unit) : Type 0 where
@@ -313,3 +445,46 @@ said_alone limit max bytes (u ∷ us) there place =
 pub written_units_stand_alone_so : WrittenUnitsStandAlone
 written_units_stand_alone_so limit max bytes us there =
     said-numbered max 0 (placed_units 0 true (flat_map written us)) ∙ said_alone limit max bytes us there 0
+
+-- ---- worked examples of splitting
+
+-- a stream of three units
+abbrev stream : List ℕ
+stream =
+    0 ∷ 0 ∷ 0 ∷ 1 ∷ 0x67 ∷ 0x42 ∷ 0xC0 ∷ 0x0A ∷ 0xDA ∷ 0x71
+    ∷ 0 ∷ 0 ∷ 0 ∷ 1 ∷ 0x68 ∷ 0xCE ∷ 0x38 ∷ 0x80 ∷ 0 ∷ 0 ∷ 1 ∷ 0x65 ∷ 0x88 ∷ 0x84 ∷ 0x93 ∷ 0xC0 ∷ []
+
+abbrev line : Unit → List ℕ
+line u = u.index ∷ u.offset ∷ u.length ∷ nal_unit_type u.header ∷ nal_ref_idc u.header ∷ []
+
+abbrev lines : List (List ℕ)
+lines = (0 ∷ 4 ∷ 6 ∷ 7 ∷ 3 ∷ []) ∷ (1 ∷ 14 ∷ 4 ∷ 8 ∷ 3 ∷ []) ∷ (2 ∷ 21 ∷ 5 ∷ 5 ∷ 3 ∷ []) ∷ []
+
+three_units : map line (units 134217728 stream true) ≡ lines
+three_units = refl
+
+-- with no flush the last one's end has not been seen
+two_units : map line (units 134217728 stream false) ≡ (0 ∷ 4 ∷ 6 ∷ 7 ∷ 3 ∷ []) ∷ (1 ∷ 14 ∷ 4 ∷ 8 ∷ 3 ∷ []) ∷ []
+two_units = refl
+
+-- two zeros at the end belong to no unit
+same_with_zeros : map line (units 134217728 (stream ++ 0 ∷ 0 ∷ []) true) ≡ lines
+same_with_zeros = refl
+
+-- two zeros and a 03 belong to it
+longer_with_escape : map (λ u. u.length) (units 134217728 (stream ++ 0 ∷ 0 ∷ 3 ∷ []) true) ≡ 6 ∷ 4 ∷ 8 ∷ []
+longer_with_escape = refl
+
+too_long : map (λ u. u.body) (units 5 stream true) ≡ None ∷ Some (0xCE ∷ 0x38 ∷ 0x80 ∷ []) ∷ Some (0x88 ∷ 0x84 ∷ 0x93 ∷ 0xC0 ∷ []) ∷ []
+too_long = refl
+
+-- what stands between 00 00 00 and the next 00 00 01, and before the first, belongs to no unit, and a unit without bytes is none
+skipped : map line (units 134217728 (9 ∷ 0 ∷ 0 ∷ 1 ∷ 0 ∷ 0 ∷ 1 ∷ 0x65 ∷ 0 ∷ 0 ∷ 0 ∷ 7 ∷ 0 ∷ 0 ∷ 1 ∷ 0x09 ∷ 0 ∷ []) true) ≡ (0 ∷ 7 ∷ 1 ∷ 5 ∷ 3 ∷ []) ∷ (1 ∷ 15 ∷ 1 ∷ 9 ∷ 0 ∷ []) ∷ []
+skipped = refl
+
+unescaped : rbsp (0x65 ∷ 0 ∷ 0 ∷ 3 ∷ 0 ∷ []) ≡ 0x65 ∷ 0 ∷ 0 ∷ 0 ∷ []
+unescaped = refl
+
+-- 00 00 02 stays, and zeros are counted anew after a 03 that was left out
+stays : rbsp (0 ∷ 0 ∷ 2 ∷ 0 ∷ 0 ∷ 3 ∷ 0 ∷ 3 ∷ 0 ∷ 0 ∷ 0 ∷ 3 ∷ []) ≡ 0 ∷ 0 ∷ 2 ∷ 0 ∷ 0 ∷ 0 ∷ 3 ∷ 0 ∷ 0 ∷ 0 ∷ []
+stays = refl

@@ -1,13 +1,10 @@
--- Reading the bits that stand ahead.
-use Rattle.std.proofs.Common.{◌≡◌, ℕ, zero, suc, ◌+◌, ◌-◌, ◌*◌, ◌/◌, ◌%◌, ◌^◌, ◌<◌, ◌≤◌, List, [], ◌∷◌, ◌++◌, length, Bool, true, false, Some, None, Ok, Err, refl, ap, ◌∙◌, sym, arith, take, drop, length-drop, length-append, append-nil, min, inl, inr, nat_lt}
-use Rattle.avc_bits.proofs.Common.{replicate, lt-ltb, le-ltb, cases_lt, pow_pos, leading_length, one_shl, shl_whole, pow-add, pow-succ'}
-use Rattle.avc_bits.proofs.Common.{mul-lt-mul_of_pos_right, take-append_seam, take-append-add, Fault, Truncated, CodeTooLong, Bits}
-use Rattle.avc_bits.proofs.Common.{bits_before_stop, bits_of, byte_bits, more_data, number_of, passed, split, zeros, zeros_before_one, u}
-use Rattle.avc_bits.proofs.Common.{ue, skip, leading, left_of, position_of, reader_bits, BitReader}
-use Rattle.std.proofs.lemmas.List.{length-replicate, take-append-le, take-replicate, length-take-le, drop-drop, drop-take, take-take, length-take}
+-- Reading the bits that stand ahead: bits, codes, whole bytes, and parts of the syntax again and again.
+pub mod Numbers
+unfoldable pub use Numbers.*
 use lib.Count.{count_leading_zeros}
-use Rattle.avc_bits.proofs.Stops.{stop_prefix}
-use Rattle.avc_bits.proofs.Numbers.{number_lt, number-append, number-take, bits_of-number, take_front, pow_lt_back, pow_lt_trans, number-part, field64_is, number-zeros}
+use Rattle.avc_types.specs.declared.fault.Fault.TheVariants as faults
+
+-- ---- reading the bits that stand ahead
 
 -- ---- so many bits
 
@@ -308,3 +305,414 @@ u_after b after first count value there is is_after =
     let place : b.position + first + count ≡ b.position + (first + count) = omega arith in
     let rest : drop count (drop first b.ahead) ≡ drop (first + count) b.ahead = drop-drop count first b.ahead in
     rw (u_long count (passed b first) (omega (arith, length-drop first b.ahead)), place, rest, is_after, is) refl
+
+-- ---- the functions that read a code, against its codewords
+
+-- ---- u
+
+word_u : (n : ℕ) (word : List Bool) → length word ≡ n → IsU n word (number_of word)
+word_u n word len = (below_width n word len, sym (bits_of-number n word len))
+
+u_cut : (n : ℕ) (b : Bits) → length b.ahead < n → IsCutShort (IsU n) b
+u_cut n b short =
+    let others = replicate (n - length b.ahead - 1) false in
+    record {
+      value = number_of (b.ahead ++ false ∷ others);
+      next = false;
+      others = others;
+      is_word = word_u n (b.ahead ++ false ∷ others) (length-append b.ahead (false ∷ others) ∙ omega (arith, length-replicate (n - length b.ahead - 1) false));
+    }
+
+u_takes : (n : ℕ) (b : Bits) → n ≤ length b.ahead → Takes (IsU n) b (number_of (take n b.ahead)) (passed b n)
+u_takes n b long =
+    let len : length (take n b.ahead) ≡ n = length-take-le n b.ahead long in
+    record {
+      word = take n b.ahead;
+      is_word = word_u n (take n b.ahead) len;
+      ahead = sym (take-append-drop n b.ahead);
+      position = ap (λ k. b.position + k) (sym len);
+    }
+
+pub u_reads : (n : ℕ) (otherwise : Fault) (b : Bits) → IsReadBy (IsU n) otherwise b (u n b)
+u_reads n otherwise b = elim (cases_lt (length b.ahead) n) [
+  | inl short ↦ rw (u_short n b short) (u_cut n b short)
+  | inr long ↦ rw (u_long n b long) (u_takes n b long)
+]
+
+no_more : (word more : List Bool) → length (word ++ more) ≡ length word → more ≡ []
+no_more word [] same = refl
+no_more word (m ∷ more) same = absurd (omega (arith, length-append word (m ∷ more)))
+
+pub u_free : (n : ℕ) → IsPrefixFree (IsU n)
+u_free n word more value other first second =
+    no_more word more (ap length second.1 ∙ length-bits_of n other ∙ sym (ap length first.1 ∙ length-bits_of n value))
+
+-- ---- ue
+
+leading_one : (n : ℕ) (rest : List Bool) → leading (replicate n false ++ true ∷ rest) ≡ n
+unfolding leading
+leading_one zero rest = refl
+leading_one (suc n) rest = omega (arith, leading_one n rest)
+
+leading-append_le : (bits rest : List Bool) → leading bits ≤ leading (bits ++ rest)
+unfolding leading
+leading-append_le [] rest = omega arith
+leading-append_le (true ∷ bits) rest = omega arith
+leading-append_le (false ∷ bits) rest = omega (arith, leading-append_le bits rest)
+
+-- bits are their zeros, and a 1 or nothing
+split_at_one : (bits : List Bool) → leading bits < length bits → bits ≡ replicate (leading bits) false ++ true ∷ drop (suc (leading bits)) bits
+unfolding leading
+split_at_one [] some = absurd (omega arith)
+split_at_one (true ∷ bits) some = refl
+split_at_one (false ∷ bits) some = ap (λ t. false ∷ t) (split_at_one bits (omega arith))
+
+all_zeros : (bits : List Bool) → length bits ≤ leading bits → bits ≡ replicate (length bits) false
+unfolding leading
+all_zeros [] none = refl
+all_zeros (true ∷ bits) none = absurd (omega arith)
+all_zeros (false ∷ bits) none = ap (λ t. false ∷ t) (all_zeros bits (omega arith))
+
+-- a codeword of ue has as many bits as its zeros say
+ue_shape : (word rest : List Bool) (value : ℕ) → IsUe word value → (leading (word ++ rest) ≤ 31) × (length word ≡ 2 * leading (word ++ rest) + 1)
+ue_shape word rest value is =
+    let n = is.0 in
+    let tail = bits_of n is.1 in
+    let len : length tail ≡ n = length-bits_of n is.1 in
+    let zeros : leading (word ++ rest) ≡ n = ap (λ w. leading (w ++ rest)) is.4 ∙ ap leading (append_assoc (replicate n false) (true ∷ tail) rest) ∙ leading_one n (tail ++ rest) in
+    let all : length word ≡ 2 * n + 1 = ap length is.4 ∙ length-append (replicate n false) (true ∷ tail) ∙ omega (arith, len, length-replicate n false) in
+    (omega (arith, zeros, is.2), omega (arith, zeros, all))
+
+-- n zeros, a 1 and n bits
+word_ue : (n : ℕ) (tail : List Bool) → n ≤ 31 → length tail ≡ n → IsUe (replicate n false ++ true ∷ tail) (2 ^ n - 1 + number_of tail)
+word_ue n tail few len =
+    (n, number_of tail, few, below_width n tail len, ap (λ t. replicate n false ++ true ∷ t) (sym (bits_of-number n tail len)), omega (arith, pow_pos n))
+
+ue_never_cut : (b : Bits) → 31 < leading b.ahead → ¬ IsCutShort IsUe b
+ue_never_cut b long cut =
+    let shape = ue_shape (b.ahead ++ cut.next ∷ cut.others) [] cut.value cut.is_word in
+    omega (arith, shape.0, ap leading (append-nil (b.ahead ++ cut.next ∷ cut.others)), leading-append_le b.ahead (cut.next ∷ cut.others))
+
+ue_never_taken : (b : Bits) → 31 < leading b.ahead → (value : ℕ) (left : Bits) → ¬ Takes IsUe b value left
+ue_never_taken b long value left taken =
+    let shape = ue_shape taken.word left.ahead value taken.is_word in
+    omega (arith, shape.0, ap leading taken.ahead)
+
+ue_cut : (b : Bits) → leading b.ahead ≤ 31 → length b.ahead < 2 * leading b.ahead + 1 → IsCutShort IsUe b
+ue_cut b few short = elim (cases_lt (leading b.ahead) (length b.ahead)) [
+  | inl some ↦
+      let n = leading b.ahead in
+      let tail = drop (suc n) b.ahead in
+      let others = replicate (n - length tail - 1) false in
+      let len : length (tail ++ false ∷ others) ≡ n = length-append tail (false ∷ others) ∙ omega (arith, length-replicate (n - length tail - 1) false, length-drop (suc n) b.ahead) in
+      let same : b.ahead ++ false ∷ others ≡ replicate n false ++ true ∷ (tail ++ false ∷ others) =
+      ap (λ t. t ++ false ∷ others) (split_at_one b.ahead some) ∙ append_assoc (replicate n false) (true ∷ tail) (false ∷ others) in
+      record { value = 2 ^ n - 1 + number_of (tail ++ false ∷ others); next = false; others = others; is_word = rw same (word_ue n (tail ++ false ∷ others) few len) }
+  | inr none ↦
+      let n = length b.ahead in
+      let others = replicate n false in
+      let same : b.ahead ++ true ∷ others ≡ replicate n false ++ true ∷ others = ap (λ t. t ++ true ∷ others) (all_zeros b.ahead none) in
+      record { value = 2 ^ n - 1 + number_of others; next = true; others = others; is_word = rw same (word_ue n others (omega arith) (length-replicate n false)) }
+]
+
+ue_takes : (b : Bits) → leading b.ahead ≤ 31 → 2 * leading b.ahead + 1 ≤ length b.ahead →
+    Takes IsUe b (2 ^ leading b.ahead - 1 + number_of (take (leading b.ahead) (drop (leading b.ahead + 1) b.ahead))) (passed b (2 * leading b.ahead + 1))
+ue_takes b few long =
+    let n = leading b.ahead in
+    let later = drop (n + 1) b.ahead in
+    let tail = take n later in
+    let one : suc n ≡ n + 1 = omega arith in
+    let len : length tail ≡ n = length-take-le n later (omega (arith, length-drop (n + 1) b.ahead)) in
+    let rest : drop n later ≡ drop (2 * n + 1) b.ahead = drop-drop n (n + 1) b.ahead ∙ ap (λ k. drop k b.ahead) (omega arith) in
+    record {
+      word = replicate n false ++ true ∷ tail;
+      is_word = word_ue n tail few len;
+      ahead = split_at_one b.ahead (omega arith) ∙ ap (λ k. replicate n false ++ true ∷ drop k b.ahead) one
+          ∙ ap (λ t. replicate n false ++ true ∷ t) (sym (take-append-drop n later) ∙ ap (λ t. tail ++ t) rest)
+          ∙ sym (append_assoc (replicate n false) (true ∷ tail) (drop (2 * n + 1) b.ahead));
+      position = ap (λ k. b.position + k) (sym (length-append (replicate n false) (true ∷ tail) ∙ omega (arith, len, length-replicate n false)));
+    }
+
+pub ue_reads : (b : Bits) → IsReadBy IsUe CodeTooLong b (ue b)
+ue_reads b = elim (cases_lt 31 (leading b.ahead)) [
+  | inl long ↦ rw (ue_too_long b long) (refl, ue_never_cut b long, ue_never_taken b long)
+  | inr few ↦ elim (cases_lt (length b.ahead) (2 * leading b.ahead + 1)) [
+    | inl short ↦ rw (ue_short b few short) (ue_cut b few short)
+    | inr enough ↦ rw (ue_long b few enough) (ue_takes b few enough)
+  ]
+]
+
+pub ue_free : IsPrefixFree IsUe
+ue_free word more value other first second =
+    let short = ue_shape word more value first in
+    let long = ue_shape (word ++ more) [] other second in
+    no_more word more (omega (arith, short.1, long.1, ap leading (append-nil (word ++ more))))
+
+-- ---- se
+
+se_takes : (b left : Bits) (k : ℕ) → Takes IsUe b k left → Takes IsSe b (signed_value k) left
+se_takes b left k taken = record { word = taken.word; is_word = (k, taken.is_word, refl); ahead = taken.ahead; position = taken.position }
+
+se_cut : (b : Bits) → IsCutShort IsUe b → IsCutShort IsSe b
+se_cut b cut = record { value = signed_value cut.value; next = cut.next; others = cut.others; is_word = (cut.value, cut.is_word, refl) }
+
+ue_cut_of_se : (b : Bits) → IsCutShort IsSe b → IsCutShort IsUe b
+ue_cut_of_se b cut = record { value = (cut.is_word).0; next = cut.next; others = cut.others; is_word = (cut.is_word).1 }
+
+ue_taken_of_se : (b left : Bits) (value : ℤ) → (taken : Takes IsSe b value left) → Takes IsUe b (taken.is_word).0 left
+ue_taken_of_se b left value taken = record { word = taken.word; is_word = (taken.is_word).1; ahead = taken.ahead; position = taken.position }
+
+pub se_reads : (b : Bits) → IsReadBy IsSe CodeTooLong b (se b)
+se_reads b = elim (cases_lt 31 (leading b.ahead)) [
+  | inl long ↦ rw (ue_too_long b long) (refl, λ cut. ue_never_cut b long (ue_cut_of_se b cut), λ value left taken. ue_never_taken b long (taken.is_word).0 left (ue_taken_of_se b left value taken))
+  | inr few ↦ elim (cases_lt (length b.ahead) (2 * leading b.ahead + 1)) [
+    | inl short ↦ rw (ue_short b few short) (se_cut b (ue_cut b few short))
+    | inr enough ↦ rw (ue_long b few enough) (se_takes b _ _ (ue_takes b few enough))
+  ]
+]
+
+pub se_free : IsPrefixFree IsSe
+se_free word more value other first second = ue_free word more first.0 second.0 first.1 second.1
+
+-- ---- te
+
+te_bit : (position : ℕ) (bits : List Bool) → IsReadBy (IsTe 1) CodeTooLong (record { position = position; ahead = bits }) (te 1 (record { position = position; ahead = bits }))
+te_bit position [] = record { value = 0; next = true; others = []; is_word = (omega arith, refl) }
+te_bit position (true ∷ bits) = record { word = true ∷ []; is_word = (omega arith, refl); ahead = refl; position = refl }
+te_bit position (false ∷ bits) = record { word = false ∷ []; is_word = (omega arith, refl); ahead = refl; position = refl }
+
+te_wide : (range : ℕ) (b : Bits) → te (suc (suc range)) b ≡ ue b
+te_wide range b =
+    let more : eqb (suc (suc range)) 1 ≡ false = ne_eqb (suc (suc range)) 1 (λ same. omega (arith, same)) in
+    rw (te, more) refl
+
+pub te_reads : (range : ℕ) → 1 ≤ range → (b : Bits) → IsReadBy (IsTe range) CodeTooLong b (te range b)
+te_reads zero some b = absurd (omega arith)
+te_reads (suc zero) some b = te_bit b.position b.ahead
+te_reads (suc (suc range)) some b = rw (te_wide range b) (ue_reads b)
+
+pub te_free : (range : ℕ) → IsPrefixFree (IsTe range)
+te_free zero word more value other first second = absurd first
+te_free (suc zero) word more value other first second = no_more word more (ap length second.1 ∙ sym (ap length first.1))
+te_free (suc (suc range)) word more value other first second = ue_free word more value other first second
+
+-- ---- what holds of each value that a part of the syntax gives, and that nothing is passed but what stood ahead
+
+-- ---- parts in turn
+
+-- of an answer that is no fault the value, and the bits that are left
+abbrev pub value : {A : Type 0} → A → Result (A × Bits) Fault → A
+value x (Ok r) = r.0
+value x (Err f) = x
+
+-- the bits that are left; after a fault those before
+abbrev pub left : {A : Type 0} → Bits → Result (A × Bits) Fault → Bits
+left b (Ok r) = r.1
+left b (Err f) = b
+
+bind-by : {A B : Type 0} (part : Read A) (after : A → Read B) (r : Result (A × Bits) Fault) (b next : Bits) (y : B) → part b ≡ r → (part >>= after) b ≡ Ok (y, next)
+    → (x : A) × (mid : Bits) × (part b ≡ Ok (x, mid)) × (after x mid ≡ Ok (y, next))
+bind-by part after (Ok r) b next y e f = (r.0, r.1, e, rw e at f)
+bind-by part after (Err fault) b next y e f = let wrong = rw e at f in cc
+
+-- what stands between two parts
+pub bind-ok : {A B : Type 0} (part : Read A) (after : A → Read B) (b next : Bits) (y : B) → (part >>= after) b ≡ Ok (y, next)
+    → (x : A) × (mid : Bits) × (part b ≡ Ok (x, mid)) × (after x mid ≡ Ok (y, next))
+bind-ok part after b next y f = bind-by part after (part b) b next y refl f
+
+-- ---- what the value is
+
+-- P holds of each value that the part can give
+abbrev pub Gives : {A : Type 0} → (A → Type 0) → Read A → Type 0
+Gives {A} P part = (b next : Bits) (x : A) → part b ≡ Ok (x, next) → P x
+
+pub gives-any : {A : Type 0} (part : Read A) → Gives (λ _. Unit {0}) part
+gives-any part b next x e = tt
+
+pub gives-bind : {A B : Type 0} (P : A → Type 0) (Q : B → Type 0) (part : Read A) (after : A → Read B)
+    → Gives P part → ((x : A) → P x → Gives Q (after x)) → Gives Q (part >>= after)
+gives-bind P Q part after g h b next y f =
+    let between = bind-ok part after b next y f in
+    h between.0 (g b between.1 between.0 between.2) between.1 next y between.3
+
+-- after a part of which nothing is asked
+pub gives-then : {A B : Type 0} (Q : B → Type 0) (part : Read A) (after : A → Read B) → ((x : A) → Gives Q (after x)) → Gives Q (part >>= after)
+gives-then Q part after h = gives-bind (λ _. Unit {0}) Q part after (gives-any part) (λ x _. h x)
+
+pub gives-check : {B : Type 0} (Q : B → Type 0) (test : Bool) (fault : Fault) (after : Read B)
+    → (test ≡ true → Gives Q after) → Gives Q (check test fault >> after)
+gives-check Q true fault after h b next y f = h refl b next y f
+gives-check Q false fault after h b next y f = cc
+
+pub gives-give : {A : Type 0} (P : A → Type 0) (x : A) → P x → Gives P (give x)
+gives-give P x p b next y e = subst P (ap (value x) e) p
+
+pub gives-where_set : {A : Type 0} (P : A → Type 0) (set : Bool) (part : Read A) → Gives P part → Gives (λ o. IfSome o P) (where_set set part)
+gives-where_set P true part g = gives-bind P (λ o. IfSome o P) part _ g (λ x p. gives-give (λ o. IfSome o P) (Some x) p)
+gives-where_set P false part g = gives-give (λ o. IfSome o P) None tt
+
+pub gives-times : {A : Type 0} (n : ℕ) (part : Read A) → Gives (λ xs. length xs ≡ n) (times n part)
+gives-times zero part = gives-give (λ xs. length xs ≡ 0) [] refl
+gives-times (suc n) part =
+    gives-bind (λ _. Unit {0}) (λ xs. length xs ≡ suc n) part _ (gives-any part) (λ x _.
+    gives-bind (λ xs. length xs ≡ n) (λ xs. length xs ≡ suc n) (times n part) _ (gives-times n part) (λ xs long.
+    gives-give (λ xs. length xs ≡ suc n) (x ∷ xs) (ap suc long)))
+
+pub gives-each : {A : Type 0} (P : A → Type 0) (n : ℕ) (part : Read A) → Gives P part → Gives (All P) (times n part)
+gives-each P zero part g = gives-give (All P) [] (All-nil P)
+gives-each P (suc n) part g =
+    gives-bind P (All P) part _ g (λ x p.
+    gives-bind (All P) (All P) (times n part) _ (gives-each P n part g) (λ xs ps.
+    gives-give (All P) (x ∷ xs) (All-cons P x xs p ps)))
+
+pub gives-ue_to : (top : ℕ) → Gives (λ v. v ≤ top) (ue_to top)
+gives-ue_to top =
+    gives-bind (λ _. Unit {0}) (λ v. v ≤ top) ue _ (gives-any ue) (λ v _.
+    gives-check (λ w. w ≤ top) (nat_le v top) _ _ (λ h.
+    gives-give (λ w. w ≤ top) v (grind (arith, nat_tests))))
+
+pub gives-u_to : (n top : ℕ) → Gives (λ v. v ≤ top) (u_to n top)
+gives-u_to n top =
+    gives-bind (λ _. Unit {0}) (λ v. v ≤ top) (u n) _ (gives-any (u n)) (λ v _.
+    gives-check (λ w. w ≤ top) (nat_le v top) _ _ (λ h.
+    gives-give (λ w. w ≤ top) v (grind (arith, nat_tests))))
+
+-- from `low` to `high`, both included
+pub record IsFrom (low high v : ℤ) : Type 0 where
+  pub least : low ≤ℤ v
+  pub most : v ≤ℤ high
+
+pub gives-se_within : (low high : ℤ) → Gives (IsFrom low high) (se_within low high)
+gives-se_within low high =
+    gives-bind (λ _. Unit {0}) (IsFrom low high) se _ (gives-any se) (λ v _.
+    gives-check (IsFrom low high) _ _ _ (λ h.
+    gives-give (IsFrom low high) v (record { least = grind (arith, ints); most = grind (arith, ints) })))
+
+-- ---- reading a part so many times by a loop: what its first n turns read, and one turn more
+
+-- one turn and then the others
+pub one_first : {A : Type 0} (part : Read A) (n : ℕ) (b mid after : Bits) (x : A) (xs : List A) → part b ≡ Ok (x, mid) → times n part mid ≡ Ok (xs, after) → times (suc n) part b ≡ Ok (x ∷ xs, after)
+one_first part n b mid after x xs first others = rw (first, others) refl
+
+-- a fault after one turn
+pub fault_later : {A : Type 0} (part : Read A) (n : ℕ) (b mid : Bits) (x : A) (f : Fault) → part b ≡ Ok (x, mid) → times n part mid ≡ Err f → times (suc n) part b ≡ Err f
+fault_later part n b mid x f first others = rw (first, others) refl
+
+-- one turn more
+pub times_more : {A : Type 0} (part : Read A) (n : ℕ) (b mid after : Bits) (xs : List A) (x : A) →
+    times n part b ≡ Ok (xs, mid) → part mid ≡ Ok (x, after) → times (n + 1) part b ≡ Ok (xs ++ x ∷ [], after)
+times_more part zero b mid after xs x so_far here =
+    let none : xs ≡ [] = sym (ap (value []) so_far) in
+    let same : mid ≡ b = sym (ap (left b) so_far) in
+    let here' : part b ≡ Ok (x, after) = ap part (sym same) ∙ here in
+    rw (none, here') refl
+times_more part (suc n) b mid after xs x so_far here =
+    let one : suc n + 1 ≡ suc (n + 1) = omega arith in
+    let first = bind-ok part (λ y. times n part >>= λ ys. give (y ∷ ys)) b mid xs so_far in
+    let rest = bind-ok (times n part) (λ ys. give (first.0 ∷ ys)) first.1 mid xs first.3 in
+    let all : first.0 ∷ rest.0 ≡ xs = ap (value []) rest.3 in
+    let same : rest.1 ≡ mid = ap (left b) rest.3 in
+    let more = times_more part n first.1 rest.1 after rest.0 x rest.2 (ap part same ∙ here) in
+    ap (λ k. times k part b) one ∙ one_first part (n + 1) b first.1 after first.0 (rest.0 ++ x ∷ []) first.2 more ∙ ap (λ t. Ok (t ++ x ∷ [], after)) all
+
+-- a fault at one turn is a fault of all
+pub times_fault : {A : Type 0} (part : Read A) (total n : ℕ) (b mid : Bits) (xs : List A) (f : Fault) →
+    n < total → times n part b ≡ Ok (xs, mid) → part mid ≡ Err f → times total part b ≡ Err f
+times_fault part zero n b mid xs f less so_far here = absurd (omega arith)
+times_fault part (suc total) zero b mid xs f less so_far here =
+    let same : mid ≡ b = sym (ap (left b) so_far) in
+    let here' : part b ≡ Err f = ap part (sym same) ∙ here in
+    rw here' refl
+times_fault part (suc total) (suc n) b mid xs f less so_far here =
+    let first = bind-ok part (λ y. times n part >>= λ ys. give (y ∷ ys)) b mid xs so_far in
+    let rest = bind-ok (times n part) (λ ys. give (first.0 ∷ ys)) first.1 mid xs first.3 in
+    let same : rest.1 ≡ mid = ap (left b) rest.3 in
+    let more = times_fault part total n first.1 rest.1 rest.0 f (omega arith) rest.2 (ap part same ∙ here) in
+    rw (first.2, more) refl
+
+-- ---- reading whole bytes
+
+pub times_short : (n : ℕ) (b : Bits) → length b.ahead < 8 * n → times n (u 8) b ≡ Err Truncated
+times_short zero b short = absurd (omega arith)
+times_short (suc n) b short = elim (cases_lt (length b.ahead) 8) [
+  | inl less ↦ times_fault (u 8) (suc n) 0 b b [] Truncated (omega arith) refl (u_short 8 b less)
+  | inr more ↦
+      fault_later (u 8) n b (passed b 8) (number_of (take 8 b.ahead)) Truncated (u_long 8 b more)
+      (times_short n (passed b 8) (omega (arith, length-drop 8 b.ahead)))
+]
+
+-- one byte in front
+one_byte : (x position : ℕ) (rest : List Bool) → x < 256 →
+    u 8 (record { position = position; ahead = bits_of 8 x ++ rest }) ≡ Ok (x, record { position = position + 8; ahead = rest })
+one_byte x position rest small =
+    let b : Bits = record { position = position; ahead = bits_of 8 x ++ rest } in
+    let len : length (bits_of 8 x) ≡ 8 = length-bits_of 8 x in
+    let front : take 8 (bits_of 8 x ++ rest) ≡ bits_of 8 x = take_at (bits_of 8 x) rest 8 len in
+    let behind : drop 8 (bits_of 8 x ++ rest) ≡ rest = drop_at (bits_of 8 x) rest 8 len in
+    let value : number_of (take 8 (bits_of 8 x ++ rest)) ≡ x = ap number_of front ∙ number-bits_of 8 x ∙ mod-eq_of_lt small in
+    u_long 8 b (omega (arith, len, length-append (bits_of 8 x) rest))
+    ∙ ap (λ v. Ok (v, passed b 8)) value
+    ∙ ap (λ (bits : List Bool). Ok (x, record { position = position + 8; ahead = bits })) behind
+
+-- bytes in front
+pub times_bytes : (xs : List ℕ) (position next : ℕ) (rest : List Bool) → ((k : ℕ) → get_or xs k 0 < 256) → next ≡ position + 8 * length xs →
+    times (length xs) (u 8) (record { position = position; ahead = byte_bits xs ++ rest }) ≡ Ok (xs, record { position = next; ahead = rest })
+times_bytes [] position next rest small is = ap (λ n. Ok ([], record { position = n; ahead = rest })) (omega arith)
+times_bytes (x ∷ xs) position next rest small is =
+    ap (λ bits. times (suc (length xs)) (u 8) (record { position = position; ahead = bits })) (append_assoc (bits_of 8 x) (byte_bits xs) rest)
+    ∙ one_first (u 8) (length xs) (record { position = position; ahead = bits_of 8 x ++ (byte_bits xs ++ rest) }) (record { position = position + 8; ahead = byte_bits xs ++ rest }) (record { position = next; ahead = rest }) x xs
+    (one_byte x position (byte_bits xs ++ rest) (small 0))
+    (times_bytes xs (position + 8) next rest (λ k. small (suc k)) (omega arith))
+
+whole_position : (r : BitReader) → (reader_bits r).position % 8 ≡ 0 → 0 < left_of r → position_of r ≡ 8 * r.byte
+unfolding reader_bits
+whole_position r aligned some = omega (arith, none_beyond r some, r.narrow)
+
+-- the bytes of the RBSP from an aligned position on
+pub bytes_from : (r : BitReader) (count : ℕ) (xs : List ℕ) (after : Bits) → (reader_bits r).position % 8 ≡ 0 → 0 < count → 8 * count ≤ left_of r → xs ≡ take count (drop r.byte r.bytes.now) → length xs ≡ count →
+    ((k : ℕ) → get_or xs k 0 < 256) → after ≡ passed (reader_bits r) (8 * count) → times count (u 8) (reader_bits r) ≡ Ok (xs, after)
+bytes_from r count xs after aligned some there part len small is =
+    let first = r.byte in
+    let bytes = r.bytes.now in
+    let ahead = (reader_bits r).ahead in
+    let place : position_of r ≡ 8 * first = whole_position r aligned (omega arith) in
+    let front : take (8 * count) ahead ≡ byte_bits xs =
+    take-ahead r (8 * count) there ∙ ap (λ n. take (8 * count) (drop n (byte_bits bytes))) place
+    ∙ ap (take (8 * count)) (drop_bytes first bytes) ∙ take_bytes count (drop first bytes) ∙ ap byte_bits (sym part) in
+    let parts : ahead ≡ byte_bits xs ++ drop (8 * count) ahead = sym (take-append-drop (8 * count) ahead) ∙ ap (λ bits. bits ++ drop (8 * count) ahead) front in
+    ap (λ n. times n (u 8) (reader_bits r)) (sym len)
+    ∙ ap (λ (bits : List Bool). times (length xs) (u 8) (record { position = (reader_bits r).position; ahead = bits })) parts
+    ∙ times_bytes xs (reader_bits r).position ((reader_bits r).position + 8 * count) (drop (8 * count) ahead) small (omega (arith, len))
+    ∙ ap (λ b. Ok (xs, b)) (sym is)
+
+abbrev position_after : Result (Unit {0} × Bits) Fault → ℕ
+position_after (Ok r) = (r.1).position
+position_after (Err f) = 0
+
+pub skipped_to : (n : ℕ) (b after : Bits) → skip n b ≡ Ok (tt, after) → after.position ≡ b.position + n
+skipped_to n b after is = elim (cases_lt (length b.ahead) n) [
+  | inl less ↦
+      let e : Err Truncated ≡ Ok (tt, after) = sym (skip_short n b less) ∙ is in
+      absurd (cc e)
+  | inr more ↦
+      let e : Ok (tt, passed b n) ≡ Ok (tt, after) = sym (skip_long n b more) ∙ is in
+      sym (ap position_after e)
+]
+
+pub aligned_after : (r : Result (Unit {0}) Fault) (n : ℕ) (old new : BitReader) → n ≡ (8 - (reader_bits old).position % 8) % 8 → Reads r (skip n) old new → IfOk r (λ _. (reader_bits new).position % 8 ≡ 0)
+aligned_after (Ok done) n old new is read = let there = skipped_to n (reader_bits old) (reader_bits new) read.0 in omega arith
+aligned_after (Err f) n old new is read = tt
+
+-- ---- worked examples of the codes
+
+abbrev value_of : {A : Type 0} → Read A → List ℕ → Result A Fault
+value_of part bytes = elim (part (start bytes)) [ Ok r ↦ Ok r.0 | Err f ↦ Err f ]
+
+ue_too_long_row : value_of ue (0 ∷ 0 ∷ 0 ∷ 0 ∷ 0x80 ∷ 0x80 ∷ []) ≡ Err faults.CodeTooLong
+ue_too_long_row = refl
+
+ue_truncated : value_of ue (0 ∷ 0x80 ∷ []) ≡ Err faults.Truncated
+ue_truncated = refl
+
+ue_longest : value_of ue (0 ∷ 0 ∷ 0 ∷ 1 ∷ 0 ∷ 0 ∷ 0 ∷ 1 ∷ []) ≡ Ok 2147483647
+ue_longest = refl

@@ -62,7 +62,7 @@ fn filter_chroma(t: &mut [u8; 128], from: usize, strengths: &Strengths, limits: 
 /// Filters the eight lines of Cb and the eight of Cr across a vertical edge. The edge has `left + 4` columns left of it, and `top`
 /// rows above its first line.
 #[inline(never)]
-#[tactic(auto, using(crate::proofs::Settings::edge_off))]
+#[tactic(auto, using(crate::proofs::FilteredPictures::edge_off))]
 pub(crate) fn vertical_chroma<const PAD: usize>(
     cb: &mut Plane<PAD>,
     cr: &mut Plane<PAD>,
@@ -205,7 +205,7 @@ fn strong_horizontal<const PAD: usize>(
 
 /// The same at any strengths.
 #[inline(always)]
-#[tactic(auto, using(crate::proofs::Settings::edge_off))]
+#[tactic(auto, using(crate::proofs::FilteredPictures::edge_off))]
 pub(crate) fn horizontal_chroma<const PAD: usize>(
     cb: &mut Plane<PAD>,
     cr: &mut Plane<PAD>,

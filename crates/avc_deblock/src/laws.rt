@@ -3,7 +3,7 @@ ghost use Rattle.avc_deblock.specs.Locality.{RowChangesItsRows, RowReadsNoneBelo
 ghost use Rattle.avc_deblock.specs.Laws.{RowsInOrder, InfoOfFirstMacroblocksStays, TwoEdgesOfAStep};
 
 /// The line filters of a picture are those of its rows of macroblocks, one row after another.
-#[tactic(auto, using(crate::proofs::Macroblocks::rows_are_all))]
+#[tactic(auto, using(crate::proofs::FilteredPictures::rows_are_all))]
 pub fn rows_in_order()
     ensures { RowsInOrder }
 {}

@@ -10,7 +10,7 @@ use avc_plane::Plane;
 /// Filters the sixteen lines of luma across a vertical edge. The edge has `left + 4` columns left of it, and `top` rows above its
 /// first line.
 #[inline(always)]
-#[tactic(auto, using(crate::proofs::Settings::edge_off))]
+#[tactic(auto, using(crate::proofs::FilteredPictures::edge_off))]
 pub(crate) fn vertical_luma<const PAD: usize>(
     plane: &mut Plane<PAD>,
     left: usize,
@@ -37,7 +37,7 @@ pub(crate) fn vertical_luma<const PAD: usize>(
 /// Filters the sixteen lines of luma across a horizontal edge. The edge has `top + 4` rows above it, and `left` columns left of
 /// its first line.
 #[inline(always)]
-#[tactic(auto, using(crate::proofs::Settings::edge_off))]
+#[tactic(auto, using(crate::proofs::FilteredPictures::edge_off))]
 pub(crate) fn horizontal_luma<const PAD: usize>(
     plane: &mut Plane<PAD>,
     left: usize,

@@ -286,7 +286,7 @@ pub(crate) fn edge_at<const PAD: usize>(
 
 /// The same at the strengths between the two.
 #[inline(always)]
-#[tactic(auto, using(crate::proofs::EdgePlanes::edge_zero))]
+#[tactic(auto, using(crate::proofs::FilteredPictures::edge_zero))]
 pub(crate) fn edge_between<const PAD: usize>(
     planes: &mut Planes<PAD>,
     p: &MbInfo,

@@ -73,7 +73,7 @@ fn index_of(p: u8, q: u8, offset: i8) -> u8
 }
 
 #[inline(always)]
-#[tactic(auto, using(crate::proofs::Tables::alpha_at))]
+#[tactic(auto, using(crate::proofs::FilteredPictures::alpha_at))]
 fn alpha(index: u8) -> u8
     requires { index < 52 }
     ensures { result ≡ alpha_of index }
@@ -82,7 +82,7 @@ fn alpha(index: u8) -> u8
 }
 
 #[inline(always)]
-#[tactic(auto, using(crate::proofs::Tables::beta_at))]
+#[tactic(auto, using(crate::proofs::FilteredPictures::beta_at))]
 fn beta(index: u8) -> u8
     requires { index < 52 }
     ensures { result ≡ beta_of index }
@@ -92,7 +92,7 @@ fn beta(index: u8) -> u8
 
 /// The number at a place of the table: one more than tC0 at a strength of 1 to 3, and 0 at strength 0.
 #[inline(always)]
-#[tactic(auto, using(crate::proofs::Tables::tc1_at))]
+#[tactic(auto, using(crate::proofs::FilteredPictures::tc1_at))]
 fn tc1(place: usize) -> u8
     requires { place < 220 }
     ensures value { (strength index : ℕ) → strength < 4 → index < 52 → place ≡ 4 * index + strength → result ≡ tc1_of strength index }

@@ -1,30 +1,11 @@
--- A stream that begins at one of its units decodes as it did there.
-use Rattle.avc_decoder.proofs.Common.{◌≡◌, ℕ, zero, suc, ◌+◌, ◌-◌, ◌^◌, ◌<◌, ◌≤◌, Bool, true, false, List, [], ◌∷◌, ◌++◌, length, map, take}
-use Rattle.avc_decoder.proofs.Common.{drop, ◌&&◌, Option, Some, None, Result, Ok, Err, All, slice_get, refl, ap, sym, subst, ◌∙◌}
-use Rattle.avc_decoder.proofs.Common.{arith, append_assoc, append-nil, drop-append_seam, take-append_seam, drop-map, length-append}
-use Rattle.avc_decoder.proofs.Common.{length-map, map-append, take-append-drop, take-map, All-cons, All-head, All-nil, All-tail, All-weaker}
-use Rattle.avc_decoder.proofs.Common.{Fault, IsUnitOf, UnitsAreNumbered, UnitsStay, WrittenUnitsStand, contents, forbidden_zero_bit}
-use Rattle.avc_decoder.proofs.Common.{saturated, units, Piece, Sets, sets_after, SetUnit, begins, header_in_rbsp, Header, Slice, Kind}
-use Rattle.avc_decoder.proofs.Common.{slice, partition, sps, pps, other, OpenPictureFacts, ends_picture, is_start, kind, rbsp_of}
-use Rattle.avc_decoder.proofs.Common.{readable, refusal_of, running_step, set_fault, set_unit, set_units, slice_in, slice_step, step}
-use Rattle.avc_decoder.proofs.Common.{unreadable, waiting_step, with_header, IsSetOf, SetsAreInForceAgain, SetsComeAlike, SetsInForceAreFew}
-use Rattle.avc_decoder.proofs.Common.{SetsInForceAreUnits, resumed, sets_in_force, Next, Nothing, FaultOfOwn, Begins}
-use Rattle.avc_decoder.proofs.Common.{Step, Outcome, Phase, State, after_closing, after_next, after_unit, at_end}
-use Rattle.avc_decoder.proofs.Common.{closed_picture, events_from, first_state, followed_by, in_phase, is_running, no_change}
-use Rattle.avc_decoder.proofs.Common.{open_facts_in, open_picture_facts, running, state_after, waiting, CanStart}
-use Rattle.avc_decoder.proofs.Common.{HaveOwnNumbers, StartsAnew, closing_events, renumbered, state_through, Event, Output}
-use Rattle.std.proofs.Common.{get_or}
-use Rattle.std.proofs.lemmas.List.{take-append-le}
-use Rattle.std.proofs.lemmas.Option.{slice_get-get_or, slice_get_within}
-use Rattle.std.specs.List.{flat_map}
+-- A stream that begins at one of its units.
+pub mod StartUnits
+unfoldable pub use StartUnits.*
+use Rattle.avc_units.specs.Grouping.{slice, sps, pps, other}
+use Rattle.avc_decoder.specs.Events.{running}
 use Rattle.avc_types.specs.declared.fault.Fault.TheVariants as faults
-use Rattle.avc_annexb.specs.Written.{start_code, written}
-use Rattle.avc_decoder.proofs.Cases.{chosen, either}
-use Rattle.avc_decoder.proofs.Draining.{drop_some}
-use Rattle.avc_decoder.proofs.Renumbering.{at_end-same, either-same, in_phase-same, open_facts-same, renumbered_event}
-use Rattle.avc_decoder.proofs.Renumbering.{renumbered_outcome, renumbered_phase, renumbered_slice, renumbered_step, running-same}
-use Rattle.avc_decoder.proofs.StartUnits.{says}
-use Rattle.avc_decoder.proofs.Growing.{output_through, sets-append, sets_through}
+
+-- ---- a stream that begins at one of its units decodes as it did there
 
 -- ---- what a unit with another number does
 
@@ -48,10 +29,10 @@ abbrev renumbered_read : (ℕ → ℕ) → Result Slice Fault → Result Slice F
 renumbered_read r (Ok s) = Ok (renumbered_slice r s)
 renumbered_read r (Err f) = Err f
 
-header-same : (r : ℕ → ℕ) (u u' : Piece) (bytes : List ℕ) (h : Result Header Fault)
+with_header-same : (r : ℕ → ℕ) (u u' : Piece) (bytes : List ℕ) (h : Result Header Fault)
     → with_header (moved r u u') bytes h ≡ renumbered_read r (with_header u bytes h)
-header-same r u u' bytes (Ok h) = refl
-header-same r u u' bytes (Err f) = refl
+with_header-same r u u' bytes (Ok h) = refl
+with_header-same r u u' bytes (Err f) = refl
 
 abbrev read_by : Option (List ℕ) → (List ℕ → Result Slice Fault) → Result Slice Fault
 read_by rbsp read = elim rbsp [ None ↦ Err faults.NalTooLong | Some bytes ↦ read bytes ]
@@ -61,8 +42,8 @@ by_rbsp : (r : ℕ → ℕ) (rbsp : Option (List ℕ)) (a b : List ℕ → Resul
 by_rbsp r None a b e = refl
 by_rbsp r (Some bytes) a b e = e bytes
 
-read-same : (r : ℕ → ℕ) (sets : Sets) (u u' : Piece) → slice_in sets (moved r u u') ≡ renumbered_read r (slice_in sets u)
-read-same r sets u u' = by_rbsp r (rbsp_of u) _ _ (λ bytes. header-same r u u' bytes (header_in_rbsp u.header sets bytes))
+slice_in-same : (r : ℕ → ℕ) (sets : Sets) (u u' : Piece) → slice_in sets (moved r u u') ≡ renumbered_read r (slice_in sets u)
+slice_in-same r sets u u' = by_rbsp r (rbsp_of u) _ _ (λ bytes. with_header-same r u u' bytes (header_in_rbsp u.header sets bytes))
 
 unreadable-same : (r : ℕ → ℕ) (o : Option OpenPictureFacts) (f : Fault) → unreadable o f ≡ renumbered_step r (unreadable o f)
 unreadable-same r None f = refl
@@ -85,7 +66,7 @@ ends-same r (Some f) = refl
 running_step-same : (r : ℕ → ℕ) (sets : Sets) (o : Option OpenPictureFacts) (u u' : Piece) (k : Kind)
     → running_step sets o (moved r u u') k ≡ renumbered_step r (running_step sets o u k)
 running_step-same r sets o u u' (slice idr) =
-    ap (slice_step o (is_start u)) (read-same r sets u u') ∙ slice_step-same r o (is_start u) (slice_in sets u)
+    ap (slice_step o (is_start u)) (slice_in-same r sets u u') ∙ slice_step-same r o (is_start u) (slice_in sets u)
 running_step-same r sets o u u' partition = unreadable-same r o faults.DataPartition
 running_step-same r sets o u u' sps = ends-same r (set_fault sps (rbsp_of u))
 running_step-same r sets o u u' pps = ends-same r (set_fault pps (rbsp_of u))
@@ -106,7 +87,7 @@ step-same r sets runs o u u' =
 -- ---- streams of such units
 
 abbrev pub AreAlike : (ℕ → ℕ) → List Piece → List Piece → Type 0
-AreAlike r [] [] = Unit {0}
+AreAlike r [] [] = Prim.Unit {0}
 AreAlike r (u ∷ us) (u' ∷ us') = IsAlike r u u' × AreAlike r us us'
 AreAlike r [] (u' ∷ us') = ⊥
 AreAlike r (u ∷ us) [] = ⊥
@@ -379,19 +360,19 @@ next_alike sets o u e closes even =
     ∙ ap (λ (w : Step). w.next) (sym (says sets u e).waits)
 
 -- after a closing that is a fault, a unit that begins a picture even then
-fault_first : (output : Output) (sets : Sets) (unit : ℕ) (what : Step) (next : Next) (closed rest : Outcome) → what.closes ≡ true
+closing_first : (output : Output) (sets : Sets) (unit : ℕ) (what : Step) (next : Next) (closed rest : Outcome) → what.closes ≡ true
     → closed.phase ≡ waiting → what.even_after_fault ≡ true → what.next ≡ next
     → chosen what.closes (after_closing output sets unit what closed) rest ≡ followed_by closed (after_next output sets unit waiting next)
-fault_first output sets unit what next closed rest closes waits even same = cc (closes, waits, even, same)
+closing_first output sets unit what next closed rest closes waits even same = cc (closes, waits, even, same)
 
 -- The events of the closing come first, and then those that come where decoding waits.
-starts_in : (output : Output) (units : List SetUnit) (u : Piece) (us : List Piece) (ended : Bool) (p : Phase) → is_start u ≡ true
+starts_anew_in : (output : Output) (units : List SetUnit) (u : Piece) (us : List Piece) (ended : Bool) (p : Phase) → is_start u ≡ true
     → CanStart output (step (sets_after units) (is_running p) (open_facts_in p) u) p
     → events_from (record { output = output; sets = units; phase = p }) (u ∷ us) ended
     ≡ closing_events output p ++ events_from (waiting_with output units) (u ∷ us) ended
-starts_in output units u us ended waiting e can = refl
-starts_in output units u us ended (running h None) e can = absurd can
-starts_in output units u us ended (running h (Some o)) e can =
+starts_anew_in output units u us ended waiting e can = refl
+starts_anew_in output units u us ended (running h None) e can = absurd can
+starts_anew_in output units u us ended (running h (Some o)) e can =
     let sets = sets_after units in
     let what = step sets true (Some (open_picture_facts o)) u in
     let here = step sets false None u in
@@ -399,7 +380,7 @@ starts_in output units u us ended (running h (Some o)) e can =
     let y = after_next output sets u.index waiting here.next in
     let rest : Outcome → List Event = λ x. events_from (record { output = output; sets = units ++ set_units (u ∷ []); phase = x.phase }) us ended in
     ap (λ (x : Outcome). x.events ++ rest x)
-    (fault_first output sets u.index what here.next closed (after_next output sets u.index (running h (Some o)) what.next)
+    (closing_first output sets u.index what here.next closed (after_next output sets u.index (running h (Some o)) what.next)
     can.0 can.1 can.2 (next_alike sets (open_picture_facts o) u e can.0 can.2))
     ∙ append_assoc closed.events y.events (rest y)
 
@@ -423,6 +404,42 @@ starts_anew stay stand numbered again are few come output max bytes ended k own 
     (numbers_are numbered max bytes ended own k)
     same in
     ap (λ us. events_from state us ended) from_there
-    ∙ starts_in state.output state.sets starts.unit later ended state.phase starts.starts starts.waits
+    ∙ starts_anew_in state.output state.sets starts.unit later ended state.phase starts.starts starts.waits
     ∙ ap (λ us. closing_events state.output state.phase ++ events_from (waiting_after output before) us ended) (sym from_there)
     ∙ ap (λ es. closing_events state.output state.phase ++ es) anew
+
+-- ---- pictures show no unit's number
+
+-- every unit with the number 0
+abbrev zeroed : Piece → Piece
+zeroed u = record u { index = 0 }
+
+abbrev to_zero : ℕ → ℕ
+to_zero n = 0
+
+alike_zeroed : (us us' : List Piece) → map contents us ≡ map contents us' → AreAlike to_zero us' (map zeroed us)
+alike_zeroed [] [] e = tt
+alike_zeroed (u ∷ us) (u' ∷ us') e = (like to_zero u' (zeroed u) (cc e) refl, alike_zeroed us us' (cc e))
+alike_zeroed _ _ e = cc e
+
+kinds_kept : (es : List Event) → list_all is_picture (map (renumbered_event to_zero) es) ≡ list_all is_picture es
+kinds_kept [] = refl
+kinds_kept (Picture p ∷ es) = kinds_kept es
+kinds_kept (Refused n f ∷ es) = refl
+
+pictures_kept : (es : List Event) → list_all is_picture es ≡ true → map (renumbered_event to_zero) es ≡ es
+pictures_kept [] h = refl
+pictures_kept (Picture p ∷ es) h = ap (λ l. Picture p ∷ l) (pictures_kept es h)
+pictures_kept (Refused n f ∷ es) h = cc h
+
+same_pictures : (es es' : List Event) → list_all is_picture es ≡ true → map (renumbered_event to_zero) es' ≡ map (renumbered_event to_zero) es → es' ≡ es
+same_pictures es es' h e =
+    let too : list_all is_picture es' ≡ true = sym (kinds_kept es') ∙ ap (list_all is_picture) e ∙ kinds_kept es ∙ h in
+    sym (pictures_kept es' too) ∙ e ∙ pictures_kept es h
+
+pub pictures_name_no_units_so : SetsComeAlike → PicturesNameNoUnits
+pictures_name_no_units_so come s s' us us' output w w' sets same h =
+    let these = events-same come to_zero us (map zeroed us) s s true refl refl (w ∙ ap (renumbered_phase to_zero) (sym w)) (alike_zeroed us us refl) in
+    let those =
+    events-same come to_zero us' (map zeroed us) s' s true (sym output) (sym sets) (w ∙ ap (renumbered_phase to_zero) (sym w')) (alike_zeroed us us' same) in
+    same_pictures (events_from s us true) (events_from s' us' true) h (sym those ∙ these)

@@ -1,16 +1,225 @@
--- The state of a sequence as pictures are opened and closed.
-use Rattle.std.proofs.Common.{◌≡◌, ℤ, Bool, true, false, List, [], ◌∷◌, ◌++◌, Option, Some, None, Ok, Err, is_ok, is_some, ap, sym, ◌∙◌, arith}
-use Rattle.avc_decoder_core.proofs.Common.{none-some, same_Some, option_map, Fault, Picture, Planes, Frame, Sps, IsSps, Header}
-use Rattle.avc_decoder_core.proofs.Common.{is_idr, is_reference, has_idr_marking, Output, order_counts}
-use Rattle.avc_decoder_core.proofs.Common.{set_with, IsOpening, output_at_closing, FrameBufferState}
-use Rattle.avc_decoder_core.proofs.Common.{BeginsSequence, CanFollow, at_sequence_of, OpenPictureStart, SequenceState}
-use Rattle.avc_decoder_core.proofs.Common.{current_history, IsClosed, OpenPicture, Opening}
-use Rattle.avc_decoder_core.specs.History.{decoded_picture, History, earlier_in_sequence, history_after_closing, history_at_opening}
-use Rattle.avc_decoder_core.specs.History.{marks_of, order_or_0, pasts, sequence_sps, with_missing, with_picture}
+-- Coded video sequences: their reference frames, and the order in which their pictures go out.
+pub mod MissingNumbers
+unfoldable pub use MissingNumbers.*
+use Rattle.avc_decoder_core.specs.History.{marking_entry}
 use Rattle.avc_decoder_core.specs.FrameBufferState.{Stores}
-use Rattle.avc_decoder_core.specs.SequenceFields.{IsStateOf, StandsOn, StandsOnIf, counted, open_picture_of}
-use Rattle.avc_decoder_core.proofs.MissingNumbers.{can_follow, fault_stays, follows, ok_same, set_at_opening}
-use Rattle.avc_decoder_core.proofs.SameSequence.{idr_not_refused}
+
+-- ---- an entry adds no reference frame but its own
+
+-- ---- the marks of a history
+
+-- it could be marked
+record AreMarked (h : History) : Type 0 where
+  marks : Marks
+  is : marks_of h ≡ Ok marks
+
+marked : (h : History) → is_ok (marks_of h) ≡ true → AreMarked h
+marked h ok = grind (arith, wrong)
+
+-- so could all entries but the newest
+pub marked_before : (e : Entry) (older : History) → is_ok (marks_of (e ∷ older)) ≡ true → is_ok (marks_of older) ≡ true
+marked_before e older ok = unless_fault (marks_of older) _ ok
+
+-- the newest entry is marked after the others
+marked_after : (e : Entry) (older : History) (a : AreMarked older) (b : AreMarked (e ∷ older)) →
+    marks_after (marking_entry e) (length older) (marking_entry e).marking a.marks ≡ Ok b.marks
+marked_after e older a b = sym (marks_then e older a.marks a.is) ∙ b.is
+
+-- the marks with the newest entry are those before it, and its own frame
+part_of_older : AddsOwnFrameAlone → (e : Entry) (older : History) (a : AreMarked older) (b : AreMarked (e ∷ older)) →
+    Each (λ r. r.entry < length older) (a.marks).references →
+    IsPartUpToMarks (b.marks).references ((a.marks).references ++ current_frame (marking_entry e) (length older) Short ∷ [])
+part_of_older law e older a b low =
+    law (marking_entry e) (length older) a.marks b.marks (each_all (λ r. r.entry < length older) (a.marks).references low) (marked_after e older a b)
+
+-- the reference frames stand at places of the history
+marked_below : AddsOwnFrameAlone → (h : History) → is_ok (marks_of h) ≡ true → (b : AreMarked h) → Each (λ r. r.entry < length h) (b.marks).references
+marked_below law [] ok b = subst (Each (λ r. r.entry < 0)) (ap or_no_references b.is) tt
+marked_below law (e ∷ older) ok b =
+    let n = length older in
+    let before = marked_before e older ok in
+    let a = marked older before in
+    let low = marked_below law older before a in
+    part_each (λ r. r.entry < length (e ∷ older)) (λ r s same at. subst (λ k. k < length (e ∷ older)) (sym same.same_entry) at)
+    (b.marks).references ((a.marks).references ++ current_frame (marking_entry e) n Short ∷ [])
+    (part_of_older law e older a b low)
+    (each_append (λ r. r.entry < length (e ∷ older)) (a.marks).references (current_frame (marking_entry e) n Short ∷ [])
+    (each_implies (λ r. r.entry < n) (λ r. r.entry < length (e ∷ older)) (a.marks).references (λ r at. omega (arith, at)) low)
+    (omega arith, tt))
+
+-- ---- an entry adds no reference frame but its own
+
+-- a place of the first frames is one of the others
+place_of_part : (place : ℕ) (new old : List Reference) → IsPartUpToMarks new old → is_entry new place ≡ true → is_entry old place ≡ true
+place_of_part place [] old part here = wrong here
+place_of_part place (r ∷ new) [] part here = absurd part
+place_of_part place (r ∷ new) (s ∷ old) (inl both) here = grind (arith, nat_tests, both, place_of_part place new old both.1)
+place_of_part place (r ∷ new) (s ∷ old) (inr part) here = grind (arith, place_of_part place (r ∷ new) old part here)
+
+own_or_other : (place : ℕ) (old : List Reference) (own : Reference) → is_entry (old ++ own ∷ []) place ≡ true →
+    (place ≡ own.entry) ⊎ (is_entry old place ≡ true)
+own_or_other place [] own here = grind (arith, nat_tests)
+own_or_other place (s ∷ old) own here = grind (arith, nat_tests, own_or_other place old own)
+
+arriving_references : (e : Entry) (older : History) → (arrival e older).references ≡ entries (references_of (e ∷ older))
+arriving_references (decoded_picture sps h planes) older = refl
+arriving_references (missing_frame sps frame_num) older = refl
+
+references_before : (h : History) → references_after (arrivals h) ≡ entries (references_of h)
+references_before [] = refl
+references_before (e ∷ older) = arriving_references e older
+
+-- the places of the reference frames of a history
+abbrev is_reference_place : History → (place : ℕ) → Bool
+is_reference_place h place = is_entry (references_of h) place
+
+adds_own : AddsOwnFrameAlone → (e : Entry) (older : History) → is_ok (marks_of (e ∷ older)) ≡ true → (place : ℕ) →
+    is_reference_place (e ∷ older) place ≡ true → (place ≡ length older) ⊎ (is_reference_place older place ≡ true)
+adds_own law e older ok place here =
+    let before = marked_before e older ok in
+    let a = marked older before in
+    let b = marked (e ∷ older) ok in
+    let own = current_frame (marking_entry e) (length older) Short in
+    let part = part_of_older law e older a b (marked_below law older before a) in
+    let now : is_entry (b.marks).references place ≡ true = sym (ap (λ r. is_entry (or_no_references r) place) b.is) ∙ here in
+    subst (λ rs. (place ≡ length older) ⊎ (is_entry rs place ≡ true)) (sym (ap or_no_references a.is))
+    (own_or_other place (a.marks).references own
+    (place_of_part place (b.marks).references ((a.marks).references ++ own ∷ []) part now))
+
+pub adds_own_place : AddsOwnFrameAlone → (e : Entry) (older : History) → is_ok (marks_of (e ∷ older)) ≡ true → (place : ℕ) →
+    list_any (λ p. p == place) (arrival e older).references ≡ true →
+    (place ≡ length (arrivals older)) ⊎ (list_any (λ p. p == place) (references_after (arrivals older)) ≡ true)
+adds_own_place law e older ok place here =
+    let now : is_reference_place (e ∷ older) place ≡ true = sym (ap (list_any (λ p. p == place)) (arriving_references e older)) ∙ here in
+    subst (λ n. (place ≡ n) ⊎ (list_any (λ p. p == place) (references_after (arrivals older)) ≡ true)) (sym (length-arrivals older))
+    (subst (λ ps. (place ≡ length older) ⊎ (list_any (λ p. p == place) ps ≡ true)) (sym (references_before older))
+    (adds_own law e older ok place now))
+
+-- ---- a non-existing frame is a reference frame
+
+own_is_entry : (old : List Reference) (own : Reference) → is_entry (old ++ own ∷ []) own.entry ≡ true
+own_is_entry [] own = grind (arith, nat_tests)
+own_is_entry (s ∷ old) own = grind (arith, own_is_entry old own)
+
+slid : (s : MarkingEntry) (n : ℕ) (m m' : Marks) → marks_after s n (Some SlidingWindow) m ≡ Ok m' → is_entry m'.references n ≡ true
+slid s n m m' is = by (after_sliding_window s m.references) is
+  where
+    by : (r : Result (List Reference) Fault) → (r >>= λ references. Ok (record m { references = references ++ current_frame s n Short ∷ [] })) ≡ Ok m' → is_entry m'.references n ≡ true
+    by r is = let own = λ (rs : List Reference). own_is_entry rs (current_frame s n Short) in grind (arith, own)
+
+pub missing_is_reference : (sps : Sps) (frame_num : ℕ) (older : History) → is_ok (marks_of (missing_frame sps frame_num ∷ older)) ≡ true →
+    list_any (λ p. p == length (arrivals older)) (arrival (missing_frame sps frame_num) older).references ≡ true
+missing_is_reference sps frame_num older ok =
+    let e = missing_frame sps frame_num in
+    let a = marked older (marked_before e older ok) in
+    let b = marked (e ∷ older) ok in
+    subst (λ n. is_reference_place (e ∷ older) n ≡ true) (sym (length-arrivals older))
+    (ap (λ r. is_entry (or_no_references r) (length older)) b.is
+    ∙ slid (marking_entry e) (length older) a.marks b.marks (marked_after e older a b))
+
+-- ---- where the reordering of pictures stays within its limits, early output hands them out in the order of full output
+
+-- ---- the limit of a sequence
+
+-- parameter sets with the same contents give the same limit
+same_limits : (a b : Sps) → same_sps a b ≡ true → reorder_limit a ≡ reorder_limit b
+same_limits a b e = by_vui a.vui b.vui (search (left, right) depth 16)
+  where
+    limit : Option Restriction → Option ℕ
+    limit o = option_map (λ r. r.max_num_reorder_frames) o
+
+    by_restriction : (o p : Option Restriction) → option_eq same_restriction o p ≡ true → limit o ≡ limit p
+    by_restriction None None e = refl
+    by_restriction None (Some s) e = wrong e
+    by_restriction (Some r) None e = wrong e
+    by_restriction (Some r) (Some s) e = ap Some (eqb-true r.max_num_reorder_frames s.max_num_reorder_frames (search (left, right) depth 16))
+
+    by_vui : (o p : Option Vui) → option_eq same_vui o p ≡ true →
+        limit (elim o as (λ _. Option Restriction) [ None ↦ None | Some v ↦ v.restriction ])
+        ≡ limit (elim p as (λ _. Option Restriction) [ None ↦ None | Some v ↦ v.restriction ])
+    by_vui None None e = refl
+    by_vui None (Some w) e = wrong e
+    by_vui (Some v) None e = wrong e
+    by_vui (Some v) (Some w) e = by_restriction v.restriction w.restriction (search (left, right) depth 16)
+
+-- the limit after entries is that of each parameter set of their sequence
+limit_in_sequence : (older : History) → EachCanCome older → (sps : Sps) → is_same_sps (sequence_sps older) sps ≡ true →
+    reorder_limit sps ≡ limit_after (arrivals older)
+limit_in_sequence [] come sps same = wrong same
+limit_in_sequence (decoded_picture before h planes ∷ older) come sps same = by (is_idr h) refl same (limit_in_sequence older come.1)
+  where
+    by : (idr : Bool) → is_idr h ≡ idr →
+        is_same_sps (elim idr as (λ _. Option Sps) [ true ↦ Some before | false ↦ sequence_sps older ]) sps ≡ true →
+        ((set : Sps) → is_same_sps (sequence_sps older) set ≡ true → reorder_limit set ≡ limit_after (arrivals older)) →
+        reorder_limit sps ≡ reorder_limit before
+    by true is same rest = sym (same_limits before sps same)
+    by false is same rest = rest sps same ∙ sym (rest before ((come.0).same is))
+limit_in_sequence (missing_frame set frame_num ∷ older) come sps same = limit_in_sequence older come sps same
+
+-- the limit before a picture is its own, where it is not the first
+limit_before : (sps : Sps) (h : Header) (older : History) → EachCanCome older → CanCome sps h older →
+    (arrivals older ≡ []) ⊎ (reorder_limit sps ≡ limit_after (arrivals older))
+limit_before sps h older each come = grind (arith, limit_in_sequence)
+
+-- ---- the pictures that go out late
+
+count_less : (first later place : ℕ) → first ≤ later → (ps : List ℕ) →
+    count_by (λ p. nat_le later p && nat_lt p place) ps ≤ count_by (λ p. nat_le first p && nat_lt p place) ps
+count_less first later place low [] = omega arith
+count_less first later place low (p ∷ ps) =
+    let fewer = sum_by-cons (λ p. cond (nat_le later p && nat_lt p place) 1 0) p ps in
+    let more = sum_by-cons (λ p. cond (nat_le first p && nat_lt p place) 1 0) p ps in
+    grind (arith, nat_tests, fewer, more, count_less first later place low ps)
+
+-- from a later place on there are no more of them
+reordered_less : (first later place : ℕ) (order : List ℕ) → first ≤ later → reordered later place order ≤ reordered first place order
+reordered_less first later place order low = count_less first later place low (places_after place order)
+
+newest_within : (order : List ℕ) (sps : Sps) (h : Header) (planes : Planes) (older : History) →
+    NewestIsWithin order (decoded_picture sps h planes ∷ older) →
+    IfSome (reorder_limit sps) (λ most. reordered (last_emptying (arrivals (decoded_picture sps h planes ∷ older))) (length (arrivals older)) order ≤ most)
+newest_within order sps h planes older within =
+    let later = last_emptying (arrivals (decoded_picture sps h planes ∷ older)) in
+    let less = reordered_less 0 later (length older) order (omega arith) in
+    subst (λ n. IfSome (reorder_limit sps) (λ most. reordered later n order ≤ most)) (sym (length-arrivals older))
+    (if_some (λ most. reordered 0 (length older) order ≤ most) (λ most. reordered later (length older) order ≤ most) (reorder_limit sps)
+    (λ most is few. omega (arith, less, few)) within)
+
+-- ---- each entry
+
+can_go_out_early : AddsOwnFrameAlone → (order : List ℕ) (e : Entry) (older : History) → EachCanCome (e ∷ older) →
+    is_ok (marks_of (e ∷ older)) ≡ true → NewestIsWithin order (e ∷ older) →
+    CanGoOutEarly order (arrival e older) (arrivals older)
+can_go_out_early law order (decoded_picture sps h planes) older come ok within = record {
+  references = adds_own_place law (decoded_picture sps h planes) older ok;
+  non_existing = λ missing. wrong (sym missing);
+  no_limit = λ missing. wrong (sym missing);
+  limit = λ _. limit_before sps h older come.1 come.0;
+  within = λ _. newest_within order sps h planes older within;
+}
+can_go_out_early law order (missing_frame sps frame_num) older come ok within = record {
+  references = adds_own_place law (missing_frame sps frame_num) older ok;
+  non_existing = λ _. missing_is_reference sps frame_num older ok;
+  no_limit = λ _. refl;
+  limit = λ existing. wrong existing;
+  within = λ existing. wrong existing;
+}
+
+come_before : (e : Entry) (older : History) → EachCanCome (e ∷ older) → EachCanCome older
+come_before e older come = grind arith
+
+all_can_go_out_early : AddsOwnFrameAlone → (order : List ℕ) (h : History) → EachCanCome h → is_ok (marks_of h) ≡ true →
+    EachIsWithin order h → AllCanGoOutEarly order (arrivals h)
+all_can_go_out_early law order [] come ok within = tt
+all_can_go_out_early law order (e ∷ older) come ok within = (
+  can_go_out_early law order e older come ok within.0,
+  all_can_go_out_early law order older (come_before e older come) (marked_before e older ok) within.1,
+)
+
+pub early_output_keeps_histories : EarlyOutputKeepsTheOrder → AddsOwnFrameAlone → EarlyOutputKeepsHistories
+early_output_keeps_histories early law h come ok within = grind (arith, all_can_go_out_early)
+
+-- ---- the state of a sequence as pictures are opened and closed
 
 -- ---- with no open picture
 

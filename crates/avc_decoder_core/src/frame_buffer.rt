@@ -253,7 +253,7 @@ impl FrameBuffer {
     }
 
     /// Whether a frame can be marked that stands for a missing number, or TooManyReferences (8.2.5.3).
-    #[tactic(auto, using(crate::proofs::State::few_needed))]
+    #[tactic(auto, using(crate::proofs::Sequences::few_needed))]
     pub fn can_store_missing(&self, sps: &Sps, frame_num: u32) -> Result<(), Fault>
         requires going { self.now.failed ≡ false }
         requires sps { IsSps sps.now }
@@ -264,7 +264,7 @@ impl FrameBuffer {
     }
 
     /// Stores a frame that stands for a missing number (8.2.5.2), which can be marked. Answers the pictures that go out.
-    #[tactic(auto, using(crate::proofs::State::few_needed))]
+    #[tactic(auto, using(crate::proofs::Sequences::few_needed))]
     pub fn store_missing(&mut self, sps: &Sps, frame_num: u32) -> Result<Vec<Picture>, OutOfMemory>
         requires going { self.old.failed ≡ false }
         requires sps { IsSps sps.now }
@@ -301,7 +301,7 @@ impl FrameBuffer {
 
     /// Whether only the last of these missing numbers matter: the sliding window is full, and takes only frames that are not needed for output. A
     /// window is so after at most twice as many missing numbers as it has frames.
-    #[tactic(auto, using(crate::proofs::State::few_needed))]
+    #[tactic(auto, using(crate::proofs::Sequences::few_needed))]
     pub fn is_settled(&self, sps: &Sps, numbers: &MissingFrameNums) -> bool
         requires going { self.now.failed ≡ false }
         requires sps { IsSps sps.now }
@@ -376,7 +376,7 @@ impl FrameBuffer {
 
     /// Marks a decoded picture (8.2.5.1) with this PicOrderCnt and stores it. `closed` becomes the history with it. Answers the
     /// pictures that go out.
-    #[tactic(auto, using(crate::proofs::State::few_needed))]
+    #[tactic(auto, using(crate::proofs::Sequences::few_needed))]
     pub fn store_picture(
         &mut self,
         sps: &Sps,

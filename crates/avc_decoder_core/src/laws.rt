@@ -8,14 +8,14 @@ use avc_dpb::laws::early_output_keeps_the_order;
 use avc_marking::laws::marking_keeps_frames;
 
 /// What goes out for missing frame numbers goes first of what is needed for output.
-#[tactic(auto, using(crate::proofs::NeededForOutput::missing_numbers_keep_the_order))]
+#[tactic(auto, using(crate::proofs::Sequences::missing_numbers_keep_the_order))]
 pub fn missing_numbers_keep_the_order()
     ensures { MissingNumbersKeepTheOrder }
 {}
 
 /// Where the reordering of pictures stays within max_num_reorder_frames, early output hands them out in the order of full output
 /// (E.2.1).
-#[tactic(auto, using(crate::proofs::SequenceOrder::early_output_keeps_histories))]
+#[tactic(auto, using(crate::proofs::Sequences::early_output_keeps_histories))]
 pub fn early_output_keeps_histories()
     ensures { EarlyOutputKeepsHistories }
 {

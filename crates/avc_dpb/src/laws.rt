@@ -16,13 +16,13 @@ pub fn all_go_out_by_bumping()
 {}
 
 /// What goes out where the buffer is emptied: all that is needed for output, in order.
-#[tactic(auto, using(crate::proofs::Conserved::all_held_go_out))]
+#[tactic(auto, using(crate::proofs::EarlyOrder::all_held_go_out))]
 pub fn all_held_go_out()
     ensures { AllHeldGoOut }
 {}
 
 /// After every history the frames of the buffer stand in decoding order.
-#[tactic(auto, using(crate::proofs::Conserved::stands_in_decoding_order))]
+#[tactic(auto, using(crate::proofs::EarlyOrder::stands_in_decoding_order))]
 pub fn stands_in_decoding_order()
     ensures { StandsInDecodingOrder }
 {}
@@ -33,19 +33,19 @@ pub fn out_only_grows()
 {}
 
 /// What goes out before an entry, and then what goes out with it.
-#[tactic(auto, using(crate::proofs::Conserved::goes_out_in_turn))]
+#[tactic(auto, using(crate::proofs::EarlyOrder::goes_out_in_turn))]
 pub fn goes_out_in_turn()
     ensures { GoesOutInTurn }
 {}
 
 /// The buffer never has more frames than the greatest of its sizes.
-#[tactic(auto, using(crate::proofs::Conserved::holds_at_most))]
+#[tactic(auto, using(crate::proofs::EarlyOrder::holds_at_most))]
 pub fn holds_at_most()
     ensures { HoldsAtMost }
 {}
 
 /// Each picture goes out once in the end, and nothing else goes out.
-#[tactic(auto, using(crate::proofs::Once::goes_out_once))]
+#[tactic(auto, using(crate::proofs::EarlyOrder::goes_out_once))]
 pub fn goes_out_once()
     ensures { GoesOutOnce }
 {}
@@ -56,7 +56,7 @@ pub fn missing_frames_keep_the_order()
 {}
 
 /// A non-existing frame for which there is room lets nothing go out (C.4.2).
-#[tactic(auto, using(crate::proofs::FindingRoom::missing_frames_find_room))]
+#[tactic(auto, using(crate::proofs::EarlyOrder::missing_frames_find_room))]
 pub fn missing_frames_find_room()
     ensures { MissingFramesFindRoom }
 {}

@@ -1,19 +1,80 @@
--- The front of a stream, piece after piece.
-use Rattle.std.proofs.Common.{◌≡◌, ℕ, true, false, List, [], ◌++◌, take, Option, Some, None, Result, refl, ap, sym, subst, ◌∙◌, arith}
-use Rattle.avc_formats.proofs.Common.{if◌then◌else◌, unwrap_or, IsErrAnd, Consumes, IsAtEnd, Keeps, Appends-nil}
-use Rattle.avc_formats.proofs.Common.{Consumes-kept, Consumes-trans, SplitterState, after_feed, after_finish}
-use Rattle.avc_formats.proofs.Common.{SetUnit, Sps, set_units, set_units-append, units_left, max_unit, Format, RunFault}
-use Rattle.avc_formats.proofs.Common.{Read, Memory, first_sps, in_front, stream_sps, Decodes, IsFound}
-use Rattle.avc_formats.proofs.Common.{IsFront, IsLooking, IsSaid, NoFront, Presentation}
-use Rattle.avc_annexb.specs.Laws.{UnitsStay}
-use Rattle.avc_annexb.specs.Units.{units}
-use Rattle.avc_tools.proofs.Growing.{AreLeft, drained, left_by_feed, left_by_finish}
-use Rattle.avc_run.specs.Output.{Output}
-use Rattle.avc_run.specs.declared.report.Report.{Report}
-use Rattle.avc_run.proofs.Running.{err_is}
-use Rattle.avc_formats.specs.Presenting.{no_presentation, Says}
-use Rattle.avc_formats.proofs.Finding.{first_behind}
-use Rattle.avc_run.proofs.StreamWriting.{nothing_more}
+-- The front of a stream, units one after the other until decoding can start, and text in columns and parts.
+pub mod Common
+unfoldable pub use Common.*
+
+-- ---- units are taken one after the other, until decoding can start with one
+
+-- ---- the first set
+
+first_of-assoc : {A : Type 0} (a b c : Option A) → first_of a (first_of b c) ≡ first_of (first_of a b) c
+first_of-assoc a b c = grind arith
+
+pub first-append : (sets : List SetUnit) (us vs : List Unit) → first_sps sets (us ++ vs) ≡ first_of (first_sps sets us) (first_sps (sets ++ set_units us) vs)
+first-append sets [] vs = ap (λ l. first_sps l vs) (sym (append-nil sets))
+first-append sets (u ∷ us) vs =
+    let first = starting_sps (sets_after sets) u in
+    let next = sets ++ set_units (u ∷ []) in
+    ap (first_of first) (first-append next us vs)
+    ∙ first_of-assoc first (first_sps next us) (first_sps (next ++ set_units us) vs)
+    ∙ ap (λ l. first_of (first_of first (first_sps next us)) (first_sps l vs)) (sets_then sets u us)
+
+-- where none stands in the front
+pub first_behind : (sets : List SetUnit) (us vs : List Unit) → first_sps sets us ≡ None → first_sps sets (us ++ vs) ≡ first_sps (sets ++ set_units us) vs
+first_behind sets us vs none = first-append sets us vs ∙ ap (λ o. first_of o (first_sps (sets ++ set_units us) vs)) none
+
+-- what is said stays said
+said_first : (a b : Option Sps) (p : Presentation) → IsSaid a (Some p) → IsSaid (first_of a b) (Some p)
+said_first a b p said = grind arith
+
+pub said_still : (sets : List SetUnit) (us vs : List Unit) (p : Presentation) → IsSaid (first_sps sets us) (Some p) → IsSaid (first_sps sets (us ++ vs)) (Some p)
+said_still sets us vs p said =
+    subst (λ o. IsSaid o (Some p)) (sym (first-append sets us vs)) (said_first (first_sps sets us) (first_sps (sets ++ set_units us) vs) p said)
+
+-- nothing is said where there is no set
+not_said : (a : Option Sps) → IsSaid a None → a ≡ None
+not_said a said = grind arith
+
+-- ---- units that were taken
+
+-- These units were taken, with the sets that they brought, and decoding can start with none of them.
+pub record ArePassed (before now : List SetUnit) (done : List Unit) : Type 0 where
+  pub sets : now ≡ before ++ set_units done
+  pub none : first_sps before done ≡ None
+
+-- the set of one unit more
+first_next : (before old : List SetUnit) (u : Unit) (done : List Unit) → ArePassed before old done
+    → first_sps before (done ++ u ∷ []) ≡ first_of (starting_sps (sets_after old) u) None
+first_next before old u done h =
+    first_behind before done (u ∷ []) h.none ∙ ap (λ l. first_of (starting_sps (sets_after l) u) None) (sym h.sets)
+
+pub passed_more : (before old new : List SetUnit) (u : Unit) (said : Option Presentation) → IsSaid (starting_sps (sets_after old) u) said → (is_some said ≡ true → ⊥)
+    → new ≡ old ++ set_units (u ∷ []) → (done : List Unit) → ArePassed before old done → ArePassed before new (done ++ u ∷ [])
+passed_more before old new u said is none put done h = record {
+  sets = put ∙ ap (λ l. l ++ set_units (u ∷ [])) h.sets ∙ append_assoc before (set_units done) (set_units (u ∷ [])) ∙ ap (λ l. before ++ l) (sym (set_units-append done (u ∷ [])));
+  none = first_next before old u done h ∙ ap (λ o. first_of o None) (by said is none);
+}
+  where
+    by : (said : Option Presentation) → IsSaid (starting_sps (sets_after old) u) said → (is_some said ≡ true → ⊥) → starting_sps (sets_after old) u ≡ None
+    by None is none = not_said (starting_sps (sets_after old) u) is
+    by (Some p) is none = absurd (none refl)
+
+first_alone : (a : Option Sps) → first_of a None ≡ a
+first_alone a = grind arith
+
+pub found_at : (before old : List SetUnit) (u : Unit) (p : Presentation) → IsSaid (starting_sps (sets_after old) u) (Some p) → (done : List Unit) → ArePassed before old done
+    → IsSaid (first_sps before (done ++ u ∷ [])) (Some p)
+found_at before old u p is done h =
+    subst (λ o. IsSaid o (Some p)) (sym (first_next before old u done h ∙ first_alone (starting_sps (sets_after old) u))) is
+
+-- which is the first of all
+pub found_first : (old s new : SplitterState) (next : Option Unit) (u : Unit) (before now : List SetUnit) (said : Option Presentation) → IsDraining max_unit old s (ArePassed before now) → old.failed ≡ false
+    → next ≡ next_unit_of max_unit s → new ≡ after_next_unit s next → next ≡ Some u → IsSaid (starting_sps (sets_after now) u) said → is_some said ≡ true → IsFound old new before now said
+found_first old s new next u before now None i going gives takes is told some = cc
+found_first old s new next u before now (Some p) i going gives takes is told some =
+    let d = one_more max_unit old s new next u (ArePassed before now) (λ done. IsSaid (first_sps before done) (Some p)) i going gives takes is (found_at before now u p told) in
+    subst (λ us. IsSaid (first_sps before us) (Some p)) (sym d.rest) (said_still before d.done (units_left max_unit new) p d.so_far)
+
+-- ---- the front of a stream, piece after piece
 
 -- the units of the bytes
 units_are : (unread left : Option (List ℕ)) (bytes : List ℕ) (s : SplitterState) (sets : List SetUnit) → IsLooking unread left bytes s sets
@@ -128,3 +189,71 @@ no_memory unread left left' bytes s sets piece fault i more is = rw is (bytes ++
 pub decodes_not : (format : Presentation → Format) (output : Output) (unread left holds : Option (List ℕ)) (r : Result Report RunFault) (fault : RunFault) → IsErrAnd r (λ e. e ≡ fault)
     → NoFront fault unread left → Decodes format output unread left holds holds r
 decodes_not format output unread left holds r fault is none = in_front fault (err_is r fault is) none (Appends-nil holds)
+
+-- ---- text that is joined in steps
+
+pub joined_shape : (t x w y h z r a s t1 t2 t3 t4 : List ℕ) → t1 ≡ t ++ (x ++ (w ++ (y ++ (h ++ z)))) → t2 ≡ t1 ++ r → t3 ≡ t2 ++ a → t4 ≡ t3 ++ s
+    → t4 ≡ t ++ (((((((x ++ w) ++ y) ++ h) ++ z) ++ r) ++ a) ++ s)
+joined_shape t x w y h z r a s t1 t2 t3 t4 e1 e2 e3 e4 = rw (e4, e3, e2, e1) (simp append_assoc)
+
+pub joined_four : (t a b c d t1 t2 t3 t4 b' c' : List ℕ) → t1 ≡ t ++ a → t2 ≡ t1 ++ b' → b' ≡ b → t3 ≡ t2 ++ c' → c' ≡ c → t4 ≡ t3 ++ d
+    → t4 ≡ t ++ (((a ++ b) ++ c) ++ d)
+joined_four t a b c d t1 t2 t3 t4 b' c' e1 e2 is_b e3 is_c e4 = rw (e4, e3, is_c, e2, is_b, e1) (simp append_assoc)
+
+pub joined_six : (t a b c d e f t1 t2 t3 t4 t5 t6 : List ℕ) → t1 ≡ t ++ a → t2 ≡ t1 ++ b → t3 ≡ t2 ++ c → t4 ≡ t3 ++ d → t5 ≡ t4 ++ e → t6 ≡ t5 ++ f
+    → t6 ≡ t ++ (((((a ++ b) ++ c) ++ d) ++ e) ++ f)
+joined_six t a b c d e f t1 t2 t3 t4 t5 t6 e1 e2 e3 e4 e5 e6 = rw (e6, e5, e4, e3, e2, e1) (simp append_assoc)
+
+-- ---- what is written in two parts
+
+-- a fault in the second
+pub second_broken : (old mid new : Option (List ℕ)) (a b : List ℕ) (n : ℕ) → Appends old mid a → n < length b → Appends mid new (take n b) → WritesFirst old new (a ++ b)
+second_broken old mid new a b n first fewer second = stopped_after old mid new a b first (record { count = n; fewer = fewer; written = second })
+
+-- as the result says it
+pub err_with : {A : Type 0} (r : Result A RunFault) (f : RunFault) (holds : RunFault → Type 0) → IsErrAnd r (λ e. e ≡ f) → holds f → IfErr r holds
+err_with (Ok a) f holds is h = absurd is
+err_with (Err e) f holds is h = subst holds (sym is) h
+
+-- nothing of a text that ends a line
+pub none_of_line : (old : Option (List ℕ)) (a b : List ℕ) → WritesFirst old old (a ++ (b ++ newline))
+none_of_line old a b = record {
+  count = 0;
+  fewer = omega (arith, length-append a (b ++ newline), length-append b newline);
+  written = Appends-nil old;
+}
+
+-- a fault of writing this text
+pub text_stopped : (r : Result (Prim.Unit {0}) RunFault) (old new : Option (List ℕ)) (written text : List ℕ) → written ≡ text
+    → IfErr r (λ fault. (fault ≡ Write) × WritesFirst old new written) → IfErr r (λ fault. StopsPicture fault true old new text)
+text_stopped (Ok done) old new written text is h = tt
+text_stopped (Err fault) old new written text is (by_write, first) =
+    subst (λ f. StopsPicture f true old new text) (sym by_write) (subst (WritesFirst old new) is first)
+
+-- ---- numbers in columns
+
+spaces : (n : ℕ) → repeat {A = ℕ} n (32 ∷ []) ≡ replicate n 32
+spaces zero = refl
+spaces (suc n) = ap (λ l. 32 ∷ l) (spaces n)
+
+no_chars : char_count [] ≡ 0
+unfolding char_count
+no_chars = refl
+
+filled : (numeral : List ℕ) (count width : ℕ) → count ≡ width - length numeral
+    → repeat {A = ℕ} count (32 ∷ []) ++ [] ++ [] ++ [] ++ (numeral ++ repeat {A = ℕ} (count - count) (32 ∷ [])) ≡ replicate (width - length numeral) 32 ++ numeral
+filled numeral count width is =
+    let none : count - count ≡ 0 = omega arith in
+    rw (none, spaces count, is) (simp append-nil)
+
+padded_right : (width : ℕ) (numeral : List ℕ)
+    → padded_integral (format_spec 32 3 0 width (2 ^ 64 - 1)) false [] numeral ≡ replicate (width - length numeral) 32 ++ numeral
+unfolding padded_integral lib.Utf8.encode
+padded_right width numeral = filled numeral (width - length numeral - 0 - char_count []) width (omega (arith, no_chars))
+
+-- what `{n:>10}` and `{n:>8}` write
+pub column_10 : (n : ℕ) → styled_decimal (format_spec 32 3 0 10 (2 ^ 64 - 1)) n ≡ column 10 n
+column_10 n = padded_right 10 (decimal n)
+
+pub column_8 : (n : ℕ) → styled_decimal (format_spec 32 3 0 8 (2 ^ 64 - 1)) n ≡ column 8 n
+column_8 n = padded_right 8 (decimal n)

@@ -1,6 +1,1 @@
-mod Common
-mod Finding
-mod Fronts
-mod Writing
-mod Joining
-mod Columns
+pub mod Fronts

@@ -1,17 +1,14 @@
--- Units are taken one after the other.
-use Rattle.avc_info.proofs.Common.{◌≡◌, ◌≤◌, ℕ, Bool, true, false, List, [], ◌∷◌, ◌++◌, length, if◌then◌else◌, refl, ap, sym, ◌∙◌}
-use Rattle.avc_info.proofs.Common.{append_assoc, append-nil, SplitterState, after_feed, AreLeft, drained, StreamSoFar, after_end}
-use Rattle.avc_info.proofs.Common.{after_piece, after_units_left, units_left, AreNoted, info_so_far}
-use Rattle.avc_annexb.specs.Units.{units}
-use Rattle.avc_annexb.specs.declared.unit.Unit.{Unit}
-use Rattle.avc_params.specs.Tables.{sets_after}
-use Rattle.avc_params.specs.declared.set_unit.SetUnit.{SetUnit}
-use Rattle.avc_units.specs.Grouping.{list_of, set_unit, set_units}
-use Rattle.avc_tools.proofs.Lengths.{whole_units}
-use Rattle.avc_tools.proofs.Shown.{set_units-append}
-use Rattle.avc_info.specs.Facts.{no_facts}
-use Rattle.avc_info.specs.Noting.{after_unit, facts_after}
-use Rattle.avc_info.specs.declared.stream_facts.StreamFacts.{StreamFacts}
+-- Units are taken one after the other, and objects of JSON are made member by member.
+pub mod Common
+unfoldable pub use Common.*
+
+-- ---- objects of JSON are made member by member
+
+-- one member more
+pub with_one : (k : List ℕ) (d d' : Data) (old old' new : Members) → new ≡ put k d old → d ≡ d' → old ≡ old' → new ≡ put k d' old'
+with_one k d d' old old' new is value before = is ∙ ap (λ x. put k x old) value ∙ ap (put k d') before
+
+-- ---- units are taken one after the other
 
 -- one unit's sets in front
 sets_then : (sets : List SetUnit) (u : Unit) (us : List Unit) → (sets ++ set_units (u ∷ [])) ++ set_units us ≡ sets ++ set_units (u ∷ us)

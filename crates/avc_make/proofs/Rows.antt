@@ -4,7 +4,7 @@ use Rattle.avc_make.proofs.Slices.{pps_bits, IsUnit, pps_header, sps_header, se_
 use Rattle.avc_make.proofs.Slices.{mb_bits, ◌++◌, Some, Type0, Header, i_type, zeros_to_byte, sps_bits, header_bits, slice_unit_header}
 use Rattle.avc_params.specs.declared.sps.OrderCount.TheVariants as orders
 use Rattle.avc_slice.specs.declared.header.SliceType.TheVariants.{AllI}
-use Rattle.avc_slice.proofs.Rows as Read
+use Rattle.avc_slice.proofs.ReadUnder as Read
 
 codewords : (ue_word 0 ≡ true ∷ []) × (ue_word 4 ≡ false ∷ false ∷ true ∷ false ∷ true ∷ []) × (se_word (negsuc 0) ≡ false ∷ true ∷ true ∷ [])
 unfolding se_word ue_word count_leading_zeros

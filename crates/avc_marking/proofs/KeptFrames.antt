@@ -1,14 +1,67 @@
--- Which frames an entry leaves.
-use Rattle.avc_marking.proofs.Common.{list_any, filter, ◌⊎◌, is_some, ◌==◌, if◌then◌else◌, nat_tests, All-head, All-tail}
-use Rattle.avc_marking.proofs.Common.{All-nil, CurrentFrameNum, Fault, Mark, Short, Long, Marking}
-use Rattle.avc_marking.proofs.Common.{Idr, SlidingWindow, Adaptive, Operation, Reference, is_short}
-use Rattle.avc_marking.proofs.Common.{has_long_term_frame_idx, placed_by, ◌>>=◌, IsSameFrame, IsPartUpToMarks, AddsOwnFrameAlone}
-use Rattle.avc_marking.proofs.Common.{unmarks_all, LeavesOwnFrameAlone, SlidesAgain}
-use Rattle.std.specs.Result.{is_ok}
-use Rattle.std.proofs.Common.{◌≡◌, ℕ, ◌<◌, Bool, true, false, not, ◌||◌, ◌&&◌, List, [], ◌∷◌, ◌++◌, map, All, Option, Some, None, Result, Ok, Err, slice_get, refl, inl, inr, arith, append-nil}
-use Rattle.std.proofs.lemmas.List.Folds.{list_any-append}
-use Rattle.avc_marking.specs.Marks.{MarkingEntry, Marks, OperationState, refuse_unless, without_frame, without_long_term_frame_idx, with_mark, is_index_allowed, first_in_window, after_sliding_window, with_references, long_term_current, with_long_term_current, after_operation, after_operations, is_unmark_all, current_frame, with_current_frame, within_limit, before_operations, marks_after}
-use Rattle.avc_marking.proofs.Parts.{same-refl, part-refl, part-trans, part-append, part-none, part-filter, part-map, part-front, part-own}
+-- Which frames an entry leaves, how many they may be, and worked examples.
+pub mod References
+unfoldable pub use References.*
+use Rattle.avc_types.specs.declared.fault.Fault.TheVariants as faults
+
+-- ---- a part of reference frames in their order, where only marks may differ
+
+-- ---- the relation
+
+pub same-refl : (r : Reference) → IsSameFrame r r
+same-refl r = record { same_entry = refl; same_frame_num = refl; same_existing = refl }
+
+pub same-trans : (r s t : Reference) → IsSameFrame r s → IsSameFrame s t → IsSameFrame r t
+same-trans r s t h k = grind arith
+
+-- one frame more may be passed over
+pub part-behind : (xs ys : List Reference) (s : Reference) → IsPartUpToMarks xs ys → IsPartUpToMarks xs (s ∷ ys)
+part-behind [] ys s h = tt
+part-behind (r ∷ xs) ys s h = inr h
+
+pub part-refl : (xs : List Reference) → IsPartUpToMarks xs xs
+part-refl [] = tt
+part-refl (r ∷ xs) = inl (same-refl r, part-refl xs)
+
+pub part-trans : (xs ys zs : List Reference) → IsPartUpToMarks xs ys → IsPartUpToMarks ys zs → IsPartUpToMarks xs zs
+part-trans [] ys zs h k = tt
+part-trans (x ∷ xs) [] zs h k = absurd h
+part-trans (x ∷ xs) (y ∷ ys) [] h k = absurd k
+part-trans (x ∷ xs) (y ∷ ys) (z ∷ zs) (inl h) (inl k) = inl (same-trans x y z h.0 k.0, part-trans xs ys zs h.1 k.1)
+part-trans (x ∷ xs) (y ∷ ys) (z ∷ zs) (inr h) (inl k) = inr (part-trans (x ∷ xs) ys zs h k.1)
+part-trans (x ∷ xs) (y ∷ ys) (z ∷ zs) h (inr k) = inr (part-trans (x ∷ xs) (y ∷ ys) zs h k)
+
+pub part-append : (xs ys us vs : List Reference) → IsPartUpToMarks xs ys → IsPartUpToMarks us vs → IsPartUpToMarks (xs ++ us) (ys ++ vs)
+part-append [] [] us vs h k = k
+part-append [] (y ∷ ys) us vs h k = part-behind us (ys ++ vs) y (part-append [] ys us vs tt k)
+part-append (x ∷ xs) [] us vs h k = absurd h
+part-append (x ∷ xs) (y ∷ ys) us vs (inl h) k = inl (h.0, part-append xs ys us vs h.1 k)
+part-append (x ∷ xs) (y ∷ ys) us vs (inr h) k = inr (part-append (x ∷ xs) ys us vs h k)
+
+pub part-own : (xs ys : List Reference) (own : Reference) → IsPartUpToMarks xs ys → IsPartUpToMarks (xs ++ own ∷ []) (ys ++ own ∷ [])
+part-own xs ys own h = part-append xs ys (own ∷ []) (own ∷ []) h (part-refl (own ∷ []))
+
+pub part-front : (xs ys : List Reference) → IsPartUpToMarks xs (xs ++ ys)
+part-front [] ys = tt
+part-front (x ∷ xs) ys = inl (same-refl x, part-front xs ys)
+
+-- a part of no frames has none
+pub part-none : (xs : List Reference) → IsPartUpToMarks xs [] → xs ≡ []
+part-none [] h = refl
+part-none (x ∷ xs) h = absurd h
+
+-- ---- what makes a part
+
+pub part-filter : (keep : Reference → Bool) (xs : List Reference) → IsPartUpToMarks (filter keep xs) xs
+part-filter keep [] = tt
+part-filter keep (x ∷ xs) = grind (arith, same-refl, part-behind, (part-filter keep xs))
+
+pub part-map : (change : Reference → Reference) → ((r : Reference) → IsSameFrame (change r) r) → (xs : List Reference) → IsPartUpToMarks (map change xs) xs
+part-map change same [] = tt
+part-map change same (x ∷ xs) = inl (same x, part-map change same xs)
+
+-- ---- what holds of a part: its entries
+
+-- ---- which frames an entry leaves
 
 -- ---- results
 
@@ -169,3 +222,153 @@ window-short s entry m m' h = grind (arith, after, last-short)
 
 pub slides_again : SlidesAgain
 slides_again s s' entry entry' m m' h = slides s' entry' m' (window-short s entry m m' h)
+
+-- ---- how many reference frames there may be
+
+-- ---- the frame that slides is one of them
+
+abbrev is_there : Reference → List Reference → Bool
+is_there r references = list_any (λ s. s.entry == r.entry) references
+
+later_too : (a b c : Bool) → (b ≡ true → c ≡ true) → (a || b) ≡ true → (a || c) ≡ true
+later_too true b c h k = refl
+later_too false b c h k = h k
+
+there-filter : (p : Reference → Bool) (r : Reference) (xs : List Reference) → is_there r (filter p xs) ≡ true → is_there r xs ≡ true
+there-filter p r [] h = grind arith
+there-filter p r (x ∷ xs) h = grind (arith, later_too, or_right, (there-filter p r xs))
+
+there-sorted : (current : CurrentFrameNum) (r : Reference) (xs : List Reference) → slice_get (sorted_by (precedes_in_window current) xs) 0 ≡ Some r → is_there r xs ≡ true
+there-sorted current r [] h = cc
+there-sorted current r (x ∷ xs) h = grind (arith, first-placed, or_left, eq-eqb, or_right, (there-sorted current r xs))
+
+fewer : (r : Reference) (xs : List Reference) → is_there r xs ≡ true → length (without_frame r xs) + 1 ≤ length xs
+fewer r [] h = cc
+fewer r (x ∷ xs) h = grind (arith, length-filter, count_by-le-length, (fewer r xs))
+
+slides-fewer : (current : CurrentFrameNum) (xs : List Reference) (r : Reference) → first_in_window current xs ≡ Some r →
+    length (without_frame r xs) + 1 ≤ length xs
+slides-fewer current xs r h = fewer r xs (there-filter is_short r xs (there-sorted current r (filter is_short xs) h))
+
+-- ---- one entry
+
+after_sliding_window-fewer : (n : ℕ) (s : MarkingEntry) (xs ys : List Reference) → limit_of s ≤ n → length xs ≤ n → after_sliding_window s xs ≡ Ok ys → length ys + 1 ≤ n
+after_sliding_window-fewer n s xs ys most few h = grind (arith, slides-fewer, nat_tests)
+
+within-limit : (n : ℕ) (s : MarkingEntry) (m m' : Marks) → limit_of s ≤ n → within_limit s m ≡ Ok m' → length m'.references ≤ n
+within-limit n s m m' most h = grind (arith, nat_tests)
+
+pub stays-with_max_long_term_frame_idx : StaysLimited
+stays-with_max_long_term_frame_idx n s entry m m' most few h = grind (arith, after_sliding_window-fewer n s m.references, within-limit n s, length-append)
+
+pub is-with_max_long_term_frame_idx : IsLimited
+is-with_max_long_term_frame_idx n [] m all h = grind arith
+is-with_max_long_term_frame_idx n (s ∷ older) m all h =
+    after h (λ before e. stays-with_max_long_term_frame_idx n s (length older) before m (All-head (λ t. limit_of t ≤ n) s older all)
+    (is-with_max_long_term_frame_idx n older before (All-tail (λ t. limit_of t ≤ n) s older all) e))
+
+-- ---- worked examples of marking
+
+abbrev entry_row : ℕ → Option Marking → MarkingEntry
+entry_row frame_num marking = record {
+  current = record { frame_num = frame_num; max_frame_num = 16 };
+  max_num_ref_frames = 2;
+  existing = true;
+  marking = marking;
+}
+
+abbrev idr : MarkingEntry
+idr = entry_row 0 (Some (Idr false false))
+
+abbrev p : ℕ → MarkingEntry
+p n = entry_row n (Some SlidingWindow)
+
+abbrev seen_row : Result Marks Fault → Result (List (ℕ × ℕ × Mark)) Fault
+seen_row (Ok m) = Ok (map (λ r. (r.entry, r.frame_num, r.mark)) m.references)
+seen_row (Err f) = Err f
+
+slides_row : seen_row (marks (p 2 ∷ p 1 ∷ idr ∷ [])) ≡ Ok ((1, 1, Short) ∷ (2, 2, Short) ∷ [])
+slides_row = refl
+
+to_long : seen_row (marks (entry_row 1 (Some (Adaptive (MaxLongTermFrameIdx 1 ∷ AssignLongTerm 0 0 ∷ []))) ∷ idr ∷ [])) ≡ Ok ((0, 0, Long 0) ∷ (1, 1, Short) ∷ [])
+to_long = refl
+
+no_index : seen_row (marks (entry_row 1 (Some (Adaptive (AssignLongTerm 0 0 ∷ []))) ∷ idr ∷ [])) ≡ Err faults.BadMarking
+no_index = refl
+
+all_forgotten : seen_row (marks (entry_row 2 (Some (Adaptive (UnmarkAll ∷ []))) ∷ p 1 ∷ idr ∷ [])) ≡ Ok ((2, 0, Short) ∷ [])
+all_forgotten = refl
+
+too_many : seen_row (marks (entry_row 2 (Some (Adaptive [])) ∷ p 1 ∷ idr ∷ [])) ≡ Err faults.TooManyReferences
+too_many = refl
+
+gap : missing_frame_nums (prev_ref_frame_num (p 14 ∷ [])) true (p 1) ≡ Ok (15 ∷ 0 ∷ [])
+gap = refl
+
+no_gap : missing_frame_nums (prev_ref_frame_num (p 15 ∷ [])) true (p 0) ≡ Ok []
+no_gap = refl
+
+refused_gap : missing_frame_nums 0 false (p 2) ≡ Err faults.FrameNumGap
+refused_gap = refl
+
+repeated : missing_frame_nums 0 false (p 0) ≡ Err faults.FrameNumRepeated
+repeated = refl
+
+current_long : seen_row (marks (entry_row 1 (Some (Adaptive (MaxLongTermFrameIdx 1 ∷ CurrentToLongTerm 0 ∷ []))) ∷ idr ∷ [])) ≡ Ok ((0, 0, Short) ∷ (1, 1, Long 0) ∷ [])
+current_long = refl
+
+twice_current : seen_row (marks (entry_row 1 (Some (Adaptive (MaxLongTermFrameIdx 2 ∷ CurrentToLongTerm 0 ∷ CurrentToLongTerm 1 ∷ []))) ∷ idr ∷ [])) ≡ Err faults.BadMarking
+twice_current = refl
+
+-- the index goes over to the current frame
+taken_index : seen_row (marks (entry_row 2 (Some (Adaptive (CurrentToLongTerm 0 ∷ []))) ∷ entry_row 1 (Some (Adaptive (MaxLongTermFrameIdx 1 ∷ AssignLongTerm 0 0 ∷ []))) ∷ idr ∷ [])) ≡ Ok ((1, 1, Short) ∷ (2, 2, Long 0) ∷ [])
+taken_index = refl
+
+long_idr : seen_row (marks (entry_row 0 (Some (Idr false true)) ∷ p 1 ∷ idr ∷ [])) ≡ Ok ((2, 0, Long 0) ∷ [])
+long_idr = refl
+
+-- only short-term frames slide, and there is none
+no_short : seen_row (marks (p 2 ∷ entry_row 1 (Some (Adaptive (MaxLongTermFrameIdx 2 ∷ AssignLongTerm 0 0 ∷ CurrentToLongTerm 1 ∷ []))) ∷ idr ∷ [])) ≡ Err faults.TooManyReferences
+no_short = refl
+
+-- 15 is the least PicNum seen from 1
+wrapped : seen_row (marks (p 1 ∷ p 0 ∷ p 15 ∷ [])) ≡ Ok ((1, 0, Short) ∷ (2, 1, Short) ∷ [])
+wrapped = refl
+
+-- a frame for a missing number may not become long-term
+not_existing : seen_row (marks (entry_row 2 (Some (Adaptive (MaxLongTermFrameIdx 1 ∷ AssignLongTerm 0 0 ∷ []))) ∷ missing_frame_entry idr 1 ∷ idr ∷ [])) ≡ Err faults.BadMarking
+not_existing = refl
+
+after_forgetting : prev_ref_frame_num (entry_row 5 (Some (Adaptive (UnmarkAll ∷ []))) ∷ idr ∷ []) ≡ 0
+after_forgetting = refl
+
+short_forgotten : seen_row (marks (entry_row 2 (Some (Adaptive (UnmarkShortTerm 1 ∷ []))) ∷ p 1 ∷ idr ∷ [])) ≡ Ok ((1, 1, Short) ∷ (2, 2, Short) ∷ [])
+short_forgotten = refl
+
+-- a long-term frame, then operations that name it and that limit the indices
+two_long : List MarkingEntry
+two_long = entry_row 2 (Some (Adaptive (AssignLongTerm 0 1 ∷ CurrentToLongTerm 0 ∷ []))) ∷ entry_row 1 (Some (Adaptive (MaxLongTermFrameIdx 2 ∷ UnmarkShortTerm 0 ∷ []))) ∷ idr ∷ []
+
+both_long : seen_row (marks two_long) ≡ Ok ((1, 1, Long 1) ∷ (2, 2, Long 0) ∷ [])
+unfolding two_long
+both_long = refl
+
+long_forgotten : seen_row (marks (entry_row 3 (Some (Adaptive (UnmarkLongTerm 0 ∷ []))) ∷ two_long)) ≡ Ok ((1, 1, Long 1) ∷ (3, 3, Short) ∷ [])
+unfolding two_long
+long_forgotten = refl
+
+indices_limited : seen_row (marks (entry_row 3 (Some (Adaptive (MaxLongTermFrameIdx 1 ∷ []))) ∷ two_long)) ≡ Ok ((2, 2, Long 0) ∷ (3, 3, Short) ∷ [])
+unfolding two_long
+indices_limited = refl
+
+no_such_long : seen_row (marks (entry_row 3 (Some (Adaptive (UnmarkLongTerm 2 ∷ []))) ∷ two_long)) ≡ Err faults.BadMarking
+unfolding two_long
+no_such_long = refl
+
+-- the picture's own mark may be taken away again, and it is then no reference frame
+own_mark_taken : seen_row (marks (entry_row 1 (Some (Adaptive (MaxLongTermFrameIdx 1 ∷ CurrentToLongTerm 0 ∷ UnmarkLongTerm 0 ∷ []))) ∷ idr ∷ [])) ≡ Ok ((0, 0, Short) ∷ [])
+own_mark_taken = refl
+
+-- of two short-term frames with one number the one that was decoded last is named
+later_named : seen_row (marks (entry_row 2 (Some (Adaptive (UnmarkShortTerm 0 ∷ []))) ∷ entry_row 1 (Some (Adaptive [])) ∷ entry_row 1 (Some (Adaptive [])) ∷ [])) ≡ Ok ((0, 1, Short) ∷ (2, 2, Short) ∷ [])
+later_named = refl

@@ -65,7 +65,7 @@ pub fn unmark_frames(frames: &mut [MarkedFrame], to_unmark: FramesToUnmark)
 }
 
 /// One frame becomes unused.
-#[tactic(auto, using(crate::proofs::Changes::references_forgotten))]
+#[tactic(auto, using(crate::proofs::KeptFrames::references_forgotten))]
 pub fn unmark(frames: &mut [MarkedFrame], place: usize)
     requires { place < length frames.old }
     ensures { UnmarksPlace place frames.old frames.new }

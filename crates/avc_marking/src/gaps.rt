@@ -63,7 +63,7 @@ impl MissingFrameNums {
     }
 
     /// How many they are.
-    #[tactic(auto, using(crate::proofs::Numbers::length_numbers))]
+    #[tactic(auto, using(crate::proofs::KeptFrames::length_numbers))]
     pub fn len(&self) -> u32
         ensures { result ≡ length self.now }
     {
@@ -71,7 +71,7 @@ impl MissingFrameNums {
     }
 
     /// The first of them, where they are counted modulo this MaxFrameNum.
-    #[tactic(auto, using(crate::proofs::Numbers::length_numbers))]
+    #[tactic(auto, using(crate::proofs::KeptFrames::length_numbers))]
     pub fn first(&self, max_frame_num: u32) -> Option<u32>
         ensures { IfSome result (λ number. self.now ≡ frame_nums_from max_frame_num number (length self.now)) }
     {
@@ -95,7 +95,7 @@ impl MissingFrameNums {
     }
 
     /// The next one.
-    #[tactic(auto, using(crate::proofs::Numbers::numbers_next))]
+    #[tactic(auto, using(crate::proofs::KeptFrames::numbers_next))]
     pub fn next(&mut self) -> Option<u32>
         ensures first { result ≡ slice_get self.old 0 }
         ensures rest { self.new ≡ drop 1 self.old }

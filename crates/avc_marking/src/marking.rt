@@ -105,7 +105,7 @@ fn adaptive_marking(
 /// BadMarking where an operation names no frame, makes a frame long-term that stands for a missing frame number, gives an index that
 /// may not be given, sets more indices than max_num_ref_frames, or marks the picture twice; TooManyReferences where the sliding
 /// window finds no short-term frame, or where the operations leave more frames than may be. After a fault the frames are of no use.
-#[tactic(auto, using(crate::proofs::CurrentFrame::unmarked_added))]
+#[tactic(auto, using(crate::proofs::KeptFrames::unmarked_added))]
 pub fn mark(
     frames: &mut ArrayVec<MarkedFrame, 17>,
     max_long_term_frame_idx: &mut Option<u32>,

@@ -45,7 +45,7 @@ impl Element for Option<u8> {
     ghost part = { λ _. block_mode };
 
     // One look at the flag and the three bits that may stand behind it.
-    #[tactic(auto, using(crate::proofs::Modes::mode_none, crate::proofs::Modes::mode_some))]
+    #[tactic(auto, using(crate::proofs::SliceDataReading::mode_none, crate::proofs::SliceDataReading::mode_some))]
     fn read(reader: &mut BitReader, most: u32) -> Result<Option<u8>, Fault> {
         let four = reader.peek(4);
         if four >= 8 {

@@ -158,7 +158,7 @@ impl<const PAD: usize> Macroblocks<PAD> {
     /// component of one of its vectors is no 16-bit number, `RefMissing` where a block has no reference picture, `IntraUnavailable` where
     /// an intra prediction has not the samples that it needs: the first of these. After a fault nothing more is to be asked of the
     /// macroblocks. Anything may stand in `info`, which is where what its neighbours are told is written.
-    #[tactic(auto, using(crate::proofs::Ranges::asked, crate::proofs::Whole::late_room))]
+    #[tactic(auto, using(crate::proofs::Slices::asked, crate::proofs::Slices::late_room))]
     pub(crate) fn decode(
         &mut self,
         mb: &Mb,

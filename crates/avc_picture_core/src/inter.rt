@@ -201,7 +201,7 @@ fn predict_blocks<const PAD: usize>(
 }
 
 /// Predicts a quarter of a macroblock in as few rectangles as its motion allows.
-#[tactic(auto, using(crate::proofs::Shapes::quarter_parts))]
+#[tactic(auto, using(crate::proofs::InterTiles::quarter_parts))]
 fn predict_quarter<const PAD: usize>(
     references: &[Option<ReferencePicture<'_, PAD>>],
     place: MbPlace,
@@ -255,7 +255,7 @@ fn predict_quarters<const PAD: usize>(
 }
 
 /// Predicts a macroblock of this shape, which is not predicted at once.
-#[tactic(auto, using(crate::proofs::Shapes::macroblock_parts))]
+#[tactic(auto, using(crate::proofs::InterTiles::macroblock_parts))]
 fn predict_macroblock<const PAD: usize>(
     references: &[Option<ReferencePicture<'_, PAD>>],
     place: MbPlace,

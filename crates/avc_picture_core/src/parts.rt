@@ -63,7 +63,7 @@ fn set_weighted<const W: usize, const H: usize, const PAD: usize>(
 }
 
 /// Predicts a rectangle of luma.
-#[tactic(auto, using(crate::proofs::Laid::length_block))]
+#[tactic(auto, using(crate::proofs::InterTiles::length_block))]
 #[inline(always)]
 fn set_luma<const W: usize, const H: usize, const PAD: usize>(
     reference: &PaddedPlane<PAD>,
@@ -102,7 +102,7 @@ fn set_luma<const W: usize, const H: usize, const PAD: usize>(
 }
 
 /// Predicts a rectangle of Cb or Cr.
-#[tactic(auto, using(crate::proofs::Laid::length_block))]
+#[tactic(auto, using(crate::proofs::InterTiles::length_block))]
 #[inline(always)]
 fn set_chroma<const W: usize, const H: usize, const PAD: usize>(
     reference: &PaddedPlane<PAD>,

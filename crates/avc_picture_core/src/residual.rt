@@ -18,7 +18,7 @@ use avc_transform::{
 use avc_types::{BlockLevels, Levels};
 
 /// Adds a residual to a 4x4 block.
-#[tactic(auto, using(crate::proofs::Blocks::with_block_same))]
+#[tactic(auto, using(crate::proofs::InterTiles::with_block_same))]
 fn add_residual4x4<const PAD: usize>(
     plane: &mut Plane<PAD>,
     left: usize,

@@ -94,7 +94,7 @@ fn shape_of_blocks(motion: &[Motion; 16]) -> Shape
 }
 
 /// How a macroblock is predicted. Its blocks are looked at only where they are not known to have one motion.
-#[tactic(auto, using(crate::proofs::Shapes::one_shape))]
+#[tactic(auto, using(crate::proofs::InterTiles::one_shape))]
 #[inline]
 pub(crate) fn macroblock_shape(motion: &[Motion; 16], has_one_motion: bool) -> Shape
     requires { has_one_motion ≡ true → AreOfOneMotion motion.now }

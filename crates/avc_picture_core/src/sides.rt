@@ -54,7 +54,7 @@ impl ReadableNeighbours {
     }
 
     /// The three neighbours that meet at the upper left corner have samples. Each block then has the sides that any mode needs.
-    #[tactic(auto, using(crate::proofs::Surrounded::surrounded))]
+    #[tactic(auto, using(crate::proofs::InterTiles::surrounded))]
     pub(crate) fn has_corner_neighbours(self) -> bool
         ensures { result ≡ true → (mode : Mode4x4) (k : ℕ) → k < 16 → can_predict4x4 (readable_sides self k) mode ≡ true }
     {

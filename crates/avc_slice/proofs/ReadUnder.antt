@@ -1,26 +1,227 @@
--- What a slice header that was read keeps to.
-use Rattle.std.proofs.Common.{◌≡◌, ◌<◌, ◌≤◌, ◌+◌, ◌/◌, ◌%◌, ◌==◌, ◌&&◌, ◌||◌, ℕ, ℤ, zero, suc, pos, negsuc, Bool, true, false, not, nat_lt, int_le, List, [], length, Option, Some, None, is_some, IfSome, IfOk, Result, Ok, Err, if◌then◌else◌, refl, ap, sym, ◌∙◌, arith}
-use Rattle.avc_slice.proofs.Common.{ltb-true, and_parts, false≢true, Fault, BadMarking, NoParameterSet, Adaptive, Idr, Bits, Read, start}
-use Rattle.avc_slice.proofs.Common.{bits_before_stop, ◌>>=◌, give, check, where_set, flag, se, se_within, u, ue, ue_to, Sets, filled}
-use Rattle.avc_slice.proofs.Common.{is_idr, is_idr_marking, is_reference, has_idr_marking, is_p_type, slice_qp, pred_weight_table}
-use Rattle.avc_slice.proofs.Common.{IsDeblocking, IsPredWeightTable, IsReadUnder, Header}
-use Rattle.std.proofs.lemmas.Int.{ints}
-use Rattle.avc_types.specs.declared.edges.FilteredEdges.{FilteredEdges}
-use Rattle.avc_types.specs.declared.edges.FilteredEdges.TheVariants.{All, NoEdges, WithinSlice}
-use Rattle.avc_types.specs.declared.references.Marking.{Marking}
-use Rattle.avc_bits.proofs.Giving.{Gives, IsFrom, bind-ok, gives-bind, gives-check, gives-give, gives-se_within, gives-then, gives-ue_to, gives-where_set, left, value}
-use Rattle.avc_params.specs.Limits.{max_frame_num, size_in_mbs}
-use Rattle.avc_params.specs.declared.pps.Pps.{Pps}
-use Rattle.avc_params.specs.declared.sps.OrderCount.{OrderCount}
+-- What a slice header that was read keeps to, and worked examples.
+pub mod Common
+unfoldable pub use Common.*
 use Rattle.avc_params.specs.declared.sps.OrderCount.TheVariants as orders
-use Rattle.avc_params.specs.declared.sps.Sps.{Sps}
-use Rattle.avc_slice.specs.Reading.{num_ref_idx_active, active_override, back, coded_order, deblocking, filtering, found, front, header_in_rbsp, header_of, idr_pic_id, is_qp, list_part, marking, modification, modification_list, most_operations, no_edges, numbers, offset_pair, operation, operations, optional_se, overridden_count, p_list, position_here, redundant_pic_cnt, slice_type_of, unless_ended, up_to, value_or_fault}
-use Rattle.avc_slice.specs.declared.parts.Filtering.{Filtering}
-use Rattle.avc_slice.specs.declared.parts.Front.{Front}
-use Rattle.avc_slice.specs.declared.parts.ListPart.{ListPart}
-use Rattle.avc_slice.specs.declared.parts.Numbers.{Numbers}
-use Rattle.avc_slice.proofs.WeightsRead.{gives-table, keeps-table}
-use Rattle.avc_slice.proofs.Keeping.{Keeps, total, parts_keep, keeps-bind, keeps-give, keeps-refuse, keeps-check, keeps-where_set, keeps-flag, keeps-ue_to, keeps-se}
+use Rattle.avc_types.specs.declared.fault.Fault.TheVariants as faults
+
+-- ---- reading passes bits that stood ahead, and no others
+
+-- how many bits were passed or stand ahead
+abbrev pub total : Bits → ℕ
+total b = b.position + length b.ahead
+
+unfoldable pub Keeps : {A : Type 0} → Read A → Type 0
+Keeps {A} part = (b next : Bits) (x : A) → part b ≡ Ok (x, next) → total next ≡ total b
+
+pub keeps-bind : {A B : Type 0} (part : Read A) (after : A → Read B) → Keeps part → ((x : A) → Keeps (after x)) → Keeps (part >>= after)
+unfolding Keeps
+keeps-bind part after g h b next y f =
+    let between = bind-ok part after b next y f in
+    h between.0 between.1 next y between.3 ∙ g b between.1 between.0 between.2
+
+pub keeps-give : {A : Type 0} (x : A) → Keeps (give x)
+unfolding Keeps
+keeps-give x b next y e = ap (λ r. total (left b r)) (sym e)
+
+pub keeps-refuse : (A : Type 0) (f : Fault) → Keeps {A = A} (refuse f)
+unfolding Keeps
+keeps-refuse A f b next x e = cc
+
+pub keeps-check : (test : Bool) (fault : Fault) → Keeps (check test fault)
+keeps-check true fault = keeps-give tt
+keeps-check false fault = keeps-refuse _ fault
+
+pub keeps-where_set : {A : Type 0} (set : Bool) (part : Read A) → Keeps part → Keeps (where_set set part)
+keeps-where_set true part g = keeps-bind part _ g (λ x. keeps-give (Some x))
+keeps-where_set false part g = keeps-give None
+
+-- ---- codes
+
+split-more : (n : ℕ) (bit : Bool) (word : List Bool) (r : Option (List Bool × List Bool)) (p : List Bool × List Bool) → ((q : List Bool × List Bool) → r ≡ Some q → length word ≡ n + length q.1)
+    → option_map (λ q. (bit ∷ q.0, q.1)) r ≡ Some p → length (bit ∷ word) ≡ suc n + length p.1
+split-more n bit word (Some q) p h e =
+    let same : q.1 ≡ p.1 = cc in
+    let len : length q.1 ≡ length p.1 = ap length same in
+    omega (arith, h q refl)
+split-more n bit word None p h e = cc
+
+split-length : (n : ℕ) (word : List Bool) (p : List Bool × List Bool) → split n word ≡ Some p → length word ≡ n + length p.1
+split-length zero word p e = let same : word ≡ p.1 = cc in let len : length word ≡ length p.1 = ap length same in omega arith
+split-length (suc n) [] p e = cc
+split-length (suc n) (bit ∷ word) p e = split-more n bit word (split n word) p (λ q f. split-length n word q f) e
+
+bits-by : (n : ℕ) (b next : Bits) (r : Option (List Bool × List Bool)) (x : List Bool) → split n b.ahead ≡ r → bits n b ≡ Ok (x, next) → total next ≡ total b
+bits-by n b next (Some p) x is e =
+    let read = rw (is, bits) at e in
+    let same : next ≡ record { position = b.position + n; ahead = p.1 } = sym (ap (left b) read) in
+    rw same (omega (arith, split-length n b.ahead p is))
+bits-by n b next None x is e = let read = rw (is, bits) at e in cc
+
+pub keeps-u : (n : ℕ) → Keeps (u n)
+unfolding Keeps
+keeps-u n = keeps-bind (bits n) _ (λ b next x e. bits-by n b next (split n b.ahead) x refl e) (λ word. keeps-give (number_of word))
+
+pub keeps-flag : Keeps flag
+keeps-flag = keeps-bind (u 1) _ (keeps-u 1) (λ v. keeps-give (v == 1))
+
+zeros-length : (limit : ℕ) (fault : Fault) (seen : ℕ) (ahead : List Bool) (r : ℕ × List Bool) → zeros limit fault seen ahead ≡ Ok r → r.0 + 1 + length r.1 ≡ seen + length ahead
+zeros-length limit fault seen [] r e = cc
+zeros-length limit fault seen (true ∷ ahead) r e =
+    let count : r.0 ≡ seen = cc in
+    let rest : r.1 ≡ ahead = cc in
+    rw (count, rest) (omega arith)
+zeros-length limit fault seen (false ∷ ahead) r e = one (nat_lt seen limit) refl e (λ f. zeros-length limit fault (seen + 1) ahead r f)
+  where
+    one : (less : Bool) → nat_lt seen limit ≡ less → zeros limit fault seen (false ∷ ahead) ≡ Ok r
+        → (zeros limit fault (seen + 1) ahead ≡ Ok r → r.0 + 1 + length r.1 ≡ seen + 1 + length ahead) → r.0 + 1 + length r.1 ≡ seen + length (false ∷ ahead)
+    one true is f later = let read = rw (is, zeros) at f in omega (arith, later read)
+    one false is f later = let wrong = rw (is, zeros) at f in cc
+
+zeros-by : (limit : ℕ) (fault : Fault) (b next : Bits) (r : Result (ℕ × List Bool) Fault) (x : ℕ) → zeros limit fault 0 b.ahead ≡ r → zeros_before_one limit fault b ≡ Ok (x, next) → total next ≡ total b
+zeros-by limit fault b next (Ok p) x is e =
+    let read = rw (is, zeros_before_one) at e in
+    let same : next ≡ record { position = b.position + p.0 + 1; ahead = p.1 } = sym (ap (left b) read) in
+    rw same (omega (arith, zeros-length limit fault 0 b.ahead p is))
+zeros-by limit fault b next (Err f) x is e = let wrong = rw (is, zeros_before_one) at e in cc
+
+pub keeps-ue : Keeps ue
+unfolding Keeps
+keeps-ue =
+    keeps-bind (zeros_before_one 31 CodeTooLong) _ (λ b next x e. zeros-by 31 CodeTooLong b next (zeros 31 CodeTooLong 0 b.ahead) x refl e) (λ n.
+    keeps-bind (u n) _ (keeps-u n) (λ m. keeps-give _))
+
+-- a value that is checked
+keeps-checked : {A : Type 0} (part : Read A) (test : A → Bool) (fault : Fault) → Keeps part → Keeps (part >>= λ v. check (test v) fault >> give v)
+keeps-checked part test fault g = keeps-bind part _ g (λ v. keeps-bind (check (test v) fault) _ (keeps-check (test v) fault) (λ _. keeps-give v))
+
+pub keeps-ue_to : (top : ℕ) → Keeps (ue_to top)
+keeps-ue_to top = keeps-checked ue _ _ keeps-ue
+
+pub keeps-se : Keeps se
+keeps-se = keeps-bind ue _ keeps-ue (λ k. keeps-give (signed_value k))
+
+pub keeps-se_within : (low high : ℤ) → Keeps (se_within low high)
+keeps-se_within low high = keeps-checked se _ _ keeps-se
+
+-- of which a part is made
+pub ruleset parts_keep = (keeps-bind, keeps-give, keeps-refuse, keeps-check, keeps-where_set, keeps-u, keeps-flag, keeps-ue, keeps-ue_to, keeps-se, keeps-se_within)
+
+-- ---- a list that a code ends, with some of its items read already
+
+-- with these items in front
+abbrev pub joined : {A : Type 0} → List A → Result (List A × Bits) Fault → Result (List A × Bits) Fault
+joined xs (Ok r) = Ok (xs ++ r.0, r.1)
+joined xs (Err f) = Err f
+
+joined-none : {A : Type 0} (r : Result (List A × Bits) Fault) → joined [] r ≡ r
+joined-none (Ok r) = refl
+joined-none (Err f) = refl
+
+joined-one : {A : Type 0} (xs : List A) (x : A) (part : Read (List A)) (b : Bits) (r : Result (List A × Bits) Fault) → part b ≡ r
+    → joined xs ((part >>= λ others. give (x ∷ others)) b) ≡ joined (xs ++ x ∷ []) r
+joined-one xs x part b (Ok r) e = rw e (ap (λ items. Ok (items, r.1)) (sym (append_assoc xs (x ∷ []) r.0)))
+joined-one xs x part b (Err f) e = rw e refl
+
+-- What has come so far: of the items that may stand `left` are left, and the whole is these items and then what is read from b.
+pub record IsUnderWay {A : Type 0} (read_code : Read ℕ) (stop : ℕ) (item : ℕ → Read A) (fault : Fault) (whole : Result (List A × Bits) Fault) (left : ℕ) (xs : List A) (b : Bits) : Type 0 where
+  pub rest : whole ≡ joined xs (up_to read_code stop item fault left b)
+
+pub one_more : {A : Type 0} (read_code : Read ℕ) (stop : ℕ) (item : ℕ → Read A) (fault : Fault) (whole : Result (List A × Bits) Fault) (left : ℕ) (xs : List A) (b b1 b2 : Bits) (code : ℕ) (x : A)
+    → IsUnderWay read_code stop item fault whole (suc left) xs b → read_code b ≡ Ok (code, b1) → (code ≡ stop → ⊥) → item code b1 ≡ Ok (x, b2)
+    → IsUnderWay read_code stop item fault whole left (xs ++ x ∷ []) b2
+one_more read_code stop item fault whole left xs b b1 b2 code x h e n i =
+    record { rest = h.rest ∙ rw (e, ne_eqb code stop n, i) (joined-one xs x (up_to read_code stop item fault left) b2 (up_to read_code stop item fault left b2) refl) }
+
+pub stops : {A : Type 0} (read_code : Read ℕ) (stop : ℕ) (item : ℕ → Read A) (fault : Fault) (whole : Result (List A × Bits) Fault) (left : ℕ) (xs : List A) (b b1 : Bits) (code : ℕ)
+    → IsUnderWay read_code stop item fault whole (suc left) xs b → read_code b ≡ Ok (code, b1) → code ≡ stop → whole ≡ Ok (xs, b1)
+stops read_code stop item fault whole left xs b b1 code h e y = h.rest ∙ rw (e, eq-eqb code stop y) (ap (λ items. Ok (items, b1)) (append-nil xs))
+
+pub ends : {A : Type 0} (read_code : Read ℕ) (stop : ℕ) (item : ℕ → Read A) (fault : Fault) (whole : Result (List A × Bits) Fault) (xs : List A) (b b1 : Bits) (code : ℕ)
+    → IsUnderWay read_code stop item fault whole 0 xs b → read_code b ≡ Ok (code, b1) → code ≡ stop → whole ≡ Ok (xs, b1)
+ends read_code stop item fault whole xs b b1 code h e y = h.rest ∙ rw (e, eq-eqb code stop y) (ap (λ items. Ok (items, b1)) (append-nil xs))
+
+pub overflows : {A : Type 0} (read_code : Read ℕ) (stop : ℕ) (item : ℕ → Read A) (fault : Fault) (whole : Result (List A × Bits) Fault) (xs : List A) (b b1 : Bits) (code : ℕ)
+    → IsUnderWay read_code stop item fault whole 0 xs b → read_code b ≡ Ok (code, b1) → (code ≡ stop → ⊥) → whole ≡ Err fault
+overflows read_code stop item fault whole xs b b1 code h e n = h.rest ∙ rw (e, ne_eqb code stop n) refl
+
+pub no_code : {A : Type 0} (read_code : Read ℕ) (stop : ℕ) (item : ℕ → Read A) (fault : Fault) (whole : Result (List A × Bits) Fault) (left : ℕ) (xs : List A) (b : Bits) (f : Fault)
+    → IsUnderWay read_code stop item fault whole left xs b → read_code b ≡ Err f → whole ≡ Err f
+no_code read_code stop item fault whole zero xs b f h e = h.rest ∙ rw e refl
+no_code read_code stop item fault whole (suc left) xs b f h e = h.rest ∙ rw e refl
+
+pub no_item : {A : Type 0} (read_code : Read ℕ) (stop : ℕ) (item : ℕ → Read A) (fault : Fault) (whole : Result (List A × Bits) Fault) (left : ℕ) (xs : List A) (b b1 : Bits) (code : ℕ) (f : Fault)
+    → IsUnderWay read_code stop item fault whole (suc left) xs b → read_code b ≡ Ok (code, b1) → (code ≡ stop → ⊥) → item code b1 ≡ Err f → whole ≡ Err f
+no_item read_code stop item fault whole left xs b b1 code f h e n i = h.rest ∙ rw (e, ne_eqb code stop n, i) refl
+
+-- nothing has come yet
+pub starts : {A : Type 0} (read_code : Read ℕ) (stop : ℕ) (item : ℕ → Read A) (fault : Fault) (room left : ℕ) (b : Bits) → left ≡ room
+    → IsUnderWay read_code stop item fault (up_to read_code stop item fault room b) left [] b
+starts read_code stop item fault room left b e = record { rest = rw e (sym (joined-none (up_to read_code stop item fault room b))) }
+
+-- the same, where the number that is left is written in another way
+pub same_left : {A : Type 0} (read_code : Read ℕ) (stop : ℕ) (item : ℕ → Read A) (fault : Fault) (whole : Result (List A × Bits) Fault) (left left' : ℕ) (xs : List A) (b : Bits)
+    → left ≡ left' → IsUnderWay read_code stop item fault whole left xs b → IsUnderWay read_code stop item fault whole left' xs b
+same_left read_code stop item fault whole left left' xs b e h = record { rest = h.rest ∙ ap (λ n. joined xs (up_to read_code stop item fault n b)) e }
+
+-- ---- the table of explicit weights that was read: its ranges, and that nothing is passed but what stood ahead
+
+-- ---- nothing but what stood ahead is passed
+
+keeps-optional : {A : Type 0} (part : Read A) → Keeps part → Keeps (optional part)
+keeps-optional part g = search parts_keep
+
+keeps-times : {A : Type 0} (n : ℕ) (part : Read A) → Keeps part → Keeps (times n part)
+keeps-times zero part g = keeps-give []
+keeps-times (suc n) part g = keeps-bind part _ g (λ x. keeps-bind (times n part) _ (keeps-times n part g) (λ xs. keeps-give (x ∷ xs)))
+
+keeps-coded_weight : Keeps coded_weight
+keeps-coded_weight = search parts_keep
+
+keeps-entry_weights : Keeps entry_weights
+keeps-entry_weights = search (parts_keep, keeps-optional, keeps-coded_weight) depth 12
+
+pub keeps-table : (n : ℕ) → Keeps (pred_weight_table n)
+keeps-table n = search (parts_keep, keeps-times, keeps-entry_weights)
+
+-- ---- the ranges
+
+gives-coded_weight : Gives IsCodedWeight coded_weight
+gives-coded_weight =
+    gives-bind (IsFrom (negsuc 127) (pos 127)) IsCodedWeight (se_within (negsuc 127) (pos 127)) _ (gives-se_within (negsuc 127) (pos 127)) (λ weight is_weight.
+    gives-bind (IsFrom (negsuc 127) (pos 127)) IsCodedWeight (se_within (negsuc 127) (pos 127)) _ (gives-se_within (negsuc 127) (pos 127)) (λ offset is_offset.
+    gives-give IsCodedWeight _ (record { weight_low = is_weight.least; weight_high = is_weight.most; offset_low = is_offset.least; offset_high = is_offset.most })))
+
+gives-chroma_weights : Gives IsChromaWeights chroma_weights
+gives-chroma_weights =
+    gives-bind IsCodedWeight IsChromaWeights coded_weight _ gives-coded_weight (λ cb is_cb.
+    gives-bind IsCodedWeight IsChromaWeights coded_weight _ gives-coded_weight (λ cr is_cr.
+    gives-give IsChromaWeights _ (record { cb = is_cb; cr = is_cr })))
+
+gives-entry_weights : Gives IsEntryWeights entry_weights
+gives-entry_weights =
+    gives-bind (λ o. IfSome o IsCodedWeight) IsEntryWeights (optional coded_weight) _ (gives-optional IsCodedWeight coded_weight gives-coded_weight) (λ luma is_luma.
+    gives-bind (λ o. IfSome o IsChromaWeights) IsEntryWeights (optional chroma_weights) _ (gives-optional IsChromaWeights chroma_weights gives-chroma_weights) (λ chroma is_chroma.
+    gives-give IsEntryWeights _ (record { luma = is_luma; chroma = is_chroma })))
+
+-- as many as were asked for, and each in its ranges
+record AreEntries (n : ℕ) (entries : List EntryWeights) : Type 0 where
+  count : length entries ≡ n
+  each : All IsEntryWeights entries
+
+gives-entries : (n : ℕ) → Gives (AreEntries n) (times n entry_weights)
+gives-entries n b next entries e = record {
+  count = gives-times n entry_weights b next entries e;
+  each = gives-each IsEntryWeights n entry_weights gives-entry_weights b next entries e;
+}
+
+pub gives-table : (n : ℕ) → Gives (IsPredWeightTable n) (pred_weight_table n)
+gives-table n =
+    gives-bind (λ v. v ≤ 7) (IsPredWeightTable n) (ue_to 7) _ (gives-ue_to 7) (λ luma few_luma.
+    gives-bind (λ v. v ≤ 7) (IsPredWeightTable n) (ue_to 7) _ (gives-ue_to 7) (λ chroma few_chroma.
+    gives-bind (AreEntries n) (IsPredWeightTable n) (times n entry_weights) _ (gives-entries n) (λ entries are.
+    gives-give (IsPredWeightTable n) _ (record { luma_denom = few_luma; chroma_denom = few_chroma; count = are.count; entries = are.each }))))
+
+-- ---- what a slice header that was read keeps to
 
 -- ---- nothing but what stood ahead is passed
 
@@ -114,7 +315,7 @@ keeps-back nal_ref_idc idr start pps sps =
 
 -- ---- what the fields keep to
 
-not_off : (all : Bool) → (if all then All else WithinSlice) ≡ NoEdges → ⊥
+not_off : (all : Bool) → (if all then AllEdges else WithinSlice) ≡ NoEdges → ⊥
 not_off true e = cc
 not_off false e = cc
 
@@ -127,7 +328,7 @@ gives-deblocked false filtered on =
     gives-give IsDeblocking _ (record { alpha_low = is_alpha.least; alpha_high = is_alpha.most; beta_low = is_beta.least; beta_high = is_beta.most; off = λ none. absurd (on none) })))
 
 gives-deblocking : Gives IsDeblocking deblocking
-gives-deblocking = gives-then IsDeblocking (ue_to 2) _ (λ idc. gives-deblocked (idc == 1) (if idc == 0 then All else WithinSlice) (not_off (idc == 0)))
+gives-deblocking = gives-then IsDeblocking (ue_to 2) _ (λ idc. gives-deblocked (idc == 1) (if idc == 0 then AllEdges else WithinSlice) (not_off (idc == 0)))
 
 -- In a unit of type 5 the slice is not of type P, and of a reference picture.
 record IsFront (nal_ref_idc : ℕ) (idr : Bool) (start : Front) : Type 0 where
@@ -365,3 +566,92 @@ filled-kept header sets rbsp h (Err f) e = tt
 pub filled-idr : (header : ℕ) (sets : Sets) (rbsp : List ℕ) (h : Header) (r : Result (Unit {0}) Fault) → filled r h ≡ header_in_rbsp header sets rbsp → IfOk r (λ _. is_idr h ≡ (header % 32 == 5))
 filled-idr header sets rbsp h (Ok _) e = (header-read header sets rbsp h (sym e)).idr_is
 filled-idr header sets rbsp h (Err f) e = tt
+
+-- ---- worked examples of slice headers
+
+abbrev sets : Sets
+sets = sets_after (OfSps (0x42 ∷ 0xC0 ∷ 0x0A ∷ 0xDA ∷ 0x71 ∷ []) ∷ OfPps (0xCE ∷ 0x38 ∷ 0x80 ∷ []) ∷ [])
+
+abbrev header_at : ℕ → List ℕ → Result Header Fault
+header_at header rbsp = header_in_rbsp header sets rbsp
+
+abbrev pub of_p : Header
+of_p = record empty_header {
+  nal_ref_idc = 2;
+  slice_type = AllP;
+  frame_num = 1;
+  num_ref_idx_active = 1;
+  marking = Some SlidingWindow;
+  position = 15;
+}
+
+abbrev pub of_i : Header
+of_i = record empty_header { nal_ref_idc = 3; slice_type = AllI; idr_pic_id = Some 1; marking = Some (Idr false false); position = 17 }
+
+read_or_refused :
+    (header_at 0x41 (0x9A ∷ 0x22 ∷ 0xA0 ∷ []) ≡ Ok of_p)
+    × (header_at 0x65 (0x88 ∷ 0x84 ∷ 0x93 ∷ 0xC0 ∷ []) ≡ Ok (record of_i { idr_pic_id = Some 0 }))
+    × (header_at 0x41 (0x9A ∷ 0x2F ∷ 0x91 ∷ 0x80 ∷ []) ≡ Err faults.BadRefList)
+    × (header_at 0x41 (0x9E ∷ 0x22 ∷ 0xA0 ∷ []) ≡ Err faults.SliceType)
+    × (header_at 0x65 (0x42 ∷ 0x21 ∷ 0x24 ∷ 0xF0 ∷ []) ≡ Err faults.OutOfRange)
+read_or_refused = (refl, refl, refl, refl, refl)
+
+new_picture : (begins of_i of_p ≡ true) × (begins of_i (record of_i { first_mb_in_slice = 1 }) ≡ false)
+new_picture = (refl, refl)
+
+-- ---- explicit weights
+
+abbrev weighted_sets : Sets
+weighted_sets = sets_after (OfSps (0x42 ∷ 0xC0 ∷ 0x0A ∷ 0xDA ∷ 0x71 ∷ []) ∷ OfPps (0xCF ∷ 0x38 ∷ 0x80 ∷ []) ∷ [])
+
+abbrev weighted_at : ℕ → List ℕ → Result Header Fault
+weighted_at header rbsp = header_in_rbsp header weighted_sets rbsp
+
+abbrev coded : ℤ → ℤ → CodedWeight
+coded weight offset = record { weight = weight; offset = offset }
+
+-- luma by 1 and 2, chroma as it is
+luma_alone : weighted_at 0x41 (0x9A ∷ 0x27 ∷ 0x44 ∷ 0x2A ∷ []) ≡ Ok (record of_p {
+  pred_weight_table = Some (record {
+    luma_log2_weight_denom = 0;
+    chroma_log2_weight_denom = 0;
+    entries = record { luma = Some (coded (pos 1) (pos 2)); chroma = None } ∷ [];
+  });
+  position = 27;
+})
+luma_alone = refl
+
+-- two reference indices, the first with chroma alone
+abbrev table_of_two : PredWeightTable
+table_of_two = record {
+  luma_log2_weight_denom = 5;
+  chroma_log2_weight_denom = 2;
+  entries =
+      record { luma = None; chroma = Some (record { cb = coded (negsuc 127) (pos 127); cr = coded (pos 3) (negsuc 3) }) }
+      ∷ record { luma = Some (coded (pos 127) (negsuc 127)); chroma = None } ∷ [];
+}
+
+two_entries : weighted_at 0x41 (0x9A ∷ 0x34 ∷ 0x33 ∷ 0x40 ∷ 0x20 ∷ 0x20 ∷ 0x3F ∷ 0x8C ∷ 0x26 ∷ 0x03 ∷ 0xF8 ∷ 0x02 ∷ 0x02 ∷ 0x60 ∷ [])
+    ≡ Ok (record of_p { active_override = Some 1; num_ref_idx_active = 2; pred_weight_table = Some table_of_two; position = 106 })
+two_entries = refl
+
+-- what is not coded is 2 ^ 5 at the denominator 5, and no offset
+abbrev by : ℕ → ℤ → ℤ → Weight
+by log2_denom weight offset = record { log2_denom = log2_denom; weight = weight; offset = offset }
+
+weights_of_two : weights (record of_p { pred_weight_table = Some table_of_two })
+    ≡ record { luma = by 5 (pos 32) (pos 0); cb = by 2 (negsuc 127) (pos 127); cr = by 2 (pos 3) (negsuc 3) }
+    ∷ record { luma = by 5 (pos 127) (negsuc 127); cb = by 2 (pos 4) (pos 0); cr = by 2 (pos 4) (pos 0) } ∷ []
+weights_of_two = refl
+
+-- the two denominators, a weight of 128, and an offset below -128
+refused_weights :
+    (weighted_at 0x41 (0x9A ∷ 0x20 ∷ 0x98 ∷ 0xC0 ∷ []) ≡ Err faults.OutOfRange)
+    × (weighted_at 0x41 (0x9A ∷ 0x24 ∷ 0x48 ∷ 0xC0 ∷ []) ≡ Err faults.OutOfRange)
+    × (weighted_at 0x41 (0x9A ∷ 0x20 ∷ 0x8C ∷ 0x02 ∷ 0x01 ∷ 0x30 ∷ []) ≡ Err faults.OutOfRange)
+    × (weighted_at 0x41 (0x9A ∷ 0x20 ∷ 0x8C ∷ 0x07 ∷ 0xF0 ∷ 0x04 ∷ 0x0C ∷ 0xC0 ∷ []) ≡ Err faults.OutOfRange)
+refused_weights = (refl, refl, refl, refl)
+
+-- an I slice has no table
+intra_unweighted : weighted_at 0x65 (0x88 ∷ 0x84 ∷ 0x93 ∷ 0xC0 ∷ []) ≡ header_at 0x65 (0x88 ∷ 0x84 ∷ 0x93 ∷ 0xC0 ∷ [])
+intra_unweighted = refl

@@ -1,14 +1,9 @@
--- One macroblock more, and any slice.
-use Rattle.avc_tests.proofs.Common.{◌≡◌, ℕ, zero, suc, ◌≤◌, length, take, true, false, arith, List, [], ◌∷◌, ◌++◌, Bool, refl, ap, ◌∙◌, sym}
-use Rattle.avc_tests.proofs.Common.{subst, ◌==◌, nat_abs, replicate, Mb, qp_of, FollowOn, Stands}
-use Rattle.avc_types.specs.Pictures.{PicMb}
-use Rattle.avc_mbsyntax.specs.SliceData.{SliceStart, context, placed}
-use Rattle.avc_slice.specs.Header.{is_p, slice_qp}
-use Rattle.avc_make.specs.DataWriting.{CanFollow}
+-- One macroblock more, any slice, and a header under the sets in force.
+pub mod Common
+unfoldable pub use Common.*
 use Rattle.avc_make.specs.HeaderWriting.{IsHeader}
-use Rattle.avc_make.specs.SliceMbs.{IsCodedSlice, earlier_mbs, own_start}
-use Rattle.avc_make.specs.VuiWriting.{Each}
-use Rattle.avc_make.specs.declared.slice.CodedSlice.{CodedSlice}
+
+-- ---- one macroblock more, and any slice
 
 pub follow_more : (p : Bool) (n first last : ℕ) (ms : List Mb) (m : Mb) → FollowOn p n first last ms → Stands p n m.syntax → m.qp ≡ qp_of last m.syntax → FollowOn p n first m.qp (ms ++ m ∷ [])
 unfolding FollowOn
@@ -56,3 +51,15 @@ each_first P (suc n) (x ∷ xs) all = (all.0, each_first P n xs all.1)
 pub each_same : {A : Type 0} (P : A → Type 0) (x : A) → P x → (n : ℕ) → Each P (replicate n x)
 each_same P x is zero = tt
 each_same P x is (suc n) = (is, each_same P x is n)
+
+-- ---- a header that was read under the sets in force is within these
+
+some_is : {A : Type 0} (a b : A) → Some a ≡ Some b → a ≡ b
+some_is a b e = cc
+
+pub within_sets : (sets : Sets) (rbsp : List ℕ) (h : Header) (pps : Pps) (sps : Sps) → IsReadUnder sets rbsp h
+    → sets.pps h.pic_parameter_set_id ≡ Some pps → sets.sps pps.seq_parameter_set_id ≡ Some sps → IsHeaderRead sps pps rbsp h
+within_sets sets rbsp h pps sps t ep es =
+    let p : t.pps ≡ pps = some_is t.pps pps (sym t.pps_is ∙ ep) in
+    let s : t.sps ≡ sps = some_is t.sps sps (sym t.sps_is ∙ ap (λ (q : Pps). sets.sps q.seq_parameter_set_id) p ∙ es) in
+    rw (p, s) at t.within

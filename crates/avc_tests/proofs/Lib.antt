@@ -1,3 +1,1 @@
-mod Common
 pub mod Following
-pub mod ReadUnder

@@ -1,11 +1,105 @@
--- Frames as reference frames: which of them a test finds.
-use Rattle.avc_types.proofs.Common.{filter, find, list_any, slice_index, slice_index_or, is_some, ◌==◌, ◌||◌, MarkedFrame, Reference}
-use Rattle.avc_types.proofs.Common.{StandAt, reference_of, references_at, reference_at, is_marked, sorted_by, placed_by, no_frame}
-use Rattle.std.specs.List.Sorted.{IsStrictlyIncreasing}
-use Rattle.std.proofs.Common.{◌≡◌, ℕ, zero, suc, ◌+◌, ◌<◌, nat_lt, Bool, true, false, cond, ◌&&◌, List, [], ◌∷◌, length, Some, slice_get, refl, ap, ◌∙◌, arith}
-use Rattle.std.proofs.lemmas.List.Kept.{AllPairs-from_increasing}
-use Rattle.std.proofs.lemmas.Bool.Decides.{nat_tests}
-use Rattle.avc_types.proofs.ReferencesAt.{placed_behind}
+-- Frames as reference frames, and blocks by their samples.
+pub mod Common
+unfoldable pub use Common.*
+
+-- ---- blocks by their samples
+
+module _ (width height k : ℕ) (below : k < width * height) where
+  pub some_column : 0 < width
+  some_column = elim (cases_lt 0 width) [
+    | inl less ↦ less
+    | inr none ↦ let e : width ≡ 0 = omega arith in absurd (omega (arith, ap (λ w. w * height) e))
+  ]
+
+  pub column : k % width < width
+  column = mod_below k width some_column
+
+  pub row : k / width < height
+  row = (div-lt_iff_lt-mul some_column).1 (omega (arith, mul_comm width height))
+
+  pub place_of_sample : (k / width) * width + k % width ≡ k
+  place_of_sample = omega (arith, mul_comm (k / width) width, some_column)
+
+-- a list that begins with the samples of a block is, that far, the block
+pub block_is : (width height : ℕ) (f : ℕ → ℕ → ℕ) (samples : List ℕ) → width * height ≤ length samples →
+    ((x y : ℕ) → x < width → y < height → slice_index samples (y * width + x) ≡ f x y) → take (width * height) samples ≡ block_of width height f
+block_is width height f samples long all =
+    fill_by_all (λ i. f (i % width) (i / width)) (take (width * height) samples) (width * height) 0 (length-take-le (width * height) samples long)
+    (λ k below. get_or-take (width * height) samples k 0 below ∙ ap (λ i. slice_index samples i) (omega (arith, place_of_sample width height k below)) ∙ all (k % width) (k / width) (column width height k below) (row width height k below))
+
+-- blocks that have the same samples are the same
+pub block_of_same : (width height : ℕ) (f g : ℕ → ℕ → ℕ) → ((x y : ℕ) → x < width → y < height → f x y ≡ g x y) → block_of width height f ≡ block_of width height g
+block_of_same width height f g same =
+    fill_by_all (λ i. g (i % width) (i / width)) (block_of width height f) (width * height) 0 (length-map-range_with_len (λ i. f (i % width) (i / width)) 0 (width * height))
+    (λ k below. get_or-map-range_with_len (λ i. f (i % width) (i / width)) 0 (width * height) k k 0 below (omega arith) ∙ same (k % width) (k / width) (column width height k below) (row width height k below))
+
+-- ---- levels of which none is counted
+
+abbrev weight : ℤ → ℕ
+weight l = cond (not (nat_abs l == 0)) 1 0
+
+pub total-append : (a b : List ℤ) → total_coeff (a ++ b) ≡ total_coeff a + total_coeff b
+total-append a b = sum_by-append weight a b
+
+pub counted : (l : ℤ) (levels : List ℤ) → 0 < nat_abs l → total_coeff (l ∷ levels) ≡ 1 + total_coeff levels
+counted l levels some =
+    let one : weight l ≡ 1 = ap (λ t. cond (not t) 1 0) (ne_eqb (nat_abs l) 0 (λ e. absurd (omega (arith, e, some)))) in
+    let both : total_coeff (l ∷ levels) ≡ (0 + weight l) + total_coeff levels = total-append (l ∷ []) levels in
+    omega (arith, both, one)
+
+pub none_counted : (levels : List ℤ) → total_coeff levels ≡ 0 → levels ≡ replicate (length levels) (pos 0)
+none_counted [] none = refl
+none_counted (pos zero ∷ levels) none = ap (λ l. pos 0 ∷ l) (none_counted levels none)
+none_counted (pos (suc n) ∷ levels) none = absurd (omega (arith, none, counted (pos (suc n)) levels (omega arith)))
+none_counted (negsuc n ∷ levels) none = absurd (omega (arith, none, counted (negsuc n) levels (omega arith)))
+
+-- ---- sorted lists, and the reference frames among frames of the buffer
+
+-- x stands behind y where y stands before it, and else here
+pub placed_behind : {A : Type 0} (before : A → A → Bool) (x y : A) (ys : List A) → before y x ≡ true → placed_by before x (y ∷ ys) ≡ y ∷ placed_by before x ys
+placed_behind before x y ys h = ap (λ b. elim b [ true ↦ y ∷ placed_by before x ys | false ↦ x ∷ y ∷ ys ]) h
+
+pub placed_here : {A : Type 0} (before : A → A → Bool) (x y : A) (ys : List A) → before y x ≡ false → placed_by before x (y ∷ ys) ≡ x ∷ y ∷ ys
+placed_here before x y ys h = ap (λ b. elim b [ true ↦ y ∷ placed_by before x ys | false ↦ x ∷ y ∷ ys ]) h
+
+-- Frames that are not used for reference may go.
+pub references_kept : {A : Type 0} (entry : A → ℕ) (frame : A → MarkedFrame) (keep : A → Bool) → ((x : A) → keep x ≡ false → is_some (frame x).mark ≡ false) → (xs : List A) →
+    references_at (map entry (filter keep xs)) (map frame (filter keep xs)) ≡ references_at (map entry xs) (map frame xs)
+references_kept entry frame keep unused [] = refl
+references_kept entry frame keep unused (x ∷ xs) = by_test (keep x) (unused x) (references_kept entry frame keep unused xs)
+  where
+    with_first : Bool → List Reference → List Reference
+    with_first marked others = elim marked [ true ↦ reference_of (entry x) (frame x) ∷ others | false ↦ others ]
+
+    by_test : (b : Bool) → (b ≡ false → is_some (frame x).mark ≡ false) → references_at (map entry (filter keep xs)) (map frame (filter keep xs)) ≡ references_at (map entry xs) (map frame xs) →
+        references_at (map entry (cond b (x ∷ filter keep xs) (filter keep xs))) (map frame (cond b (x ∷ filter keep xs) (filter keep xs))) ≡ with_first (is_some (frame x).mark) (references_at (map entry xs) (map frame xs))
+    by_test true h same = ap (with_first (is_some (frame x).mark)) same
+    by_test false h same = same ∙ sym (ap (λ b. with_first b (references_at (map entry xs) (map frame xs))) (h refl))
+
+-- Those from a place on, where the frame at the place is used for reference, and where it is not.
+pub references_with : (entries : List ℕ) (frames : List MarkedFrame) (place next : ℕ) → next ≡ suc place → place < length entries → place < length frames →
+    is_some (slice_index_or frames place no_frame).mark ≡ true →
+    references_at (drop place entries) (drop place frames) ≡ reference_at entries frames place ∷ references_at (drop next entries) (drop next frames)
+references_with entries frames place next e within within' marked =
+    let here = reference_at entries frames place in
+    let behind = references_at (drop (suc place) entries) (drop (suc place) frames) in
+    ap (λ es. references_at es (drop place frames)) (drop-cons entries place 0 within)
+    ∙ ap (λ fs. references_at (slice_index entries place ∷ drop (suc place) entries) fs) (drop-cons frames place no_frame within')
+    ∙ ap (λ b. elim b [ true ↦ here ∷ behind | false ↦ behind ]) marked
+    ∙ ap (λ n. here ∷ references_at (drop n entries) (drop n frames)) (sym e)
+
+pub references_without : (entries : List ℕ) (frames : List MarkedFrame) (place next : ℕ) → next ≡ suc place → place < length entries → place < length frames →
+    is_some (slice_index_or frames place no_frame).mark ≡ false →
+    references_at (drop place entries) (drop place frames) ≡ references_at (drop next entries) (drop next frames)
+references_without entries frames place next e within within' unmarked =
+    let here = reference_at entries frames place in
+    let behind = references_at (drop (suc place) entries) (drop (suc place) frames) in
+    ap (λ es. references_at es (drop place frames)) (drop-cons entries place 0 within)
+    ∙ ap (λ fs. references_at (slice_index entries place ∷ drop (suc place) entries) fs) (drop-cons frames place no_frame within')
+    ∙ ap (λ b. elim b [ true ↦ here ∷ behind | false ↦ behind ]) unmarked
+    ∙ ap (λ n. references_at (drop n entries) (drop n frames)) (sym e)
+
+-- ---- frames as reference frames: which of them a test finds
 
 -- ---- rising entries
 

@@ -1,6 +1,11 @@
 -- How `History`'s functions are proved: each makes the empty struct, with items of its own. Assumes `Logic`.
-use Rattle.avc_types.proofs.Common.{◌≡◌, ℕ, List, [], ◌∷◌, ◌++◌, length, map, refl, ◌+◌, Ura, Val, vptr, WT, has_ty, Logic, RattleType}
-use Rattle.avc_types.proofs.Common.{owns, nothing, owned}
+use Rattle.std.proofs.Common.{◌≡◌, ℕ, List, [], ◌∷◌, ◌++◌, length, map, refl, ◌+◌}
+use seplogic.Ra.Ura.{Ura}
+use mir.Val.{Val, vptr, WT, has_ty}
+use types.Logic.{Logic}
+use denote.RattleType.{RattleType}
+use denote.RattleType.{owns}
+use denote.Steps.{nothing, owned}
 use Rattle.std.proofs.raw_atomic.Walks.{proved}
 use lib.Dec.{T}
 use mir.Syntax.{Fn, Ty, ty_ref, named, imm, Callee, local, value_local, assign, seq, return, place, copy, aggregate}

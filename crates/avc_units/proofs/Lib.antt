@@ -1,6 +1,1 @@
-mod Common
-mod Coming
-mod Refusals
-mod Again
-pub mod Deciding
-mod Few
+pub mod SetUnits

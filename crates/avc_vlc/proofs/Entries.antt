@@ -1,12 +1,9 @@
--- An entry says how the bits ahead are read by the table.
-use Rattle.avc_vlc.proofs.Common.{◌≡◌, ℕ, ◌+◌, ◌<◌, ◌≤◌, List, [], ◌∷◌, ◌++◌, length, Bool, true, false, refl, ap, subst, ◌∙◌, sym, arith}
-use Rattle.avc_vlc.proofs.Common.{drop, length-append, append_assoc, append-nil, inl, inr, Option, Some, None, Result, Ok, Err}
-use Rattle.avc_vlc.proofs.Common.{option_map, list_any, cases_lt, Fault, Bits, split, skip, Entry, Table, after_word, is_prefix, lookup}
-use Rattle.avc_vlc.proofs.Common.{table_code, begins, goes_on, word_entry, entry_from, Agree, Decides, or_parts}
+-- The entries of an indexed table: how they are found, and how the bits ahead are read by them.
+pub mod Codes
+unfoldable pub use Codes.*
 use Rattle.avc_types.specs.declared.fault.Fault.TheVariants as faults
-use Rattle.avc_bits.proofs.Reading.{skip_long, skip_short, split_long, split_short}
-use Rattle.avc_vlc.proofs.Words.{IsFound, after_word-more, lookup-here, lookup-past, lookup-some}
-use Rattle.avc_vlc.proofs.Codes.{begins-first, code-found, code-none}
+
+-- ---- an entry says how the bits ahead are read by the table
 
 -- ---- more bits behind those that decide
 
@@ -249,3 +246,291 @@ reads_cut table e n b f d same cut =
     let also : skip n b ≡ Err faults.Truncated = skip_short n b short in
     let is : faults.Truncated ≡ f = cc in
     decided_answer table e b d ∙ ap (answered e b.position) (split_short e.length b.ahead (omega arith)) ∙ ap (λ x. Err x) is
+
+-- ---- the places of an indexed table
+
+-- the entry at a place
+pub indexed_place : {A : Type 0} (table : Table A) (tail : ℕ) (rows : List (List (Entry A))) (row column : ℕ) (none : List (Entry A)) (e : Entry A) → IsIndexed table tail rows → row < length rows → column < 2 ^ tail → column < length (get_or rows row none) →
+    entry_of table (place_bits (length rows - 1) tail row column) ≡ Some (get_or (get_or rows row none) column e)
+indexed_place {A} table tail rows row column none e is within narrow there =
+    let cell : ℕ → ℕ → Option (Entry A) = λ r c. entry_of table (place_bits (length rows - 1) tail r c) in
+    let here : get_or (index table tail (length rows)) row [] ≡ map (cell row) (range_with_len 0 (2 ^ tail)) =
+    get_or-map-range_with_len (λ r. map (cell r) (range_with_len 0 (2 ^ tail))) 0 (length rows) row row [] within (omega arith) in
+    let given : get_or (index table tail (length rows)) row [] ≡ map Some (get_or rows row none) = ap (λ l. get_or l row []) is.same ∙ get_or-map (map Some) rows row none [] within in
+    sym (get_or-map-range_with_len (cell row) 0 (2 ^ tail) column column None narrow (omega arith))
+    ∙ ap (λ l. get_or l column None) (sym here ∙ given)
+    ∙ get_or-map Some (get_or rows row none) column e None there
+
+-- one of several tables
+pub indexed_table : {A : Type 0} (each : ℕ → Table A) (tail rows : ℕ) (tables : List (List (List (Entry A)))) (k : ℕ) (none : List (List (Entry A))) →
+    AreIndexed each tail rows tables → k < length tables → IsIndexed (each k) tail (get_or tables k none)
+indexed_table {A} each tail rows tables k none is there =
+    let long : length (get_or tables k none) ≡ rows =
+    sym (get_or-map length tables k none 0 there) ∙ ap (λ l. get_or l k 0) is.long ∙ get_or-replicate (length tables) k rows 0 there in
+    record {
+      same = ap (index (each k) tail) long
+          ∙ sym (get_or-map-range_with_len (λ i. index (each i) tail rows) 0 (length tables) k k [] there (omega arith))
+          ∙ ap (λ l. get_or l k []) is.same
+          ∙ get_or-map (map (map Some)) tables k none [] there;
+    }
+
+-- the entry of three bits in one of several tables
+pub front_entry : {A : Type 0} (each : ℕ → Table A) (tables : List (List (Entry A))) (k n : ℕ) (none : List (Entry A)) (e : Entry A) → AreFronts each tables → k < length tables → n < 8 → n < length (get_or tables k none) →
+    entry_of (each k) (bits_of 3 n) ≡ Some (get_or (get_or tables k none) n e)
+front_entry {A} each tables k n none e are within narrow there =
+    let cell : ℕ → ℕ → Option (Entry A) = λ t f. entry_of (each t) (bits_of 3 f) in
+    let here : get_or (map (λ t. map (cell t) (range_with_len 0 8)) (range_with_len 0 (length tables))) k [] ≡ map (cell k) (range_with_len 0 8) =
+    get_or-map-range_with_len (λ t. map (cell t) (range_with_len 0 8)) 0 (length tables) k k [] within (omega arith) in
+    let given : get_or (map (λ t. map (cell t) (range_with_len 0 8)) (range_with_len 0 (length tables))) k [] ≡ map Some (get_or tables k none) =
+    ap (λ l. get_or l k []) are.same ∙ get_or-map (map Some) tables k none [] within in
+    sym (get_or-map-range_with_len (cell k) 0 8 n n None narrow (omega arith))
+    ∙ ap (λ l. get_or l n None) (sym here ∙ given)
+    ∙ get_or-map Some (get_or tables k none) n e None there
+
+six_computed : map (λ n. entry_of tokens_8 (bits_of 6 n)) (range_with_len 0 64) ≡ map (λ n. Some (six_bit_entry n)) (range_with_len 0 64)
+six_computed = refl
+
+pub six_bits_decide : (number : ℕ) → number < 64 → entry_of tokens_8 (bits_of 6 number) ≡ Some (six_bit_entry number)
+six_bits_decide number small =
+    sym (get_or-map-range_with_len (λ n. entry_of tokens_8 (bits_of 6 n)) 0 64 number number None small (omega arith))
+    ∙ ap (λ l. get_or l number None) six_computed
+    ∙ get_or-map-range_with_len (λ n. Some (six_bit_entry n)) 0 64 number number None small (omega arith)
+
+-- ---- the table of coded_block_pattern
+
+all_below : (numbers : List ℕ) (n most : ℕ) → list_all (λ v. nat_lt v most) numbers ≡ true → n < length numbers → get_or numbers n 0 < most
+all_below [] n most test within = absurd (omega arith)
+all_below (v ∷ numbers) zero most test within = ltb-true v most (and_parts (nat_lt v most) (list_all (λ w. nat_lt w most) numbers) test).0
+all_below (v ∷ numbers) (suc n) most test within = all_below numbers n most (and_parts (nat_lt v most) (list_all (λ w. nat_lt w most) numbers) test).1 (omega arith)
+
+pub intra_below : (n : ℕ) → n < 48 → get_or cbp_intra n 0 < 48
+intra_below n small = all_below cbp_intra n 48 refl small
+
+pub inter_below : (n : ℕ) → n < 48 → get_or cbp_inter n 0 < 48
+inter_below n small = all_below cbp_inter n 48 refl small
+
+pub pattern_intra : (n : ℕ) → n < 48 → pattern_at true n ≡ Some (get_or cbp_intra n 0)
+pattern_intra n small = slice_get-get_or cbp_intra n 0 small
+
+pub pattern_inter : (n : ℕ) → n < 48 → pattern_at false n ≡ Some (get_or cbp_inter n 0)
+pattern_inter n small = slice_get-get_or cbp_inter n 0 small
+
+pub no_pattern : (intra : Bool) (n : ℕ) → 48 ≤ n → pattern_at intra n ≡ None
+no_pattern true n large = slice_get_past cbp_intra n large
+no_pattern false n large = slice_get_past cbp_inter n large
+
+abbrev given : Option ℕ → Read ℕ
+given o = elim o [ Some pattern ↦ give pattern | None ↦ refuse faults.BadCode ]
+
+pub pattern_refused : (intra : Bool) (n : ℕ) (b left : Bits) → ue b ≡ Ok (n, left) → 48 ≤ n → coded_block_pattern intra b ≡ Err faults.BadCode
+pattern_refused intra n b left read large = rw read (ap (λ o. given o left) (no_pattern intra n large))
+
+-- ---- the bits of a number, and the row and the column that they choose
+
+-- the upper and the lower bits
+pub bits_of-append : (a b v : ℕ) → bits_of (a + b) v ≡ bits_of a (v / 2 ^ b) ++ bits_of b v
+bits_of-append zero b v = ap (λ k. bits_of k v) (omega arith)
+bits_of-append (suc a) b v =
+    let sum : suc a + b ≡ suc (a + b) = omega arith in
+    rw (sum, shr-shr v b a, bits_of-append a b v) (ap (λ k. eqb (v / 2 ^ k % 2) 1 ∷ (bits_of a (v / 2 ^ b) ++ bits_of b v)) (omega arith))
+
+-- bits above the n-th don't matter
+pub bits_of-mod : (n j v : ℕ) → bits_of n (v % 2 ^ (j + n)) ≡ bits_of n v
+bits_of-mod zero j v = refl
+bits_of-mod (suc n) j v =
+    let sum : j + suc n ≡ (j + 1) + n = omega arith in
+    let low : v % 2 ^ n < 2 ^ n = mod-lt v (pow_pos n) in
+    let top : v % 2 ^ (j + suc n) / 2 ^ n % 2 ≡ v / 2 ^ n % 2 =
+    rw (sum, mod-pow-add v (j + 1) n, div-mul-add (v / 2 ^ n % 2 ^ (j + 1)) (2 ^ n) (v % 2 ^ n) low) (mod-mod-pow (v / 2 ^ n) j 1) in
+    let rest : bits_of n (v % 2 ^ (j + suc n)) ≡ bits_of n v = ap (λ k. bits_of n (v % 2 ^ k)) sum ∙ bits_of-mod n (j + 1) v in
+    rw (top, rest) refl
+
+-- bits that the first n begin with
+agree_front : (front rest ahead padding : List Bool) (n : ℕ) → front ++ rest ≡ take n (ahead ++ padding) → Agree front ahead
+agree_front [] rest ahead padding n same = tt
+agree_front (b ∷ front) rest [] padding n same = tt
+agree_front (b ∷ front) rest (a ∷ ahead) padding zero same = cc
+agree_front (b ∷ front) rest (a ∷ ahead) padding (suc n) same =
+    let here : b ≡ a = cc in
+    let later : front ++ rest ≡ take n (ahead ++ padding) = cc in
+    (here, agree_front front rest ahead padding n later)
+
+pub agree_ahead : (word : ℕ) (front rest ahead : List Bool) → IsAhead word ahead → bits_of 32 word ≡ front ++ rest → Agree front ahead
+agree_ahead word front rest ahead is same = agree_front front rest ahead (replicate 32 false) 32 (sym same ∙ is.bits)
+
+-- the first n bits
+pub agree_number : (word n : ℕ) (ahead : List Bool) → n ≤ 32 → IsAhead word ahead → Agree (bits_of n (word / 2 ^ (32 - n))) ahead
+agree_number word n ahead few is =
+    agree_ahead word (bits_of n (word / 2 ^ (32 - n))) (bits_of (32 - n) word) ahead is
+    (let sum : 32 ≡ n + (32 - n) = omega arith in ap (λ k. bits_of k word) sum ∙ bits_of-append n (32 - n) word)
+
+-- zeros, then a 1 and the bits behind it
+one_behind : (word zeros low tail : ℕ) → 2 ^ (tail + low) ≤ word → word < 2 ^ suc (tail + low) →
+    bits_of (zeros + suc (tail + low)) word ≡ (replicate zeros false ++ true ∷ bits_of tail (word / 2 ^ low % 2 ^ tail)) ++ bits_of low word
+one_behind word zeros low tail large small =
+    let none : word / 2 ^ suc (tail + low) ≡ 0 = div-eq_of_lt small in
+    let least : 1 * 2 ^ (tail + low) ≤ word = omega arith in
+    let most : word < 2 * 2 ^ (tail + low) = omega (arith, pow-succ' 2 (tail + low)) in
+    let one : word / 2 ^ (tail + low) ≡ 1 = div-eq_of_lt-le {k = 1} (2 ^ (tail + low)) least most in
+    let split : bits_of (tail + low) word ≡ bits_of tail (word / 2 ^ low % 2 ^ tail) ++ bits_of low word =
+    bits_of-append tail low word ∙ ap (λ l. l ++ bits_of low word) (sym (bits_of-mod tail 0 (word / 2 ^ low)) ∙ ap (λ k. bits_of tail (word / 2 ^ low % 2 ^ k)) (omega arith)) in
+    bits_of-append zeros (suc (tail + low)) word
+    ∙ rw (none, bits_of-zero zeros, one, split) (sym (append_assoc (replicate zeros false) (true ∷ bits_of tail (word / 2 ^ low % 2 ^ tail)) (bits_of low word)))
+
+-- zeros
+zeros_behind : (word zeros low : ℕ) → word < 2 ^ low → bits_of (zeros + low) word ≡ replicate zeros false ++ bits_of low word
+zeros_behind word zeros low small =
+    let none : word / 2 ^ low ≡ 0 = div-eq_of_lt small in
+    bits_of-append zeros low word ∙ rw (none, bits_of-zero zeros) refl
+
+pub agree_place : (word last tail row column : ℕ) (ahead : List Bool) → last ≤ 15 → tail ≤ 8 → row ≡ min (count_leading_zeros 32 word) last → column ≡ word / 2 ^ (31 - tail - row) % 2 ^ tail →
+    IsAhead word ahead → Agree (place_bits last tail row column) ahead
+agree_place word last tail row column ahead few narrow is_row is_column is = by_row (cases_lt (count_leading_zeros 32 word) last)
+  where
+    P : Bool → Type 0
+    P test = Agree (elim test [ true ↦ replicate row false ++ true ∷ bits_of tail column | false ↦ replicate row false ]) ahead
+
+    by_row : (count_leading_zeros 32 word < last) ⊎ (last ≤ count_leading_zeros 32 word) → Agree (place_bits last tail row column) ahead
+    by_row (inl more) =
+        let top : (m : ℕ) × (count_leading_zeros 32 word + m ≡ 32) × (word < 2 ^ m) × (2 ^ m ≤ 2 * word + 1) = leading_length 32 word is.below in
+        let low = 31 - tail - row in
+        let same : row ≡ count_leading_zeros 32 word = omega arith in
+        let size : top.0 ≡ suc (tail + low) = omega (arith, top.1) in
+        let small : word < 2 ^ suc (tail + low) = let Q : ℕ → Type 0 = λ m. word < 2 ^ m in subst Q size top.2 in
+        let twice : 2 ^ suc (tail + low) ≤ 2 * word + 1 = let Q : ℕ → Type 0 = λ m. 2 ^ m ≤ 2 * word + 1 in subst Q size top.3 in
+        let large : 2 ^ (tail + low) ≤ word = omega (arith, pow-succ' 2 (tail + low)) in
+        let all : 32 ≡ row + suc (tail + low) = omega (arith, top.1) in
+        subst P (sym (lt-ltb row last (omega arith)))
+        (agree_ahead word (replicate row false ++ true ∷ bits_of tail column) (bits_of low word) ahead is
+        (ap (λ k. bits_of k word) all ∙ one_behind word row low tail large small ∙ ap (λ c. (replicate row false ++ true ∷ bits_of tail c) ++ bits_of low word) (sym is_column)))
+    by_row (inr none) =
+        let top : (m : ℕ) × (count_leading_zeros 32 word + m ≡ 32) × (word < 2 ^ m) × (2 ^ m ≤ 2 * word + 1) = leading_length 32 word is.below in
+        let same : row ≡ last = omega arith in
+        let shorter : top.0 ≤ 32 - row = omega (arith, top.1) in
+        let two : 0 < 2 = lit< tt in
+        let powers : 2 ^ top.0 ≤ 2 ^ (32 - row) = pow-le-pow_right two shorter in
+        let small : word < 2 ^ (32 - row) = omega (arith, top.2) in
+        let all : 32 ≡ row + (32 - row) = omega arith in
+        subst P (sym (le-ltb row last (omega arith)))
+        (agree_ahead word (replicate row false) (bits_of (32 - row) word) ahead is (ap (λ k. bits_of k word) all ∙ zeros_behind word row (32 - row) small))
+
+pub front_below : (word n : ℕ) → n ≤ 32 → word < 2 ^ 32 → word / 2 ^ (32 - n) < 2 ^ n
+front_below word n few small =
+    let sum : n + (32 - n) ≡ 32 = omega arith in
+    let whole : 2 ^ n * 2 ^ (32 - n) ≡ 2 ^ 32 = sym (pow-add 2 n (32 - n)) ∙ ap (λ k. 2 ^ k) sum in
+    (div-lt_iff_lt-mul {x = word} {y = 2 ^ n} (pow_pos (32 - n))).1 (omega arith)
+
+-- the bits that a code holds
+pub code_is : (word count most : ℕ) (ahead : List Bool) → most ≤ 16 → count ≡ min most (length ahead) → IsAhead word ahead → take count (bits_of 32 word) ≡ take most ahead
+code_is word count most ahead few is_count is = rw is.bits (
+    take-take count 32 (ahead ++ replicate 32 false) (omega arith)
+    ∙ take-append-le count ahead (replicate 32 false) (omega arith)
+    ∙ by_length (cases_lt (length ahead) most))
+  where
+    by_length : (length ahead < most) ⊎ (most ≤ length ahead) → take count ahead ≡ take most ahead
+    by_length (inl short) =
+        let same : count ≡ length ahead = omega arith in
+        rw same (take_all (length ahead) ahead (omega arith) ∙ sym (take_all most ahead (omega arith)))
+    by_length (inr long) = ap (λ k. take k ahead) (omega arith)
+
+pub number_is : (word count : ℕ) → count ≤ 32 → word < 2 ^ 32 → word / 2 ^ (32 - count) ≡ number_of (take count (bits_of 32 word))
+number_is word count few small =
+    let sum : 32 ≡ count + (32 - count) = omega arith in
+    let below : word / 2 ^ (32 - count) < 2 ^ count = front_below word count few small in
+    let front : take count (bits_of 32 word) ≡ bits_of count (word / 2 ^ (32 - count)) =
+    ap (λ k. take count (bits_of k word)) sum
+    ∙ ap (take count) (bits_of-append count (32 - count) word)
+    ∙ ap (λ k. take k (bits_of count (word / 2 ^ (32 - count)) ++ bits_of (32 - count) word)) (sym (length-bits_of count (word / 2 ^ (32 - count))))
+    ∙ take-append_seam (bits_of count (word / 2 ^ (32 - count))) (bits_of (32 - count) word) in
+    sym (ap number_of front ∙ number-bits_of count (word / 2 ^ (32 - count)) ∙ mod-eq_of_lt below)
+
+-- ---- the words of an indexed table
+
+-- a value that fails a test of all values has no codeword
+pub word_none : {A : Type 0} (same : A → A → Bool) (value : A) (test : A → Bool) (table : Table A) → ((a b : A) → same a b ≡ true → a ≡ b) → list_all (λ entry. test entry.1) table ≡ true → test value ≡ false →
+    word_of (same value) table ≡ None
+word_none same value test [] is all fails = refl
+word_none {A} same value test (entry ∷ table) is all fails =
+    let both = and_parts (test entry.1) (list_all (λ e. test e.1) table) all in
+    by_answer (same value entry.1) refl both.0 (word_none same value test table is both.1 fails)
+  where
+    by_answer : (answer : Bool) → same value entry.1 ≡ answer → test entry.1 ≡ true → word_of (same value) table ≡ None → word_of (same value) (entry ∷ table) ≡ None
+    by_answer true e passes later = let q : true ≡ false = sym passes ∙ sym (ap test (is value entry.1 e)) ∙ fails in cc
+    by_answer false e passes later = ap (λ t. if t then Some entry.0 else word_of (same value) table) e ∙ later
+
+-- the word of an entry that has the value
+held : {A : Type 0} (same : A → A → Bool) (value : A) (table : Table A) (entry : Entry A) (word : List Bool) → ((a b : A) → same a b ≡ true → a ≡ b) →
+    entry_word same table entry ≡ (elim entry.value [ None ↦ None | Some own ↦ Some word ]) → holds same value entry ≡ true → Some word ≡ word_of (same value) table
+held {A} same value table entry word is placed here = by_value entry.value refl
+  where
+    by_value : (v : Option A) → entry.value ≡ v → Some word ≡ word_of (same value) table
+    by_value None e = let q : false ≡ true = sym (ap (λ v. elim v [ None ↦ false | Some own ↦ same value own ]) e) ∙ here in cc
+    by_value (Some own) e =
+        let one : same value own ≡ true = sym (ap (λ v. elim v [ None ↦ false | Some own ↦ same value own ]) e) ∙ here in
+        sym (ap (λ v. elim v [ None ↦ None | Some own ↦ Some word ]) e)
+        ∙ sym placed
+        ∙ ap (λ v. elim v [ None ↦ None | Some own ↦ word_of (same own) table ]) e
+        ∙ ap (λ v. word_of (same v) table) (sym (is value own one))
+
+pub word_found : {A : Type 0} (same : A → A → Bool) (value : A) (table : Table A) (tail : ℕ) (rows : List (List (Entry A))) (row column : ℕ) (none : List (Entry A)) (e : Entry A) → ((a b : A) → same a b ≡ true → a ≡ b) → IsWritten same table tail rows →
+    row < length rows → column < length (get_or rows row none) → holds same value (get_or (get_or rows row none) column e) ≡ true →
+    Some (word_at tail row column (get_or (get_or rows row none) column e).length) ≡ word_of (same value) table
+word_found {A} same value table tail rows row column none e is written within there here =
+    let places = get_or rows row none in
+    let entry = get_or places column e in
+    let cells : ℕ × List (Entry A) → List (Option (List Bool)) = λ r. map (λ c. place_word tail r.0 c.0 c.1) (enumerate_from 0 r.1) in
+    let left : get_or (map (λ r. map (entry_word same table) r) rows) row [] ≡ map (entry_word same table) places = get_or-map (λ r. map (entry_word same table) r) rows row none [] within in
+    let right : get_or (map cells (enumerate_from 0 rows)) row [] ≡ cells (0 + row, places) =
+    get_or-map cells (enumerate_from 0 rows) row (0, none) [] (omega (arith, length-enumerate_from 0 rows)) ∙ ap cells (get_or-enumerate_from 0 rows row (0, none) within) in
+    let first : 0 + row ≡ row = omega arith in
+    let second : 0 + column ≡ column = omega arith in
+    let placed : entry_word same table entry ≡ place_word tail row column entry =
+    sym (get_or-map (entry_word same table) places column e None there)
+    ∙ ap (λ l. get_or l column None) (sym left ∙ ap (λ l. get_or l row []) written.words ∙ right)
+    ∙ get_or-map (λ c. place_word tail (0 + row) c.0 c.1) (enumerate_from 0 places) column (0, e) None (omega (arith, length-enumerate_from 0 places))
+    ∙ ap (λ c. place_word tail (0 + row) c.0 c.1) (get_or-enumerate_from 0 places column (0, e) there)
+    ∙ ap (λ n. place_word tail n (0 + column) entry) first
+    ∙ ap (λ n. place_word tail row n entry) second in
+    held same value table entry (word_at tail row column entry.length) is placed here
+
+-- ---- six bits
+
+six_words : map (λ n. entry_word is_token_same tokens_8 (six_bit_entry n)) (range_with_len 0 64) ≡ map (λ n. elim (six_bit_entry n).value [ None ↦ None | Some own ↦ Some (bits_of 6 n) ]) (range_with_len 0 64)
+six_words = refl
+
+pub six_found : (t : Token) (number : ℕ) → number < 64 → holds is_token_same t (six_bit_entry number) ≡ true → Some (bits_of 6 number) ≡ word_of (is_token_same t) tokens_8
+six_found t number small here =
+    let placed : entry_word is_token_same tokens_8 (six_bit_entry number) ≡ (elim (six_bit_entry number).value [ None ↦ None | Some own ↦ Some (bits_of 6 number) ]) =
+    sym (get_or-map-range_with_len (λ n. entry_word is_token_same tokens_8 (six_bit_entry n)) 0 64 number number None small (omega arith))
+    ∙ ap (λ l. get_or l number None) six_words
+    ∙ get_or-map-range_with_len (λ n. elim (six_bit_entry n).value [ None ↦ None | Some own ↦ Some (bits_of 6 n) ]) 0 64 number number None small (omega arith) in
+    held is_token_same t tokens_8 (six_bit_entry number) (bits_of 6 number) token_is_same placed here
+
+-- ---- the classes of nC
+
+pub class_0 : (nc : ℤ) → pos 0 ≤ℤ nc → nc <ℤ pos 2 → token_table nc ≡ tokens coeff_token_0
+class_0 (negsuc n) low high = absurd (omega (arith, ints))
+class_0 (pos n) low high = rw (lt-ltb n 2 (omega (arith, ints))) refl
+
+pub class_2 : (nc : ℤ) → pos 2 ≤ℤ nc → nc <ℤ pos 4 → token_table nc ≡ tokens coeff_token_2
+class_2 (negsuc n) low high = absurd (omega (arith, ints))
+class_2 (pos n) low high = rw (le-ltb n 2 (omega (arith, ints)), lt-ltb n 4 (omega (arith, ints))) refl
+
+pub class_4 : (nc : ℤ) → pos 4 ≤ℤ nc → nc <ℤ pos 8 → token_table nc ≡ tokens coeff_token_4
+class_4 (negsuc n) low high = absurd (omega (arith, ints))
+class_4 (pos n) low high = rw (le-ltb n 2 (omega (arith, ints)), le-ltb n 4 (omega (arith, ints)), lt-ltb n 8 (omega (arith, ints))) refl
+
+-- ---- worked examples
+
+-- 62 codewords each
+sixty_two : (length (tokens coeff_token_0) ∷ length (tokens coeff_token_2) ∷ length (tokens coeff_token_4) ∷ length tokens_8 ∷ []) ≡ 62 ∷ 62 ∷ 62 ∷ 62 ∷ []
+sixty_two = refl
+
+abbrev value_of : {A : Type 0} → Read A → List ℕ → Result A Fault
+value_of part bytes = elim (part (start bytes)) [ Ok r ↦ Ok r.0 | Err f ↦ Err f ]
+
+no_code : value_of (coeff_token (pos 8)) (0x0A ∷ []) ≡ Err faults.BadCode
+no_code = refl
+
+cut_short_row : value_of (coeff_token (pos 8)) (0x08 ∷ []) ≡ Err faults.Truncated
+cut_short_row = refl

@@ -1,5 +1,5 @@
-use Rattle.avc_annexb.proofs.Common.{◌+◌, ◌-◌, ◌<◌, arith, length, take, drop, get_or, eqb-true, eq-eqb, take_rest, length-drop, HasNoZero}
-use Rattle.avc_annexb.proofs.Resumed.{resumed_more, resumed-last, free_before, few_after}
+use Rattle.avc_annexb.proofs.Written.{◌+◌, ◌-◌, ◌<◌, arith, length, take, drop, get_or, eqb-true, eq-eqb, take_rest, length-drop, HasNoZero}
+use Rattle.avc_annexb.proofs.Written.{resumed_more, resumed-last, free_before, few_after}
 use Rattle.avc_annexb.proofs.escapes.unescape_in.Goals as goal
 
 pub loop-len-preserved : goal.loop-len-preserved

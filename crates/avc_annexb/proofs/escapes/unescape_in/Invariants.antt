@@ -1,5 +1,4 @@
-use Rattle.avc_annexb.proofs.Common.{◌≡◌, ◌≤◌, ◌++◌, ◌-◌, drop, length, rbsp}
-use Rattle.avc_annexb.proofs.Resumed.{resumed}
+use Rattle.avc_annexb.proofs.Written.{◌≡◌, ◌≤◌, ◌++◌, ◌-◌, drop, length, rbsp, resumed}
 use Rattle.avc_annexb.proofs.escapes.unescape_in.Given as goal
 
 -- what was written and what is still to come are the RBSP

@@ -1,4 +1,4 @@
-use Rattle.avc_annexb.proofs.Limits.{units_are_whole_so}
+use Rattle.avc_annexb.proofs.Written.{units_are_whole_so}
 use Rattle.avc_annexb.proofs.laws.units_are_whole.Goals as goal
 
 pub returns : goal.returns

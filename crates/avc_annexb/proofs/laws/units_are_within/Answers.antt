@@ -1,4 +1,4 @@
-use Rattle.avc_annexb.proofs.Limits.{units_are_within_so}
+use Rattle.avc_annexb.proofs.Written.{units_are_within_so}
 use Rattle.avc_annexb.proofs.laws.units_are_within.Goals as goal
 
 pub returns : goal.returns

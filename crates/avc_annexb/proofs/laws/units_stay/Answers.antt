@@ -1,4 +1,4 @@
-use Rattle.avc_annexb.proofs.Staying.{units_stay_first}
+use Rattle.avc_annexb.proofs.Written.{units_stay_first}
 use Rattle.avc_annexb.proofs.laws.units_stay.Goals as goal
 
 pub returns : goal.returns

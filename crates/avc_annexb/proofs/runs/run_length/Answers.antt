@@ -1,5 +1,4 @@
-use Rattle.avc_annexb.proofs.Common.{◌+◌, ◌≡◌, arith, length, drop, eq-eqb, take_rest, length-drop, slice_index}
-use Rattle.avc_annexb.proofs.Lone.{lone_more, lone_pair}
+use Rattle.avc_annexb.proofs.Written.{◌+◌, ◌≡◌, arith, length, drop, eq-eqb, take_rest, length-drop, slice_index, lone_more, lone_pair}
 use Rattle.avc_annexb.proofs.runs.run_length.Goals as goal
 
 pub returns-then-zero-bytes-clause-lone : goal.returns-then-zero-bytes-clause-lone

@@ -1,4 +1,4 @@
-use Rattle.avc_annexb.proofs.Common.{◌≤◌, ◌-◌, length, HasLoneZerosBefore}
+use Rattle.avc_annexb.proofs.Written.{◌≤◌, ◌-◌, length, HasLoneZerosBefore}
 use Rattle.avc_annexb.proofs.runs.run_length.Given as goal
 
 -- each zero before this place stands alone

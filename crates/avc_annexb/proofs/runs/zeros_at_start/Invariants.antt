@@ -1,4 +1,4 @@
-use Rattle.avc_annexb.proofs.Common.{◌≡◌, ◌≤◌, ◌-◌, length, take, replicate}
+use Rattle.avc_annexb.proofs.Written.{◌≡◌, ◌≤◌, ◌-◌, length, take, replicate}
 use Rattle.avc_annexb.proofs.runs.zeros_at_start.Given as goal
 
 -- the bytes before this place are zeros

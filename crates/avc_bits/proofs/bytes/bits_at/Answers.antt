@@ -1,5 +1,4 @@
-use Rattle.std.proofs.Common.{arith, ◌∙◌}
-use Rattle.avc_bits.proofs.Numbers.{window_bits}
+use Rattle.avc_bits.proofs.Reading.{arith, ◌∙◌, window_bits}
 use Rattle.avc_bits.proofs.bytes.bits_at.Goals as goal
 
 pub returns-then-first-bytes-clause-value : goal.returns-then-first-bytes-clause-value

@@ -1,5 +1,4 @@
-use Rattle.avc_bits.proofs.Common.{◌≡◌, ◌+◌, ◌-◌, ◌*◌, ◌/◌, ◌%◌, ◌^◌, take, drop, ap, arith, ◌∙◌, one_shl, byte_bits, number_of}
-use Rattle.avc_bits.proofs.Numbers.{few_from}
+use Rattle.avc_bits.proofs.Reading.{◌≡◌, ◌+◌, ◌-◌, ◌*◌, ◌/◌, ◌%◌, ◌^◌, take, drop, ap, arith, ◌∙◌, one_shl, byte_bits, number_of, few_from}
 use Rattle.avc_bits.proofs.bytes.bits_near_end.Goals as goal
 
 pub returns-clause-value : goal.returns-clause-value

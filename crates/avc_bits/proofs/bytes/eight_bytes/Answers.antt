@@ -1,5 +1,4 @@
-use Rattle.std.proofs.Common.{◌+◌, ◌∷◌, [], get_or, arith, ◌∙◌}
-use Rattle.avc_bits.proofs.Numbers.{eight_from, eight_items}
+use Rattle.avc_bits.proofs.Reading.{◌+◌, ◌∷◌, [], get_or, arith, ◌∙◌, eight_from, eight_items}
 use Rattle.avc_bits.proofs.bytes.eight_bytes.Goals as goal
 
 pub returns : goal.returns

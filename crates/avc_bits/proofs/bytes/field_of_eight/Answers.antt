@@ -1,5 +1,4 @@
-use Rattle.std.proofs.Common.{arith, ◌^◌, ◌/◌, ◌-◌}
-use Rattle.avc_bits.proofs.Numbers.{field64_is, field_fits}
+use Rattle.avc_bits.proofs.Reading.{arith, ◌^◌, ◌/◌, ◌-◌, field64_is, field_fits}
 use Rattle.avc_bits.proofs.bytes.field_of_eight.Goals as goal
 
 pub overflow_cast-result-3 : goal.overflow_cast-result-3

@@ -1,5 +1,4 @@
-use Rattle.avc_bits.proofs.Common.{◌+◌, ◌*◌, take, refl, ap, ◌∙◌, arith, take_all, byte_bits, number_of}
-use Rattle.avc_bits.proofs.Numbers.{few_below, next_byte}
+use Rattle.avc_bits.proofs.Reading.{◌+◌, ◌*◌, take, refl, ap, ◌∙◌, arith, take_all, byte_bits, number_of, few_below, next_byte}
 use Rattle.avc_bits.proofs.bytes.number_of_few.Goals as goal
 
 pub bytes-init : goal.bytes-init

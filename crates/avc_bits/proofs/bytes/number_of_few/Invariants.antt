@@ -1,4 +1,4 @@
-use Rattle.avc_bits.proofs.Common.{◌≡◌, take, byte_bits, number_of}
+use Rattle.avc_bits.proofs.Reading.{◌≡◌, take, byte_bits, number_of}
 use Rattle.avc_bits.proofs.bytes.number_of_few.Given as goal
 
 abbrev pub invariant-bytes : goal.invariant-bytes

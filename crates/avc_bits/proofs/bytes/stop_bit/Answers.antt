@@ -1,8 +1,6 @@
-use Rattle.avc_bits.proofs.Common.{arith, ◌-◌, ◌<◌, get_or, w8}
-use Rattle.std.proofs.lemmas.Nat.Bits.{bit_at-trailing_zeros}
-use Rattle.avc_bits.proofs.Stops.{stops, stops_never}
-use Rattle.avc_bits.proofs.bytes.stop_bit.Goals as goal
+use Rattle.avc_bits.proofs.Reading.{arith, ◌-◌, ◌<◌, get_or, w8, bit_at-trailing_zeros, stops, stops_never}
 use Rattle.avc_bits.proofs.bytes.stop_bit.Goals.{then-loop-len-test+else-bytes-len-eq0, else-loop-len-test}
+use Rattle.avc_bits.proofs.bytes.stop_bit.Goals as goal
 
 pub returns-then-len-eq0-clause-stop : goal.returns-then-len-eq0-clause-stop
 returns-then-len-eq0-clause-stop c = stops_never c.args.bytes.now (λ k. c.loop-len.invariant.zeros k (omega arith))

@@ -1,4 +1,4 @@
-use Rattle.std.proofs.Common.{◌≡◌, ◌≤◌, ℕ, length, get_or}
+use Rattle.avc_bits.proofs.Reading.{◌≡◌, ◌≤◌, ℕ, length, get_or}
 use Rattle.avc_bits.proofs.bytes.stop_bit.Given as goal
 
 abbrev pub invariant-loop-len : goal.invariant-loop-len

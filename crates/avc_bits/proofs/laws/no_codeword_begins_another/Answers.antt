@@ -1,4 +1,4 @@
-use Rattle.avc_bits.proofs.CodeLaws.{u_free, ue_free, se_free, te_free}
+use Rattle.avc_bits.proofs.Reading.{u_free, ue_free, se_free, te_free}
 use Rattle.avc_bits.proofs.laws.no_codeword_begins_another.Goals as goal
 
 pub returns : goal.returns

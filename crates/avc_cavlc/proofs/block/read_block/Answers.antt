@@ -1,4 +1,4 @@
-use Rattle.avc_cavlc.proofs.Common.{◌≡◌, Ok, arith, take, to_z, of_z, w8, ap, ◌∙◌, sym, ints, reader_bits, residual_block}
+use Rattle.avc_cavlc.proofs.Levels.{◌≡◌, Ok, arith, take, to_z, of_z, w8, ap, ◌∙◌, sym, ints, reader_bits, residual_block}
 use Rattle.avc_cavlc.proofs.block.read_block.Goals as goal
 
 pub returns-in-Ok-clause-read : goal.returns-in-Ok-clause-read

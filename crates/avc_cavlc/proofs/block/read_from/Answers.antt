@@ -1,9 +1,7 @@
-use Rattle.avc_cavlc.proofs.Common.{◌≡◌, ◌+◌, ◌≤◌, pos, Ok, length, take, drop, get_or, arith, sym, ap, subst, ◌∙◌, to_z, of_z, w8}
-use Rattle.avc_cavlc.proofs.Common.{replicate, ints, length-take-le, take-replicate, drop-replicate, total_coeff, reader_bits, reader_bytes}
-use Rattle.avc_cavlc.proofs.Common.{coeff_token, IsSmall}
-use Rattle.avc_cavlc.proofs.Placing.{no_coefficients, small_none}
-use Rattle.avc_cavlc.proofs.Blocks.{zeros_part, no_zeros, some_zeros, no_levels, some_levels}
-use Rattle.avc_cavlc.proofs.Shorter.{ReadsShorter, shorter, shorter_count}
+use Rattle.avc_cavlc.proofs.Levels.{◌≡◌, ◌+◌, ◌≤◌, pos, Ok, length, take, drop, get_or, arith, sym, ap, subst, ◌∙◌, to_z, of_z, w8, replicate, ints}
+use Rattle.avc_cavlc.proofs.Levels.{length-take-le, take-replicate, drop-replicate, total_coeff, reader_bits, reader_bytes, coeff_token, IsSmall}
+use Rattle.avc_cavlc.proofs.Levels.{no_coefficients, small_none, zeros_part, no_zeros, some_zeros, no_levels, some_levels, ReadsShorter, shorter}
+use Rattle.avc_cavlc.proofs.Levels.{shorter_count}
 use Rattle.avc_cavlc.proofs.block.read_from.Goals.{then-total-max-2, else-total-max-2+in_ok-zeros}
 use Rattle.avc_cavlc.proofs.block.read_from.Goals as goal
 

@@ -1,6 +1,4 @@
-use Rattle.avc_cavlc.proofs.Common.{◌<◌, ◌^◌, ℕ, subst, sym, ap, ◌∙◌, u, reader_bits}
-use Rattle.avc_cavlc.proofs.LevelCodes.{level_code_most}
-use Rattle.avc_cavlc.proofs.LongCodes.{level_long}
+use Rattle.avc_cavlc.proofs.Levels.{◌<◌, ◌^◌, ℕ, subst, sym, ap, ◌∙◌, u, reader_bits, level_code_most, level_long}
 use Rattle.avc_cavlc.proofs.level.long_code.Goals as goal
 
 pub returns-clause-read : goal.returns-clause-read

@@ -1,5 +1,4 @@
-use Rattle.avc_cavlc.proofs.Common.{◌/◌, ◌%◌, ◌-◌, ◌^◌, ◌==◌}
-use Rattle.avc_cavlc.proofs.Ones.{one_back, one_there}
+use Rattle.avc_cavlc.proofs.Levels.{◌/◌, ◌%◌, ◌-◌, ◌^◌, ◌==◌, one_back, one_there}
 use Rattle.avc_cavlc.proofs.level.one_at.Goals as goal
 
 pub returns : goal.returns

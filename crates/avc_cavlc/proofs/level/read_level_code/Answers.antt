@@ -1,7 +1,4 @@
-use Rattle.avc_cavlc.proofs.Common.{◌<◌, ◌+◌, ◌^◌, ℕ, subst, arith, sym, reader_bits}
-use Rattle.avc_cavlc.proofs.LevelCodes.{level_code_most}
-use Rattle.avc_cavlc.proofs.LongCodes.{few_passed}
-use Rattle.avc_cavlc.proofs.LevelSteps.{short_suffix}
+use Rattle.avc_cavlc.proofs.Levels.{◌<◌, ◌+◌, ◌^◌, ℕ, subst, arith, sym, reader_bits, level_code_most, few_passed, short_suffix}
 use Rattle.avc_cavlc.proofs.level.read_level_code.Goals as goal
 
 pub returns-in-Some-clause-most : goal.returns-in-Some-clause-most

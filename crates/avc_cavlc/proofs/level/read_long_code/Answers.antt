@@ -1,5 +1,4 @@
-use Rattle.avc_cavlc.proofs.Common.{Ok, ap, arith, ◌∙◌, reader_bits, level_of_code}
-use Rattle.avc_cavlc.proofs.LongCodes.{few_skipped, skipped_is, never_cut}
+use Rattle.avc_cavlc.proofs.Levels.{Ok, ap, arith, ◌∙◌, reader_bits, level_of_code, few_skipped, skipped_is, never_cut}
 use Rattle.avc_cavlc.proofs.level.read_long_code.Goals as goal
 
 pub returns-in_err-skip-clause-read : goal.returns-in_err-skip-clause-read

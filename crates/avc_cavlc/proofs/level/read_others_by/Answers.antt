@@ -1,6 +1,5 @@
-use Rattle.avc_cavlc.proofs.Common.{◌≡◌, ◌-◌, false, take, Err, arith, rules, to_z, of_z, w16, nat_abs, ap, refl, ◌∙◌, sym, ints, reader_bits}
-use Rattle.avc_cavlc.proofs.Common.{levels_after}
-use Rattle.avc_cavlc.proofs.LevelSteps.{level_fault, level_read, raised_first, raised_next}
+use Rattle.avc_cavlc.proofs.Levels.{◌≡◌, ◌-◌, false, take, Err, arith, rules, to_z, of_z, w16, nat_abs, ap, refl, ◌∙◌, sym, ints, reader_bits}
+use Rattle.avc_cavlc.proofs.Levels.{levels_after, level_fault, level_read, raised_first, raised_next}
 use Rattle.avc_cavlc.proofs.level.read_others_by.Goals as goal
 
 pub levels-init : goal.levels-init

@@ -1,5 +1,4 @@
-use Rattle.avc_cavlc.proofs.Common.{◌≡◌, ◌+◌, ◌-◌, ◌*◌, ◌≤◌, false, length, take, IsTrue, All, reader_bits, reader_bytes, IsLevel}
-use Rattle.avc_cavlc.proofs.Common.{levels_after}
+use Rattle.avc_cavlc.proofs.Levels.{◌≡◌, ◌+◌, ◌-◌, ◌*◌, ◌≤◌, false, length, take, IsTrue, All, reader_bits, reader_bytes, IsLevel, levels_after}
 use Rattle.avc_cavlc.proofs.level.read_others_by.Given as goal
 
 abbrev pub invariant-levels : goal.invariant-levels

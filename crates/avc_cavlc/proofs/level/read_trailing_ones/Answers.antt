@@ -1,6 +1,6 @@
-use Rattle.avc_cavlc.proofs.Common.{◌≡◌, ◌∷◌, [], take, set, Ok, Err, arith, rules, to_z, of_z, w16, ap, subst, ◌∙◌, sym, ◌==◌, ◌/◌, ◌%◌}
-use Rattle.avc_cavlc.proofs.Common.{All, times, skip, reader_bits, IsLevel, trailing_one, one_of_sign}
-use Rattle.avc_cavlc.proofs.Ones.{ones_read, ones_fault, ones_put, ones_levels, three_ones, one_back}
+use Rattle.avc_cavlc.proofs.Levels.{◌≡◌, ◌∷◌, [], take, set, Ok, Err, arith, rules, to_z, of_z, w16, ap, subst, ◌∙◌, sym, ◌==◌, ◌/◌, ◌%◌, All, times}
+use Rattle.avc_cavlc.proofs.Levels.{skip, reader_bits, IsLevel, trailing_one, one_of_sign, ones_read, ones_fault, ones_put, ones_levels, three_ones}
+use Rattle.avc_cavlc.proofs.Levels.{one_back}
 use Rattle.avc_cavlc.proofs.level.read_trailing_ones.Goals as goal
 
 pub returns-in_err-skip-clause-read : goal.returns-in_err-skip-clause-read

@@ -1,6 +1,5 @@
-use Rattle.std.proofs.Common.{◌≡◌, ◌+◌, ◌-◌, ◌<◌, ◌++◌, ◌∷◌, ℤ, pos, arith, length, take, drop, set, get_or, to_z, of_z, w16, ap, ◌∙◌, sym, length-set}
-use Rattle.avc_cavlc.proofs.Common.{reverse, ints, drop-set, take-set-le, total_coeff}
-use Rattle.avc_cavlc.proofs.Placing.{coefficient_more, last_first, small_more, value_at}
+use Rattle.avc_cavlc.proofs.Levels.{◌≡◌, ◌+◌, ◌-◌, ◌<◌, ◌++◌, ◌∷◌, ℤ, pos, arith, length, take, drop, set, get_or, to_z, of_z, w16, ap, ◌∙◌, sym}
+use Rattle.avc_cavlc.proofs.Levels.{length-set, reverse, ints, drop-set, take-set-le, total_coeff, coefficient_more, last_first, small_more, value_at}
 use Rattle.avc_cavlc.proofs.runs.place_others.Goals as goal
 
 pub values-preserved : goal.values-preserved

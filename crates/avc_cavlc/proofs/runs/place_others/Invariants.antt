@@ -1,4 +1,4 @@
-use Rattle.avc_cavlc.proofs.Common.{◌≡◌, ◌+◌, ◌-◌, ◌++◌, ℕ, pos, drop, get_or, length, take, reverse, IsSmall, total_coeff}
+use Rattle.avc_cavlc.proofs.Levels.{◌≡◌, ◌+◌, ◌-◌, ◌++◌, ℕ, pos, drop, get_or, length, take, reverse, IsSmall, total_coeff}
 use Rattle.avc_cavlc.proofs.runs.place_others.Given as goal
 
 abbrev pub invariant-values : goal.invariant-values

@@ -1,9 +1,8 @@
-use Rattle.avc_cavlc.proofs.Common.{◌≡◌, refl, ◌≤◌, ◌+◌, ◌-◌, ◌++◌, ◌∷◌, ℤ, suc, pos, Ok, Err, arith, rules, length, take, drop, set}
-use Rattle.avc_cavlc.proofs.Common.{get_or, to_z, of_z, w16, ap, ◌∙◌, sym, length-set, replicate, reverse, ints, drop-replicate}
-use Rattle.avc_cavlc.proofs.Common.{length-replicate, length-take-le, length-drop, take-take, take-replicate}
-use Rattle.avc_cavlc.proofs.Common.{take-append-drop, reader_bits, run, total_coeff, placed_before, placed_by_runs}
-use Rattle.avc_cavlc.proofs.RunSteps.{run_coded}
-use Rattle.avc_cavlc.proofs.Placing.{run_more, run_fault, first_runs, no_runs, open_first, open_more, done_more, no_coefficients, coefficient_more, front_none, small_none, small_more, value_at}
+use Rattle.avc_cavlc.proofs.Levels.{◌≡◌, refl, ◌≤◌, ◌+◌, ◌-◌, ◌++◌, ◌∷◌, ℤ, suc, pos, Ok, Err, arith, rules, length, take, drop, set, get_or, to_z}
+use Rattle.avc_cavlc.proofs.Levels.{of_z, w16, ap, ◌∙◌, sym, length-set, replicate, reverse, ints, drop-replicate, length-replicate, length-take-le}
+use Rattle.avc_cavlc.proofs.Levels.{length-drop, take-take, take-replicate, take-append-drop, reader_bits, run, total_coeff, placed_before}
+use Rattle.avc_cavlc.proofs.Levels.{placed_by_runs, run_coded, run_more, run_fault, first_runs, no_runs, open_first, open_more, done_more}
+use Rattle.avc_cavlc.proofs.Levels.{no_coefficients, coefficient_more, front_none, small_none, small_more, value_at}
 use Rattle.avc_cavlc.proofs.runs.read_placed.Goals.{then-values-test+else-k-total, else-values-test}
 use Rattle.avc_cavlc.proofs.runs.read_placed.Goals as goal
 

@@ -1,6 +1,5 @@
-use Rattle.avc_cavlc.proofs.Common.{◌≡◌, ◌+◌, ◌-◌, ◌<◌, ℕ, pos, drop, get_or, length, take, reader_bits, reader_bytes, IsSmall, total_coeff}
-use Rattle.avc_cavlc.proofs.Common.{placed_before, placed_by_runs}
-use Rattle.avc_cavlc.proofs.Placing.{IsOpen}
+use Rattle.avc_cavlc.proofs.Levels.{◌≡◌, ◌+◌, ◌-◌, ◌<◌, ℕ, pos, drop, get_or, length, take, reader_bits, reader_bytes, IsSmall, total_coeff}
+use Rattle.avc_cavlc.proofs.Levels.{placed_before, placed_by_runs, IsOpen}
 use Rattle.avc_cavlc.proofs.runs.read_placed.Given as goal
 
 abbrev pub invariant-values : goal.invariant-values

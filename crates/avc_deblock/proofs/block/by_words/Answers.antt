@@ -1,5 +1,4 @@
-use Rattle.std.proofs.Common.{slice_index, arith}
-use Rattle.avc_deblock.proofs.Words.{by_fours}
+use Rattle.avc_deblock.proofs.FilteredPictures.{slice_index, arith, by_fours}
 use Rattle.avc_deblock.proofs.block.by_words.Goals as goal
 
 pub returns : goal.returns

@@ -1,4 +1,4 @@
-use Rattle.std.proofs.Common.{◌≡◌, ◌<◌, ◌+◌, ◌*◌, ℕ, length, slice_index}
+use Rattle.avc_deblock.proofs.FilteredPictures.{◌≡◌, ◌<◌, ◌+◌, ◌*◌, ℕ, length, slice_index}
 use Rattle.avc_deblock.proofs.block.by_words.Given as goal
 
 abbrev pub invariant-loop-k : goal.invariant-loop-k

@@ -1,4 +1,4 @@
-use Rattle.avc_deblock.proofs.Transposed.{four_riffles}
+use Rattle.avc_deblock.proofs.FilteredPictures.{four_riffles}
 use Rattle.avc_deblock.proofs.block.columns.Goals as goal
 
 pub returns : goal.returns

@@ -1,4 +1,4 @@
-use Rattle.avc_deblock.proofs.Transposed.{three_riffles}
+use Rattle.avc_deblock.proofs.FilteredPictures.{three_riffles}
 use Rattle.avc_deblock.proofs.block.rows_of.Goals as goal
 
 pub returns : goal.returns

@@ -1,5 +1,4 @@
-use Rattle.avc_deblock.proofs.Common.{◌+◌, ◌*◌, arith, ap, ◌∙◌, slice_index}
-use Rattle.avc_deblock.proofs.Transposed.{two_riffles, middle_row}
+use Rattle.avc_deblock.proofs.FilteredPictures.{◌+◌, ◌*◌, arith, ap, ◌∙◌, slice_index, two_riffles, middle_row}
 use Rattle.avc_deblock.proofs.block.rows_of_middle.Goals as goal
 
 pub returns : goal.returns

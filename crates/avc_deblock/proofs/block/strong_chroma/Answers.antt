@@ -1,4 +1,4 @@
-use Rattle.avc_deblock.proofs.Blocks.{near_set, near_lines}
+use Rattle.avc_deblock.proofs.FilteredPictures.{near_set, near_lines}
 use Rattle.avc_deblock.proofs.block.strong_chroma.Goals as goal
 
 pub returns-clause-lines : goal.returns-clause-lines

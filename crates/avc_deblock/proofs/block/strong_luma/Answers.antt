@@ -1,4 +1,4 @@
-use Rattle.avc_deblock.proofs.Blocks.{strong_down}
+use Rattle.avc_deblock.proofs.FilteredPictures.{strong_down}
 use Rattle.avc_deblock.proofs.block.strong_luma.Goals as goal
 
 pub returns : goal.returns

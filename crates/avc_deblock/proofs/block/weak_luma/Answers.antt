@@ -1,4 +1,4 @@
-use Rattle.avc_deblock.proofs.Blocks.{weak_down}
+use Rattle.avc_deblock.proofs.FilteredPictures.{weak_down}
 use Rattle.avc_deblock.proofs.block.weak_luma.Goals as goal
 
 pub returns : goal.returns

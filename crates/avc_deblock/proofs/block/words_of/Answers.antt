@@ -1,5 +1,4 @@
-use Rattle.std.proofs.Common.{◌+◌, ◌*◌, arith}
-use Rattle.avc_deblock.proofs.Words.{word_is}
+use Rattle.avc_deblock.proofs.FilteredPictures.{◌+◌, ◌*◌, arith, word_is}
 use Rattle.avc_deblock.proofs.block.words_of.Goals as goal
 
 pub returns-clause-first : goal.returns-clause-first

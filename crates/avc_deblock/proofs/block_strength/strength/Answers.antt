@@ -1,7 +1,6 @@
-use Rattle.std.proofs.Common.{◌≡◌, ◌∙◌, sym, false}
-use Rattle.avc_deblock.proofs.Between.{inter_between}
-use Rattle.avc_deblock.proofs.block_strength.strength.Goals as goal
+use Rattle.avc_deblock.proofs.FilteredPictures.{◌≡◌, ◌∙◌, sym, false, inter_between}
 use Rattle.avc_deblock.proofs.block_strength.strength.Goals.{then-p, else-p}
+use Rattle.avc_deblock.proofs.block_strength.strength.Goals as goal
 
 pub returns-else-q : goal.returns-else-q
 returns-else-q c coded motion names ap aq hp hq inside =

@@ -1,5 +1,4 @@
-use Rattle.avc_deblock.proofs.Common.{◌+◌, ◌*◌, ◌/◌, false, arith, refl, Four, chroma_setting, strength_along}
-use Rattle.avc_deblock.proofs.Limits.{fits_strong}
+use Rattle.avc_deblock.proofs.FilteredPictures.{◌+◌, ◌*◌, ◌/◌, false, arith, refl, Four, chroma_setting, strength_along, fits_strong}
 use Rattle.avc_deblock.proofs.chroma_edge.filter_at_four.Goals as goal
 
 pub returns-clause-lines : goal.returns-clause-lines

@@ -1,6 +1,5 @@
-use Rattle.avc_deblock.proofs.Common.{◌≡◌, ℕ, ◌+◌, ◌*◌, ◌/◌, ◌%◌, arith, false, refl, ap, ◌∙◌, slice_index, BelowFour, chroma_setting}
-use Rattle.avc_deblock.proofs.Common.{strength_along, tc1_of}
-use Rattle.avc_deblock.proofs.Limits.{weak_row, fits_weak}
+use Rattle.avc_deblock.proofs.FilteredPictures.{◌≡◌, ℕ, ◌+◌, ◌*◌, ◌/◌, ◌%◌, arith, false, refl, ap, ◌∙◌, slice_index, BelowFour, chroma_setting}
+use Rattle.avc_deblock.proofs.FilteredPictures.{strength_along, tc1_of, weak_row, fits_weak}
 use Rattle.avc_deblock.proofs.chroma_edge.filter_below_four.Goals as goal
 
 pub returns-clause-lines : goal.returns-clause-lines

@@ -1,5 +1,4 @@
-use Rattle.avc_deblock.proofs.Common.{arith, ap, ◌∙◌, slice_index, Four, strength_along}
-use Rattle.avc_deblock.proofs.Pairs.{horizontal_part}
+use Rattle.avc_deblock.proofs.FilteredPictures.{arith, ap, ◌∙◌, slice_index, Four, strength_along, horizontal_part}
 use Rattle.avc_deblock.proofs.chroma_edge.strong_horizontal.Goals as goal
 
 pub returns-clause-cb : goal.returns-clause-cb

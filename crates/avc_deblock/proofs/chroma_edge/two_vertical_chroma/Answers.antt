@@ -1,5 +1,4 @@
-use Rattle.avc_deblock.proofs.Common.{arith, ap, ◌∙◌, slice_index, strength_along, chroma_setting}
-use Rattle.avc_deblock.proofs.TwoEdges.{two_edges}
+use Rattle.avc_deblock.proofs.FilteredPictures.{arith, ap, ◌∙◌, slice_index, strength_along, chroma_setting, two_edges}
 use Rattle.avc_deblock.proofs.chroma_edge.two_vertical_chroma.Goals as goal
 
 pub returns-clause-cb : goal.returns-clause-cb

@@ -1,5 +1,4 @@
-use Rattle.avc_deblock.proofs.Common.{arith, ap, ◌∙◌, slice_index, strength_along}
-use Rattle.avc_deblock.proofs.Pairs.{vertical_part}
+use Rattle.avc_deblock.proofs.FilteredPictures.{arith, ap, ◌∙◌, slice_index, strength_along, vertical_part}
 use Rattle.avc_deblock.proofs.chroma_edge.vertical_chroma.Goals as goal
 
 pub returns-clause-cb : goal.returns-clause-cb

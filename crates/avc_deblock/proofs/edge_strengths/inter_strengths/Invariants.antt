@@ -1,4 +1,4 @@
-use Rattle.avc_deblock.proofs.Common.{◌≡◌, ◌<◌, ◌+◌, ◌%◌, ℕ, length, slice_index, edge_block, inter_strength}
+use Rattle.avc_deblock.proofs.FilteredPictures.{◌≡◌, ◌<◌, ◌+◌, ◌%◌, ℕ, length, slice_index, edge_block, inter_strength}
 use Rattle.avc_deblock.proofs.edge_strengths.inter_strengths.Given as goal
 
 abbrev pub invariant-loop-k : goal.invariant-loop-k

@@ -1,8 +1,6 @@
-use Rattle.avc_deblock.proofs.Common.{◌≡◌, ◌∙◌, ℕ, ◌+◌, ◌-◌, ◌*◌, length, w8, to_z, of_z, arith, refl, sym, ap, subst, range_with_len}
-use Rattle.avc_deblock.proofs.Common.{flat_map, to_z-of_z, planes_of, HaveInfo}
-use Rattle.avc_deblock.specs.Edges.{all_filtered, mb_lines, row_lines}
-use Rattle.avc_deblock.proofs.Macroblocks.{one_row_more, part_info, rows_are_all}
-use Rattle.avc_deblock.proofs.PictureInfo.{row_is}
+use Rattle.avc_deblock.proofs.FilteredPictures.{◌≡◌, ◌∙◌, ℕ, ◌+◌, ◌-◌, ◌*◌, length, w8, to_z, of_z, arith, refl, sym, ap, subst, range_with_len}
+use Rattle.avc_deblock.proofs.FilteredPictures.{flat_map, to_z-of_z, planes_of, HaveInfo, all_filtered, mb_lines, row_lines, one_row_more, part_info}
+use Rattle.avc_deblock.proofs.FilteredPictures.{rows_are_all, row_lines_filtered}
 use Rattle.avc_deblock.proofs.filter.picture.Goals as goal
 
 pub row-requires : goal.row-requires
@@ -25,7 +23,7 @@ loop-y-preserved g c = record {
       one_row_more coded motion y (y + 1) (planes_of c.args.planes.now) (planes_of c.loop-y.planes) (planes_of c.row.new.planes) refl
       (c.loop-y.invariant.lines coded motion names width offset have)
       (c.row.ensures.lines
-      ∙ row_is coded motion names y (to_z w8 (of_z w8 c.args.chroma_qp_index_offset)) c.row_of-above.result.now c.row_of.result.now (planes_of c.loop-y.planes)
+      ∙ row_lines_filtered coded motion names y (to_z w8 (of_z w8 c.args.chroma_qp_index_offset)) c.row_of-above.result.now c.row_of.result.now (planes_of c.loop-y.planes)
       (record {
         width_is = width ∙ sym c.row_of.ensures.long;
         same = c.row_of-above.ensures.long ∙ sym c.row_of.ensures.long;

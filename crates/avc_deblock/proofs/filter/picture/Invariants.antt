@@ -1,5 +1,5 @@
-use Rattle.avc_deblock.proofs.Common.{◌≡◌, ℕ, List, range_with_len, flat_map, Coded, Motion, planes_of, HasRoom, Names, HaveInfo}
-use Rattle.avc_deblock.specs.Edges.{all_filtered, row_lines}
+use Rattle.avc_deblock.proofs.FilteredPictures.{◌≡◌, ℕ, List, range_with_len, flat_map, Coded, Motion, planes_of, HasRoom, Names, HaveInfo}
+use Rattle.avc_deblock.proofs.FilteredPictures.{all_filtered, row_lines}
 use Rattle.avc_deblock.proofs.filter.picture.Given as goal
 
 abbrev pub invariant-loop-y : goal.invariant-loop-y

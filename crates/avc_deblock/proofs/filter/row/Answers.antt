@@ -1,5 +1,5 @@
-use Rattle.avc_deblock.proofs.Common.{◌≡◌, ◌∙◌, ℕ, suc, ◌+◌, ◌-◌, ℤ, w8, to_z, of_z, arith, refl, ap, slice_index_or, get_or_default}
-use Rattle.avc_deblock.proofs.Common.{planes_of, Planes, MbInfo, mb_by_info, row_by_info, no_info}
+use Rattle.avc_deblock.proofs.FilteredPictures.{◌≡◌, ◌∙◌, ℕ, suc, ◌+◌, ◌-◌, ℤ, w8, to_z, of_z, arith, refl, ap, slice_index_or, get_or_default}
+use Rattle.avc_deblock.proofs.FilteredPictures.{planes_of, Planes, MbInfo, mb_by_info, row_by_info, no_info}
 use Rattle.avc_deblock.proofs.filter.row.Goals as goal
 
 pub macroblock-requires : goal.macroblock-requires

@@ -1,4 +1,4 @@
-use Rattle.avc_deblock.proofs.Common.{◌≡◌, ℕ, planes_of, row_by_info, HasRoom}
+use Rattle.avc_deblock.proofs.FilteredPictures.{◌≡◌, ℕ, planes_of, row_by_info, HasRoom}
 use Rattle.avc_deblock.proofs.filter.row.Given as goal
 
 abbrev pub invariant-loop-column : goal.invariant-loop-column

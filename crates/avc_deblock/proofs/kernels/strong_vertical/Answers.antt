@@ -1,7 +1,5 @@
-use Rattle.avc_deblock.proofs.Common.{true, ◌+◌, ◌*◌, sym, ap, ◌∙◌, slice_index, sample, filtered}
-use Rattle.avc_deblock.proofs.Blocks.{filtered_across}
-use Rattle.avc_deblock.proofs.Samples.{same_samples}
-use Rattle.avc_deblock.proofs.OnPlane.{edge_block}
+use Rattle.avc_deblock.proofs.FilteredPictures.{true, ◌+◌, ◌*◌, sym, ap, ◌∙◌, slice_index, sample, filtered, filtered_across, same_samples}
+use Rattle.avc_deblock.proofs.FilteredPictures.{edge_as_block}
 use Rattle.avc_deblock.proofs.kernels.strong_vertical.Goals as goal
 
 pub returns : goal.returns
@@ -9,7 +7,7 @@ returns g c setting fits =
     let s = c.args.plane.now in
     let after = c.rows_of-after.result in
     c.set_rectangle.ensures
-    ∙ sym (edge_block true setting c.args.left c.args.top 16 s c.rectangle-block.ensures.all (λ x y. slice_index after (8 * y + x)) c.requires.columns c.requires.rows
+    ∙ sym (edge_as_block true setting c.args.left c.args.top 16 s c.rectangle-block.ensures.all (λ x y. slice_index after (8 * y + x)) c.requires.columns c.requires.rows
     (λ i low.
     ap (filtered (setting i))
     (same_samples (λ k. sample s (c.args.left + k) (c.args.top + i)) (λ k. slice_index c.rectangle-block.result (8 * i + k)) (λ k less. sym (c.rectangle-block.ensures.samples k i less low)))

@@ -1,8 +1,5 @@
-use Rattle.avc_deblock.proofs.Common.{ℕ, true, false, ◌+◌, ◌*◌, ◌/◌, ◌≡◌, ◌<◌, arith, refl, sym, ap, ◌∙◌, slice_index, sample, filtered, line_of}
-use Rattle.avc_deblock.proofs.OnPlane.{edge_block}
-use Rattle.avc_deblock.proofs.Samples.{same_samples, weak_reach, kept_by}
-use Rattle.avc_deblock.proofs.Within.{within_block}
-use Rattle.avc_deblock.proofs.Limits.{weak_row}
+use Rattle.avc_deblock.proofs.FilteredPictures.{ℕ, true, false, ◌+◌, ◌*◌, ◌/◌, ◌≡◌, ◌<◌, arith, refl, sym, ap, ◌∙◌, slice_index, sample, filtered}
+use Rattle.avc_deblock.proofs.FilteredPictures.{line_of, edge_as_block, same_samples, weak_reach, kept_by, within_block, weak_row}
 use Rattle.avc_deblock.proofs.kernels.weak_horizontal.Goals as goal
 
 pub returns : goal.returns
@@ -24,4 +21,4 @@ returns g c setting fits =
     (λ x y x_low y_low. c.half-inner.ensures (16 * y + x) (omega arith) ∙ ap (slice_index after) (omega arith))
     (λ x y x_low y_low out.
     kept_by (setting x) (λ k. sample s (left + x) (top + k)) (λ k. slice_index after (16 * k + x)) 2 (weak_reach (setting x) (fits x x_low).weak) (lines x x_low) y y_low (λ p q. out (omega arith) (omega arith) p (omega arith)))
-    ∙ sym (edge_block false setting left top 16 s c.rectangle-lines.ensures.all (λ x y. slice_index after (16 * y + x)) c.requires.columns c.requires.rows lines)
+    ∙ sym (edge_as_block false setting left top 16 s c.rectangle-lines.ensures.all (λ x y. slice_index after (16 * y + x)) c.requires.columns c.requires.rows lines)

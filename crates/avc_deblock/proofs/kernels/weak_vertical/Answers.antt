@@ -1,8 +1,5 @@
-use Rattle.avc_deblock.proofs.Common.{ℕ, true, ◌+◌, ◌*◌, ◌/◌, ◌≡◌, ◌<◌, arith, refl, sym, ap, ◌∙◌, slice_index, sample, filtered, line_of}
-use Rattle.avc_deblock.proofs.OnPlane.{edge_block}
-use Rattle.avc_deblock.proofs.Samples.{same_samples, weak_reach, kept_by}
-use Rattle.avc_deblock.proofs.Within.{within_block}
-use Rattle.avc_deblock.proofs.Limits.{weak_row}
+use Rattle.avc_deblock.proofs.FilteredPictures.{ℕ, true, ◌+◌, ◌*◌, ◌/◌, ◌≡◌, ◌<◌, arith, refl, sym, ap, ◌∙◌, slice_index, sample, filtered, line_of}
+use Rattle.avc_deblock.proofs.FilteredPictures.{edge_as_block, same_samples, weak_reach, kept_by, within_block, weak_row}
 use Rattle.avc_deblock.proofs.kernels.weak_vertical.Goals as goal
 
 pub returns : goal.returns
@@ -25,4 +22,4 @@ returns g c setting fits =
     (λ x y x_low y_low. c.rows_of_middle-after.ensures y x y_low x_low ∙ ap (slice_index after) (omega arith))
     (λ x y x_low y_low out.
     kept_by (setting y) (λ k. sample s (left + k) (top + y)) (λ k. slice_index after (16 * k + y)) 2 (weak_reach (setting y) (fits y y_low).weak) (lines y y_low) x x_low (λ p q. out p (omega arith) (omega arith) (omega arith)))
-    ∙ sym (edge_block true setting left top 16 s c.rectangle-block.ensures.all (λ x y. slice_index after (16 * x + y)) c.requires.columns c.requires.rows lines)
+    ∙ sym (edge_as_block true setting left top 16 s c.rectangle-block.ensures.all (λ x y. slice_index after (16 * x + y)) c.requires.columns c.requires.rows lines)

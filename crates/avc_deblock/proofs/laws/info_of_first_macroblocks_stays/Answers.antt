@@ -1,6 +1,6 @@
-use Rattle.avc_deblock.proofs.Common.{◌≡◌, ◌∙◌, ◌<◌, ℕ, ◌+◌, List, [], arith, sym, ap, slice_index_or, None, Coded, PicMb, SliceInfo}
-use Rattle.avc_deblock.proofs.Common.{Motion, absent, is_intra, Names, HasInfo, HasMotion, MbInfo}
-use Rattle.avc_deblock.specs.Edges.{mb_at, slice_at, entry_of_frame, filter_qp, has_coefficients}
+use Rattle.avc_deblock.proofs.FilteredPictures.{◌≡◌, ◌∙◌, ◌<◌, ℕ, ◌+◌, List, [], arith, sym, ap, slice_index_or, None, Coded, PicMb, SliceInfo}
+use Rattle.avc_deblock.proofs.FilteredPictures.{Motion, absent, is_intra, Names, HasInfo, HasMotion, MbInfo, mb_at, slice_at, entry_of_frame}
+use Rattle.avc_deblock.proofs.FilteredPictures.{filter_qp, has_coefficients}
 use Rattle.avc_deblock.proofs.laws.info_of_first_macroblocks_stays.Goals as goal
 
 module _ (c d : Coded) (names : Names) (a : ℕ) (f : MbInfo) (same_mb : mb_at d a ≡ mb_at c a) (same_slice : slice_at d a ≡ slice_at c a) where

@@ -1,4 +1,4 @@
-use Rattle.avc_deblock.proofs.LocalRows.{row_changes, row_reads, row_commutes}
+use Rattle.avc_deblock.proofs.FilteredPictures.{row_changes, row_reads, row_commutes}
 use Rattle.avc_deblock.proofs.laws.row_is_local.Goals as goal
 
 pub returns-clause-changes : goal.returns-clause-changes

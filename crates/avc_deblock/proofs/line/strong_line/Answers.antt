@@ -1,5 +1,5 @@
-use Rattle.avc_deblock.proofs.Common.{◌≡◌, ℕ, ◌+◌, ◌/◌, Bool, nat_lt, ◌&&◌, ◌==◌, arith, sym, ap, ◌∙◌, distance, Line, line}
-use Rattle.avc_deblock.proofs.Strong.{strong_is, either_nearest, either_other, turned}
+use Rattle.avc_deblock.proofs.FilteredPictures.{◌≡◌, ℕ, ◌+◌, ◌/◌, Bool, nat_lt, ◌&&◌, ◌==◌, arith, sym, ap, ◌∙◌, distance, Line, line, strong_is}
+use Rattle.avc_deblock.proofs.FilteredPictures.{either_nearest, either_other, turned}
 use Rattle.avc_deblock.proofs.line.strong_line.Goals as goal
 
 pub returns : goal.returns

@@ -1,6 +1,5 @@
-use Rattle.avc_deblock.proofs.Common.{◌≡◌, ℕ, ℤ, ◌+◌, pos, ◌+ℤ◌, ◌-ℤ◌, Bool, nat_lt, ◌&&◌, ◌==◌, if◌then◌else◌, arith, sym, ap, ◌∙◌, clip1}
-use Rattle.avc_deblock.proofs.Common.{distance, Line, line, slope, held}
-use Rattle.avc_deblock.proofs.Weak.{weak_is, second_is}
+use Rattle.avc_deblock.proofs.FilteredPictures.{◌≡◌, ℕ, ℤ, ◌+◌, pos, ◌+ℤ◌, ◌-ℤ◌, Bool, nat_lt, ◌&&◌, ◌==◌, if◌then◌else◌, arith, sym, ap, ◌∙◌, clip1}
+use Rattle.avc_deblock.proofs.FilteredPictures.{distance, Line, line, slope, held, weak_is, second_is}
 use Rattle.avc_deblock.proofs.line.weak_line.Goals as goal
 
 pub returns : goal.returns

@@ -1,5 +1,4 @@
-use Rattle.std.proofs.Common.{arith, rules, ◌∙◌, below_more}
-use Rattle.avc_deblock.proofs.Rows.{inner_before, inner_here}
+use Rattle.avc_deblock.proofs.FilteredPictures.{arith, rules, ◌∙◌, below_more, inner_before, inner_here}
 use Rattle.avc_deblock.proofs.lines.strong_chroma_lines.Goals as goal
 
 pub loop-i-preserved : goal.loop-i-preserved

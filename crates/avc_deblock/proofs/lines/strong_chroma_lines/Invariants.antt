@@ -1,4 +1,4 @@
-use Rattle.avc_deblock.proofs.Common.{◌≡◌, false, ◌<◌, ◌+◌, ℕ, length, slice_index, Setting, filtered, line_inside, IsStrong}
+use Rattle.avc_deblock.proofs.FilteredPictures.{◌≡◌, false, ◌<◌, ◌+◌, ℕ, length, slice_index, Setting, filtered, line_inside, IsStrong}
 use Rattle.avc_deblock.proofs.lines.strong_chroma_lines.Given as goal
 
 abbrev pub invariant-loop-i : goal.invariant-loop-i

@@ -1,5 +1,4 @@
-use Rattle.std.proofs.Common.{arith, rules, ◌∙◌, below_more}
-use Rattle.avc_deblock.proofs.Rows.{wide_before, wide_here}
+use Rattle.avc_deblock.proofs.FilteredPictures.{arith, rules, ◌∙◌, below_more, wide_before, wide_here}
 use Rattle.avc_deblock.proofs.lines.strong_lines.Goals as goal
 
 pub loop-i-preserved : goal.loop-i-preserved

@@ -1,4 +1,4 @@
-use Rattle.avc_deblock.proofs.Common.{◌≡◌, true, ◌<◌, ◌+◌, ℕ, length, slice_index, Setting, filtered, line_of_rows, IsStrong}
+use Rattle.avc_deblock.proofs.FilteredPictures.{◌≡◌, true, ◌<◌, ◌+◌, ℕ, length, slice_index, Setting, filtered, line_of_rows, IsStrong}
 use Rattle.avc_deblock.proofs.lines.strong_lines.Given as goal
 
 abbrev pub invariant-loop-i : goal.invariant-loop-i

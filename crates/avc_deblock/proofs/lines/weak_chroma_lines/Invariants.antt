@@ -1,5 +1,5 @@
-use Rattle.avc_deblock.proofs.Common.{◌≡◌, false, ◌<◌, ◌+◌, ℕ, length, slice_index, ◌==◌, if◌then◌else◌, Setting, filtered, line_inside}
-use Rattle.avc_deblock.proofs.Common.{IsWeak}
+use Rattle.avc_deblock.proofs.FilteredPictures.{◌≡◌, false, ◌<◌, ◌+◌, ℕ, length, slice_index, ◌==◌, if◌then◌else◌, Setting, filtered, line_inside}
+use Rattle.avc_deblock.proofs.FilteredPictures.{IsWeak}
 use Rattle.avc_deblock.proofs.lines.weak_chroma_lines.Given as goal
 
 abbrev pub invariant-loop-i : goal.invariant-loop-i

@@ -1,4 +1,4 @@
-use Rattle.std.proofs.Common.{arith}
+use Rattle.avc_deblock.proofs.FilteredPictures.{arith}
 use Rattle.avc_deblock.proofs.macroblock.all_vertical.Goals as goal
 
 pub inner_edges-requires : goal.inner_edges-requires

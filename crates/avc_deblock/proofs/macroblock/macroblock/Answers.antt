@@ -1,7 +1,5 @@
-use Rattle.avc_deblock.proofs.Common.{◌≡◌, ◌∙◌, ◌≤◌, Bool, true, false, arith, refl, ap, ◌&&◌, not, Planes, planes_of, filters_between}
-use Rattle.avc_deblock.proofs.Common.{edges_by_info}
-use Rattle.avc_deblock.proofs.PictureInfo.{some}
-use Rattle.avc_deblock.proofs.StillEdges.{mb_kept}
+use Rattle.avc_deblock.proofs.FilteredPictures.{◌≡◌, ◌∙◌, ◌≤◌, Bool, true, false, arith, refl, ap, ◌&&◌, not, Planes, planes_of, filters_between}
+use Rattle.avc_deblock.proofs.FilteredPictures.{edges_by_info, some_coded, mb_kept}
 use Rattle.avc_deblock.proofs.macroblock.macroblock.Goals as goal
 
 all_off : (i l u b : Bool) → b ≡ (not i && not l && not u) → b ≡ true → ((i ≡ false) × (l ≡ false)) × (u ≡ false)
@@ -22,7 +20,7 @@ returns-then-idle-clause-lines g c =
 pub outer_edge-requires : goal.outer_edge-requires
 outer_edge-requires g c =
     let room = c.all_vertical.ensures.room c.args.place.column c.args.place.row c.requires.room in
-    let some_row : c.reaches-from_above.result ≡ true → 1 ≤ c.args.place.row = λ e. some (filters_between c.args.mb.now c.args.above.now) c.args.place.row (c.reaches-from_above.ensures.on e) in
+    let some_row : c.reaches-from_above.result ≡ true → 1 ≤ c.args.place.row = λ e. some_coded (filters_between c.args.mb.now c.args.above.now) c.args.place.row (c.reaches-from_above.ensures.on e) in
     (omega arith, ((λ e f. absurd (cc)), ((λ e f. some_row e), (c.requires.columns_fit, (c.requires.rows_fit, (room, c.limits_beside-above_limits.ensures))))))
 
 pub inner_edges-requires : goal.inner_edges-requires

@@ -1,6 +1,5 @@
-use Rattle.avc_deblock.proofs.Common.{◌≡◌, ◌∙◌, ℕ, ◌<◌, Bool, true, false, sym, ap, planes_of, Planes, EdgeQp, lines_of_edge}
-use Rattle.avc_deblock.proofs.Common.{strength_along}
-use Rattle.avc_deblock.proofs.EdgePlanes.{room_kept, same_strengths}
+use Rattle.avc_deblock.proofs.FilteredPictures.{◌≡◌, ◌∙◌, ℕ, ◌<◌, Bool, true, false, sym, ap, planes_of, Planes, EdgeQp, lines_of_edge}
+use Rattle.avc_deblock.proofs.FilteredPictures.{strength_along, room_kept, same_strengths}
 use Rattle.avc_deblock.proofs.planes_edge.edge_at.Goals as goal
 
 -- equal strengths give equal planes

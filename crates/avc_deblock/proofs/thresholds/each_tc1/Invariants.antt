@@ -1,4 +1,4 @@
-use Rattle.avc_deblock.proofs.Common.{◌≡◌, ◌<◌, ◌≤◌, ℕ, length, slice_index, tc1_of}
+use Rattle.avc_deblock.proofs.FilteredPictures.{◌≡◌, ◌<◌, ◌≤◌, ℕ, length, slice_index, tc1_of}
 use Rattle.avc_deblock.proofs.thresholds.each_tc1.Given as goal
 
 abbrev pub invariant-loop-k : goal.invariant-loop-k

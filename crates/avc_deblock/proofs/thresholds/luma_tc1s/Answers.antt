@@ -1,4 +1,4 @@
-use Rattle.avc_deblock.proofs.Common.{ℕ, ◌/◌, ◌<◌, arith, sym, subst, ap, ◌∙◌, tc1_of}
+use Rattle.avc_deblock.proofs.FilteredPictures.{ℕ, ◌/◌, ◌<◌, arith, sym, subst, ap, ◌∙◌, tc1_of}
 use Rattle.avc_deblock.proofs.thresholds.luma_tc1s.Goals as goal
 
 pub tc1s-requires-clause-strengths : goal.tc1s-requires-clause-strengths

@@ -1,4 +1,4 @@
-use Rattle.avc_deblock.proofs.Tables.{tc1_small}
+use Rattle.avc_deblock.proofs.FilteredPictures.{tc1_small}
 use Rattle.avc_deblock.proofs.thresholds.tc1.Goals as goal
 
 pub returns-clause-small : goal.returns-clause-small

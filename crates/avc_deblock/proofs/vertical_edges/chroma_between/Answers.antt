@@ -1,7 +1,4 @@
-use Rattle.avc_deblock.proofs.Common.{arith, nat_tests, ◌∙◌, true, chroma_qp_of}
-use Rattle.avc_deblock.proofs.EdgePlanes.{chroma_same}
-use Rattle.avc_deblock.proofs.Settings.{edge_none}
-use Rattle.avc_deblock.proofs.OnPlane.{edge_width, edge_height}
+use Rattle.avc_deblock.proofs.FilteredPictures.{arith, nat_tests, ◌∙◌, true, chroma_qp_of, chroma_same, edge_none, edge_width, edge_height}
 use Rattle.avc_deblock.proofs.vertical_edges.chroma_between.Goals as goal
 
 pub returns-then-are_zero-clause-cb : goal.returns-then-are_zero-clause-cb

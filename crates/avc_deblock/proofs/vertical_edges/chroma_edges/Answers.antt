@@ -1,5 +1,4 @@
-use Rattle.avc_deblock.specs.ByInfo.{chroma_qp_of}
-use Rattle.avc_deblock.proofs.VerticalEdges.{both_chroma}
+use Rattle.avc_deblock.proofs.FilteredPictures.{chroma_qp_of, both_chroma}
 use Rattle.avc_deblock.proofs.vertical_edges.chroma_edges.Goals as goal
 
 pub returns-then-both-clause-cb : goal.returns-then-both-clause-cb

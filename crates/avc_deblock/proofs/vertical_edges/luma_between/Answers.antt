@@ -1,7 +1,4 @@
-use Rattle.avc_deblock.proofs.Common.{arith, nat_tests, luma_qp_of}
-use Rattle.avc_deblock.proofs.Settings.{edge_none}
-use Rattle.avc_deblock.proofs.OnPlane.{edge_width, edge_height}
-use Rattle.avc_deblock.proofs.VerticalEdges.{luma_lines}
+use Rattle.avc_deblock.proofs.FilteredPictures.{arith, nat_tests, luma_qp_of, edge_none, edge_width, edge_height, luma_lines}
 use Rattle.avc_deblock.proofs.vertical_edges.luma_between.Goals as goal
 
 pub returns-then-are_zero-clause-lines : goal.returns-then-are_zero-clause-lines

@@ -1,7 +1,5 @@
-use Rattle.avc_deblock.proofs.Common.{◌∙◌, ℕ, ◌+◌, ◌*◌, true, ap, planes_of, Plane, Planes, edge_filtered, luma_setting, strength_of}
-use Rattle.avc_deblock.proofs.Common.{luma_qp_of}
-use Rattle.avc_deblock.proofs.EdgePlanes.{three}
-use Rattle.avc_deblock.proofs.VerticalEdges.{edges_room}
+use Rattle.avc_deblock.proofs.FilteredPictures.{◌∙◌, ℕ, ◌+◌, ◌*◌, true, ap, planes_of, Plane, Planes, edge_filtered, luma_setting, strength_of}
+use Rattle.avc_deblock.proofs.FilteredPictures.{luma_qp_of, three, edges_room}
 use Rattle.avc_deblock.proofs.vertical_edges.vertical_edges.Goals as goal
 
 pub returns-clause-lines : goal.returns-clause-lines

@@ -1,5 +1,4 @@
-use Rattle.avc_decoder.proofs.Common.{is_some, ap, padded_planes_of}
-use Rattle.avc_decoder.proofs.Closing.{closes_done, closes_short, closes_unmarked, sized_as}
+use Rattle.avc_decoder.proofs.Resuming.{is_some, ap, padded_planes_of, closes_done, closes_short, closes_unmarked, sized_as}
 use Rattle.avc_decoder.proofs.close.close_picture.Goals as goal
 
 -- macroblocks are missing

@@ -1,4 +1,4 @@
-use Rattle.avc_decoder.proofs.EarlyOutput.{early_output}
+use Rattle.avc_decoder.proofs.Resuming.{early_output}
 use Rattle.avc_decoder.proofs.laws.early_output_keeps_pictures.Goals as goal
 
 pub returns : goal.returns

@@ -1,4 +1,4 @@
-use Rattle.avc_decoder.proofs.Numbers.{pictures_name_no_units_so}
+use Rattle.avc_decoder.proofs.Resuming.{pictures_name_no_units_so}
 use Rattle.avc_decoder.proofs.laws.pictures_name_no_units.Goals as goal
 
 pub returns : goal.returns

@@ -1,5 +1,4 @@
-use Rattle.avc_decoder.proofs.Growing.{events_grow}
-use Rattle.avc_decoder.proofs.Headline.{takes_them, takes_all}
+use Rattle.avc_decoder.proofs.Resuming.{events_grow, takes_them, takes_all}
 use Rattle.avc_decoder.proofs.laws.runs_give_the_events.Goals as goal
 
 pub returns-clause-in_order : goal.returns-clause-in_order

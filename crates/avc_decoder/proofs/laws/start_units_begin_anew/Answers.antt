@@ -1,4 +1,4 @@
-use Rattle.avc_decoder.proofs.StartUnits.{start_units}
+use Rattle.avc_decoder.proofs.Resuming.{start_units}
 use Rattle.avc_decoder.proofs.laws.start_units_begin_anew.Goals as goal
 
 pub returns : goal.returns

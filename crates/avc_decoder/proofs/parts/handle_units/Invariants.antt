@@ -1,6 +1,4 @@
-use Rattle.avc_annexb.specs.SplitterState.{units_waiting}
-use Rattle.avc_decoder.specs.States.{IsStream, stream_state}
-use Rattle.avc_decoder.proofs.Draining.{Left}
+use Rattle.avc_decoder.proofs.Resuming.{units_waiting, IsStream, stream_state, Left}
 use Rattle.avc_decoder.proofs.parts.handle_units.Given as goal
 
 abbrev pub invariant-loop-unit : goal.invariant-loop-unit

@@ -1,5 +1,4 @@
-use Rattle.std.proofs.Common.{refl, ◌∙◌}
-use Rattle.avc_decoder.proofs.Slicing.{answered_faulty, answered_well}
+use Rattle.avc_decoder.proofs.Resuming.{refl, ◌∙◌, answered_faulty, answered_well}
 use Rattle.avc_decoder.proofs.slices.decode_slice.Goals as goal
 
 pub returns-in-Ok : goal.returns-in-Ok

@@ -1,8 +1,5 @@
-use Rattle.avc_decoder.proofs.Common.{arith, rules, subst, sym, ◌∙◌, sets_after, base_in, failed_at, IsOpened, current_history}
-use Rattle.avc_decoder.specs.States.{Stops, phase_of}
-use Rattle.avc_decoder.proofs.Keeping.{base_here, named_first, none_open}
-use Rattle.avc_decoder.proofs.PictureFrames.{frames_fit}
-use Rattle.avc_decoder.proofs.Slicing.{first_slice, first_unopened}
+use Rattle.avc_decoder.proofs.Resuming.{arith, rules, subst, sym, ◌∙◌, sets_after, base_in, failed_at, IsOpened, current_history, Stops, phase_of}
+use Rattle.avc_decoder.proofs.Resuming.{base_here, named_first, none_open, frames_fit, first_slice_more, first_unopened}
 use Rattle.avc_decoder.proofs.slices.first_slice.Goals as goal
 
 pub begin-requires : goal.begin-requires
@@ -28,7 +25,7 @@ returns-in_ok-decode_slice-in-Ok c =
     let opened = subst (IsOpened t.sequence sps slice.header c.in-Ok.out.items)
     (sym c.keep_emptied.ensures) c.in-Ok.ensures.ok in
     let d = c.in_ok-decode_slice-in-Ok.ensures in
-    first_slice c.missing_numbers_keep_the_order.ensures t.sequence c.keep_emptied.new.sequence t'.sequence t.queue
+    first_slice_more c.missing_numbers_keep_the_order.ensures t.sequence c.keep_emptied.new.sequence t'.sequence t.queue
     c.show.new.self t'.queue t.read t'.read t.table t'.table sps pps frames slice c.in-Ok.out.items
     (base_in (phase_of t.sequence t.phase)) (record
     { decoder = c.in_ok-begin-in-Ok.field-0; last_header = c.new.result; last_unit = slice.unit }) t'.phase

@@ -1,4 +1,4 @@
-use Rattle.std.proofs.Common.{◌≡◌}
+use Rattle.avc_decoder.proofs.Resuming.{◌≡◌}
 use Rattle.avc_decoder.proofs.slices.keep_emptied.Given as goal
 
 abbrev pub invariant-loop-frame : goal.invariant-loop-frame

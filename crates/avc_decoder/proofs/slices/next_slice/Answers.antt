@@ -1,6 +1,4 @@
-use Rattle.avc_params.specs.Tables.{sets_after}
-use Rattle.avc_decoder.proofs.Keeping.{can_have, named_further}
-use Rattle.avc_decoder.proofs.Slicing.{next_slice_comes}
+use Rattle.avc_decoder.proofs.Resuming.{sets_after, can_have, named_further, next_slice_comes}
 use Rattle.avc_decoder.proofs.slices.next_slice.Goals as goal
 
 pub decode_slice-requires-clause-can : goal.decode_slice-requires-clause-can

@@ -1,5 +1,4 @@
-use Rattle.avc_decoder.proofs.Common.{subst, sets_after, Slice, after_first_slice, base_in, sets_named}
-use Rattle.avc_decoder.specs.States.{ComesTo, phase_of}
+use Rattle.avc_decoder.proofs.Resuming.{subst, sets_after, Slice, after_first_slice, base_in, sets_named, ComesTo, phase_of}
 use Rattle.avc_decoder.proofs.stream.next.Goals as goal
 
 pub returns-in_ok-first_slice-in-Begins : goal.returns-in_ok-first_slice-in-Begins

@@ -1,4 +1,4 @@
-use Rattle.avc_decoder_core.proofs.Common.{◌≡◌, map, take, marked_frame}
+use Rattle.avc_decoder_core.proofs.Sequences.{◌≡◌, map, take, marked_frame}
 use Rattle.avc_decoder_core.proofs.frame_buffer.marked_frames.Given as goal
 
 abbrev pub invariant-loop-frame : goal.invariant-loop-frame

@@ -1,5 +1,4 @@
-use Rattle.avc_decoder_core.proofs.Common.{◌∙◌, sym, has_operation_5}
-use Rattle.avc_decoder_core.proofs.StoredEntry.{all_output}
+use Rattle.avc_decoder_core.proofs.Sequences.{◌∙◌, sym, has_operation_5, all_output}
 use Rattle.avc_decoder_core.proofs.frame_buffer.output_prior_pictures.Goals as goal
 
 pub returns-clause-ok : goal.returns-clause-ok

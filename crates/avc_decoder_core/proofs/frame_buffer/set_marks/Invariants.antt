@@ -1,4 +1,4 @@
-use Rattle.avc_decoder_core.proofs.Common.{◌≡◌, take, with_all_marks}
+use Rattle.avc_decoder_core.proofs.Sequences.{◌≡◌, take, with_all_marks}
 use Rattle.avc_decoder_core.proofs.frame_buffer.set_marks.Given as goal
 
 abbrev pub invariant-loop-place : goal.invariant-loop-place

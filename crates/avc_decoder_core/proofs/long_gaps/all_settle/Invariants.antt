@@ -1,4 +1,4 @@
-use Rattle.avc_decoder_core.proofs.Common.{◌≡◌, ℕ, ◌<◌, true, settles_at}
+use Rattle.avc_decoder_core.proofs.Sequences.{◌≡◌, ℕ, ◌<◌, true, settles_at}
 use Rattle.avc_decoder_core.proofs.long_gaps.all_settle.Given as goal
 
 abbrev pub invariant-loop-place : goal.invariant-loop-place

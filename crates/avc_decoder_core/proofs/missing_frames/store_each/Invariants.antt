@@ -1,5 +1,4 @@
-use Rattle.std.proofs.Common.{length}
-use Rattle.avc_decoder_core.proofs.StoringMissing.{HasStored}
+use Rattle.avc_decoder_core.proofs.Sequences.{length, HasStored}
 use Rattle.avc_decoder_core.proofs.missing_frames.store_each.Given as goal
 
 -- the frames of the first numbers are stored

@@ -1,8 +1,6 @@
-use Rattle.std.proofs.Common.{◌≡◌, ◌∙◌, ◌+◌, ◌-◌, ◌≤◌, drop, length, Ok, ap, sym, subst, is_ok, arith}
-use Rattle.avc_decoder_core.proofs.Common.{history_of, FrameBufferState, KeepsTheSame, with_all_missing, output_pictures}
-use Rattle.avc_decoder_core.specs.History.{with_missing}
-use Rattle.avc_decoder_core.proofs.LongGaps.{all_of, end_marked, long_gaps_leave_their_end}
-use Rattle.avc_decoder_core.proofs.MissingNumbers.{is_with_all}
+use Rattle.avc_decoder_core.proofs.Sequences.{◌≡◌, ◌∙◌, ◌+◌, ◌-◌, ◌≤◌, drop, length, Ok, ap, sym, subst, is_ok, arith, history_of, FrameBufferState}
+use Rattle.avc_decoder_core.proofs.Sequences.{KeepsTheSame, with_all_missing, output_pictures, with_missing, all_of, end_marked}
+use Rattle.avc_decoder_core.proofs.Sequences.{long_gaps_leave_their_end, is_with_all}
 use Rattle.avc_decoder_core.proofs.missing_frames.store_last.Goals as goal
 
 pub store_each-requires-clause-marked : goal.store_each-requires-clause-marked

@@ -1,16 +1,15 @@
-use Rattle.std.proofs.Common.{sym}
-use Rattle.avc_decoder_core.proofs.StoringMissing.{stored_one, stored_rest}
+use Rattle.avc_decoder_core.proofs.Sequences.{sym, missing_is_stored, stored_rest}
 use Rattle.avc_decoder_core.proofs.missing_frames.store_missing.Goals as goal
 
 pub loop-frame_num-preserved : goal.loop-frame_num-preserved
 loop-frame_num-preserved c =
-    stored_one c.args.sps.now c.args.numbers c.args.buffer.now c.loop-frame_num.numbers c.loop-frame_num.buffer c.loop-frame_num.out.items c.in-Some.frame_num _ _ _ _
+    missing_is_stored c.args.sps.now c.args.numbers c.args.buffer.now c.loop-frame_num.numbers c.loop-frame_num.buffer c.loop-frame_num.out.items c.in-Some.frame_num _ _ _ _
     c.loop-frame_num.invariant c.requires.marked (sym c.in-Some.ensures.first) c.next.ensures.rest c.in_ok-shown.ensures.ok c.in_ok-output_more.ensures
 
 pub returns-then-leaves_its_end : goal.returns-then-leaves_its_end
 returns-then-leaves_its_end c =
     let one =
-    stored_one c.args.sps.now c.args.numbers c.args.buffer.now c.loop-frame_num.numbers c.loop-frame_num.buffer c.loop-frame_num.out.items c.in-Some.frame_num
+    missing_is_stored c.args.sps.now c.args.numbers c.args.buffer.now c.loop-frame_num.numbers c.loop-frame_num.buffer c.loop-frame_num.out.items c.in-Some.frame_num
     c.next.new.self c.store_missing.new.self c.in_ok-shown.shown.items c.output_more.new.out.items
     c.loop-frame_num.invariant c.requires.marked (sym c.in-Some.ensures.first) c.next.ensures.rest c.in_ok-shown.ensures.ok c.in_ok-output_more.ensures in
     stored_rest c.args.sps.now c.args.numbers c.args.buffer.now c.next.new.self c.store_missing.new.self c.output_more.new.out.items

@@ -1,6 +1,5 @@
-use Rattle.avc_decoder_core.proofs.Common.{◌≡◌, ◌∷◌, ◌∙◌, ap, sym, Err, arith, rules, order_count_state, with_all_missing}
-use Rattle.avc_decoder_core.specs.History.{marks_of, missing_frame, pasts}
-use Rattle.avc_decoder_core.proofs.MissingNumbers.{all_counted, first_refused, is_marked}
+use Rattle.avc_decoder_core.proofs.Sequences.{◌≡◌, ◌∷◌, ◌∙◌, ap, sym, Err, arith, rules, order_count_state, with_all_missing, marks_of, missing_frame}
+use Rattle.avc_decoder_core.proofs.Sequences.{pasts, all_counted, first_refused, marking_is_ok}
 use Rattle.avc_decoder_core.proofs.opening.after_missing.Goals as goal
 
 pub returns-in_err-can_store_missing : goal.returns-in_err-can_store_missing
@@ -16,6 +15,6 @@ returns c =
     let sps = c.args.sps.now in
     let entry = missing_frame sps c.in-Some.first in
     all_counted sps c.args.numbers c.in-Some.first history c.count_missing.new.poc (sym c.in-Some.ensures.first)
-    (is_marked (marks_of (entry ∷ history)) c.in_ok-can_store_missing.field-0 c.in_ok-can_store_missing.ensures)
+    (marking_is_ok (marks_of (entry ∷ history)) c.in_ok-can_store_missing.field-0 c.in_ok-can_store_missing.ensures)
     (c.count_missing.ensures (entry ∷ history) (c.missing.ensures (pasts history) c.requires.counts)
     ∙ ap (λ l. order_count_state (pasts (with_all_missing sps l (entry ∷ history)))) c.next.ensures.rest)

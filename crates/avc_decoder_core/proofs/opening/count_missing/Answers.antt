@@ -1,6 +1,5 @@
-use Rattle.avc_decoder_core.proofs.Common.{◌∷◌, ◌∙◌, ap, sym, order_count_state, with_all_missing}
-use Rattle.avc_decoder_core.specs.History.{missing_frame, pasts}
-use Rattle.avc_decoder_core.proofs.MissingNumbers.{counted_at_once, none_counted, one_counted}
+use Rattle.avc_decoder_core.proofs.Sequences.{◌∷◌, ◌∙◌, ap, sym, order_count_state, with_all_missing, missing_frame, pasts, counted_at_once}
+use Rattle.avc_decoder_core.proofs.Sequences.{none_counted, one_counted}
 use Rattle.avc_decoder_core.proofs.opening.count_missing.Goals as goal
 
 pub returns-then-first-max_frame_num : goal.returns-then-first-max_frame_num

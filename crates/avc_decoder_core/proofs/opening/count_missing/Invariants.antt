@@ -1,5 +1,4 @@
-use Rattle.avc_decoder_core.proofs.Common.{◌≡◌, List, length, order_count_state, with_all_missing}
-use Rattle.avc_decoder_core.specs.History.{Entry, pasts}
+use Rattle.avc_decoder_core.proofs.Sequences.{◌≡◌, List, length, order_count_state, with_all_missing, Entry, pasts}
 use Rattle.avc_decoder_core.proofs.opening.count_missing.Given as goal
 
 -- the rest of the numbers gives what all of them give

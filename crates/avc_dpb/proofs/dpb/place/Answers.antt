@@ -1,7 +1,5 @@
-use Rattle.avc_dpb.proofs.Common.{append-nil}
-use Rattle.avc_dpb.proofs.Standing.{goes_at_once, is_stored}
+use Rattle.avc_dpb.proofs.EarlyOrder.{append-nil, goes_at_once, is_stored, arith}
 use Rattle.avc_dpb.proofs.dpb.place.Goals as goal
-use Rattle.std.proofs.Common.{arith}
 
 pub returns-then-is_full-clause-ok : goal.returns-then-is_full-clause-ok
 returns-then-is_full-clause-ok c = grind (arith, append-nil, goes_at_once)

@@ -1,4 +1,4 @@
-use Rattle.avc_dpb.proofs.Least.{all_go_out_by_bumping}
+use Rattle.avc_dpb.proofs.EarlyOrder.{all_go_out_by_bumping}
 use Rattle.avc_dpb.proofs.laws.all_go_out_by_bumping.Goals as goal
 
 pub returns : goal.returns

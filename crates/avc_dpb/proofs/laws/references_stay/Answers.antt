@@ -1,4 +1,4 @@
-use Rattle.avc_dpb.proofs.Staying.{references_stay}
+use Rattle.avc_dpb.proofs.EarlyOrder.{references_stay}
 use Rattle.avc_dpb.proofs.laws.references_stay.Goals as goal
 
 pub returns : goal.returns

@@ -1,6 +1,4 @@
-use Rattle.avc_formats.proofs.Fronts.{decodes_not}
-use Rattle.avc_formats.specs.Selecting.{selected}
-use Rattle.avc_formats.specs.Headed.{headed}
+use Rattle.avc_formats.proofs.Fronts.{decodes_not, selected, headed}
 use Rattle.avc_formats.proofs.by_set.run_headed.Goals as goal
 
 pub returns-in_err-front : goal.returns-in_err-front

@@ -1,5 +1,4 @@
-use Rattle.avc_formats.proofs.Common.{rules, all_taken, one_more, max_unit}
-use Rattle.avc_formats.proofs.Finding.{found_first, passed_more}
+use Rattle.avc_formats.proofs.Fronts.{rules, all_taken, one_more, max_unit, found_first, passed_more}
 use Rattle.avc_formats.proofs.first_set.find_set.Goals as goal
 
 pub returns-then-is_some : goal.returns-then-is_some

@@ -1,5 +1,4 @@
-use Rattle.avc_formats.proofs.Common.{units_waiting, IsDraining, max_unit}
-use Rattle.avc_formats.proofs.Finding.{ArePassed}
+use Rattle.avc_formats.proofs.Fronts.{units_waiting, IsDraining, max_unit, ArePassed}
 use Rattle.avc_formats.proofs.first_set.find_set.Given as goal
 
 abbrev pub invariant-loop-unit : goal.invariant-loop-unit

@@ -1,5 +1,4 @@
-use Rattle.avc_formats.proofs.Common.{string_bytes, aspect_line, codec_lines, columns_line, dimensions_line, format_lines, time_base_line}
-use Rattle.avc_formats.proofs.Joining.{joined_six}
+use Rattle.avc_formats.proofs.Fronts.{string_bytes, aspect_line, codec_lines, columns_line, dimensions_line, format_lines, time_base_line, joined_six}
 use Rattle.avc_formats.proofs.framemd5.add_framemd5_head.Goals as goal
 
 pub returns : goal.returns

@@ -1,5 +1,4 @@
-use Rattle.avc_formats.proofs.Common.{◌++◌, ◌∙◌, ap, string_bytes, styled_decimal}
-use Rattle.avc_formats.proofs.Columns.{column_10}
+use Rattle.avc_formats.proofs.Fronts.{◌++◌, ◌∙◌, ap, string_bytes, styled_decimal, column_10}
 use Rattle.avc_formats.proofs.framemd5.add_time.Goals as goal
 
 pub returns : goal.returns

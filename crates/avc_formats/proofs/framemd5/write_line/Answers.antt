@@ -1,8 +1,5 @@
-use Rattle.avc_formats.proofs.Common.{◌++◌, length, rules, string_bytes, subst, sym, true, codes, i420, StopsPicture, framemd5_line}
-use Rattle.avc_formats.proofs.Common.{size_text, times_text}
-use Rattle.hex.specs.Hex.{encode_lower}
-use Rattle.md5.specs.Md5.{md5}
-use Rattle.avc_formats.proofs.Writing.{err_with, none_of_line, text_stopped}
+use Rattle.avc_formats.proofs.Fronts.{◌++◌, length, rules, string_bytes, subst, sym, true, codes, i420, StopsPicture, framemd5_line, size_text}
+use Rattle.avc_formats.proofs.Fronts.{times_text, encode_lower, md5, err_with, none_of_line, text_stopped}
 use Rattle.avc_formats.proofs.framemd5.write_line.Goals as goal
 
 pub returns-in_err-digest-clause-err : goal.returns-in_err-digest-clause-err

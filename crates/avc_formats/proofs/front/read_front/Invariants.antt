@@ -1,4 +1,4 @@
-use Rattle.avc_formats.proofs.Common.{◌-◌, length, front_length, IsLooking}
+use Rattle.avc_formats.proofs.Fronts.{◌-◌, length, front_length, IsLooking}
 use Rattle.avc_formats.proofs.front.read_front.Given as goal
 
 abbrev pub invariant-reads : goal.invariant-reads

@@ -1,5 +1,4 @@
-use Rattle.std.proofs.Common.{arith}
-use Rattle.std.proofs.lemmas.Nat.Gcd.{IsGcd-from_zero, IsGcd-from_mod}
+use Rattle.avc_formats.proofs.Fronts.{arith, IsGcd-from_zero, IsGcd-from_mod}
 use Rattle.avc_formats.proofs.ratio.greatest_common_divisor.Goals as goal
 
 pub loop-y-preserved : goal.loop-y-preserved

@@ -1,5 +1,4 @@
-use Rattle.std.proofs.Common.{ℕ, ◌+◌, ◌<◌}
-use Rattle.std.specs.Int.{IsGcd}
+use Rattle.avc_formats.proofs.Fronts.{ℕ, ◌+◌, ◌<◌, IsGcd}
 use Rattle.avc_formats.proofs.ratio.greatest_common_divisor.Given as goal
 
 abbrev pub invariant-loop-y : goal.invariant-loop-y

@@ -1,5 +1,4 @@
-use Rattle.avc_formats.proofs.Common.{string_bytes, codes, decimal, ratio_word}
-use Rattle.avc_formats.proofs.Joining.{joined_shape}
+use Rattle.avc_formats.proofs.Fronts.{string_bytes, codes, decimal, ratio_word, joined_shape}
 use Rattle.avc_formats.proofs.y4m.add_shape.Goals as goal
 
 pub returns : goal.returns

@@ -1,5 +1,4 @@
-use Rattle.avc_formats.proofs.Common.{string_bytes, newline, chroma_words, range_words, shape_words}
-use Rattle.avc_formats.proofs.Joining.{joined_four}
+use Rattle.avc_formats.proofs.Fronts.{string_bytes, newline, chroma_words, range_words, shape_words, joined_four}
 use Rattle.avc_formats.proofs.y4m.add_y4m_header.Goals as goal
 
 pub returns : goal.returns

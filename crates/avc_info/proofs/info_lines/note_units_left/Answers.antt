@@ -1,9 +1,8 @@
-use Rattle.avc_info.proofs.Common.{max_unit, all_taken, begun, one_more}
-use Rattle.avc_info.proofs.Noted.{noted_more, noted_none}
+use Rattle.avc_info.proofs.Noted.{max_unit, all_taken, draining_begun, one_more, noted_more, noted_none}
 use Rattle.avc_info.proofs.info_lines.note_units_left.Goals as goal
 
 pub loop-unit-init : goal.loop-unit-init
-loop-unit-init c = record { draining = begun max_unit _ _ (noted_none _ _) }
+loop-unit-init c = record { draining = draining_begun max_unit _ _ (noted_none _ _) }
 
 pub loop-unit-preserved-in_ok-note_unit : goal.loop-unit-preserved-in_ok-note_unit
 loop-unit-preserved-in_ok-note_unit c = record {

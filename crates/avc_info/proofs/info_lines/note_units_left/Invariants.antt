@@ -1,5 +1,4 @@
-use Rattle.avc_info.proofs.Common.{units_waiting, max_unit, IsDraining}
-use Rattle.avc_info.proofs.Noted.{IsNoted}
+use Rattle.avc_info.proofs.Noted.{units_waiting, max_unit, IsDraining, IsNoted}
 use Rattle.avc_info.proofs.info_lines.note_units_left.Given as goal
 
 abbrev pub invariant-loop-unit : goal.invariant-loop-unit

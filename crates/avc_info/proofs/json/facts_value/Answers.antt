@@ -1,5 +1,4 @@
-use Rattle.avc_info.proofs.Common.{◌∙◌, ap, refl, serde_json_on_literals, view-Object, object, members_view}
-use Rattle.avc_info.proofs.Members.{with_one}
+use Rattle.avc_info.proofs.Noted.{◌∙◌, ap, refl, serde_json_on_literals, view-Object, object, members_view, with_one}
 use Rattle.avc_info.proofs.json.facts_value.Goals as goal
 
 pub returns : goal.returns

@@ -1,7 +1,5 @@
-use Rattle.avc_info.proofs.Common.{◌∙◌, ap, refl, rules, serde_json_on_literals, view-Object, object, string, members_view}
-use Rattle.avc_info.specs.Json.{count}
-use Rattle.avc_info.specs.Text.{level_name, profile_name}
-use Rattle.avc_info.proofs.Members.{with_one}
+use Rattle.avc_info.proofs.Noted.{◌∙◌, ap, refl, rules, serde_json_on_literals, view-Object, object, string, members_view, count, level_name}
+use Rattle.avc_info.proofs.Noted.{profile_name, with_one}
 use Rattle.avc_info.proofs.json.sequence_value.Goals as goal
 
 pub returns : goal.returns

@@ -1,8 +1,5 @@
-use Rattle.avc_inter.proofs.Common.{ℕ, ◌+◌, ◌*◌, ◌/◌, ◌<◌, ◌≤◌, arith, subst, sym, sample, clamped}
-use Rattle.avc_inter.proofs.Common.{strided_same}
-use Rattle.avc_inter.proofs.Places.{there_in}
-use Rattle.avc_inter.proofs.Predicted.{back_before, between_at, moved_quarter, back_moved}
-use Rattle.avc_inter.proofs.SixRows.{room_is, rows_suffice, rows_are}
+use Rattle.avc_inter.proofs.SixRows.{ℕ, ◌+◌, ◌*◌, ◌/◌, ◌<◌, ◌≤◌, arith, subst, sym, sample, clamped, strided_same, there_in, back_before, between_at}
+use Rattle.avc_inter.proofs.SixRows.{moved_quarter, back_moved, room_is, rows_suffice, rows_are}
 use Rattle.avc_inter.proofs.between.lay_between.Goals as goal
 
 pub quarters-requires-clause-room : goal.quarters-requires-clause-room

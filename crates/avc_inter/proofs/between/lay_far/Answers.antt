@@ -1,6 +1,5 @@
-use Rattle.avc_inter.proofs.Common.{ℕ, ◌+◌, ◌*◌, ◌/◌, ◌≤◌, arith, slice_index, ap, subst, sym, ◌∙◌, row_fits, sample, clamped, strided_same}
-use Rattle.avc_inter.proofs.Predicted.{back_before, between_at}
-use Rattle.avc_inter.proofs.SixRows.{room_is, rows_suffice, rows_are}
+use Rattle.avc_inter.proofs.SixRows.{ℕ, ◌+◌, ◌*◌, ◌/◌, ◌≤◌, arith, slice_index, ap, subst, sym, ◌∙◌, row_fits, sample, clamped, strided_same}
+use Rattle.avc_inter.proofs.SixRows.{back_before, between_at, room_is, rows_suffice, rows_are}
 use Rattle.avc_inter.proofs.between.lay_far.Goals as goal
 
 pub quarters-requires-clause-room : goal.quarters-requires-clause-room

@@ -1,5 +1,4 @@
-use Rattle.std.proofs.Common.{arith, refl, ap, slice_index, ◌∙◌}
-use Rattle.avc_inter.proofs.Eighths.{same_blend}
+use Rattle.avc_inter.proofs.SixRows.{arith, refl, ap, slice_index, ◌∙◌, same_blend}
 use Rattle.avc_inter.proofs.bilinear.blend_row.Goals as goal
 
 pub returns : goal.returns

@@ -1,4 +1,4 @@
-use Rattle.avc_inter.proofs.Common.{◌+◌, ◌*◌, ◌/◌, IsStridedSet, blend_of}
+use Rattle.avc_inter.proofs.SixRows.{◌+◌, ◌*◌, ◌/◌, IsStridedSet, blend_of}
 use Rattle.avc_inter.proofs.bilinear.blend_rows.Given as goal
 
 abbrev pub invariant-loop-y : goal.invariant-loop-y

@@ -1,6 +1,4 @@
-use Rattle.avc_inter.proofs.Common.{ℕ, ◌≡◌, ◌≤◌, ◌+◌, ◌*◌, ◌∙◌, ap, List, arith, slice_index, Each1-get_or}
-use Rattle.std.proofs.Math.Nat.{mul_comm}
-use Rattle.avc_inter.proofs.Lanes.{addable, lane_of_row}
+use Rattle.avc_inter.proofs.SixRows.{ℕ, ◌≡◌, ◌≤◌, ◌+◌, ◌*◌, ◌∙◌, ap, List, arith, slice_index, Each1-get_or, mul_comm, addable, lane_of_row}
 use Rattle.avc_inter.proofs.bilinear.sums_of.Goals as goal
 
 -- a lane times a weight

@@ -1,8 +1,4 @@
-use Rattle.avc_inter.proofs.Common.{◌+◌, ◌*◌, ◌/◌, arith, sample, clamped, strided_same}
-use Rattle.avc_inter.proofs.Places.{there_in}
-use Rattle.avc_inter.proofs.Predicted.{back_moved}
-use Rattle.avc_inter.proofs.Eighths.{blend_at, moved_bilinear}
-use Rattle.avc_inter.proofs.SixRows.{places_for}
+use Rattle.avc_inter.proofs.SixRows.{◌+◌, ◌*◌, ◌/◌, arith, sample, clamped, strided_same, there_in, back_moved, blend_at, moved_bilinear, places_for}
 use Rattle.avc_inter.proofs.chroma_between.lay_eighths.Goals as goal
 
 pub blend_rows-requires-clause-samples : goal.blend_rows-requires-clause-samples

@@ -1,6 +1,4 @@
-use Rattle.avc_inter.proofs.Common.{◌+◌, ◌*◌, ◌/◌, arith, ap, slice_index, ◌∙◌, row_fits, sample, clamped, strided_same}
-use Rattle.avc_inter.proofs.Predicted.{back_moved}
-use Rattle.avc_inter.proofs.Eighths.{blend_at}
+use Rattle.avc_inter.proofs.SixRows.{◌+◌, ◌*◌, ◌/◌, arith, ap, slice_index, ◌∙◌, row_fits, sample, clamped, strided_same, back_moved, blend_at}
 use Rattle.avc_inter.proofs.SixRows.{places_for}
 use Rattle.avc_inter.proofs.chroma_between.lay_far.Goals as goal
 

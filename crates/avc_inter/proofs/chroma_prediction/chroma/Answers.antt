@@ -1,6 +1,4 @@
-use Rattle.avc_inter.proofs.Common.{◌≡◌, ◌∙◌, sym, arith, to_z, of_z, w16, w64, ints, sample, clamped}
-use Rattle.avc_inter.proofs.Predicted.{back_moved}
-use Rattle.avc_inter.proofs.Eighths.{chroma_is, bilinear_whole}
+use Rattle.avc_inter.proofs.SixRows.{◌≡◌, ◌∙◌, sym, arith, to_z, of_z, w16, w64, ints, sample, clamped, back_moved, chroma_is, bilinear_whole}
 use Rattle.avc_inter.proofs.chroma_prediction.chroma.Goals as goal
 
 pub returns-then-down-eq0 : goal.returns-then-down-eq0

@@ -1,6 +1,4 @@
-use Rattle.avc_inter.proofs.Common.{◌≡◌, ◌*◌, ◌/◌, arith, to_z, of_z, w16, ints, sample, strided_rows, strided_same}
-use Rattle.avc_inter.proofs.Predicted.{back_moved}
-use Rattle.avc_inter.proofs.Eighths.{chroma_at}
+use Rattle.avc_inter.proofs.SixRows.{◌≡◌, ◌*◌, ◌/◌, arith, to_z, of_z, w16, ints, sample, strided_rows, strided_same, back_moved, chroma_at}
 use Rattle.avc_inter.proofs.chroma_prediction.lay_chroma.Goals as goal
 
 pub returns-then-this-eq0 : goal.returns-then-this-eq0

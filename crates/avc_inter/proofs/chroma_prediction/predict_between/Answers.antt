@@ -1,4 +1,4 @@
-use Rattle.avc_inter.proofs.Common.{◌+◌, arith, sample, room_lent, block_lent, inter_chroma}
+use Rattle.avc_inter.proofs.SixRows.{◌+◌, arith, sample, room_lent, block_lent, inter_chroma}
 use Rattle.avc_inter.proofs.chroma_prediction.predict_between.Goals as goal
 
 pub lay_chroma-requires : goal.lay_chroma-requires

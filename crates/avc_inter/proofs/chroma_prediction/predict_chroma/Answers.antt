@@ -1,6 +1,5 @@
-use Rattle.avc_inter.proofs.Common.{◌≡◌, ◌+◌, ◌+ℤ◌, pos, sym, arith, to_z, of_z, w16, w64, ◌∙◌, ints, sample, clamped, inter_chroma}
-use Rattle.avc_inter.proofs.Predicted.{back_moved}
-use Rattle.avc_inter.proofs.Eighths.{chroma_at, whole_at}
+use Rattle.avc_inter.proofs.SixRows.{◌≡◌, ◌+◌, ◌+ℤ◌, pos, sym, arith, to_z, of_z, w16, w64, ◌∙◌, ints, sample, clamped, inter_chroma, back_moved}
+use Rattle.avc_inter.proofs.SixRows.{chroma_at, whole_at}
 use Rattle.avc_inter.proofs.chroma_prediction.predict_chroma.Goals as goal
 
 pub returns-then-chroma_fraction-eq0-2 : goal.returns-then-chroma_fraction-eq0-2

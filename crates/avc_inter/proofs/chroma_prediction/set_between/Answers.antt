@@ -1,6 +1,4 @@
-use Rattle.avc_inter.proofs.Common.{arith, ◌∙◌, block_of_same, sample, clamped}
-use Rattle.avc_inter.proofs.Predicted.{back_moved}
-use Rattle.avc_inter.proofs.Eighths.{moved_bilinear}
+use Rattle.avc_inter.proofs.SixRows.{arith, ◌∙◌, block_of_same, sample, clamped, back_moved, moved_bilinear}
 use Rattle.avc_inter.proofs.chroma_prediction.set_between.Goals as goal
 
 pub returns : goal.returns

@@ -1,4 +1,4 @@
-use Rattle.avc_inter.proofs.Common.{◌+◌, ◌*◌, slice_index, IsStridedSet}
+use Rattle.avc_inter.proofs.SixRows.{◌+◌, ◌*◌, slice_index, IsStridedSet}
 use Rattle.avc_inter.proofs.lines.copy_each.Given as goal
 
 abbrev pub invariant-loop-y : goal.invariant-loop-y

@@ -1,5 +1,4 @@
-use Rattle.avc_inter.proofs.Common.{◌+◌, ◌*◌, length, slice_index, arith, ap, strided_more, strided_rows}
-use Rattle.avc_inter.proofs.Fours.{begins, line_of_four, room_of_four}
+use Rattle.avc_inter.proofs.SixRows.{◌+◌, ◌*◌, length, slice_index, arith, ap, strided_more, strided_rows, begins, line_of_four, room_of_four}
 use Rattle.avc_inter.proofs.lines.copy_lines.Goals as goal
 
 pub overflow_mul-source-in-loop-four : goal.overflow_mul-source-in-loop-four

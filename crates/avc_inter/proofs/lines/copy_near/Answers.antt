@@ -1,4 +1,4 @@
-use Rattle.avc_inter.proofs.Fours.{set_in_rest}
+use Rattle.avc_inter.proofs.SixRows.{set_in_rest}
 use Rattle.avc_inter.proofs.lines.copy_near.Goals as goal
 
 pub returns : goal.returns

@@ -1,4 +1,4 @@
-use Rattle.std.proofs.Common.{◌≡◌, ◌<◌, ◌+◌, ℕ, length, slice_index}
+use Rattle.avc_inter.proofs.SixRows.{◌≡◌, ◌<◌, ◌+◌, ℕ, length, slice_index}
 use Rattle.avc_inter.proofs.lines.line_at.Given as goal
 
 abbrev pub invariant-loop-x : goal.invariant-loop-x

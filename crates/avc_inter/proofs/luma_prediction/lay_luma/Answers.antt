@@ -1,5 +1,4 @@
-use Rattle.avc_inter.proofs.Common.{◌≡◌, ◌*◌, ◌/◌, arith, to_z, of_z, w16, ints, sample, strided_rows, strided_same}
-use Rattle.avc_inter.proofs.Predicted.{back_moved, luma_at}
+use Rattle.avc_inter.proofs.SixRows.{◌≡◌, ◌*◌, ◌/◌, arith, to_z, of_z, w16, ints, sample, strided_rows, strided_same, back_moved, luma_at}
 use Rattle.avc_inter.proofs.luma_prediction.lay_luma.Goals as goal
 
 pub returns-then-this-eq0 : goal.returns-then-this-eq0

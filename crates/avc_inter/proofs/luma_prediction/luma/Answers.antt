@@ -1,5 +1,4 @@
-use Rattle.avc_inter.proofs.Common.{◌≡◌, ◌∙◌, sym, arith, to_z, of_z, w16, ints, sample}
-use Rattle.avc_inter.proofs.Predicted.{back_moved, luma_is}
+use Rattle.avc_inter.proofs.SixRows.{◌≡◌, ◌∙◌, sym, arith, to_z, of_z, w16, ints, sample, back_moved, luma_is}
 use Rattle.avc_inter.proofs.luma_prediction.luma.Goals as goal
 
 pub returns-then-fy-eq0 : goal.returns-then-fy-eq0

@@ -1,4 +1,4 @@
-use Rattle.avc_inter.proofs.Common.{◌+◌, arith, sample, room_lent, block_lent, inter_luma}
+use Rattle.avc_inter.proofs.SixRows.{◌+◌, arith, sample, room_lent, block_lent, inter_luma}
 use Rattle.avc_inter.proofs.luma_prediction.predict_between.Goals as goal
 
 pub lay_luma-requires : goal.lay_luma-requires

@@ -1,5 +1,4 @@
-use Rattle.avc_inter.proofs.Common.{◌≡◌, ◌+◌, sym, arith, to_z, of_z, w16, ◌∙◌, ints, sample, inter_luma}
-use Rattle.avc_inter.proofs.Predicted.{back_moved, luma_at}
+use Rattle.avc_inter.proofs.SixRows.{◌≡◌, ◌+◌, sym, arith, to_z, of_z, w16, ◌∙◌, ints, sample, inter_luma, back_moved, luma_at}
 use Rattle.avc_inter.proofs.luma_prediction.predict_luma.Goals as goal
 
 pub returns-then-luma_fraction-eq0-2 : goal.returns-then-luma_fraction-eq0-2

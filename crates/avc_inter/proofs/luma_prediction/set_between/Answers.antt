@@ -1,7 +1,5 @@
-use Rattle.avc_inter.proofs.Common.{ℕ, [], ◌+◌, ◌*◌, ◌/◌, ◌≤◌, arith, ◌∙◌, mul-le-mul_right, length-replicate, block_of_same}
-use Rattle.avc_inter.proofs.Common.{sample, clamped, IsRoom, length, replicate}
-use Rattle.avc_inter.proofs.Predicted.{back_moved, still_moved, moved_quarter}
-use Rattle.avc_inter.proofs.SixRows.{rows_cover, rows_room}
+use Rattle.avc_inter.proofs.SixRows.{ℕ, [], ◌+◌, ◌*◌, ◌/◌, ◌≤◌, arith, ◌∙◌, mul-le-mul_right, length-replicate, block_of_same, sample, clamped}
+use Rattle.avc_inter.proofs.SixRows.{IsRoom, length, replicate, back_moved, still_moved, moved_quarter, rows_cover, rows_room}
 use Rattle.avc_inter.proofs.luma_prediction.set_between.Goals as goal
 
 pub lay_between-requires : goal.lay_between-requires

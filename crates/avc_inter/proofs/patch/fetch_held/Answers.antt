@@ -1,6 +1,5 @@
-use Rattle.avc_inter.proofs.Common.{◌≡◌, ◌+◌, ◌*◌, ◌-ℤ◌, ◌+ℤ◌, pos, to_z, of_z, w64, slice_index, arith, ap, sym, ◌∙◌, nat_abs, row_fits}
-use Rattle.avc_inter.proofs.Common.{below_more, clip3, sample, clamped}
-use Rattle.avc_inter.proofs.Places.{held_moved, place_back, moved_sample}
+use Rattle.avc_inter.proofs.SixRows.{◌≡◌, ◌+◌, ◌*◌, ◌-ℤ◌, ◌+ℤ◌, pos, to_z, of_z, w64, slice_index, arith, ap, sym, ◌∙◌, nat_abs, row_fits, below_more}
+use Rattle.avc_inter.proofs.SixRows.{clip3, sample, clamped, held_moved, place_back, moved_sample}
 use Rattle.avc_inter.proofs.patch.fetch_held.Goals as goal
 
 pub loop-j-preserved : goal.loop-j-preserved

@@ -1,4 +1,4 @@
-use Rattle.avc_inter.proofs.Common.{◌≡◌, ℕ, ◌+◌, ◌*◌, ◌<◌, slice_index, pos, ◌+ℤ◌, sample, clamped}
+use Rattle.avc_inter.proofs.SixRows.{◌≡◌, ℕ, ◌+◌, ◌*◌, ◌<◌, slice_index, pos, ◌+ℤ◌, sample, clamped}
 use Rattle.avc_inter.proofs.patch.fetch_held.Given as goal
 
 abbrev pub invariant-loop-j : goal.invariant-loop-j

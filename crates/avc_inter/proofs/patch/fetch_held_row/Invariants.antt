@@ -1,4 +1,4 @@
-use Rattle.avc_inter.proofs.Common.{◌≡◌, ℕ, ◌+◌, ◌<◌, slice_index, pos, ◌+ℤ◌, ◌-ℤ◌, nat_abs, clip3, sample}
+use Rattle.avc_inter.proofs.SixRows.{◌≡◌, ℕ, ◌+◌, ◌<◌, slice_index, pos, ◌+ℤ◌, ◌-ℤ◌, nat_abs, clip3, sample}
 use Rattle.avc_inter.proofs.patch.fetch_held_row.Given as goal
 
 abbrev pub invariant-loop-i : goal.invariant-loop-i

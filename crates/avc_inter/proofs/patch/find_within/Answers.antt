@@ -1,5 +1,4 @@
-use Rattle.std.proofs.Common.{◌≡◌, ◌+◌, ◌*◌, ◌≤◌, ◌+ℤ◌, pos, to_z, of_z, w64, slice_index, ap, ◌∙◌, arith}
-use Rattle.avc_inter.proofs.Places.{row_is_there, sample_there}
+use Rattle.avc_inter.proofs.SixRows.{◌≡◌, ◌+◌, ◌*◌, ◌≤◌, ◌+ℤ◌, pos, to_z, of_z, w64, slice_index, ap, ◌∙◌, arith, row_is_there, sample_there}
 use Rattle.avc_inter.proofs.patch.find_within.Goals as goal
 
 pub returns : goal.returns

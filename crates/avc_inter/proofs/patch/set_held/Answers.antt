@@ -1,5 +1,4 @@
-use Rattle.avc_inter.proofs.Common.{◌∙◌, sample, clamped}
-use Rattle.avc_inter.proofs.Predicted.{back_moved, whole_is}
+use Rattle.avc_inter.proofs.SixRows.{◌∙◌, sample, clamped, back_moved, whole_is}
 use Rattle.avc_inter.proofs.patch.set_held.Goals as goal
 
 pub returns : goal.returns

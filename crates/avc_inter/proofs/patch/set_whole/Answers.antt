@@ -1,6 +1,4 @@
-use Rattle.avc_inter.proofs.Common.{to_z, of_z, w64, arith, ◌∙◌, sample, clamped, IsThere}
-use Rattle.avc_inter.proofs.Places.{there_in}
-use Rattle.avc_inter.proofs.Predicted.{back_moved, there_is, moved_is}
+use Rattle.avc_inter.proofs.SixRows.{to_z, of_z, w64, arith, ◌∙◌, sample, clamped, IsThere, there_in, back_moved, there_is, moved_is}
 use Rattle.avc_inter.proofs.patch.set_whole.Goals as goal
 
 pub set_rows-requires : goal.set_rows-requires

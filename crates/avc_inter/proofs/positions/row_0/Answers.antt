@@ -1,5 +1,4 @@
-use Rattle.std.proofs.Common.{◌+◌, ◌*◌, arith}
-use Rattle.avc_inter.proofs.SixRows.{room_for}
+use Rattle.avc_inter.proofs.SixRows.{◌+◌, ◌*◌, arith, room_for}
 use Rattle.avc_inter.proofs.positions.row_0.Goals as goal
 
 pub whole_rows-requires-clause-samples : goal.whole_rows-requires-clause-samples

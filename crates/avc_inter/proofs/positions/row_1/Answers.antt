@@ -1,5 +1,4 @@
-use Rattle.avc_inter.proofs.Common.{◌+◌, ◌*◌, ◌/◌, arith, ◌∙◌, strided_same}
-use Rattle.avc_inter.proofs.SixRows.{room_for, middle_at, rounded_at, same_mean, mean_turned}
+use Rattle.avc_inter.proofs.SixRows.{◌+◌, ◌*◌, ◌/◌, arith, ◌∙◌, strided_same, room_for, middle_at, rounded_at, same_mean, mean_turned}
 use Rattle.avc_inter.proofs.positions.row_1.Goals as goal
 
 pub quarter_rows-requires-clause-samples : goal.quarter_rows-requires-clause-samples

@@ -1,5 +1,4 @@
-use Rattle.avc_inter.proofs.Common.{◌≡◌, ◌+◌, ◌*◌, ◌/◌, arith, refl, ◌∙◌, strided_same}
-use Rattle.avc_inter.proofs.SixRows.{room_for, middle_at, same_mean, mean_turned}
+use Rattle.avc_inter.proofs.SixRows.{◌≡◌, ◌+◌, ◌*◌, ◌/◌, arith, refl, ◌∙◌, strided_same, room_for, middle_at, same_mean, mean_turned}
 use Rattle.avc_inter.proofs.positions.row_2.Goals as goal
 
 pub half_rows-requires-clause-samples : goal.half_rows-requires-clause-samples

@@ -1,6 +1,5 @@
-use Rattle.avc_inter.proofs.Common.{ℕ, ◌≤◌, ◌-ℤ◌, ◌≡◌, arith, ap, ◌∙◌, FitsSigned, w32, to_z, of_z, pos, []}
-use Rattle.avc_inter.proofs.Common.{length, length-zip2, Each1-get_or, ints}
-use Rattle.avc_inter.proofs.Lanes.{fit, are, value}
+use Rattle.avc_inter.proofs.SixRows.{ℕ, ◌≤◌, ◌-ℤ◌, ◌≡◌, arith, ap, ◌∙◌, FitsSigned, w32, to_z, of_z, pos, [], length, length-zip2, Each1-get_or, ints}
+use Rattle.avc_inter.proofs.SixRows.{fit, are, value}
 use Rattle.avc_inter.proofs.row.differences.Goals as goal
 
 one_fits : (x y : ℕ) → x ≤ 16383 → y ≤ 16383 → FitsSigned w32 (to_z w32 x -ℤ to_z w32 y)

@@ -1,6 +1,5 @@
-use Rattle.avc_inter.proofs.Common.{ℕ, ◌≡◌, ◌≤◌, ◌*◌, arith, Fits, w16, ap, ◌∙◌, length, map, replicate, get_or, List, mul-le-mul}
-use Rattle.avc_inter.proofs.Common.{length-map, Each1-weaker, Each2-splat, zip2_splat, zip2}
-use Rattle.avc_inter.proofs.Lanes.{multiples_small, get_or-multiples}
+use Rattle.avc_inter.proofs.SixRows.{ℕ, ◌≡◌, ◌≤◌, ◌*◌, arith, Fits, w16, ap, ◌∙◌, length, map, replicate, get_or, List, mul-le-mul, length-map}
+use Rattle.avc_inter.proofs.SixRows.{Each1-weaker, Each2-splat, zip2_splat, zip2, multiples_small, get_or-multiples}
 use Rattle.avc_inter.proofs.row.multiples.Goals as goal
 
 pub overflow_mul-result : goal.overflow_mul-result

@@ -1,6 +1,5 @@
-use Rattle.avc_inter.proofs.Common.{ℕ, ◌≤◌, ◌-ℤ◌, ◌≡◌, arith, ap, ◌∙◌, FitsSigned, w16, to_z, of_z, pos, []}
-use Rattle.avc_inter.proofs.Common.{length, length-zip2, Each1-get_or, ints}
-use Rattle.avc_inter.proofs.Lanes.{fit, are, value}
+use Rattle.avc_inter.proofs.SixRows.{ℕ, ◌≤◌, ◌-ℤ◌, ◌≡◌, arith, ap, ◌∙◌, FitsSigned, w16, to_z, of_z, pos, [], length, length-zip2, Each1-get_or, ints}
+use Rattle.avc_inter.proofs.SixRows.{fit, are, value}
 use Rattle.avc_inter.proofs.row.narrow_differences.Goals as goal
 
 one_fits : (x y : ℕ) → x ≤ 16383 → y ≤ 16383 → FitsSigned w16 (to_z w16 x -ℤ to_z w16 y)

@@ -1,5 +1,4 @@
-use Rattle.avc_inter.proofs.Common.{◌≡◌, arith, length-put_chunk, taps_at}
-use Rattle.avc_inter.proofs.Lanes.{stored_more}
+use Rattle.avc_inter.proofs.SixRows.{◌≡◌, arith, length-put_chunk, taps_at, stored_more}
 use Rattle.avc_inter.proofs.row.six_tap_row.Goals as goal
 
 pub wide-preserved : goal.wide-preserved

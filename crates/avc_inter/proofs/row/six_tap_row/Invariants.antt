@@ -1,4 +1,4 @@
-use Rattle.avc_inter.proofs.Common.{◌≡◌, ℕ, ◌-◌, ◌<◌, ◌≤◌, pos, slice_index_or, length, taps_at}
+use Rattle.avc_inter.proofs.SixRows.{◌≡◌, ℕ, ◌-◌, ◌<◌, ◌≤◌, pos, slice_index_or, length, taps_at}
 use Rattle.avc_inter.proofs.row.six_tap_row.Given as goal
 
 abbrev pub invariant-wide : goal.invariant-wide

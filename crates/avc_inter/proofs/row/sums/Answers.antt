@@ -1,5 +1,4 @@
-use Rattle.avc_inter.proofs.Common.{◌≡◌, ◌≤◌, ◌+◌, arith, length, Fits, w16, Each2-of, get_or-zip2, length-zip2}
-use Rattle.avc_inter.proofs.Lanes.{sums_small}
+use Rattle.avc_inter.proofs.SixRows.{◌≡◌, ◌≤◌, ◌+◌, arith, length, Fits, w16, Each2-of, get_or-zip2, length-zip2, sums_small}
 use Rattle.avc_inter.proofs.row.sums.Goals as goal
 
 pub overflow_add-result : goal.overflow_add-result

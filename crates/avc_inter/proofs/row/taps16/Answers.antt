@@ -1,6 +1,5 @@
-use Rattle.avc_inter.proofs.Common.{ℕ, ℤ, ◌≡◌, ◌<◌, ◌+◌, pos, arith, ap, ◌∙◌, w32, slice_index, slice_index_or, List, length, map, to_z}
-use Rattle.avc_inter.proofs.Common.{of_z, length-map, get_or-chunk, chunk, taps_at}
-use Rattle.avc_inter.proofs.Lanes.{get_or-through_bits, six_taps_apart}
+use Rattle.avc_inter.proofs.SixRows.{ℕ, ℤ, ◌≡◌, ◌<◌, ◌+◌, pos, arith, ap, ◌∙◌, w32, slice_index, slice_index_or, List, length, map, to_z, of_z}
+use Rattle.avc_inter.proofs.SixRows.{length-map, get_or-chunk, chunk, taps_at, get_or-through_bits, six_taps_apart}
 use Rattle.avc_inter.proofs.row.taps16.Goals as goal
 
 -- lane k of a load

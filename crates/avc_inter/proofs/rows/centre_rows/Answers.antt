@@ -1,5 +1,4 @@
-use Rattle.avc_inter.proofs.Common.{◌+◌, ◌*◌, ◌/◌, length, arith, refl, ap, strided_rows, centre_along}
-use Rattle.avc_inter.proofs.SixRows.{sixteen_more, room_more, begins_more}
+use Rattle.avc_inter.proofs.SixRows.{◌+◌, ◌*◌, ◌/◌, length, arith, refl, ap, strided_rows, centre_along, sixteen_more, room_more, begins_more}
 use Rattle.avc_inter.proofs.rows.centre_rows.Goals as goal
 
 pub overflow_add-to : goal.overflow_add-to

@@ -1,6 +1,5 @@
-use Rattle.avc_inter.proofs.Common.{◌+◌, ◌*◌, ◌/◌, length, arith, refl, ap, pos, slice_index_or, ◌∙◌, mean_of_two, strided_rows}
-use Rattle.avc_inter.proofs.Common.{centre_along, rounded_sum}
-use Rattle.avc_inter.proofs.SixRows.{rounded_further, same_mean, sixteen_more, room_more, begins_more}
+use Rattle.avc_inter.proofs.SixRows.{◌+◌, ◌*◌, ◌/◌, length, arith, refl, ap, pos, slice_index_or, ◌∙◌, mean_of_two, strided_rows, centre_along}
+use Rattle.avc_inter.proofs.SixRows.{rounded_sum, rounded_further, same_mean, sixteen_more, room_more, begins_more}
 use Rattle.avc_inter.proofs.rows.centre_rows_across.Goals as goal
 
 pub overflow_add-to : goal.overflow_add-to

@@ -1,4 +1,4 @@
-use Rattle.avc_inter.proofs.Common.{◌+◌, ◌*◌, ◌/◌, pos, slice_index_or, IsStridedSet, mean_of_two, centre_along, rounded_sum}
+use Rattle.avc_inter.proofs.SixRows.{◌+◌, ◌*◌, ◌/◌, pos, slice_index_or, IsStridedSet, mean_of_two, centre_along, rounded_sum}
 use Rattle.avc_inter.proofs.rows.centre_rows_across.Given as goal
 
 abbrev pub invariant-loop-y : goal.invariant-loop-y

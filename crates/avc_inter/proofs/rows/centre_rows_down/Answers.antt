@@ -1,5 +1,5 @@
-use Rattle.avc_inter.proofs.Common.{◌+◌, ◌*◌, ◌/◌, length, arith, ap, ◌∙◌, mean_of_two, strided_rows, half_along, centre_along, place_of}
-use Rattle.avc_inter.proofs.SixRows.{row_begins, row_within, half_in_row, same_mean, place_at, sixteen_more, room_more, begins_more}
+use Rattle.avc_inter.proofs.SixRows.{◌+◌, ◌*◌, ◌/◌, length, arith, ap, ◌∙◌, mean_of_two, strided_rows, half_along, centre_along, place_of, row_begins}
+use Rattle.avc_inter.proofs.SixRows.{row_within, half_in_row, same_mean, place_at, sixteen_more, room_more, begins_more}
 use Rattle.avc_inter.proofs.rows.centre_rows_down.Goals as goal
 
 pub overflow_add-at-in-loop-y : goal.overflow_add-at-in-loop-y

@@ -1,4 +1,4 @@
-use Rattle.avc_inter.proofs.Common.{◌+◌, ◌*◌, ◌/◌, IsStridedSet, mean_of_two, centre_along, half_along}
+use Rattle.avc_inter.proofs.SixRows.{◌+◌, ◌*◌, ◌/◌, IsStridedSet, mean_of_two, centre_along, half_along}
 use Rattle.avc_inter.proofs.rows.centre_rows_down.Given as goal
 
 abbrev pub invariant-loop-y : goal.invariant-loop-y

@@ -1,6 +1,4 @@
-use Rattle.avc_inter.proofs.Common.{◌≡◌, arith, rules, centre_of}
-use Rattle.avc_inter.proofs.Stored.{stored}
-use Rattle.avc_inter.proofs.Shifts.{centre_cast}
+use Rattle.avc_inter.proofs.SixRows.{◌≡◌, arith, rules, centre_of, stored, centre_cast}
 use Rattle.avc_inter.proofs.rows.centres_of.Goals as goal
 
 pub loop-k-preserved : goal.loop-k-preserved

@@ -1,4 +1,4 @@
-use Rattle.avc_inter.proofs.Common.{◌≡◌, ◌<◌, ℕ, length, slice_index, centre_of}
+use Rattle.avc_inter.proofs.SixRows.{◌≡◌, ◌<◌, ℕ, length, slice_index, centre_of}
 use Rattle.avc_inter.proofs.rows.centres_of.Given as goal
 
 abbrev pub invariant-loop-k : goal.invariant-loop-k

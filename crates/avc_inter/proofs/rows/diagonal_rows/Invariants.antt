@@ -1,4 +1,4 @@
-use Rattle.avc_inter.proofs.Common.{◌+◌, ◌*◌, ◌/◌, IsStridedSet, mean_of_two, half_along}
+use Rattle.avc_inter.proofs.SixRows.{◌+◌, ◌*◌, ◌/◌, IsStridedSet, mean_of_two, half_along}
 use Rattle.avc_inter.proofs.rows.diagonal_rows.Given as goal
 
 abbrev pub invariant-loop-y : goal.invariant-loop-y

@@ -1,4 +1,4 @@
-use Rattle.avc_inter.proofs.Common.{◌+◌, ◌*◌, ◌/◌, IsStridedSet, half_along}
+use Rattle.avc_inter.proofs.SixRows.{◌+◌, ◌*◌, ◌/◌, IsStridedSet, half_along}
 use Rattle.avc_inter.proofs.rows.half_rows.Given as goal
 
 abbrev pub invariant-loop-y : goal.invariant-loop-y

@@ -1,4 +1,4 @@
-use Rattle.avc_inter.proofs.Common.{◌+◌, ◌*◌, ◌/◌, arith, slice_index, strided_line, strided_rows}
+use Rattle.avc_inter.proofs.SixRows.{◌+◌, ◌*◌, ◌/◌, arith, slice_index, strided_line, strided_rows}
 use Rattle.avc_inter.proofs.rows.put_rows.Goals as goal
 
 pub loop-y-preserved : goal.loop-y-preserved

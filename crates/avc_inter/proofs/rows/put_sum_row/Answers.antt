@@ -1,4 +1,4 @@
-use Rattle.avc_inter.proofs.Common.{ℤ, subst, sym, ◌∙◌, IsSum}
+use Rattle.avc_inter.proofs.SixRows.{ℤ, subst, sym, ◌∙◌, IsSum}
 use Rattle.avc_inter.proofs.rows.put_sum_row.Goals as goal
 
 pub returns-clause-value : goal.returns-clause-value

@@ -1,4 +1,4 @@
-use Rattle.std.proofs.Common.{◌≡◌, ◌<◌, ◌+◌, ◌*◌, ℕ, length, slice_index_or, pos}
+use Rattle.avc_inter.proofs.SixRows.{◌≡◌, ◌<◌, ◌+◌, ◌*◌, ℕ, length, slice_index_or, pos}
 use Rattle.avc_inter.proofs.rows.put_sums.Given as goal
 
 abbrev pub invariant-loop-k : goal.invariant-loop-k

@@ -1,5 +1,5 @@
-use Rattle.avc_inter.proofs.Common.{◌+◌, ◌*◌, ◌/◌, length, arith, ap, slice_index, ◌∙◌, mean_of_two, strided_rows, half_along, place_of}
-use Rattle.avc_inter.proofs.SixRows.{row_begins, row_there, row_within, half_in_row, whole_in_row, same_mean, place_at, sixteen_more, room_more, begins_more}
+use Rattle.avc_inter.proofs.SixRows.{◌+◌, ◌*◌, ◌/◌, length, arith, ap, slice_index, ◌∙◌, mean_of_two, strided_rows, half_along, place_of, row_begins}
+use Rattle.avc_inter.proofs.SixRows.{row_there, row_within, half_in_row, whole_in_row, same_mean, place_at, sixteen_more, room_more, begins_more}
 use Rattle.avc_inter.proofs.rows.quarter_rows.Goals as goal
 
 pub overflow_mul-y : goal.overflow_mul-y

@@ -1,4 +1,4 @@
-use Rattle.avc_inter.proofs.Common.{◌≡◌, ◌<◌, ◌+◌, ℕ, length, slice_index, slice_index_or, pos, rounded_sum}
+use Rattle.avc_inter.proofs.SixRows.{◌≡◌, ◌<◌, ◌+◌, ℕ, length, slice_index, slice_index_or, pos, rounded_sum}
 use Rattle.avc_inter.proofs.rows.rounded_row.Given as goal
 
 abbrev pub invariant-loop-k : goal.invariant-loop-k

@@ -1,5 +1,4 @@
-use Rattle.std.proofs.Common.{arith, rules, ap, ◌∙◌, slice_index}
-use Rattle.avc_inter.proofs.SixRows.{place_at, line_fits, by_line}
+use Rattle.avc_inter.proofs.SixRows.{arith, rules, ap, ◌∙◌, slice_index, place_at, line_fits, by_line}
 use Rattle.avc_inter.proofs.rows.sixteen.Goals as goal
 
 pub overflow_mul-y : goal.overflow_mul-y

@@ -1,4 +1,4 @@
-use Rattle.avc_inter.proofs.Common.{◌≡◌, ◌<◌, ◌+◌, ◌*◌, ℕ, length, slice_index, place_of}
+use Rattle.avc_inter.proofs.SixRows.{◌≡◌, ◌<◌, ◌+◌, ◌*◌, ℕ, length, slice_index, place_of}
 use Rattle.avc_inter.proofs.rows.sixteen.Given as goal
 
 abbrev pub invariant-loop-y : goal.invariant-loop-y

@@ -1,5 +1,4 @@
-use Rattle.std.proofs.Common.{◌∙◌}
-use Rattle.avc_inter.proofs.SixRows.{sum_there}
+use Rattle.avc_inter.proofs.SixRows.{◌∙◌, sum_there}
 use Rattle.avc_inter.proofs.rows.sum_row.Goals as goal
 
 pub returns-clause-value : goal.returns-clause-value

@@ -1,5 +1,4 @@
-use Rattle.avc_inter.proofs.Common.{ℤ, ◌*◌, arith, sym, subst, ◌∙◌, IsSum}
-use Rattle.avc_inter.proofs.SixRows.{row_within, by_row, sum_in_row}
+use Rattle.avc_inter.proofs.SixRows.{ℤ, ◌*◌, arith, sym, subst, ◌∙◌, IsSum, row_within, by_row, sum_in_row}
 use Rattle.avc_inter.proofs.rows.sum_rows.Goals as goal
 
 pub put_sum_row-requires-clause-samples : goal.put_sum_row-requires-clause-samples

@@ -1,4 +1,4 @@
-use Rattle.avc_inter.proofs.Common.{◌≡◌, ◌<◌, ◌+◌, ◌*◌, ℕ, slice_index_or, pos, IsSum, taps_along, place_of}
+use Rattle.avc_inter.proofs.SixRows.{◌≡◌, ◌<◌, ◌+◌, ◌*◌, ℕ, slice_index_or, pos, IsSum, taps_along, place_of}
 use Rattle.avc_inter.proofs.rows.sum_rows.Given as goal
 
 abbrev pub invariant-loop-y : goal.invariant-loop-y

@@ -1,6 +1,5 @@
-use Rattle.avc_inter.proofs.Common.{ℕ, ℤ, ◌≡◌, ◌≤◌, ◌<◌, ◌-ℤ◌, pos, arith, ◌∙◌, w16, to_z, of_z, map, slice_index, slice_index_or}
-use Rattle.avc_inter.proofs.Common.{Each1-get_or, ints, IsSum}
-use Rattle.avc_inter.proofs.Lanes.{get_or-through_bits, lane_of_row, six_taps_apart}
+use Rattle.avc_inter.proofs.SixRows.{ℕ, ℤ, ◌≡◌, ◌≤◌, ◌<◌, ◌-ℤ◌, pos, arith, ◌∙◌, w16, to_z, of_z, map, slice_index, slice_index_or, Each1-get_or}
+use Rattle.avc_inter.proofs.SixRows.{ints, IsSum, get_or-through_bits, lane_of_row, six_taps_apart}
 use Rattle.avc_inter.proofs.rows.sums_of.Goals as goal
 
 is_sum : (s m : ℕ) (z : ℤ) → s ≤ 10710 → m ≤ 2550 → z ≡ pos s -ℤ pos m → IsSum z

@@ -1,5 +1,5 @@
-use Rattle.avc_inter.proofs.Common.{◌+◌, ◌*◌, ◌/◌, length, arith, ap, slice_index, ◌∙◌, strided_rows, place_of}
-use Rattle.avc_inter.proofs.SixRows.{row_begins, row_there, whole_in_row, place_at, sixteen_more, room_more, begins_more}
+use Rattle.avc_inter.proofs.SixRows.{◌+◌, ◌*◌, ◌/◌, length, arith, ap, slice_index, ◌∙◌, strided_rows, place_of, row_begins, row_there, whole_in_row}
+use Rattle.avc_inter.proofs.SixRows.{place_at, sixteen_more, room_more, begins_more}
 use Rattle.avc_inter.proofs.rows.whole_rows.Goals as goal
 
 pub overflow_mul-y : goal.overflow_mul-y

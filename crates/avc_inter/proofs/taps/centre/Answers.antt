@@ -1,5 +1,4 @@
-use Rattle.avc_inter.proofs.Common.{◌∙◌, ap, w16, ℤ, FitsSigned, to_z-of_z, ◌>>ℤ◌, clip1}
-use Rattle.avc_inter.proofs.Shifts.{by_pairs, back_pair}
+use Rattle.avc_inter.proofs.SixRows.{◌∙◌, ap, w16, ℤ, FitsSigned, to_z-of_z, ◌>>ℤ◌, clip1, by_pairs, back_pair}
 use Rattle.avc_inter.proofs.taps.centre.Goals as goal
 
 pub returns : goal.returns

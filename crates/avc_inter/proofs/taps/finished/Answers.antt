@@ -1,5 +1,4 @@
-use Rattle.avc_inter.proofs.Common.{◌∙◌, w16, to_z-of_z}
-use Rattle.avc_inter.proofs.Shifts.{near_cast, back, first_is, second_is, third_is}
+use Rattle.avc_inter.proofs.SixRows.{◌∙◌, w16, to_z-of_z, near_cast, back, first_is, second_is, third_is}
 use Rattle.avc_inter.proofs.taps.finished.Goals as goal
 
 pub returns : goal.returns

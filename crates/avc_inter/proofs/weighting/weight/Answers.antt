@@ -1,7 +1,5 @@
-use Rattle.avc_inter.proofs.Common.{◌≡◌, ◌≤◌, ◌<◌, ◌*◌, ◌∙◌, ap, arith, length, map, slice_index, to_z, of_z, w32, length-set, mul-le}
-use Rattle.avc_inter.proofs.Common.{weighted}
-use Rattle.avc_inter.proofs.Stored.{stored}
-use Rattle.avc_inter.proofs.Weighted.{back_within, mapped_is}
+use Rattle.avc_inter.proofs.SixRows.{◌≡◌, ◌≤◌, ◌<◌, ◌*◌, ◌∙◌, ap, arith, length, map, slice_index, to_z, of_z, w32, length-set, mul-le, weighted}
+use Rattle.avc_inter.proofs.SixRows.{stored, back_within, mapped_is}
 use Rattle.avc_inter.proofs.weighting.weight.Goals as goal
 
 pub loop-k-preserved : goal.loop-k-preserved

@@ -1,4 +1,4 @@
-use Rattle.avc_inter.proofs.Common.{◌≡◌, ℕ, ◌<◌, length, slice_index, weighted}
+use Rattle.avc_inter.proofs.SixRows.{◌≡◌, ℕ, ◌<◌, length, slice_index, weighted}
 use Rattle.avc_inter.proofs.weighting.weight.Given as goal
 
 abbrev pub invariant-loop-k : goal.invariant-loop-k

@@ -1,5 +1,4 @@
-use Rattle.avc_inter.proofs.Common.{arith, ap, slice_index, ◌∙◌, sample, clamped, strided_same}
-use Rattle.avc_inter.proofs.Predicted.{back_moved, moved_at}
+use Rattle.avc_inter.proofs.SixRows.{arith, ap, slice_index, ◌∙◌, sample, clamped, strided_same, back_moved, moved_at}
 use Rattle.avc_inter.proofs.whole.lay_held.Goals as goal
 
 pub returns : goal.returns

@@ -1,6 +1,4 @@
-use Rattle.avc_inter.proofs.Common.{◌∙◌, sample, clamped, strided_same}
-use Rattle.avc_inter.proofs.Places.{there_in}
-use Rattle.avc_inter.proofs.Predicted.{back_moved, moved_at}
+use Rattle.avc_inter.proofs.SixRows.{◌∙◌, sample, clamped, strided_same, there_in, back_moved, moved_at}
 use Rattle.avc_inter.proofs.whole.lay_whole.Goals as goal
 
 pub copy_lines-requires-clause-source : goal.copy_lines-requires-clause-source

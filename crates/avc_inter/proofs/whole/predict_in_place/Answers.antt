@@ -1,5 +1,4 @@
-use Rattle.avc_inter.proofs.Common.{◌∙◌, room_lent, block_lent, strided_same}
-use Rattle.avc_inter.proofs.Places.{room_inside, sample_inside}
+use Rattle.avc_inter.proofs.SixRows.{◌∙◌, room_lent, block_lent, strided_same, room_inside, sample_inside}
 use Rattle.avc_inter.proofs.whole.predict_in_place.Goals as goal
 
 pub copy_lines-requires-clause-source : goal.copy_lines-requires-clause-source

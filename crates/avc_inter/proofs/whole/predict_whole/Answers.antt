@@ -1,5 +1,4 @@
-use Rattle.avc_inter.proofs.Common.{arith, ◌∙◌, room_lent, block_lent, strided_same, sample, clamped}
-use Rattle.avc_inter.proofs.Predicted.{back_moved, moved_at, still_moved}
+use Rattle.avc_inter.proofs.SixRows.{arith, ◌∙◌, room_lent, block_lent, strided_same, sample, clamped, back_moved, moved_at, still_moved}
 use Rattle.avc_inter.proofs.whole.predict_whole.Goals as goal
 
 pub lay_whole-requires : goal.lay_whole-requires

@@ -1,4 +1,4 @@
-use Rattle.std.proofs.Common.{◌≡◌, ◌<◌, ◌+◌, ◌-◌, ◌*◌, ℕ, length, slice_index}
+use Rattle.avc_intra.proofs.Predictions.{◌≡◌, ◌<◌, ◌+◌, ◌-◌, ◌*◌, ℕ, length, slice_index}
 use Rattle.avc_intra.proofs.beside.left.Given as goal
 
 abbrev pub invariant-loop-y : goal.invariant-loop-y

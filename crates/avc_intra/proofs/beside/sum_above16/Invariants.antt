@@ -1,4 +1,4 @@
-use Rattle.avc_intra.proofs.Common.{◌≡◌, ◌+◌, ◌-◌, ◌*◌, ◌≤◌, slice_index, sum_below}
+use Rattle.avc_intra.proofs.Predictions.{◌≡◌, ◌+◌, ◌-◌, ◌*◌, ◌≤◌, slice_index, sum_below}
 use Rattle.avc_intra.proofs.beside.sum_above16.Given as goal
 
 abbrev pub invariant-loop-x : goal.invariant-loop-x

@@ -1,4 +1,4 @@
-use Rattle.avc_intra.proofs.Common.{◌≡◌, ◌+◌, ◌-◌, ◌*◌, ◌≤◌, slice_index, sum_below}
+use Rattle.avc_intra.proofs.Predictions.{◌≡◌, ◌+◌, ◌-◌, ◌*◌, ◌≤◌, slice_index, sum_below}
 use Rattle.avc_intra.proofs.beside.sum_left16.Given as goal
 
 abbrev pub invariant-loop-y : goal.invariant-loop-y

@@ -1,4 +1,4 @@
-use Rattle.avc_intra.proofs.Common.{◌/◌, refl, strided_same, predict_chroma, predict_dc_chroma, predict_plane_chroma}
+use Rattle.avc_intra.proofs.Predictions.{◌/◌, refl, strided_same, predict_chroma, predict_dc_chroma, predict_plane_chroma}
 use Rattle.avc_intra.specs.declared.chroma.ModeChroma.TheVariants.{Dc, Plane}
 use Rattle.avc_intra.proofs.chroma.lay_chroma.Goals as goal
 

@@ -1,6 +1,5 @@
-use Rattle.avc_intra.proofs.Common.{◌≡◌, ℕ, ◌+◌, ◌*◌, ◌/◌, true, arith, slice_index, ap, subst, ◌∙◌, IsStridedSet, strided_more}
-use Rattle.avc_intra.proofs.Common.{strided_same, predict_dc_chroma, sum_above, sum_left}
-use Rattle.avc_intra.proofs.SeenSums.{above4, left4}
+use Rattle.avc_intra.proofs.Predictions.{◌≡◌, ℕ, ◌+◌, ◌*◌, ◌/◌, true, arith, slice_index, ap, subst, ◌∙◌, IsStridedSet, strided_more, strided_same}
+use Rattle.avc_intra.proofs.Predictions.{predict_dc_chroma, sum_above, sum_left, above4, left4}
 use Rattle.avc_intra.proofs.chroma.lay_dc.Goals as goal
 
 pub returns : goal.returns

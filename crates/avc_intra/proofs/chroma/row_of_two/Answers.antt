@@ -1,4 +1,4 @@
-use Rattle.avc_intra.proofs.Places.{row_of_two}
+use Rattle.avc_intra.proofs.Predictions.{row_of_two}
 use Rattle.avc_intra.proofs.chroma.row_of_two.Goals as goal
 
 pub returns : goal.returns

@@ -1,5 +1,4 @@
-use Rattle.avc_intra.proofs.Common.{pos, negsuc, refl, top, left_of}
-use Rattle.avc_intra.proofs.MeanLaws.{mean_of_three-swap}
+use Rattle.avc_intra.proofs.Predictions.{pos, negsuc, refl, top, left_of, mean_of_three-swap}
 use Rattle.avc_intra.proofs.directional.diagonal_down_right.Goals as goal
 
 pub returns : goal.returns

@@ -1,5 +1,4 @@
-use Rattle.avc_intra.proofs.Common.{pos, negsuc, refl, top, left_of}
-use Rattle.avc_intra.proofs.MeanLaws.{mean_of_two-swap, mean_of_three-swap}
+use Rattle.avc_intra.proofs.Predictions.{pos, negsuc, refl, top, left_of, mean_of_two-swap, mean_of_three-swap}
 use Rattle.avc_intra.proofs.directional.horizontal_down.Goals as goal
 
 pub returns : goal.returns

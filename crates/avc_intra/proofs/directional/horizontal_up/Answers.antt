@@ -1,5 +1,4 @@
-use Rattle.avc_intra.proofs.Common.{pos, refl, left_of}
-use Rattle.avc_intra.proofs.MeanLaws.{mean_of_two-same, mean_of_three-same}
+use Rattle.avc_intra.proofs.Predictions.{pos, refl, left_of, mean_of_two-same, mean_of_three-same}
 use Rattle.avc_intra.proofs.directional.horizontal_up.Goals as goal
 
 pub returns : goal.returns

@@ -1,4 +1,4 @@
-use Rattle.avc_intra.proofs.Common.{◌+◌, slice_index, arith, fill_by_all, mean_of_two}
+use Rattle.avc_intra.proofs.Predictions.{◌+◌, slice_index, arith, fill_by_all, mean_of_two}
 use Rattle.avc_intra.proofs.directional.pairs.Goals as goal
 
 pub returns : goal.returns

@@ -1,4 +1,4 @@
-use Rattle.avc_intra.proofs.Common.{◌≡◌, ℕ, ◌+◌, ◌<◌, length, slice_index, mean_of_two}
+use Rattle.avc_intra.proofs.Predictions.{◌≡◌, ℕ, ◌+◌, ◌<◌, length, slice_index, mean_of_two}
 use Rattle.avc_intra.proofs.directional.pairs.Given as goal
 
 abbrev pub invariant-loop-i : goal.invariant-loop-i

@@ -1,4 +1,4 @@
-use Rattle.avc_intra.proofs.Common.{◌+◌, ◌*◌, slice_index, IsStridedSet}
+use Rattle.avc_intra.proofs.Predictions.{◌+◌, ◌*◌, slice_index, IsStridedSet}
 use Rattle.avc_intra.proofs.lines.lay_block.Given as goal
 
 abbrev pub invariant-loop-y : goal.invariant-loop-y

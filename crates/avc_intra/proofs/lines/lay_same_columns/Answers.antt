@@ -1,5 +1,4 @@
-use Rattle.avc_intra.proofs.Common.{◌+◌, ◌-◌, ◌*◌, arith, slice_index, ◌∙◌, strided_line, strided_rows, get_or-replicate}
-use Rattle.avc_intra.proofs.Columns.{left_kept}
+use Rattle.avc_intra.proofs.Predictions.{◌+◌, ◌-◌, ◌*◌, arith, slice_index, ◌∙◌, strided_line, strided_rows, get_or-replicate, left_kept}
 use Rattle.avc_intra.proofs.lines.lay_same_columns.Goals as goal
 
 pub loop-y-preserved : goal.loop-y-preserved

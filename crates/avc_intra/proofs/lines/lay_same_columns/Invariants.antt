@@ -1,4 +1,4 @@
-use Rattle.avc_intra.proofs.Common.{◌≡◌, ◌+◌, ◌-◌, ◌*◌, ◌<◌, length, slice_index, IsStridedSet}
+use Rattle.avc_intra.proofs.Predictions.{◌≡◌, ◌+◌, ◌-◌, ◌*◌, ◌<◌, length, slice_index, IsStridedSet}
 use Rattle.avc_intra.proofs.lines.lay_same_columns.Given as goal
 
 abbrev pub invariant-loop-y : goal.invariant-loop-y

@@ -1,4 +1,4 @@
-use Rattle.avc_intra.proofs.Common.{arith, slice_index, strided_line, strided_rows}
+use Rattle.avc_intra.proofs.Predictions.{arith, slice_index, strided_line, strided_rows}
 use Rattle.avc_intra.proofs.lines.lay_same_lines.Goals as goal
 
 pub loop-y-preserved : goal.loop-y-preserved

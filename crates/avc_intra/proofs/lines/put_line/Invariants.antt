@@ -1,4 +1,4 @@
-use Rattle.std.proofs.Common.{◌≡◌, ◌<◌, ◌≤◌, ◌+◌, ℕ, length, slice_index}
+use Rattle.avc_intra.proofs.Predictions.{◌≡◌, ◌<◌, ◌≤◌, ◌+◌, ℕ, length, slice_index}
 use Rattle.avc_intra.proofs.lines.put_line.Given as goal
 
 abbrev pub invariant-loop-x : goal.invariant-loop-x

@@ -1,7 +1,6 @@
-use Rattle.avc_intra.proofs.Common.{◌≡◌, ◌+◌, ◌/◌, true, pos, slice_index, refl, ◌∙◌, sum_below, top, left_of, replicate, get_or-replicate}
-use Rattle.avc_intra.proofs.Common.{strided_same, predict16x16, predict_plane16x16}
+use Rattle.avc_intra.proofs.Predictions.{◌≡◌, ◌+◌, ◌/◌, true, pos, slice_index, refl, ◌∙◌, sum_below, top, left_of, replicate, get_or-replicate}
+use Rattle.avc_intra.proofs.Predictions.{strided_same, predict16x16, predict_plane16x16, above16, left16, mean_of_sides}
 use Rattle.avc_intra.specs.declared.luma16x16.Mode16x16.TheVariants.{Dc, Plane}
-use Rattle.avc_intra.proofs.SeenSums.{above16, left16, mean_of_sides}
 use Rattle.avc_intra.proofs.luma16x16.lay16x16.Goals as goal
 
 pub returns-in-Dc-clause-samples : goal.returns-in-Dc-clause-samples

@@ -1,8 +1,7 @@
-use Rattle.avc_intra.proofs.Common.{◌≡◌, ◌+◌, ◌-◌, ◌*◌, ◌/◌, true, arith, slice_index, sym, ◌∙◌, replicate, get_or-replicate, strided_same}
-use Rattle.avc_intra.proofs.Common.{sum_above, sum_left, extended, predict4x4}
-use Rattle.avc_intra.proofs.SeenSums.{above4, left4, mean_of_sides, near}
-use Rattle.avc_intra.specs.declared.luma4x4.Mode4x4.TheVariants.{Vertical, Horizontal, Dc, DiagonalDownLeft, DiagonalDownRight, VerticalRight, HorizontalDown, VerticalLeft, HorizontalUp}
-use Rattle.avc_intra.proofs.Places.{laid4x4}
+use Rattle.avc_intra.proofs.Predictions.{◌≡◌, ◌+◌, ◌-◌, ◌*◌, ◌/◌, true, arith, slice_index, sym, ◌∙◌, replicate, get_or-replicate, strided_same}
+use Rattle.avc_intra.proofs.Predictions.{sum_above, sum_left, extended, predict4x4, above4, left4, mean_of_sides, near, Vertical, Horizontal}
+use Rattle.avc_intra.proofs.Predictions.{DiagonalDownLeft, DiagonalDownRight, VerticalRight, HorizontalDown, VerticalLeft, HorizontalUp, laid4x4}
+use Rattle.avc_intra.specs.declared.luma4x4.Mode4x4.TheVariants.{Dc}
 use Rattle.avc_intra.proofs.luma4x4.lay4x4.Goals as goal
 
 pub returns-in-Vertical-clause-samples : goal.returns-in-Vertical-clause-samples

@@ -1,5 +1,4 @@
-use Rattle.avc_intra.proofs.Common.{rules, can_predict4x4, extended, predict4x4}
-use Rattle.avc_intra.proofs.Places.{block4x4_at}
+use Rattle.avc_intra.proofs.Predictions.{rules, can_predict4x4, extended, predict4x4, block4x4_at}
 use Rattle.avc_intra.proofs.luma4x4.predict4.Goals as goal
 
 pub returns : goal.returns

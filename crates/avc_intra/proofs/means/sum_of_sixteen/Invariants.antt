@@ -1,4 +1,4 @@
-use Rattle.avc_intra.proofs.Common.{◌≡◌, ◌*◌, ◌≤◌, slice_index, sum_below}
+use Rattle.avc_intra.proofs.Predictions.{◌≡◌, ◌*◌, ◌≤◌, slice_index, sum_below}
 use Rattle.avc_intra.proofs.means.sum_of_sixteen.Given as goal
 
 abbrev pub invariant-loop-i : goal.invariant-loop-i

@@ -1,6 +1,5 @@
-use Rattle.avc_intra.proofs.Common.{◌≡◌, ℕ, ℤ, ◌-◌, ◌*◌, ◌/◌, ◌<◌, ◌≤◌, ◌+ℤ◌, ◌-ℤ◌, ◌*ℤ◌, pos, slice_index, to_z, of_z, w32, arith, ap, ◌∙◌}
-use Rattle.avc_intra.proofs.Common.{ints, ◌>>ℤ◌, clip1, strided_line, strided_rows, strided_same, plane_sample}
-use Rattle.avc_intra.proofs.PlaneLaws.{same_plane}
+use Rattle.avc_intra.proofs.Predictions.{◌≡◌, ℕ, ℤ, ◌-◌, ◌*◌, ◌/◌, ◌<◌, ◌≤◌, ◌+ℤ◌, ◌-ℤ◌, ◌*ℤ◌, pos, slice_index, to_z, of_z, w32, arith, ap, ◌∙◌}
+use Rattle.avc_intra.proofs.Predictions.{ints, ◌>>ℤ◌, clip1, strided_line, strided_rows, strided_same, plane_sample, same_plane}
 use Rattle.avc_intra.proofs.plane.lay_plane.Goals as goal
 
 pub plane_row-row-requires : goal.plane_row-row-requires

@@ -1,4 +1,4 @@
-use Rattle.avc_intra.proofs.Common.{◌-◌, ◌/◌, IsStridedSet, plane_sample}
+use Rattle.avc_intra.proofs.Predictions.{◌-◌, ◌/◌, IsStridedSet, plane_sample}
 use Rattle.avc_intra.proofs.plane.lay_plane.Given as goal
 
 abbrev pub invariant-loop-y : goal.invariant-loop-y

@@ -1,4 +1,4 @@
-use Rattle.avc_intra.proofs.Common.{◌≡◌, ℕ, ◌<◌, pos, ◌+ℤ◌, length, slice_index, slice_index_or, ◌>>ℤ◌, clip1}
+use Rattle.avc_intra.proofs.Predictions.{◌≡◌, ℕ, ◌<◌, pos, ◌+ℤ◌, length, slice_index, slice_index_or, ◌>>ℤ◌, clip1}
 use Rattle.avc_intra.proofs.plane.plane_row.Given as goal
 
 abbrev pub invariant-loop-x : goal.invariant-loop-x

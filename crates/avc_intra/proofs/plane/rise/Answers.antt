@@ -1,5 +1,4 @@
-use Rattle.avc_intra.proofs.Common.{◌≡◌, ◌*ℤ◌, ◌-ℤ◌, pos, to_z, of_z, w32, arith, ints, IsWithin}
-use Rattle.avc_intra.proofs.Products.{IsWithin-mul}
+use Rattle.avc_intra.proofs.Predictions.{◌≡◌, ◌*ℤ◌, ◌-ℤ◌, pos, to_z, of_z, w32, arith, ints, IsWithin, IsWithin-mul}
 use Rattle.avc_intra.proofs.plane.rise.Goals as goal
 
 pub returns-clause-value : goal.returns-clause-value

@@ -1,5 +1,4 @@
-use Rattle.avc_intra.proofs.Common.{◌≡◌, arith, rules, pos, ◌-◌, ◌/◌, ◌-ℤ◌, ◌*ℤ◌, to_z, of_z, w32, ◌∙◌, ints, IsWithin}
-use Rattle.avc_intra.proofs.Stored.{stored}
+use Rattle.avc_intra.proofs.Predictions.{◌≡◌, arith, rules, pos, ◌-◌, ◌/◌, ◌-ℤ◌, ◌*ℤ◌, to_z, of_z, w32, ◌∙◌, ints, IsWithin, stored}
 use Rattle.avc_intra.proofs.plane.rises.Goals as goal
 
 pub loop-x-preserved : goal.loop-x-preserved

@@ -1,4 +1,4 @@
-use Rattle.avc_intra.proofs.Common.{◌≡◌, ℕ, ◌<◌, pos, ◌-ℤ◌, ◌*ℤ◌, length, slice_index_or, IsWithin}
+use Rattle.avc_intra.proofs.Predictions.{◌≡◌, ℕ, ◌<◌, pos, ◌-ℤ◌, ◌*ℤ◌, length, slice_index_or, IsWithin}
 use Rattle.avc_intra.proofs.plane.rises.Given as goal
 
 abbrev pub invariant-loop-x : goal.invariant-loop-x

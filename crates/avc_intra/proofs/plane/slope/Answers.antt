@@ -1,5 +1,4 @@
-use Rattle.avc_intra.proofs.Common.{◌≡◌, ◌+◌, ◌/◌, ◌+ℤ◌, ◌-ℤ◌, ◌*ℤ◌, ℕ, ℤ, pos, to_z, of_z, w32, arith, ap, ◌∙◌, ints, side_of}
-use Rattle.avc_intra.proofs.Sums.{sum_below_ℤ_more}
+use Rattle.avc_intra.proofs.Predictions.{◌≡◌, ◌+◌, ◌/◌, ◌+ℤ◌, ◌-ℤ◌, ◌*ℤ◌, ℕ, ℤ, pos, to_z, of_z, w32, arith, ap, ◌∙◌, ints, side_of, sum_below_ℤ_more}
 use Rattle.avc_intra.proofs.plane.slope.Goals as goal
 
 pub loop-i-preserved : goal.loop-i-preserved

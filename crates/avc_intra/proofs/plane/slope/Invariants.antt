@@ -1,4 +1,4 @@
-use Rattle.avc_intra.proofs.Common.{◌≡◌, ◌+◌, ◌*◌, ◌*ℤ◌, ◌-ℤ◌, pos, sum_below_ℤ, IsWithin, side_of}
+use Rattle.avc_intra.proofs.Predictions.{◌≡◌, ◌+◌, ◌*◌, ◌*ℤ◌, ◌-ℤ◌, pos, sum_below_ℤ, IsWithin, side_of}
 use Rattle.avc_intra.proofs.plane.slope.Given as goal
 
 abbrev pub invariant-loop-i : goal.invariant-loop-i

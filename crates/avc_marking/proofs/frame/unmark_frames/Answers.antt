@@ -1,6 +1,5 @@
-use Rattle.avc_marking.proofs.Common.{◌≡◌, ℕ, arith, refl, MarkedFrame, reference_of, Index, From, Every, is_to_unmark}
-use Rattle.avc_marking.specs.declared.frame.FramesToUnmark.{FramesToUnmark}
-use Rattle.avc_marking.proofs.Changes.{references-unmarked_if}
+use Rattle.avc_marking.proofs.KeptFrames.{◌≡◌, ℕ, arith, refl, MarkedFrame, reference_of, Index, From, Every, is_to_unmark, FramesToUnmark}
+use Rattle.avc_marking.proofs.KeptFrames.{references-unmarked_if}
 use Rattle.avc_marking.proofs.frame.unmark_frames.Goals as goal
 
 no_entry : (l : FramesToUnmark) (e : ℕ) (f : MarkedFrame) → is_to_unmark l (reference_of e f) ≡ is_to_unmark l (reference_of 0 f)

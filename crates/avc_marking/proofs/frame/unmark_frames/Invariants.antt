@@ -1,4 +1,4 @@
-use Rattle.avc_marking.proofs.Common.{◌≡◌, ℕ, ◌<◌, ◌≤◌, slice_index_or, no_frame, is_to_unmark, unmarked_if}
+use Rattle.avc_marking.proofs.KeptFrames.{◌≡◌, ℕ, ◌<◌, ◌≤◌, slice_index_or, no_frame, is_to_unmark, unmarked_if}
 use Rattle.avc_marking.proofs.frame.unmark_frames.Given as goal
 
 abbrev pub invariant-loop-place : goal.invariant-loop-place

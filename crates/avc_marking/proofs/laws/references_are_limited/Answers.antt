@@ -1,4 +1,4 @@
-use Rattle.avc_marking.proofs.Limits.{stays-with_max_long_term_frame_idx, is-with_max_long_term_frame_idx}
+use Rattle.avc_marking.proofs.KeptFrames.{stays-with_max_long_term_frame_idx, is-with_max_long_term_frame_idx}
 use Rattle.avc_marking.proofs.laws.references_are_limited.Goals as goal
 
 pub returns-clause-entry : goal.returns-clause-entry

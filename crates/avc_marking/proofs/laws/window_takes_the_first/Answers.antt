@@ -1,4 +1,4 @@
-use Rattle.avc_marking.proofs.FullWindow.{window_takes_the_first}
+use Rattle.avc_marking.proofs.KeptFrames.{window_takes_the_first}
 use Rattle.avc_marking.proofs.laws.window_takes_the_first.Goals as goal
 
 pub returns : goal.returns

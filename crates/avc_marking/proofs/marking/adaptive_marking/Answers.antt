@@ -1,6 +1,4 @@
-use Rattle.avc_marking.proofs.OperationStates.{operations-any, stand_turned, stand_settled}
-use Rattle.avc_marking.proofs.Common.{arith, nat_tests}
-use Rattle.avc_marking.proofs.Changes.{stand_as}
+use Rattle.avc_marking.proofs.KeptFrames.{operations-any, stand_turned, stand_settled, arith, nat_tests, stand_as}
 use Rattle.avc_marking.proofs.marking.adaptive_marking.Goals as goal
 
 pub returns-in_err-assigned-clause-marks : goal.returns-in_err-assigned-clause-marks

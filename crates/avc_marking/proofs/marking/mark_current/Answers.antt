@@ -1,6 +1,4 @@
-use Rattle.avc_marking.proofs.Changes.{references-append}
-use Rattle.avc_marking.proofs.Common.{◌-◌, arith, ◌+◌, ◌≡◌, length, marking_entry}
-use Rattle.avc_marking.proofs.CurrentFrame.{settled-assigned}
+use Rattle.avc_marking.proofs.KeptFrames.{references-append, ◌-◌, arith, ◌+◌, ◌≡◌, length, marking_entry, settled-assigned}
 use Rattle.avc_marking.proofs.marking.mark_current.Goals as goal
 
 pub returns-then-assigned-clause-marks : goal.returns-then-assigned-clause-marks

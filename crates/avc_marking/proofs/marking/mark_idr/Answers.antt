@@ -1,7 +1,4 @@
-use Rattle.avc_marking.proofs.Changes.{refilled, references-append, stand_as}
-use Rattle.std.proofs.Common.{arith}
-use Rattle.avc_marking.proofs.Common.{references_at}
-use Rattle.avc_marking.proofs.OperationStates.{stand_before, filter-nothing}
+use Rattle.avc_marking.proofs.KeptFrames.{refilled, references-append, stand_as, arith, references_at, stand_before, filter-nothing}
 use Rattle.avc_marking.proofs.marking.mark_idr.Goals as goal
 
 pub returns-clause-references : goal.returns-clause-references

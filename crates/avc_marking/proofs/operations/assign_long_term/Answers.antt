@@ -1,5 +1,4 @@
-use Rattle.avc_marking.proofs.Common.{sym, ◌∙◌, None, marking_entry}
-use Rattle.avc_marking.proofs.OperationStates.{long-ok}
+use Rattle.avc_marking.proofs.KeptFrames.{sym, ◌∙◌, None, marking_entry, long-ok}
 use Rattle.avc_marking.proofs.operations.assign_long_term.Goals as goal
 
 pub returns : goal.returns

@@ -1,7 +1,5 @@
-use Rattle.avc_marking.proofs.Common.{arith, nat_tests, err_from_is_err_and, entries_with, references_at}
-use Rattle.std.proofs.lemmas.List.Elements.{filter_agree}
-use Rattle.avc_marking.proofs.Changes.{refilled, stand_as}
-use Rattle.avc_marking.proofs.OperationStates.{not-not, filter-nothing, stand_with}
+use Rattle.avc_marking.proofs.KeptFrames.{arith, nat_tests, err_from_is_err_and, entries_with, references_at, filter_agree, refilled, stand_as}
+use Rattle.avc_marking.proofs.KeptFrames.{not-not, filter-nothing, stand_with}
 use Rattle.avc_marking.proofs.operations.operate.Goals as goal
 
 pub returns-in_err-unmark_short_term-in-UnmarkShortTerm-clause-turn : goal.returns-in_err-unmark_short_term-in-UnmarkShortTerm-clause-turn

@@ -1,6 +1,5 @@
-use Rattle.avc_marking.proofs.Common.{◌≡◌, ℕ, ◌+◌, List, length, drop, false, None, if◌then◌else◌, marking_entry, operation_state}
-use Rattle.avc_marking.proofs.Common.{StandBefore}
-use Rattle.avc_marking.specs.Marks.{after_operations}
+use Rattle.avc_marking.proofs.KeptFrames.{◌≡◌, ℕ, ◌+◌, List, length, drop, false, None, if◌then◌else◌, marking_entry, operation_state, StandBefore}
+use Rattle.avc_marking.proofs.KeptFrames.{after_operations}
 use Rattle.avc_marking.proofs.operations.operate_all.Given as goal
 
 abbrev pub invariant-loop-operation : goal.invariant-loop-operation

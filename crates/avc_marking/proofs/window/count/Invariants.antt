@@ -1,4 +1,4 @@
-use Rattle.avc_marking.proofs.Common.{◌≡◌, ◌≤◌, length, take, filter, is_some}
+use Rattle.avc_marking.proofs.KeptFrames.{◌≡◌, ◌≤◌, length, take, filter, is_some}
 use Rattle.avc_marking.proofs.window.count.Given as goal
 
 abbrev pub invariant-loop-frame : goal.invariant-loop-frame

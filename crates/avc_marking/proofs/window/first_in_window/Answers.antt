@@ -1,5 +1,4 @@
-use Rattle.std.proofs.Common.{◌-◌, arith}
-use Rattle.avc_marking.proofs.Sliding.{first-step}
+use Rattle.avc_marking.proofs.KeptFrames.{◌-◌, arith, first-step}
 use Rattle.avc_marking.proofs.window.first_in_window.Goals as goal
 
 pub loop-place-preserved : goal.loop-place-preserved

@@ -1,5 +1,4 @@
-use Rattle.std.proofs.Common.{arith}
-use Rattle.avc_marking.proofs.Sliding.{entry_above}
+use Rattle.avc_marking.proofs.KeptFrames.{arith, entry_above}
 use Rattle.avc_marking.proofs.window.first_in_window_with.Goals as goal
 
 pub returns-in-Some-clause-short : goal.returns-in-Some-clause-short

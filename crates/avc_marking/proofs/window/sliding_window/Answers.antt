@@ -1,6 +1,4 @@
-use Rattle.avc_marking.proofs.Changes.{refilled, references-append, stand_as}
-use Rattle.std.proofs.Common.{arith}
-use Rattle.avc_marking.proofs.OperationStates.{stand_before}
+use Rattle.avc_marking.proofs.KeptFrames.{refilled, references-append, stand_as, arith, stand_before}
 use Rattle.avc_marking.proofs.window.sliding_window.Goals as goal
 
 pub returns-in_err-free_a_frame-clause-marks : goal.returns-in_err-free_a_frame-clause-marks

@@ -1,5 +1,4 @@
-use Rattle.avc_mbsyntax.proofs.Common.{◌<◌, ◌∙◌, arith, length, length-set, no_levels}
-use Rattle.avc_mbsyntax.proofs.BlockSteps.{cleared_more}
+use Rattle.avc_mbsyntax.proofs.SliceDataReading.{◌<◌, ◌∙◌, arith, length, length-set, no_levels, cleared_more}
 use Rattle.avc_mbsyntax.proofs.blocks.clear.Goals as goal
 
 pub each-preserved : goal.each-preserved

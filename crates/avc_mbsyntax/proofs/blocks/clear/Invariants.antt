@@ -1,4 +1,4 @@
-use Rattle.avc_mbsyntax.proofs.Common.{◌≡◌, length, take, replicate, no_levels}
+use Rattle.avc_mbsyntax.proofs.SliceDataReading.{◌≡◌, length, take, replicate, no_levels}
 use Rattle.avc_mbsyntax.proofs.blocks.clear.Given as goal
 
 abbrev pub invariant-each : goal.invariant-each

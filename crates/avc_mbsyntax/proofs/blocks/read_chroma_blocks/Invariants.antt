@@ -1,5 +1,4 @@
-use Rattle.avc_mbsyntax.proofs.Common.{◌≡◌, ◌==◌, option_copied, reader_bits, reader_bytes}
-use Rattle.avc_mbsyntax.proofs.BlockSteps.{AreRead}
+use Rattle.avc_mbsyntax.proofs.SliceDataReading.{◌≡◌, ◌==◌, option_copied, reader_bits, reader_bytes, AreRead}
 use Rattle.avc_mbsyntax.proofs.blocks.read_chroma_blocks.Given as goal
 
 abbrev pub invariant-each : goal.invariant-each

@@ -1,5 +1,4 @@
-use Rattle.avc_mbsyntax.proofs.Common.{◌≡◌, pos, min, true, arith, to_z, w8, ints, residual_block, block_where}
-use Rattle.avc_mbsyntax.proofs.Same.{capped_read, reads_same}
+use Rattle.avc_mbsyntax.proofs.SliceDataReading.{◌≡◌, pos, min, true, arith, to_z, w8, ints, residual_block, block_where, capped_read, reads_same}
 use Rattle.avc_mbsyntax.proofs.blocks.read_coded.Goals as goal
 
 pub returns-clause-read : goal.returns-clause-read

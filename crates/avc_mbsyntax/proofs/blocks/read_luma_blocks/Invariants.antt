@@ -1,5 +1,4 @@
-use Rattle.avc_mbsyntax.proofs.Common.{◌≡◌, option_copied, reader_bits, reader_bytes, is_coded}
-use Rattle.avc_mbsyntax.proofs.BlockSteps.{AreRead}
+use Rattle.avc_mbsyntax.proofs.SliceDataReading.{◌≡◌, option_copied, reader_bits, reader_bytes, is_coded, AreRead}
 use Rattle.avc_mbsyntax.proofs.blocks.read_luma_blocks.Given as goal
 
 abbrev pub invariant-each : goal.invariant-each

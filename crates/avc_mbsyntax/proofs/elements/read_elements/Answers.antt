@@ -1,6 +1,5 @@
-use Rattle.avc_mbsyntax.proofs.Common.{◌≡◌, ◌<◌, Err, arith, rules, ◌∙◌, length, take, length-set, times, reader_bits}
-use Rattle.std.proofs.lemmas.List.{take_more_set}
-use Rattle.avc_bits.proofs.Repeating.{times_more, times_fault}
+use Rattle.avc_mbsyntax.proofs.SliceDataReading.{◌≡◌, ◌<◌, Err, arith, rules, ◌∙◌, length, take, length-set, times, reader_bits, take_more_set}
+use Rattle.avc_mbsyntax.proofs.SliceDataReading.{times_more, times_fault}
 use Rattle.avc_mbsyntax.proofs.elements.read_elements.Goals as goal
 
 pub returns-in_err-element-clause-read : goal.returns-in_err-element-clause-read

@@ -1,4 +1,4 @@
-use Rattle.avc_mbsyntax.proofs.Common.{◌≡◌, length, take, Ok, times, reader_bits, reader_bytes}
+use Rattle.avc_mbsyntax.proofs.SliceDataReading.{◌≡◌, length, take, Ok, times, reader_bits, reader_bytes}
 use Rattle.avc_mbsyntax.proofs.elements.read_elements.Given as goal
 
 abbrev pub invariant-elements : goal.invariant-elements

@@ -1,5 +1,4 @@
-use Rattle.avc_mbsyntax.proofs.Common.{◌≡◌, length, rules, Sub8x8}
-use Rattle.avc_mbsyntax.proofs.Parts.{four_quarters}
+use Rattle.avc_mbsyntax.proofs.SliceDataReading.{◌≡◌, length, rules, Sub8x8, four_quarters}
 use Rattle.avc_mbsyntax.proofs.inter.parts_of_quarters.Goals as goal
 
 pub returns-clause-value : goal.returns-clause-value

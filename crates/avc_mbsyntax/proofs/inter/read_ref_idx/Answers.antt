@@ -1,7 +1,5 @@
-use Rattle.avc_mbsyntax.proofs.Common.{◌≤◌, ◌-◌, ◌∙◌, sym, take, partitions, times, te_to, ref_idx_l0, All, gives-each}
-use Rattle.avc_mbsyntax.proofs.Giving.{gives_te_to, if_gives_into}
-use Rattle.avc_mbsyntax.proofs.RefIdx.{ref_idx_coded}
-use Rattle.avc_mbsyntax.proofs.Same.{reads_into_same}
+use Rattle.avc_mbsyntax.proofs.SliceDataReading.{◌≤◌, ◌-◌, ◌∙◌, sym, take, partitions, times, te_to, ref_idx_l0, All, gives-each, gives_te_to}
+use Rattle.avc_mbsyntax.proofs.SliceDataReading.{if_gives_into, ref_idx_coded, reads_into_same}
 use Rattle.avc_mbsyntax.proofs.inter.read_ref_idx.Goals as goal
 
 pub returns-clause-read : goal.returns-clause-read

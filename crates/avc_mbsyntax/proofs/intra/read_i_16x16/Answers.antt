@@ -1,6 +1,5 @@
-use Rattle.avc_mbsyntax.proofs.Common.{◌≡◌, ◌%◌, ◌∙◌, ap, Err, arith, rules, to_z, of_z, w8, sym, ints, residual_of, reader_bits}
-use Rattle.avc_mbsyntax.proofs.Common.{context_of, i_16x16_mb, qp_after}
-use Rattle.avc_mbsyntax.proofs.AfterPatterns.{i_16x16_fault, i_16x16_read}
+use Rattle.avc_mbsyntax.proofs.SliceDataReading.{◌≡◌, ◌%◌, ◌∙◌, ap, Err, arith, rules, to_z, of_z, w8, sym, ints, residual_of, reader_bits}
+use Rattle.avc_mbsyntax.proofs.SliceDataReading.{context_of, i_16x16_mb, qp_after, i_16x16_fault, i_16x16_read}
 use Rattle.avc_mbsyntax.proofs.intra.read_i_16x16.Goals as goal
 
 pub returns-in_err-read_levels-clause-read : goal.returns-in_err-read_levels-clause-read

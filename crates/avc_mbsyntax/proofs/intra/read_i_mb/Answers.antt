@@ -1,5 +1,4 @@
-use Rattle.avc_mbsyntax.proofs.Common.{◌-◌, arith, i_16x16_mb, i_mb, context_of}
-use Rattle.avc_mbsyntax.proofs.Same.{i_mb_16x16, reads_into_same}
+use Rattle.avc_mbsyntax.proofs.SliceDataReading.{◌-◌, arith, i_16x16_mb, i_mb, context_of, i_mb_16x16, reads_into_same}
 use Rattle.avc_mbsyntax.proofs.intra.read_i_mb.Goals as goal
 
 pub returns-in_default-clause-read : goal.returns-in_default-clause-read

@@ -1,5 +1,4 @@
-use Rattle.avc_mbsyntax.proofs.Common.{refl, All, times, block_mode, gives-each}
-use Rattle.avc_mbsyntax.proofs.Giving.{IsRem, gives_block_mode, if_gives_into}
+use Rattle.avc_mbsyntax.proofs.SliceDataReading.{refl, All, times, block_mode, gives-each, IsRem, gives_block_mode, if_gives_into}
 use Rattle.avc_mbsyntax.proofs.intra.read_modes.Goals as goal
 
 pub returns-clause-range : goal.returns-clause-range

@@ -1,6 +1,5 @@
-use Rattle.avc_mbsyntax.proofs.Common.{◌≡◌, ◌∙◌, [], Err, refl, arith, rules, to_z, of_z, w8, ints, reader_bits, small_none, context_of}
-use Rattle.avc_mbsyntax.proofs.Common.{after_pattern}
-use Rattle.avc_mbsyntax.proofs.AfterPatterns.{after_delta, nothing_after, nothing_in_range}
+use Rattle.avc_mbsyntax.proofs.SliceDataReading.{◌≡◌, ◌∙◌, [], Err, refl, arith, rules, to_z, of_z, w8, ints, reader_bits, small_none, context_of}
+use Rattle.avc_mbsyntax.proofs.SliceDataReading.{after_pattern, after_delta, nothing_after, nothing_in_range}
 use Rattle.avc_mbsyntax.proofs.residual.read_after_pattern.Goals as goal
 
 pub returns-in_err-read_levels-clause-read : goal.returns-in_err-read_levels-clause-read

@@ -1,8 +1,6 @@
-use Rattle.avc_motion.proofs.Common.{Ok, take, ◌≡◌, ◌∙◌, sym, ap, rules, [], length, subst, MbSyntax, p_skip, p_inter, parts_of}
-use Rattle.avc_motion.proofs.Common.{partitions, info_of, motion_near, motion_of, motion_or_fault, near_in}
-use Rattle.avc_types.specs.MacroblockFields.{syntax_of, residual_of}
-use Rattle.avc_types.specs.References.{result_map}
-use Rattle.avc_motion.proofs.Whole.{skipped_is, inter_is}
+use Rattle.avc_motion.proofs.MacroblockMotion.{Ok, take, ◌≡◌, ◌∙◌, sym, ap, rules, [], length, subst, MbSyntax, p_skip, p_inter, parts_of, partitions}
+use Rattle.avc_motion.proofs.MacroblockMotion.{info_of, motion_near, motion_of, motion_or_fault, near_in, syntax_of, residual_of, result_map}
+use Rattle.avc_motion.proofs.MacroblockMotion.{skipped_is, inter_is}
 use Rattle.avc_motion.proofs.macroblock.motion.Goals as goal
 
 pub returns-in-PSkip-clause-motion : goal.returns-in-PSkip-clause-motion

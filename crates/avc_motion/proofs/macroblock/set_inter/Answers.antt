@@ -1,5 +1,4 @@
-use Rattle.avc_motion.proofs.Common.{info_of, motion_near}
-use Rattle.avc_motion.proofs.Alike.{decoded_alike}
+use Rattle.avc_motion.proofs.MacroblockMotion.{info_of, motion_near, decoded_alike}
 use Rattle.avc_motion.proofs.macroblock.set_inter.Goals as goal
 
 pub returns-clause-alike : goal.returns-clause-alike

@@ -1,4 +1,4 @@
-use Rattle.avc_motion.proofs.Common.{◌≡◌, length, take, map, vector_of}
+use Rattle.avc_motion.proofs.MacroblockMotion.{◌≡◌, length, take, map, vector_of}
 use Rattle.avc_motion.proofs.macroblock.vectors_of.Given as goal
 
 abbrev pub invariant-loop-k : goal.invariant-loop-k

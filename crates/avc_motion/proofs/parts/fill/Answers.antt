@@ -1,5 +1,4 @@
-use Rattle.std.proofs.Common.{◌∙◌, arith, rules}
-use Rattle.avc_motion.proofs.Filling.{length-with_part, quarter_more, same_blocks}
+use Rattle.avc_motion.proofs.MacroblockMotion.{◌∙◌, arith, rules, length-with_part, quarter_more, same_blocks}
 use Rattle.avc_motion.proofs.parts.fill.Goals as goal
 
 pub loop-quarter-preserved : goal.loop-quarter-preserved

@@ -1,4 +1,4 @@
-use Rattle.avc_motion.proofs.Common.{◌≡◌, ◌≤◌, ◌<◌, ◌*◌, ℕ, length, slice_index_or, absent, with_part}
+use Rattle.avc_motion.proofs.MacroblockMotion.{◌≡◌, ◌≤◌, ◌<◌, ◌*◌, ℕ, length, slice_index_or, absent, with_part}
 use Rattle.avc_motion.proofs.parts.fill.Given as goal
 
 abbrev pub invariant-loop-quarter : goal.invariant-loop-quarter

@@ -1,6 +1,5 @@
-use Rattle.avc_motion.proofs.Common.{if◌then◌else◌, ◌≡◌, ◌*◌, ◌∙◌, ap, arith, rules, slice_index_or, length-set, get_or-set_other, absent}
-use Rattle.avc_motion.proofs.Common.{is_in_part}
-use Rattle.avc_motion.proofs.Filling.{set_more}
+use Rattle.avc_motion.proofs.MacroblockMotion.{if◌then◌else◌, ◌≡◌, ◌*◌, ◌∙◌, ap, arith, rules, slice_index_or, length-set, get_or-set_other, absent}
+use Rattle.avc_motion.proofs.MacroblockMotion.{is_in_part, set_more}
 use Rattle.avc_motion.proofs.parts.fill_blocks.Goals as goal
 
 pub loop-k-preserved : goal.loop-k-preserved

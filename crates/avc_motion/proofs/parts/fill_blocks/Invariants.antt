@@ -1,4 +1,4 @@
-use Rattle.avc_motion.proofs.Common.{◌≡◌, ◌≤◌, ◌<◌, ◌*◌, ℕ, length, slice_index_or, if◌then◌else◌, absent, is_in_part}
+use Rattle.avc_motion.proofs.MacroblockMotion.{◌≡◌, ◌≤◌, ◌<◌, ◌*◌, ℕ, length, slice_index_or, if◌then◌else◌, absent, is_in_part}
 use Rattle.avc_motion.proofs.parts.fill_blocks.Given as goal
 
 abbrev pub invariant-loop-k : goal.invariant-loop-k

@@ -1,5 +1,4 @@
-use Rattle.avc_motion.proofs.Common.{◌*◌, ◌∙◌, arith, refl, length-set, get_or-set_other, absent}
-use Rattle.avc_motion.proofs.Filling.{set_more}
+use Rattle.avc_motion.proofs.MacroblockMotion.{◌*◌, ◌∙◌, arith, refl, length-set, get_or-set_other, absent, set_more}
 use Rattle.avc_motion.proofs.parts.fill_whole.Goals as goal
 
 pub loop-k-preserved : goal.loop-k-preserved

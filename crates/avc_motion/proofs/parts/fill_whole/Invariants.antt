@@ -1,4 +1,4 @@
-use Rattle.avc_motion.proofs.Common.{◌≡◌, ◌≤◌, ◌<◌, ◌*◌, ℕ, length, slice_index_or, absent}
+use Rattle.avc_motion.proofs.MacroblockMotion.{◌≡◌, ◌≤◌, ◌<◌, ◌*◌, ℕ, length, slice_index_or, absent}
 use Rattle.avc_motion.proofs.parts.fill_whole.Given as goal
 
 abbrev pub invariant-loop-k : goal.invariant-loop-k

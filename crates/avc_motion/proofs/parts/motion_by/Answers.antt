@@ -1,5 +1,4 @@
-use Rattle.avc_motion.proofs.Common.{rules, sym, ◌∙◌, w16, w32, to_z-of_z}
-use Rattle.avc_motion.proofs.Components.{both_fit, x_too_far}
+use Rattle.avc_motion.proofs.MacroblockMotion.{rules, sym, ◌∙◌, w16, w32, to_z-of_z, both_fit, x_too_far}
 use Rattle.avc_motion.proofs.parts.motion_by.Goals as goal
 
 pub returns-in-Some-Some : goal.returns-in-Some-Some

@@ -1,5 +1,4 @@
-use Rattle.avc_motion.proofs.Common.{rules}
-use Rattle.avc_motion.proofs.Components.{median_back}
+use Rattle.avc_motion.proofs.MacroblockMotion.{rules, median_back}
 use Rattle.avc_motion.proofs.prediction.median_vector.Goals as goal
 
 pub returns : goal.returns

@@ -1,5 +1,4 @@
-use Rattle.avc_neigh.proofs.Common.{◌==◌, nat_eq, bit_and, refl, block_x}
-use Rattle.std.proofs.lemmas.Bool.{agree_below_at}
+use Rattle.avc_neigh.proofs.Found.{◌==◌, nat_eq, bit_and, refl, block_x, agree_below_at}
 use Rattle.avc_neigh.proofs.block_order.is_leftmost.Goals as goal
 
 pub returns : goal.returns

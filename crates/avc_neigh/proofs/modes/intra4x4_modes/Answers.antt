@@ -1,6 +1,6 @@
-use Rattle.avc_neigh.proofs.Common.{◌≡◌, ◌<◌, ◌∙◌, [], Option, None, get_or, length, take, refl, sym, ap, arith, length-set, ℕ}
-use Rattle.avc_neigh.proofs.Common.{get_or_default, info_of, chosen_mode, absent}
-use Rattle.avc_neigh.proofs.NearModes.{modes_end, modes_more, modes_near, modes_step, prediction_near, same_modes, small_mode}
+use Rattle.avc_neigh.proofs.Found.{◌≡◌, ◌<◌, ◌∙◌, [], Option, None, get_or, length, take, refl, sym, ap, arith, length-set, ℕ, get_or_default}
+use Rattle.avc_neigh.proofs.Found.{info_of, chosen_mode, modes_end, modes_more, modes_near, modes_step, prediction_near, same_modes, small_mode}
+use Rattle.avc_neigh.specs.declared.neighbour_info.NearMode.TheVariants.{Absent as absent}
 use Rattle.avc_neigh.proofs.modes.intra4x4_modes.Goals as goal
 
 pub returns-clause-modes : goal.returns-clause-modes

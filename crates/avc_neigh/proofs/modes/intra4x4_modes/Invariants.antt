@@ -1,5 +1,5 @@
-use Rattle.avc_neigh.proofs.Common.{◌≡◌, ℕ, ◌<◌, [], length, take, drop, slice_index_or, option_copied, info_of, HasModes, IsMode, absent}
-use Rattle.avc_neigh.proofs.NearModes.{modes_near}
+use Rattle.avc_neigh.proofs.Found.{◌≡◌, ℕ, ◌<◌, [], length, take, drop, slice_index_or, option_copied, info_of, HasModes, IsMode, modes_near}
+use Rattle.avc_neigh.specs.declared.neighbour_info.NearMode.TheVariants.{Absent as absent}
 use Rattle.avc_neigh.proofs.modes.intra4x4_modes.Given as goal
 
 abbrev pub invariant-loop-k : goal.invariant-loop-k

@@ -1,4 +1,4 @@
-use Rattle.avc_params.proofs.PpsWithin.{pps_accepted}
+use Rattle.avc_params.proofs.ParameterSets.{pps_accepted}
 use Rattle.avc_params.proofs.laws.pps_keeps_limits.Goals as goal
 
 pub returns : goal.returns

@@ -1,4 +1,4 @@
-use Rattle.avc_params.proofs.SpsWithin.{sps_accepted}
+use Rattle.avc_params.proofs.ParameterSets.{sps_accepted}
 use Rattle.avc_params.proofs.laws.sps_keeps_limits.Goals as goal
 
 pub returns : goal.returns

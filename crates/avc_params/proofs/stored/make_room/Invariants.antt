@@ -1,4 +1,4 @@
-use Rattle.avc_params.proofs.Common.{◌≡◌, ℕ, ◌+◌, ◌-◌, vec_len, stored}
+use Rattle.avc_params.proofs.ParameterSets.{◌≡◌, ℕ, ◌+◌, ◌-◌, vec_len, stored}
 use Rattle.avc_params.proofs.stored.make_room.Given as goal
 
 abbrev pub invariant-loop-sets : goal.invariant-loop-sets

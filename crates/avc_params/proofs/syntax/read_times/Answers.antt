@@ -1,6 +1,4 @@
-use Rattle.std.proofs.lemmas.Grind.{common_steps}
-use Rattle.avc_params.proofs.Common.{rules, arith, ◌≡◌, Err, ◌∙◌, ap, times, reader_bits}
-use Rattle.avc_bits.proofs.Repeating.{times_more, times_fault}
+use Rattle.avc_params.proofs.ParameterSets.{common_steps, rules, arith, ◌≡◌, Err, ◌∙◌, ap, times, reader_bits, times_more, times_fault}
 use Rattle.avc_params.proofs.syntax.read_times.Goals as goal
 
 pub returns-in_err-read : goal.returns-in_err-read

@@ -1,4 +1,4 @@
-use Rattle.avc_params.proofs.Common.{◌≡◌, ◌≤◌, length, Ok, times, reader_bits, reader_bytes}
+use Rattle.avc_params.proofs.ParameterSets.{◌≡◌, ◌≤◌, length, Ok, times, reader_bits, reader_bytes}
 use Rattle.avc_params.proofs.syntax.read_times.Given as goal
 
 abbrev pub invariant-loop : goal.invariant-loop

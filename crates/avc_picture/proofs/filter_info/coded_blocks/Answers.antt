@@ -1,6 +1,5 @@
-use Rattle.avc_picture.proofs.Common.{not, ◌==◌, slice_index_or, ◌≡◌, ◌∙◌, ◌+◌, ◌-◌, ◌*◌, ℕ, [], Bool, ap, arith, get_or_default, bool_byte}
-use Rattle.avc_picture.proofs.Common.{total_coeff, has_bit}
-use Rattle.avc_picture.proofs.Masks.{mask_small, mask_more}
+use Rattle.avc_picture.proofs.Slices.{not, ◌==◌, slice_index_or, ◌≡◌, ◌∙◌, ◌+◌, ◌-◌, ◌*◌, ℕ, [], Bool, ap, arith, get_or_default, bool_byte}
+use Rattle.avc_picture.proofs.Slices.{total_coeff, has_bit, mask_small, mask_more}
 use Rattle.avc_picture.proofs.filter_info.coded_blocks.Goals as goal
 
 pub loop-i-preserved : goal.loop-i-preserved

@@ -1,4 +1,4 @@
-use Rattle.avc_picture.proofs.Common.{not, ◌==◌, slice_index_or, ◌≡◌, ◌<◌, ◌+◌, ◌-◌, ◌^◌, ℕ, [], total_coeff, has_bit}
+use Rattle.avc_picture.proofs.Slices.{not, ◌==◌, slice_index_or, ◌≡◌, ◌<◌, ◌+◌, ◌-◌, ◌^◌, ℕ, [], total_coeff, has_bit}
 use Rattle.avc_picture.proofs.filter_info.coded_blocks.Given as goal
 
 abbrev pub invariant-loop-i : goal.invariant-loop-i

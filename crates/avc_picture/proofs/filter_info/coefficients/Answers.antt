@@ -1,6 +1,4 @@
-use Rattle.avc_picture.proofs.Common.{◌∙◌, sym, ap, [], slice_index_or, has_coefficients}
-use Rattle.avc_types.specs.MacroblockFields.{syntax_of}
-use Rattle.avc_picture.proofs.Masks.{counted_or_not}
+use Rattle.avc_picture.proofs.Slices.{◌∙◌, sym, ap, [], slice_index_or, has_coefficients, syntax_of, counted_or_not}
 use Rattle.avc_picture.proofs.filter_info.coefficients.Goals as goal
 
 pub returns-in-PInter : goal.returns-in-PInter

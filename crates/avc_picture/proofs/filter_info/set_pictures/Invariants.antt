@@ -1,4 +1,5 @@
-use Rattle.avc_picture.proofs.Common.{slice_index, slice_index_or, ◌≡◌, ◌<◌, ◌*◌, ℕ, length, absent, number_of}
+use Rattle.avc_picture.proofs.Slices.{slice_index, slice_index_or, ◌≡◌, ◌<◌, ◌*◌, ℕ, length, number_of}
+use Rattle.avc_neigh.specs.declared.neighbour_info.Motion.TheVariants.{Absent as absent}
 use Rattle.avc_picture.proofs.filter_info.set_pictures.Given as goal
 
 abbrev pub invariant-loop-q : goal.invariant-loop-q

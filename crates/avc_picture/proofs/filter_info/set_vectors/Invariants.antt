@@ -1,4 +1,4 @@
-use Rattle.avc_picture.proofs.Common.{◌≡◌, length, take, map, vector_of}
+use Rattle.avc_picture.proofs.Slices.{◌≡◌, length, take, map, vector_of}
 use Rattle.avc_picture.proofs.filter_info.set_vectors.Given as goal
 
 abbrev pub invariant-loop-k : goal.invariant-loop-k

@@ -1,4 +1,4 @@
-use Rattle.avc_picture.proofs.Common.{◌≡◌, length, take, map, total_coeff}
+use Rattle.avc_picture.proofs.Slices.{◌≡◌, length, take, map, total_coeff}
 use Rattle.avc_picture.proofs.info_for_neighbours.set_counts.Given as goal
 
 abbrev pub invariant-loop-k : goal.invariant-loop-k

@@ -1,4 +1,4 @@
-use Rattle.avc_picture.proofs.Common.{◌≡◌, length, map, take, marked_frame}
+use Rattle.avc_picture.proofs.Slices.{◌≡◌, length, map, take, marked_frame}
 use Rattle.avc_picture.proofs.reference_places.marked_frames.Given as goal
 
 abbrev pub invariant-loop-frame : goal.invariant-loop-frame

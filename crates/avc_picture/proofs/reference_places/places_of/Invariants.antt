@@ -1,4 +1,4 @@
-use Rattle.std.proofs.Common.{◌≡◌, ℕ, ◌<◌, length, None, slice_get, slice_index_or, unwrap_or}
+use Rattle.avc_picture.proofs.Slices.{◌≡◌, ℕ, ◌<◌, length, None, slice_get, slice_index_or, unwrap_or}
 use Rattle.avc_picture.proofs.reference_places.places_of.Given as goal
 
 abbrev pub invariant-loop-r : goal.invariant-loop-r

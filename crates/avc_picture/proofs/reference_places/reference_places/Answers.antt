@@ -1,5 +1,4 @@
-use Rattle.std.proofs.Common.{Err, sym, ◌∙◌, rules}
-use Rattle.avc_picture.proofs.Placed.{no-list, p-list, p-places, places-within}
+use Rattle.avc_picture.proofs.Slices.{Err, sym, ◌∙◌, rules, no-list, p-list, p-places, places-within}
 use Rattle.avc_picture.proofs.reference_places.reference_places.Goals as goal
 
 pub returns-then-not-is_p-clause-list : goal.returns-then-not-is_p-clause-list

@@ -1,4 +1,4 @@
-use Rattle.std.proofs.Common.{◌≡◌, ℕ, ◌<◌, length, None, slice_index_or, unwrap_or}
+use Rattle.avc_picture.proofs.Slices.{◌≡◌, ℕ, ◌<◌, length, None, slice_index_or, unwrap_or}
 use Rattle.avc_picture.proofs.slice_context.numbers.Given as goal
 
 abbrev pub invariant-loop-r : goal.invariant-loop-r

@@ -1,4 +1,4 @@
-use Rattle.avc_picture.proofs.Common.{◌≡◌, length, ArePicturesAt}
+use Rattle.avc_picture.proofs.Slices.{◌≡◌, length, ArePicturesAt}
 use Rattle.avc_picture.proofs.slice_context.pictures.Given as goal
 
 abbrev pub invariant-loop-r : goal.invariant-loop-r

@@ -1,6 +1,5 @@
-use Rattle.avc_picture.proofs.Common.{◌≡◌, ◌*◌, Err, refl, ◌∙◌, arith, rules}
-use Rattle.avc_picture.proofs.DataAnswers.{ends-badly, ends-well, goes-further, less-left, same-area, usable-still}
-use Rattle.avc_picture.proofs.DataGoesOn.{at-end, at-fault, faulty, goes-on-from, is-read, room}
+use Rattle.avc_picture.proofs.Slices.{◌≡◌, ◌*◌, Err, refl, ◌∙◌, arith, rules, ends-badly, ends-well, goes-further, less-left, same-area, usable-still}
+use Rattle.avc_picture.proofs.Slices.{at-end, at-fault, faulty, goes-on-from, is-read, room}
 use Rattle.avc_picture.proofs.slice_decoding.decode_data.Goals as goal
 
 pub returns-in_err-next_macroblock-clause-answer : goal.returns-in_err-next_macroblock-clause-answer

@@ -1,4 +1,4 @@
-use Rattle.avc_picture.proofs.Common.{◌≡◌, ◌-◌, ◌*◌, ◌≤◌, SliceStart, Coded, Names, GoesOn, GoesOnFrom, HasSameSize}
+use Rattle.avc_picture.proofs.Slices.{◌≡◌, ◌-◌, ◌*◌, ◌≤◌, SliceStart, Coded, Names, GoesOn, GoesOnFrom, HasSameSize}
 use Rattle.avc_picture.proofs.slice_decoding.decode_data.Given as goal
 
 abbrev pub invariant-macroblocks : goal.invariant-macroblocks

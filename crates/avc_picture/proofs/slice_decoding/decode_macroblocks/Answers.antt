@@ -1,7 +1,5 @@
-use Rattle.avc_picture.proofs.Common.{◌≡◌, Err, refl, arith, rules}
-use Rattle.avc_picture.proofs.Contexts.{usable-pictures}
-use Rattle.avc_picture.proofs.DataAnswers.{answers-further, ends-badly, from-here, same-area, usable-still}
-use Rattle.avc_picture.proofs.DataGoesOn.{faulty, goes-on-from, is-read, room}
+use Rattle.avc_picture.proofs.Slices.{◌≡◌, Err, refl, arith, rules, usable-pictures, answers-further, ends-badly, from-here, same-area, usable-still}
+use Rattle.avc_picture.proofs.Slices.{faulty, goes-on-from, is-read, room}
 use Rattle.avc_picture.proofs.slice_decoding.decode_macroblocks.Goals as goal
 
 pub decode-requires : goal.decode-requires

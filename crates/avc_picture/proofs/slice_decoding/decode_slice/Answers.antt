@@ -1,9 +1,7 @@
-use Rattle.avc_picture.proofs.Common.{◌≡◌, ◌*◌, ◌∙◌, Ok, Err, None, length, take, refl, ap, sym, subst, arith, rules, size_in_mbs}
-use Rattle.avc_picture.proofs.Common.{width_in_mbs, slice_qp, IsHandedOut, handed_out, AreFrames, stored_at, IsContextAt, picture_start}
-use Rattle.avc_picture.proofs.Common.{IsStateOrFault, address_fault, number_after, start_of, with_slice}
-use Rattle.avc_picture.proofs.Contexts.{is-context}
-use Rattle.avc_picture.proofs.DataAnswers.{abs-within}
-use Rattle.avc_picture.proofs.SliceGoesOn.{can-have-first, fault-first, first-out, has-first, none-first, slice-decoded}
+use Rattle.avc_picture.proofs.Slices.{◌≡◌, ◌*◌, ◌∙◌, Ok, Err, None, length, take, refl, ap, sym, subst, arith, rules, size_in_mbs, width_in_mbs}
+use Rattle.avc_picture.proofs.Slices.{slice_qp, IsHandedOut, handed_out, AreFrames, stored_at, IsContextAt, picture_start, IsStateOrFault}
+use Rattle.avc_picture.proofs.Slices.{address_fault, number_after, start_of, with_slice, is-context, abs-within, can-have-first, fault-first}
+use Rattle.avc_picture.proofs.Slices.{first-out, has-first, none-first, slice-decoded}
 use Rattle.avc_picture.proofs.slice_decoding.decode_slice.Goals as goal
 
 pub returns-in_err-more-clause-state : goal.returns-in_err-more-clause-state

@@ -1,4 +1,4 @@
-use Rattle.avc_picture.proofs.Common.{sym, subst, take, Follows, IsHandedOut, handed_out}
+use Rattle.avc_picture.proofs.Slices.{sym, subst, take, Follows, IsHandedOut, handed_out}
 use Rattle.avc_picture.proofs.slice_decoding.next_macroblock.Goals as goal
 
 pub returns-then-next_skipped : goal.returns-then-next_skipped

@@ -1,5 +1,4 @@
-use Rattle.avc_picture.proofs.Common.{ap, sym, ◌∙◌, arith, start_of}
-use Rattle.avc_bits.specs.Bits.{at}
+use Rattle.avc_picture.proofs.Slices.{ap, sym, ◌∙◌, arith, start_of, at}
 use Rattle.avc_mbsyntax.specs.SliceData as mbs
 use Rattle.avc_picture.proofs.slice_decoding.slice_data.Goals as goal
 

@@ -1,5 +1,4 @@
-use Rattle.avc_picture_core.proofs.Common.{◌*◌, arith, room_lent, can_predict_chroma, predict_chroma, seen_from}
-use Rattle.avc_picture_core.proofs.Seen.{laid}
+use Rattle.avc_picture_core.proofs.InterTiles.{◌*◌, arith, room_lent, can_predict_chroma, predict_chroma, seen_from, laid}
 use Rattle.avc_picture_core.proofs.chroma.predict_component.Goals as goal
 
 pub lay_chroma-requires-clause-room : goal.lay_chroma-requires-clause-room

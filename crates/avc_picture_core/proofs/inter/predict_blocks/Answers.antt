@@ -1,5 +1,4 @@
-use Rattle.avc_picture_core.proofs.Common.{refl, arith, planes_of, wanted}
-use Rattle.avc_picture_core.proofs.Tiles.{four_parts}
+use Rattle.avc_picture_core.proofs.InterTiles.{refl, arith, planes_of, wanted, four_parts}
 use Rattle.avc_picture_core.proofs.inter.predict_blocks.Goals as goal
 
 pub returns : goal.returns

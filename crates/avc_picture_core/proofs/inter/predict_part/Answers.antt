@@ -1,5 +1,4 @@
-use Rattle.avc_picture_core.proofs.Common.{sym, ap, ◌∙◌, option_copied, planes_of, block_motion, picture_in}
-use Rattle.avc_picture_core.proofs.Predicting.{part_is}
+use Rattle.avc_picture_core.proofs.InterTiles.{sym, ap, ◌∙◌, option_copied, planes_of, block_motion, picture_in, part_is}
 use Rattle.avc_picture_core.proofs.inter.predict_part.Goals as goal
 
 pub returns-in-Inter-Some : goal.returns-in-Inter-Some

@@ -1,5 +1,4 @@
-use Rattle.avc_picture_core.proofs.Common.{sym, ◌∙◌, planes_of}
-use Rattle.avc_picture_core.proofs.Predicting.{all_predicted, pictures_shown}
+use Rattle.avc_picture_core.proofs.InterTiles.{sym, ◌∙◌, planes_of, all_predicted, pictures_shown}
 use Rattle.avc_picture_core.proofs.inter.predict_parts.Goals as goal
 
 pub returns-clause-built : goal.returns-clause-built

@@ -1,6 +1,5 @@
-use Rattle.avc_picture_core.proofs.Common.{◌≡◌, arith, refl, sym, ap, ◌∙◌, Some, is_some, option_copied, planes_of, block_motion}
-use Rattle.avc_picture_core.proofs.Common.{picture_in}
-use Rattle.avc_picture_core.proofs.Predicting.{all_as_first, all_predicted, pictures_shown, usable_in, whole_is}
+use Rattle.avc_picture_core.proofs.InterTiles.{◌≡◌, arith, refl, sym, ap, ◌∙◌, Some, is_some, option_copied, planes_of, block_motion, picture_in}
+use Rattle.avc_picture_core.proofs.InterTiles.{all_as_first, all_predicted, pictures_shown, usable_in, whole_is}
 use Rattle.avc_picture_core.proofs.inter.predict_whole.Goals as goal
 
 pub set_macroblock-requires : goal.set_macroblock-requires

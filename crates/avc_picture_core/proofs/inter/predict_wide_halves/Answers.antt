@@ -1,5 +1,4 @@
-use Rattle.avc_picture_core.proofs.Common.{arith, planes_of, wanted}
-use Rattle.avc_picture_core.proofs.Tiles.{two_below}
+use Rattle.avc_picture_core.proofs.InterTiles.{arith, planes_of, wanted, two_below}
 use Rattle.avc_picture_core.proofs.inter.predict_wide_halves.Goals as goal
 
 pub returns : goal.returns

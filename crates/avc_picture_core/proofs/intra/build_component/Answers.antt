@@ -1,5 +1,4 @@
-use Rattle.avc_picture_core.proofs.Common.{◌*◌, ap, ◌∙◌, unwrap_or, chroma_residual, intra_chroma, Plane, seen_from, with_residual}
-use Rattle.avc_picture_core.proofs.InPlace.{residual_over}
+use Rattle.avc_picture_core.proofs.InterTiles.{◌*◌, ap, ◌∙◌, unwrap_or, chroma_residual, intra_chroma, Plane, seen_from, with_residual, residual_over}
 use Rattle.avc_picture_core.proofs.intra.build_component.Goals as goal
 
 pub returns-clause-size : goal.returns-clause-size

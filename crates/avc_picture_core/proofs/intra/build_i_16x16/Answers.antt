@@ -1,7 +1,6 @@
-use Rattle.avc_picture_core.proofs.Common.{◌≡◌, ◌+◌, ◌*◌, true, false, refl, sym, subst, ◌∙◌, arith, i_16x16}
-use Rattle.avc_picture_core.proofs.Common.{planes_of, sides_of, has_sides, AreInside}
+use Rattle.avc_picture_core.proofs.InterTiles.{◌≡◌, ◌+◌, ◌*◌, true, false, refl, sym, subst, ◌∙◌, arith, i_16x16, planes_of, sides_of, has_sides}
+use Rattle.avc_picture_core.proofs.InterTiles.{AreInside, inside_luma, luma_16x16, planes_intra, refused_by}
 use Rattle.avc_types.specs.MacroblockFields.{residual_of}
-use Rattle.avc_picture_core.proofs.Ties.{inside_luma, luma_16x16, planes_intra, refused_by}
 use Rattle.avc_picture_core.proofs.intra.build_i_16x16.Goals as goal
 
 pub returns-then-not-has_sides16x16-clause-built : goal.returns-then-not-has_sides16x16-clause-built

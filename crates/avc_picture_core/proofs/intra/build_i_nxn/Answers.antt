@@ -1,9 +1,7 @@
-use Rattle.avc_picture_core.proofs.Common.{◌≡◌, ◌+◌, ◌*◌, true, false, slice_index_or, refl, ap, sym, subst, ◌∙◌, arith, [], and_parts}
-use Rattle.avc_picture_core.proofs.Common.{i_nxn, absent, planes_of, can_predict4x4, mode4x4_of, can_predict_chroma}
-use Rattle.avc_picture_core.proofs.Common.{luma_after, mode_number, sides_of, AreInside, readable_sides}
+use Rattle.avc_picture_core.proofs.InterTiles.{◌≡◌, ◌+◌, ◌*◌, true, false, slice_index_or, refl, ap, sym, subst, ◌∙◌, arith, [], and_parts, i_nxn}
+use Rattle.avc_picture_core.proofs.InterTiles.{absent, planes_of, can_predict4x4, mode4x4_of, can_predict_chroma, luma_after, mode_number, sides_of}
+use Rattle.avc_picture_core.proofs.InterTiles.{AreInside, readable_sides, each_sixteen, has_nxn, nxn_at, planes_intra, refused_by}
 use Rattle.avc_types.specs.MacroblockFields.{residual_of}
-use Rattle.avc_picture_core.proofs.Sixteens.{each_sixteen}
-use Rattle.avc_picture_core.proofs.Ties.{has_nxn, nxn_at, planes_intra, refused_by}
 use Rattle.avc_picture_core.proofs.intra.build_i_nxn.Goals as goal
 
 pub build_luma4x4-requires : goal.build_luma4x4-requires

@@ -1,6 +1,6 @@
-use Rattle.avc_picture_core.proofs.Common.{◌*◌, ap, ◌∙◌, unwrap_or, luma_residual_16x16, intra16x16, Plane, seen_from, with_residual}
+use Rattle.avc_picture_core.proofs.InterTiles.{◌*◌, ap, ◌∙◌, unwrap_or, luma_residual_16x16, intra16x16, Plane, seen_from, with_residual}
+use Rattle.avc_picture_core.proofs.InterTiles.{residual_over}
 use Rattle.avc_types.specs.MacroblockFields.{residual_of}
-use Rattle.avc_picture_core.proofs.InPlace.{residual_over}
 use Rattle.avc_picture_core.proofs.intra.build_luma16x16.Goals as goal
 
 pub returns-clause-size : goal.returns-clause-size

@@ -1,5 +1,4 @@
-use Rattle.avc_picture_core.proofs.Common.{◌*◌, arith, room_lent, can_predict16x16, predict16x16, seen_from}
-use Rattle.avc_picture_core.proofs.Seen.{laid}
+use Rattle.avc_picture_core.proofs.InterTiles.{◌*◌, arith, room_lent, can_predict16x16, predict16x16, seen_from, laid}
 use Rattle.avc_picture_core.proofs.luma16x16.predict_luma16x16.Goals as goal
 
 pub lay16x16-requires-clause-room : goal.lay16x16-requires-clause-room

@@ -1,4 +1,4 @@
-use Rattle.avc_picture_core.proofs.Common.{◌≡◌, [], ◌*◌, Place, with_blocks4x4, IsNxnAt}
+use Rattle.avc_picture_core.proofs.InterTiles.{◌≡◌, [], ◌*◌, Place, with_blocks4x4, IsNxnAt}
 use Rattle.avc_types.specs.MacroblockFields.{residual_of}
 use Rattle.avc_picture_core.proofs.luma4x4.build_luma4x4.Given as goal
 

@@ -1,6 +1,5 @@
-use Rattle.avc_picture_core.proofs.Common.{◌≡◌, slice_index_or, sym, ◌∙◌, arith, below_more, absent, can_predict4x4, mode4x4_of}
-use Rattle.avc_picture_core.proofs.Common.{mode_number, readable_sides}
-use Rattle.avc_picture_core.proofs.Sixteens.{all_sixteen, one_false}
+use Rattle.avc_picture_core.proofs.InterTiles.{◌≡◌, slice_index_or, sym, ◌∙◌, arith, below_more, absent, can_predict4x4, mode4x4_of, mode_number}
+use Rattle.avc_picture_core.proofs.InterTiles.{readable_sides, all_sixteen, one_false}
 use Rattle.avc_picture_core.proofs.luma4x4.has_sides4x4.Goals as goal
 
 pub returns-then-not-is_available : goal.returns-then-not-is_available

@@ -1,5 +1,4 @@
-use Rattle.avc_picture_core.proofs.Common.{◌≡◌, ℕ, ◌<◌, true, slice_index_or, absent, can_predict4x4, mode4x4_of, mode_number}
-use Rattle.avc_picture_core.proofs.Common.{readable_sides}
+use Rattle.avc_picture_core.proofs.InterTiles.{◌≡◌, ℕ, ◌<◌, true, slice_index_or, absent, can_predict4x4, mode4x4_of, mode_number, readable_sides}
 use Rattle.avc_picture_core.proofs.luma4x4.has_sides4x4.Given as goal
 
 abbrev pub invariant-loop-k : goal.invariant-loop-k

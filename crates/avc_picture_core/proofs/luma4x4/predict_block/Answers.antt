@@ -1,6 +1,4 @@
-use Rattle.avc_picture_core.proofs.Common.{refl, arith, room_lent, can_predict4x4, extended}
-use Rattle.avc_picture_core.proofs.Common.{predict4x4, seen_from}
-use Rattle.avc_picture_core.proofs.Seen.{laid, seen4x4}
+use Rattle.avc_picture_core.proofs.InterTiles.{refl, arith, room_lent, can_predict4x4, extended, predict4x4, seen_from, laid, seen4x4}
 use Rattle.avc_picture_core.proofs.luma4x4.predict_block.Goals as goal
 
 pub lay4x4-requires-clause-room : goal.lay4x4-requires-clause-room

@@ -1,5 +1,4 @@
-use Rattle.avc_plane.specs.Frames.{planes_of}
-use Rattle.avc_picture_core.proofs.Ties.{planes_pcm}
+use Rattle.avc_picture_core.proofs.InterTiles.{planes_of, planes_pcm}
 use Rattle.avc_picture_core.proofs.macroblock.build_i_pcm.Goals as goal
 
 pub returns-clause-built : goal.returns-clause-built

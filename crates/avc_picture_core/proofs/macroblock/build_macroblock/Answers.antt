@@ -1,5 +1,4 @@
-use Rattle.avc_picture_core.proofs.Common.{ℕ, ap, subst, sym, length, take, MbSyntax, parts_of, partitions, syntax_of, is_intra, IsAt}
-use Rattle.avc_picture_core.proofs.Common.{MayRead}
+use Rattle.avc_picture_core.proofs.InterTiles.{ℕ, ap, subst, sym, length, take, MbSyntax, parts_of, partitions, syntax_of, is_intra, IsAt, MayRead}
 use Rattle.avc_picture_core.proofs.macroblock.build_macroblock.Goals as goal
 
 pub returns-in-INxN-clause-built : goal.returns-in-INxN-clause-built

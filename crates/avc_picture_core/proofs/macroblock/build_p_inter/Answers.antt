@@ -1,6 +1,5 @@
-use Rattle.avc_picture_core.proofs.Common.{rules, ◌≡◌, [], Err, refl, p_inter, planes_of}
+use Rattle.avc_picture_core.proofs.InterTiles.{rules, ◌≡◌, [], Err, refl, p_inter, planes_of, planes_parted, refused_inter}
 use Rattle.avc_types.specs.MacroblockFields.{residual_of}
-use Rattle.avc_picture_core.proofs.Inters.{planes_parted, refused_inter}
 use Rattle.avc_picture_core.proofs.macroblock.build_p_inter.Goals as goal
 
 pub returns-in_err-predict_inter-clause-built : goal.returns-in_err-predict_inter-clause-built

@@ -1,5 +1,4 @@
-use Rattle.avc_picture_core.proofs.Common.{rules, planes_of}
-use Rattle.avc_picture_core.proofs.Inters.{planes_skip, refused_inter}
+use Rattle.avc_picture_core.proofs.InterTiles.{rules, planes_of, planes_skip, refused_inter}
 use Rattle.avc_picture_core.proofs.macroblock.build_p_skip.Goals as goal
 
 pub returns-in_err-predict_inter-clause-built : goal.returns-in_err-predict_inter-clause-built

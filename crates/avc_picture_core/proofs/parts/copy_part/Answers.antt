@@ -1,5 +1,4 @@
-use Rattle.avc_plane.specs.Frames.{planes_of}
-use Rattle.avc_picture_core.proofs.Tiles.{part_unweighted}
+use Rattle.avc_picture_core.proofs.InterTiles.{planes_of, part_unweighted}
 use Rattle.avc_picture_core.proofs.parts.copy_part.Goals as goal
 
 pub returns : goal.returns

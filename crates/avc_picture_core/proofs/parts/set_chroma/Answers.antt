@@ -1,5 +1,4 @@
-use Rattle.avc_picture_core.proofs.Common.{◌*◌, ◌∙◌, sample, inter_chroma}
-use Rattle.avc_picture_core.proofs.Laid.{laid_by, laid_weighted}
+use Rattle.avc_picture_core.proofs.InterTiles.{◌*◌, ◌∙◌, sample, inter_chroma, laid_by, laid_weighted}
 use Rattle.avc_picture_core.proofs.parts.set_chroma.Goals as goal
 
 pub returns-in-None : goal.returns-in-None

@@ -1,5 +1,4 @@
-use Rattle.avc_picture_core.proofs.Common.{◌∙◌, Some, weighted_by}
-use Rattle.avc_picture_core.proofs.Laid.{block_changed}
+use Rattle.avc_picture_core.proofs.InterTiles.{◌∙◌, Some, weighted_by, block_changed}
 use Rattle.avc_picture_core.proofs.parts.set_weighted.Goals as goal
 
 pub returns : goal.returns

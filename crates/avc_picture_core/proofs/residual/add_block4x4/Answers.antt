@@ -1,6 +1,4 @@
-use Rattle.avc_picture_core.proofs.Common.{arith, ap, ◌∙◌, matrix, residual4x4, no_residual}
-use Rattle.avc_picture_core.proofs.Coefficients.{no_level}
-use Rattle.avc_picture_core.proofs.InPlace.{no_residual_added, residual_same}
+use Rattle.avc_picture_core.proofs.InterTiles.{arith, ap, ◌∙◌, matrix, residual4x4, no_residual, no_level, no_residual_added, residual_same}
 use Rattle.avc_picture_core.proofs.residual.add_block4x4.Goals as goal
 
 pub returns-then-total_coeff-eq0 : goal.returns-then-total_coeff-eq0

@@ -1,7 +1,5 @@
-use Rattle.avc_picture_core.proofs.Common.{◌≡◌, ℤ, pos, ◌+ℤ◌, arith, ap, ◌∙◌, sym, to_z, of_z, w32, ints, to_z-of_z, ◌>>ℤ◌, matrix}
-use Rattle.avc_picture_core.proofs.Common.{residual4x4_with_dc, residual_of_dc}
-use Rattle.avc_picture_core.proofs.Coefficients.{no_level}
-use Rattle.avc_picture_core.proofs.InPlace.{no_residual_added, residual_same}
+use Rattle.avc_picture_core.proofs.InterTiles.{◌≡◌, ℤ, pos, ◌+ℤ◌, arith, ap, ◌∙◌, sym, to_z, of_z, w32, ints, to_z-of_z, ◌>>ℤ◌, matrix}
+use Rattle.avc_picture_core.proofs.InterTiles.{residual4x4_with_dc, residual_of_dc, no_level, no_residual_added, residual_same}
 use Rattle.avc_picture_core.proofs.residual.add_block4x4_with_dc.Goals as goal
 
 pub returns-then-total_coeff-ne0 : goal.returns-then-total_coeff-ne0

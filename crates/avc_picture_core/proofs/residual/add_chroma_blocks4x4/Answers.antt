@@ -1,7 +1,6 @@
-use Rattle.avc_picture_core.proofs.Common.{get_or_default, ints, to_z, of_z, w32, ◌≡◌, ◌*◌, ◌/◌, ◌%◌, pos, [], ap, ◌∙◌, refl, slice_index_or}
-use Rattle.avc_picture_core.proofs.Common.{arith, residual4x4_with_dc, chroma_dc}
-use Rattle.avc_picture_core.proofs.Adding.{chroma_number, chroma_tile, residual_by_dc}
-use Rattle.avc_picture_core.proofs.InPlace.{added_all, added_more, added_none}
+use Rattle.avc_picture_core.proofs.InterTiles.{get_or_default, ints, to_z, of_z, w32, ◌≡◌, ◌*◌, ◌/◌, ◌%◌, pos, [], ap, ◌∙◌, refl, slice_index_or}
+use Rattle.avc_picture_core.proofs.InterTiles.{arith, residual4x4_with_dc, chroma_dc, chroma_number, chroma_tile, residual_by_dc, added_all}
+use Rattle.avc_picture_core.proofs.InterTiles.{added_more, added_none}
 use Rattle.avc_picture_core.proofs.residual.add_chroma_blocks4x4.Goals as goal
 
 pub loop-k-init : goal.loop-k-init

@@ -1,6 +1,4 @@
-use Rattle.avc_picture_core.proofs.Common.{chroma_dc}
-use Rattle.avc_picture_core.proofs.Adding.{chroma_number, residual_by_dc}
-use Rattle.avc_picture_core.proofs.InPlace.{AddedBefore}
+use Rattle.avc_picture_core.proofs.InterTiles.{chroma_dc, chroma_number, residual_by_dc, AddedBefore}
 use Rattle.avc_picture_core.proofs.residual.add_chroma_blocks4x4.Given as goal
 
 abbrev pub invariant-loop-k : goal.invariant-loop-k

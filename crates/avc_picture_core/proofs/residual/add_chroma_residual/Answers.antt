@@ -1,6 +1,4 @@
-use Rattle.avc_picture_core.proofs.Common.{◌*◌, chroma_residual}
-use Rattle.avc_picture_core.proofs.Coefficients.{no_chroma}
-use Rattle.avc_picture_core.proofs.InPlace.{no_residual_added}
+use Rattle.avc_picture_core.proofs.InterTiles.{◌*◌, chroma_residual, no_chroma, no_residual_added}
 use Rattle.avc_picture_core.proofs.residual.add_chroma_residual.Goals as goal
 
 pub returns-else-has_chroma_levels : goal.returns-else-has_chroma_levels

@@ -1,4 +1,4 @@
-use Rattle.avc_picture_core.proofs.Common.{◌≡◌, ℕ, ◌<◌, ◌≤◌, length, slice_index, sum_of}
+use Rattle.avc_picture_core.proofs.InterTiles.{◌≡◌, ℕ, ◌<◌, ◌≤◌, length, slice_index, sum_of}
 use Rattle.avc_picture_core.proofs.residual.add_level4x4.Given as goal
 
 abbrev pub invariant-loop-i : goal.invariant-loop-i

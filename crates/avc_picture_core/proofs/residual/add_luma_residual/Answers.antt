@@ -1,6 +1,5 @@
-use Rattle.avc_picture_core.proofs.Common.{get_or_default, rules, ◌≡◌, [], ap, sym, slice_index_or, arith, block_at, residual4x4}
-use Rattle.avc_picture_core.proofs.Adding.{luma_tile, residual_by_levels}
-use Rattle.avc_picture_core.proofs.InPlace.{added_all, added_more, added_none}
+use Rattle.avc_picture_core.proofs.InterTiles.{get_or_default, rules, ◌≡◌, [], ap, sym, slice_index_or, arith, block_at, residual4x4, luma_tile}
+use Rattle.avc_picture_core.proofs.InterTiles.{residual_by_levels, added_all, added_more, added_none}
 use Rattle.avc_picture_core.proofs.residual.add_luma_residual.Goals as goal
 
 pub loop-k-init : goal.loop-k-init

@@ -1,6 +1,4 @@
-use Rattle.avc_picture_core.proofs.Common.{block_at}
-use Rattle.avc_picture_core.proofs.Adding.{residual_by_levels}
-use Rattle.avc_picture_core.proofs.InPlace.{AddedBefore}
+use Rattle.avc_picture_core.proofs.InterTiles.{block_at, residual_by_levels, AddedBefore}
 use Rattle.avc_picture_core.proofs.residual.add_luma_residual.Given as goal
 
 abbrev pub invariant-loop-k : goal.invariant-loop-k

@@ -1,7 +1,6 @@
-use Rattle.avc_picture_core.proofs.Common.{get_or_default, ints, to_z, of_z, w32, rules, ◌≡◌, ◌+◌, ◌/◌, pos, [], ap, ◌∙◌, refl, slice_index_or}
-use Rattle.avc_picture_core.proofs.Common.{arith, block_at, residual4x4_with_dc, luma_dc}
-use Rattle.avc_picture_core.proofs.Adding.{luma_tile, residual_by_dc}
-use Rattle.avc_picture_core.proofs.InPlace.{added_all, added_more, added_none}
+use Rattle.avc_picture_core.proofs.InterTiles.{get_or_default, ints, to_z, of_z, w32, rules, ◌≡◌, ◌+◌, ◌/◌, pos, [], ap, ◌∙◌, refl, slice_index_or}
+use Rattle.avc_picture_core.proofs.InterTiles.{arith, block_at, residual4x4_with_dc, luma_dc, luma_tile, residual_by_dc, added_all, added_more}
+use Rattle.avc_picture_core.proofs.InterTiles.{added_none}
 use Rattle.avc_picture_core.proofs.residual.add_luma_residual_16x16.Goals as goal
 
 pub loop-k-init : goal.loop-k-init

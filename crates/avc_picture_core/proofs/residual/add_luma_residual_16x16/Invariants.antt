@@ -1,6 +1,4 @@
-use Rattle.avc_picture_core.proofs.Common.{block_at, luma_dc}
-use Rattle.avc_picture_core.proofs.Adding.{residual_by_dc}
-use Rattle.avc_picture_core.proofs.InPlace.{AddedBefore}
+use Rattle.avc_picture_core.proofs.InterTiles.{block_at, luma_dc, residual_by_dc, AddedBefore}
 use Rattle.avc_picture_core.proofs.residual.add_luma_residual_16x16.Given as goal
 
 abbrev pub invariant-loop-k : goal.invariant-loop-k

@@ -1,4 +1,4 @@
-use Rattle.avc_picture_core.proofs.Common.{ℕ, ◌<◌, IsQuarterShape, Whole}
+use Rattle.avc_picture_core.proofs.InterTiles.{ℕ, ◌<◌, IsQuarterShape, Whole}
 use Rattle.avc_picture_core.proofs.shape.are_quarters_whole.Given as goal
 
 abbrev pub invariant-loop-quarter : goal.invariant-loop-quarter

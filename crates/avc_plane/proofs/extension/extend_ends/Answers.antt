@@ -1,6 +1,5 @@
-use Rattle.avc_plane.proofs.Common.{◌≡◌, ℕ, ◌+◌, ◌-◌, ◌*◌, ◌<◌, slice_index, arith, ap, ◌∙◌, inl, inr, row_fits, mul-le, cases_lt}
-use Rattle.avc_plane.proofs.Common.{below_more}
-use Rattle.avc_plane.proofs.Nearest.{nearest_before, nearest_inside, nearest_after}
+use Rattle.avc_plane.proofs.PlaneMaps.{◌≡◌, ℕ, ◌+◌, ◌-◌, ◌*◌, ◌<◌, slice_index, arith, ap, ◌∙◌, inl, inr, row_fits, mul-le, cases_lt, below_more}
+use Rattle.avc_plane.proofs.PlaneMaps.{nearest_before, nearest_inside, nearest_after}
 use Rattle.avc_plane.proofs.extension.extend_ends.Goals as goal
 
 pub loop-y-preserved : goal.loop-y-preserved

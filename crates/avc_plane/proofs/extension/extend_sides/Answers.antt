@@ -1,4 +1,4 @@
-use Rattle.avc_plane.proofs.Common.{◌≡◌, ℕ, ◌+◌, ◌*◌, slice_index, arith, ◌∙◌, row_fits, below_more, nearest}
+use Rattle.avc_plane.proofs.PlaneMaps.{◌≡◌, ℕ, ◌+◌, ◌*◌, slice_index, arith, ◌∙◌, row_fits, below_more, nearest}
 use Rattle.avc_plane.proofs.extension.extend_sides.Goals as goal
 
 pub loop-y-preserved : goal.loop-y-preserved

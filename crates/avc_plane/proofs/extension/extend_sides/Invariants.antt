@@ -1,4 +1,4 @@
-use Rattle.avc_plane.proofs.Common.{◌≡◌, ℕ, ◌+◌, ◌*◌, ◌<◌, ◌≤◌, slice_index, nearest}
+use Rattle.avc_plane.proofs.PlaneMaps.{◌≡◌, ℕ, ◌+◌, ◌*◌, ◌<◌, ◌≤◌, slice_index, nearest}
 use Rattle.avc_plane.proofs.extension.extend_sides.Given as goal
 
 abbrev pub invariant-loop-y : goal.invariant-loop-y

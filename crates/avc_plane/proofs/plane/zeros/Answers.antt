@@ -1,5 +1,5 @@
-use Rattle.std.proofs.Common.{ℕ, ◌≡◌, ◌+◌, ◌-◌, ◌*◌, ◌≤◌, ◌++◌, ◌∙◌, List, replicate, take, length, arith, ap}
-use Rattle.std.proofs.lemmas.List.{take_all, length-replicate, replicate-append-replicate}
+use Rattle.avc_plane.proofs.PlaneMaps.{ℕ, ◌≡◌, ◌+◌, ◌-◌, ◌*◌, ◌≤◌, ◌++◌, ◌∙◌, List, replicate, take, length, arith, ap, take_all, length-replicate}
+use Rattle.avc_plane.proofs.PlaneMaps.{replicate-append-replicate}
 use Rattle.avc_plane.proofs.plane.zeros.Goals as goal
 
 -- zeros that are made longer

@@ -1,4 +1,4 @@
-use Rattle.std.proofs.Common.{◌≡◌, ◌*◌, replicate}
+use Rattle.avc_plane.proofs.PlaneMaps.{◌≡◌, ◌*◌, replicate}
 use Rattle.avc_plane.proofs.plane.zeros.Given as goal
 
 abbrev pub invariant-loop-piece : goal.invariant-loop-piece

@@ -1,5 +1,4 @@
-use Rattle.avc_poc.proofs.Common.{ap, ◌∙◌, counts_by, in_range, number_in_range, count_pair, counts_of, pair}
-use Rattle.avc_poc.proofs.Answered.{ok_is}
+use Rattle.avc_poc.proofs.OrderCounts.{ap, ◌∙◌, counts_by, in_range, number_in_range, count_pair, counts_of, pair, ok_is}
 use Rattle.avc_poc.proofs.counting.counts_from.Goals as goal
 
 pub returns : goal.returns

@@ -1,5 +1,4 @@
-use Rattle.avc_poc.proofs.Common.{arith, ints}
-use Rattle.avc_poc.proofs.Sums.{times_near, product_told}
+use Rattle.avc_poc.proofs.OrderCounts.{arith, ints, times_near, product_told}
 use Rattle.avc_poc.proofs.cycle.cycles.Goals as goal
 
 pub returns-clause-value : goal.returns-clause-value

@@ -1,6 +1,5 @@
-use Rattle.avc_poc.proofs.Common.{◌≡◌, ◌+◌, ◌-◌, ◌<◌, ◌==◌, false, ◌/◌, ◌%◌, ◌+ℤ◌, ◌*ℤ◌, ℤ, pos, length, take, ap, ◌∙◌, sym, arith, to_z}
-use Rattle.avc_poc.proofs.Common.{of_z, w64, w128, ints, nat_tests, sum_ℤ}
-use Rattle.avc_poc.proofs.Sums.{sum_whole, expected_is}
+use Rattle.avc_poc.proofs.OrderCounts.{◌≡◌, ◌+◌, ◌-◌, ◌<◌, ◌==◌, false, ◌/◌, ◌%◌, ◌+ℤ◌, ◌*ℤ◌, ℤ, pos, length, take, ap, ◌∙◌, sym, arith, to_z, of_z}
+use Rattle.avc_poc.proofs.OrderCounts.{w64, w128, ints, nat_tests, sum_ℤ, sum_whole, expected_is}
 use Rattle.avc_poc.proofs.cycle.expected_order_count.Goals as goal
 
 pub returns-clause-value : goal.returns-clause-value

@@ -1,5 +1,4 @@
-use Rattle.avc_poc.proofs.Common.{◌≡◌, ◌+◌, pos, ◌+ℤ◌, ◌∙◌, get_or, drop, arith, rules, w32, SFits, ints, to_z-of_z, sum_ℤ}
-use Rattle.avc_poc.proofs.Sums.{sum_more}
+use Rattle.avc_poc.proofs.OrderCounts.{◌≡◌, ◌+◌, pos, ◌+ℤ◌, ◌∙◌, get_or, drop, arith, rules, w32, SFits, ints, to_z-of_z, sum_ℤ, sum_more}
 use Rattle.avc_poc.proofs.cycle.sum.Goals as goal
 
 pub loop-offset-preserved : goal.loop-offset-preserved

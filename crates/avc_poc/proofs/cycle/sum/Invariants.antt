@@ -1,4 +1,4 @@
-use Rattle.avc_poc.proofs.Common.{◌≡◌, ◌*◌, ◌^◌, pos, ◌+ℤ◌, ◌≤ℤ◌, neg_ℤ, drop, sum_ℤ}
+use Rattle.avc_poc.proofs.OrderCounts.{◌≡◌, ◌*◌, ◌^◌, pos, ◌+ℤ◌, ◌≤ℤ◌, neg_ℤ, drop, sum_ℤ}
 use Rattle.avc_poc.proofs.cycle.sum.Given as goal
 
 abbrev pub invariant-loop-offset : goal.invariant-loop-offset

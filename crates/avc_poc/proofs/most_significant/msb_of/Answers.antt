@@ -1,5 +1,4 @@
-use Rattle.avc_poc.proofs.Common.{◌∙◌, sym, arith, ints}
-use Rattle.avc_poc.proofs.Choices.{msb_up, msb_below, msb_down, msb_above}
+use Rattle.avc_poc.proofs.OrderCounts.{◌∙◌, sym, arith, ints, msb_up, msb_below, msb_down, msb_above}
 use Rattle.avc_poc.proofs.most_significant.msb_of.Goals as goal
 
 pub returns-then-max-previous-clause-value : goal.returns-then-max-previous-clause-value

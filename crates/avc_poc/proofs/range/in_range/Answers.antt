@@ -1,6 +1,5 @@
-use Rattle.avc_poc.proofs.Common.{◌≡◌, true, ap, ◌∙◌, sym, Ok, Err, if◌then◌else◌, rules, w32, SFits, to_z-of_z, PocRange, has_operation_5}
-use Rattle.avc_poc.proofs.Common.{both_in_32_bits, lowered_by_operation_5, counts_of, pair}
-use Rattle.avc_poc.proofs.Answered.{both_are, ok_is, in_range_lowered}
+use Rattle.avc_poc.proofs.OrderCounts.{◌≡◌, true, ap, ◌∙◌, sym, Ok, Err, if◌then◌else◌, rules, w32, SFits, to_z-of_z, PocRange, has_operation_5}
+use Rattle.avc_poc.proofs.OrderCounts.{both_in_32_bits, lowered_by_operation_5, counts_of, pair, both_are, ok_is, in_range_lowered}
 use Rattle.avc_poc.proofs.range.in_range.Goals as goal
 
 pub returns-then-has_operation_5 : goal.returns-then-has_operation_5

@@ -1,5 +1,4 @@
-use Rattle.avc_poc.proofs.Common.{arith, ints, clamps}
-use Rattle.avc_poc.proofs.Answered.{both_are}
+use Rattle.avc_poc.proofs.OrderCounts.{arith, ints, clamps, both_are}
 use Rattle.avc_poc.proofs.range.lowered_by_operation_5.Goals as goal
 
 pub returns : goal.returns

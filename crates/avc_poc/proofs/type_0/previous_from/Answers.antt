@@ -1,6 +1,5 @@
-use Rattle.avc_poc.proofs.Common.{◌≡◌, pos, ℤ, true, ap, ◌∙◌, sym, subst, has_operation_5, delta_bottom, counts_0, IsNear}
-use Rattle.avc_poc.proofs.Choices.{msb_told, lowered_told, previous_cast}
-use Rattle.avc_poc.proofs.Answered.{msb_kept}
+use Rattle.avc_poc.proofs.OrderCounts.{◌≡◌, pos, ℤ, true, ap, ◌∙◌, sym, subst, has_operation_5, delta_bottom, counts_0, IsNear, msb_told}
+use Rattle.avc_poc.proofs.OrderCounts.{lowered_told, previous_cast, msb_kept}
 use Rattle.avc_poc.proofs.type_0.previous_from.Goals as goal
 
 pub returns-then-has_operation_5-clause-value : goal.returns-then-has_operation_5-clause-value

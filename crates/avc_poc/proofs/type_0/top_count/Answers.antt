@@ -1,5 +1,4 @@
-use Rattle.avc_poc.proofs.Common.{◌≡◌, ◌+ℤ◌, ℤ, ap, ◌∙◌, arith, to_z, of_z, w64, ints, lsb_of, max_lsb, msb_of}
-use Rattle.avc_poc.proofs.Choices.{msb_told}
+use Rattle.avc_poc.proofs.OrderCounts.{◌≡◌, ◌+ℤ◌, ℤ, ap, ◌∙◌, arith, to_z, of_z, w64, ints, lsb_of, max_lsb, msb_of, msb_told}
 use Rattle.avc_poc.proofs.type_0.top_count.Goals as goal
 
 pub returns-clause-value : goal.returns-clause-value

@@ -1,6 +1,5 @@
-use Rattle.avc_reflist.proofs.Common.{ℕ, ◌<◌, ◌++◌, length, map, take, ap, sym, ◌∙◌, All, filter, is_not_in_list, reference_at}
-use Rattle.avc_reflist.proofs.Common.{references_at, modification_frames, initial_list}
-use Rattle.avc_reflist.proofs.Naming.{list_of_places, entries-within, places-within}
+use Rattle.avc_reflist.proofs.ReferenceLists.{ℕ, ◌<◌, ◌++◌, length, map, take, ap, sym, ◌∙◌, All, filter, is_not_in_list, reference_at, references_at}
+use Rattle.avc_reflist.proofs.ReferenceLists.{modification_frames, initial_list, list_of_places, entries-within, places-within}
 use Rattle.avc_reflist.proofs.modification.reference_list.Goals as goal
 
 pub returns-clause-within : goal.returns-clause-within

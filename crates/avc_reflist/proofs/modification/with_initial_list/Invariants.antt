@@ -1,4 +1,4 @@
-use Rattle.avc_reflist.proofs.Common.{◌≡◌, ◌≤◌, ◌++◌, length, take, filter, is_not_in_list}
+use Rattle.avc_reflist.proofs.ReferenceLists.{◌≡◌, ◌≤◌, ◌++◌, length, take, filter, is_not_in_list}
 use Rattle.avc_reflist.proofs.modification.with_initial_list.Given as goal
 
 abbrev pub invariant-loop-place : goal.invariant-loop-place

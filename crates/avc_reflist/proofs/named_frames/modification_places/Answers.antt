@@ -1,6 +1,5 @@
-use Rattle.avc_reflist.proofs.Common.{◌<◌, ◌++◌, ◌∷◌, [], length, map, ap, ◌∙◌, arith, All-take, All-push, reference_at, references_at}
-use Rattle.std.proofs.lemmas.List.{length-take}
-use Rattle.avc_reflist.proofs.Naming.{names-step, map-cut}
+use Rattle.avc_reflist.proofs.ReferenceLists.{◌<◌, ◌++◌, ◌∷◌, [], length, map, ap, ◌∙◌, arith, All-take, All-push, reference_at, references_at}
+use Rattle.avc_reflist.proofs.ReferenceLists.{length-take, names-step, map-cut}
 use Rattle.avc_reflist.proofs.named_frames.modification_places.Goals as goal
 
 pub loop-modification-preserved : goal.loop-modification-preserved

@@ -1,5 +1,5 @@
-use Rattle.avc_reflist.proofs.Common.{◌≡◌, ℕ, ◌<◌, ◌≤◌, ◌++◌, List, length, map, take, drop, All, StandAt, references_at, reference_at}
-use Rattle.avc_reflist.proofs.Common.{result_map, modification_frames}
+use Rattle.avc_reflist.proofs.ReferenceLists.{◌≡◌, ℕ, ◌<◌, ◌≤◌, ◌++◌, List, length, map, take, drop, All, StandAt, references_at, reference_at}
+use Rattle.avc_reflist.proofs.ReferenceLists.{result_map, modification_frames}
 use Rattle.avc_reflist.proofs.named_frames.modification_places.Given as goal
 
 abbrev pub invariant-loop-modification : goal.invariant-loop-modification

@@ -1,4 +1,4 @@
-use Rattle.avc_run.proofs.OnePiece.{cuts, no_piece_begun}
+use Rattle.avc_run.proofs.Running.{cuts, no_piece_begun}
 use Rattle.avc_run.proofs.cutting.run_cut.Goals as goal
 
 pub returns : goal.returns

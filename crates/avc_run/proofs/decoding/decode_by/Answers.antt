@@ -1,5 +1,5 @@
-use Rattle.avc_run.proofs.Common.{◌≡◌, Err, arith, rules, EventsOnlyGrow}
-use Rattle.avc_run.proofs.Running.{broken_at_end, broken_in, broken_in_front, decodes_err, ended, endless, enough, err_is, front_taken, new_is_drained, one_piece, one_read, unread_on}
+use Rattle.avc_run.proofs.Running.{◌≡◌, Err, arith, rules, EventsOnlyGrow, broken_at_end, broken_in, broken_in_front, decodes_err, ended, endless}
+use Rattle.avc_run.proofs.Running.{enough, err_is, front_taken, new_is_drained, one_piece, one_read, unread_on}
 use Rattle.avc_run.proofs.decoding.decode_by.Goals as goal
 
 pub returns-in_err-len : goal.returns-in_err-len

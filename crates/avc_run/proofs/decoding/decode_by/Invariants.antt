@@ -1,5 +1,4 @@
-use Rattle.std.specs.Io.KnownBytes.{prepend_known}
-use Rattle.avc_run.proofs.Running.{IsReading}
+use Rattle.avc_run.proofs.Running.{prepend_known, IsReading}
 use Rattle.avc_run.proofs.decoding.decode_by.Given as goal
 
 abbrev pub invariant-pieces : goal.invariant-pieces

@@ -1,5 +1,5 @@
-use Rattle.avc_run.proofs.Common.{◌≡◌, Err, rules, sym, ap, ◌∙◌, after_take, events_left, BreaksOff}
-use Rattle.avc_run.proofs.Draining.{by_fault, by_memory, handled, is_none, one_more, smaller, stopped, stopped_in}
+use Rattle.avc_run.proofs.Running.{◌≡◌, Err, rules, sym, ap, ◌∙◌, after_take, events_left, BreaksOff, by_fault, by_memory, handled, is_none, one_more}
+use Rattle.avc_run.proofs.Running.{smaller, stopped, stopped_in}
 use Rattle.avc_run.proofs.decoding.drain.Goals as goal
 
 pub returns-in_err-event-clause-err : goal.returns-in_err-event-clause-err

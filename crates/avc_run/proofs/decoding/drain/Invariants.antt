@@ -1,4 +1,4 @@
-use Rattle.avc_run.specs.Draining.{count_left, IsDraining}
+use Rattle.avc_run.proofs.Running.{count_left, IsDraining}
 use Rattle.avc_run.proofs.decoding.drain.Given as goal
 
 abbrev pub invariant-events : goal.invariant-events

@@ -1,5 +1,4 @@
-use Rattle.avc_run.proofs.Draining.{by_fault, picture_broken}
-use Rattle.avc_run.proofs.Running.{err_is}
+use Rattle.avc_run.proofs.Running.{by_fault, picture_broken, err_is}
 use Rattle.avc_run.proofs.decoding.handle.Goals as goal
 
 pub returns-in_err-write-in-Picture-clause-err : goal.returns-in_err-write-in-Picture-clause-err

@@ -1,4 +1,4 @@
-use Rattle.avc_run.proofs.Plain.{plainly}
+use Rattle.avc_run.proofs.Running.{plainly}
 use Rattle.avc_run.proofs.decoding.run_plain.Goals as goal
 
 pub returns : goal.returns

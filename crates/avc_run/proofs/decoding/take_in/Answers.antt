@@ -1,7 +1,4 @@
-use Rattle.avc_run.proofs.Common.{arith, refl, rules, EventsOnlyGrow}
-use Rattle.avc_run.proofs.Draining.{by_fault}
-use Rattle.avc_run.proofs.Running.{err_is}
-use Rattle.avc_run.proofs.Feeding.{all_fed, none_fed, one_part, part_broken}
+use Rattle.avc_run.proofs.Running.{arith, refl, rules, EventsOnlyGrow, by_fault, err_is, all_fed, none_fed, one_part, part_broken}
 use Rattle.avc_run.proofs.decoding.take_in.Goals as goal
 
 pub parts-init : goal.parts-init

@@ -1,4 +1,4 @@
-use Rattle.avc_run.proofs.Common.{◌≤◌, ◌-◌, length, take, after_feed, IsHandled}
+use Rattle.avc_run.proofs.Running.{◌≤◌, ◌-◌, length, take, after_feed, IsHandled}
 use Rattle.avc_run.proofs.decoding.take_in.Given as goal
 
 abbrev pub invariant-parts : goal.invariant-parts

@@ -1,4 +1,4 @@
-use Rattle.avc_run.proofs.StreamWriting.{listed}
+use Rattle.avc_run.proofs.Running.{listed}
 use Rattle.avc_run.proofs.listing.run_headers.Goals as goal
 
 pub returns : goal.returns

@@ -1,6 +1,4 @@
-use Rattle.avc_run.proofs.Common.{◌++◌, ◌∙◌, ap, sym, string_bytes, codes}
-use Rattle.std.specs.Fmt.{decimal}
-use Rattle.avc_run.proofs.Lines.{line_is}
+use Rattle.avc_run.proofs.Running.{◌++◌, ◌∙◌, ap, sym, string_bytes, codes, decimal, line_is}
 use Rattle.avc_run.proofs.messages.add_line.Goals as goal
 
 pub returns : goal.returns

@@ -1,6 +1,4 @@
-use Rattle.avc_types.specs.declared.fault.Fault.TheVariants.{Truncated}
-use Rattle.avc_run.specs.Messages.{refusal_line}
-use Rattle.avc_run.proofs.Lines.{told_next}
+use Rattle.avc_run.proofs.Running.{Truncated, refusal_line, told_next}
 use Rattle.avc_run.proofs.messages.refusal_lines.Goals as goal
 
 pub loop-unit-preserved : goal.loop-unit-preserved

@@ -1,4 +1,4 @@
-use Rattle.avc_run.proofs.Common.{◌≡◌, string_bytes, take, flat_map, refusal_line}
+use Rattle.avc_run.proofs.Running.{◌≡◌, string_bytes, take, flat_map, refusal_line}
 use Rattle.avc_run.proofs.messages.refusal_lines.Given as goal
 
 abbrev pub invariant-loop-unit : goal.invariant-loop-unit

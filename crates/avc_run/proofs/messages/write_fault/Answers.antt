@@ -1,5 +1,5 @@
-use Rattle.avc_run.proofs.Common.{◌∷◌, [], ◌++◌, refl, rules, Appends-trans, Appends, fault_text, file_of, name_text}
-use Rattle.avc_run.proofs.FaultLines.{on_err, stopped_after, stopped_before, stopped_last}
+use Rattle.avc_run.proofs.Running.{◌∷◌, [], ◌++◌, refl, rules, Appends-trans, Appends, fault_text, file_of, name_text, on_err, stopped_after}
+use Rattle.avc_run.proofs.Running.{stopped_before, stopped_last}
 use Rattle.avc_run.proofs.messages.write_fault.Goals as goal
 
 pub returns-in_err-write_name-clause-err : goal.returns-in_err-write_name-clause-err

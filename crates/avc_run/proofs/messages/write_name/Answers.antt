@@ -1,5 +1,4 @@
-use Rattle.avc_run.proofs.Common.{codes, ap, name_text}
-use Rattle.avc_run.proofs.FaultLines.{stopped_last}
+use Rattle.avc_run.proofs.Running.{codes, ap, name_text, stopped_last}
 use Rattle.avc_run.proofs.messages.write_name.Goals as goal
 
 pub returns-in_ok-write_text-in-Some-clause-err : goal.returns-in_ok-write_text-in-Some-clause-err

@@ -1,5 +1,4 @@
-use Rattle.std.proofs.Common.{sym, subst, arith}
-use Rattle.memchr.specs.Find.{OccursAt}
+use Rattle.avc_run.proofs.Running.{sym, subst, arith, OccursAt}
 use Rattle.avc_run.proofs.parts.part_length.Goals as goal
 
 pub returns-in-Some-clause-alone : goal.returns-in-Some-clause-alone

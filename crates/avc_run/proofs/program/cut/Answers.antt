@@ -1,7 +1,4 @@
-use Rattle.avc_run.proofs.Common.{◌≡◌, Err, ap, subst, ◌∙◌, Tells, fault_line, Memory}
-use Rattle.avc_run.specs.Status.{fault_status}
-use Rattle.avc_run.proofs.Telling.{told_after}
-use Rattle.avc_run.proofs.Untold.{untold_piece}
+use Rattle.avc_run.proofs.Running.{◌≡◌, Err, ap, subst, ◌∙◌, Tells, fault_line, Memory, fault_status, told_after, untold_piece}
 use Rattle.avc_run.proofs.program.cut.Goals as goal
 
 pub returns-in-Err-write_no_piece : goal.returns-in-Err-write_no_piece

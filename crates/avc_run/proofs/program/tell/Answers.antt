@@ -1,5 +1,4 @@
-use Rattle.std.proofs.Common.{Err}
-use Rattle.avc_run.proofs.Telling.{as_memory, told_after}
+use Rattle.avc_run.proofs.Running.{Err, as_memory, told_after}
 use Rattle.avc_run.proofs.program.tell.Goals as goal
 
 pub returns-in-Err : goal.returns-in-Err

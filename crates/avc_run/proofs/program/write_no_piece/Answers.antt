@@ -1,4 +1,4 @@
-use Rattle.avc_run.proofs.Common.{ap, sym, ◌∙◌, subst, Tells, cut_text}
+use Rattle.avc_run.proofs.Running.{ap, sym, ◌∙◌, subst, Tells, cut_text}
 use Rattle.avc_run.proofs.program.write_no_piece.Goals as goal
 
 pub returns-clause-ok : goal.returns-clause-ok

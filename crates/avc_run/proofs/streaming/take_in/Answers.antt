@@ -1,5 +1,4 @@
-use Rattle.avc_run.proofs.Draining.{by_memory}
-use Rattle.avc_run.proofs.StreamWriting.{no_memory_in}
+use Rattle.avc_run.proofs.Running.{by_memory, no_memory_in}
 use Rattle.avc_run.proofs.streaming.take_in.Goals as goal
 
 pub returns-in_err-added-clause-err : goal.returns-in_err-added-clause-err

@@ -1,4 +1,4 @@
-use Rattle.avc_run.proofs.Common.{◌≡◌, length, IsWriting}
+use Rattle.avc_run.proofs.Running.{◌≡◌, length, IsWriting}
 use Rattle.avc_run.proofs.streaming.write_stream.Given as goal
 
 abbrev pub invariant-pieces : goal.invariant-pieces

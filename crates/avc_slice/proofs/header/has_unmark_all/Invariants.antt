@@ -1,5 +1,4 @@
-use Rattle.avc_slice.proofs.Common.{◌≡◌, drop, is_unmark_all}
-use Rattle.std.specs.List.{list_any}
+use Rattle.avc_slice.proofs.ReadUnder.{◌≡◌, drop, is_unmark_all, list_any}
 use Rattle.avc_slice.proofs.header.has_unmark_all.Given as goal
 
 abbrev pub invariant-loop-operation : goal.invariant-loop-operation

@@ -1,6 +1,5 @@
-use Rattle.std.proofs.lemmas.Grind.{common_steps}
-use Rattle.std.proofs.Common.{rules, arith, refl, ◌≡◌, ◌-◌, ◌+◌, suc, ◌∙◌}
-use Rattle.avc_slice.proofs.UpTo.{starts, one_more, stops, ends, overflows, no_code, no_item, same_left}
+use Rattle.avc_slice.proofs.ReadUnder.{common_steps, rules, arith, refl, ◌≡◌, ◌-◌, ◌+◌, suc, ◌∙◌, starts, one_more, stops, ends, overflows, no_code}
+use Rattle.avc_slice.proofs.ReadUnder.{no_item, same_left}
 use Rattle.avc_slice.proofs.list.read_up_to.Goals as goal
 
 pub loop-init : goal.loop-init

@@ -1,7 +1,4 @@
-use Rattle.avc_slice.proofs.Common.{◌≡◌, ◌≤◌, ◌-◌, length, ue_to}
-use Rattle.avc_bits.specs.Reader.{reader_bits, reader_bytes}
-use Rattle.avc_slice.specs.Reading.{up_to}
-use Rattle.avc_slice.proofs.UpTo.{IsUnderWay}
+use Rattle.avc_slice.proofs.ReadUnder.{◌≡◌, ◌≤◌, ◌-◌, length, ue_to, reader_bits, reader_bytes, up_to, IsUnderWay}
 use Rattle.avc_slice.proofs.list.read_up_to.Given as goal
 
 abbrev pub invariant-loop : goal.invariant-loop

@@ -1,5 +1,4 @@
-use Rattle.avc_params.specs.Tables.{sets_after}
-use Rattle.avc_slice.proofs.ReadUnder.{filled-idr, filled-kept}
+use Rattle.avc_slice.proofs.ReadUnder.{sets_after, filled-idr, filled-kept}
 use Rattle.avc_slice.proofs.reading.put_header.Goals as goal
 
 pub returns-clause-kept : goal.returns-clause-kept

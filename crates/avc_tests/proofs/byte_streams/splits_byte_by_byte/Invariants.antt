@@ -1,4 +1,4 @@
-use Rattle.avc_annexb.specs.SplitterState.{units_waiting}
+use Rattle.avc_tests.proofs.Following.{units_waiting}
 use Rattle.avc_tests.proofs.byte_streams.splits_byte_by_byte.Given as goal
 
 abbrev pub decreases-loop-unit : goal.decreases-loop-unit

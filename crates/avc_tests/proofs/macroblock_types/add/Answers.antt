@@ -1,6 +1,4 @@
-use Rattle.avc_tests.proofs.Common.{subst, sym, Mb, FollowOn}
-use Rattle.avc_types.specs.MacroblockFields.{syntax_of}
-use Rattle.avc_tests.proofs.Following.{follow_more}
+use Rattle.avc_tests.proofs.Following.{subst, sym, Mb, FollowOn, syntax_of, follow_more}
 use Rattle.avc_tests.proofs.macroblock_types.add.Goals as goal
 
 pub returns-clause-goes_on : goal.returns-clause-goes_on

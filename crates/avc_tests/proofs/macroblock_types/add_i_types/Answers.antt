@@ -1,4 +1,4 @@
-use Rattle.std.proofs.Common.{arith}
+use Rattle.avc_tests.proofs.Following.{arith}
 use Rattle.avc_tests.proofs.macroblock_types.add_i_types.Goals as goal
 
 pub types-init : goal.types-init

@@ -1,4 +1,4 @@
-use Rattle.avc_tests.proofs.Common.{◌≡◌, ◌+◌, ℕ, Bool, length, GoesOn}
+use Rattle.avc_tests.proofs.Following.{◌≡◌, ◌+◌, ℕ, Bool, length, GoesOn}
 use Rattle.avc_tests.proofs.macroblock_types.add_i_types.Given as goal
 
 abbrev pub invariant-types : goal.invariant-types

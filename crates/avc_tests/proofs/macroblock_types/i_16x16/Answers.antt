@@ -1,5 +1,4 @@
-use Rattle.std.proofs.Common.{arith}
-use Rattle.avc_tests.proofs.Following.{whole}
+use Rattle.avc_tests.proofs.Following.{arith, whole}
 use Rattle.avc_tests.proofs.macroblock_types.i_16x16.Goals as goal
 
 pub returns : goal.returns

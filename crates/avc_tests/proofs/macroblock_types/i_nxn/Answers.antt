@@ -1,4 +1,4 @@
-use Rattle.std.proofs.Common.{[], false, refl, arith}
+use Rattle.avc_tests.proofs.Following.{[], false, refl, arith}
 use Rattle.avc_tests.proofs.macroblock_types.i_nxn.Goals as goal
 
 pub returns : goal.returns

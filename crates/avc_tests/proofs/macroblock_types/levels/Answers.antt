@@ -1,6 +1,4 @@
-use Rattle.avc_tests.proofs.Common.{arith, subst, ints, AreBlocks}
-use Rattle.std.specs.List.{range_with_len}
-use Rattle.avc_mbsyntax.specs.Reading.{is_coded}
+use Rattle.avc_tests.proofs.Following.{arith, subst, ints, AreBlocks, range_with_len, is_coded}
 use Rattle.avc_tests.proofs.macroblock_types.levels.Goals as goal
 
 pub returns-clause-residual : goal.returns-clause-residual

@@ -1,4 +1,4 @@
-use Rattle.std.proofs.Common.{refl, true}
+use Rattle.avc_tests.proofs.Following.{refl, true}
 use Rattle.avc_tests.proofs.macroblock_types.levels_15.Goals as goal
 
 pub returns-then-luma_coded-clause-residual : goal.returns-then-luma_coded-clause-residual

@@ -1,7 +1,5 @@
-use Rattle.avc_tests.proofs.Common.{[], length, take, false, refl, arith, negsuc, pos, sym, subst, ints, replicate, parts_of, partitions}
-use Rattle.avc_tests.proofs.Common.{IsMvd, IsRefIdx, has_ref_idx}
-use Rattle.avc_types.specs.declared.macroblock.Mvd.{Mvd}
-use Rattle.avc_tests.proofs.Following.{each_first, each_same, taken}
+use Rattle.avc_tests.proofs.Following.{[], length, take, false, refl, arith, negsuc, pos, sym, subst, ints, replicate, parts_of, partitions, IsMvd}
+use Rattle.avc_tests.proofs.Following.{IsRefIdx, has_ref_idx, Mvd, each_first, each_same, taken}
 use Rattle.avc_tests.proofs.macroblock_types.p_inter.Goals as goal
 
 pub returns : goal.returns

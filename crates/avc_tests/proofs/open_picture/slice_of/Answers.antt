@@ -1,6 +1,5 @@
-use Rattle.avc_tests.proofs.Common.{rules, ◌≡◌, ℕ, Some, subst, sym, sets_after}
+use Rattle.avc_tests.proofs.Following.{rules, ◌≡◌, ℕ, Some, subst, sym, sets_after, within_sets}
 use Rattle.avc_slice.specs.Within.{IsHeader}
-use Rattle.avc_tests.proofs.ReadUnder.{within_sets}
 use Rattle.avc_tests.proofs.open_picture.slice_of.Goals as goal
 
 pub returns : goal.returns

@@ -1,5 +1,4 @@
-use Rattle.avc_tests.proofs.Common.{sym, subst, true, ◌∙◌, FollowOn}
-use Rattle.avc_tests.proofs.Following.{follow_none}
+use Rattle.avc_tests.proofs.Following.{sym, subst, true, ◌∙◌, FollowOn, follow_none}
 use Rattle.avc_tests.proofs.want_of_memory.slices_begin_anew.Goals as goal
 
 pub p_slice-slice-requires-clause-follow : goal.p_slice-slice-requires-clause-follow

@@ -1,5 +1,4 @@
-use Rattle.avc_tests.proofs.Common.{sym, subst, false, FollowOn}
-use Rattle.avc_tests.proofs.Following.{follow_none}
+use Rattle.avc_tests.proofs.Following.{sym, subst, false, FollowOn, follow_none}
 use Rattle.avc_tests.proofs.written_slices.each_type_of_i_slices.Goals as goal
 
 pub i_slice-slice-requires-clause-follow : goal.i_slice-slice-requires-clause-follow

@@ -1,5 +1,4 @@
-use Rattle.avc_tests.proofs.Common.{sym, subst, true, ◌∙◌, FollowOn}
-use Rattle.avc_tests.proofs.Following.{follow_none}
+use Rattle.avc_tests.proofs.Following.{sym, subst, true, ◌∙◌, FollowOn, follow_none}
 use Rattle.avc_tests.proofs.written_slices.no_macroblock_of_a_p_slice.Goals as goal
 
 pub p_slice-slice-requires-clause-follow : goal.p_slice-slice-requires-clause-follow

@@ -1,5 +1,4 @@
-use Rattle.std.proofs.Common.{refl, rules, true}
-use Rattle.avc_tests.proofs.Following.{coded}
+use Rattle.avc_tests.proofs.Following.{refl, rules, true, coded}
 use Rattle.avc_tests.proofs.written_slices.p_slice.Goals as goal
 
 pub returns : goal.returns

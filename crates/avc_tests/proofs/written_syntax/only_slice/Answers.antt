@@ -1,5 +1,4 @@
-use Rattle.std.proofs.Common.{refl, rules, false}
-use Rattle.avc_tests.proofs.Following.{coded}
+use Rattle.avc_tests.proofs.Following.{refl, rules, false, coded}
 use Rattle.avc_tests.proofs.written_syntax.only_slice.Goals as goal
 
 pub returns : goal.returns

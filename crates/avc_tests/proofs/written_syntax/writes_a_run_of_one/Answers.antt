@@ -1,5 +1,4 @@
-use Rattle.avc_tests.proofs.Common.{sym, subst, true, FollowOn}
-use Rattle.avc_tests.proofs.Following.{follow_none}
+use Rattle.avc_tests.proofs.Following.{sym, subst, true, FollowOn, follow_none}
 use Rattle.avc_tests.proofs.written_syntax.writes_a_run_of_one.Goals as goal
 
 pub only_p_slice-slice-requires-clause-follow : goal.only_p_slice-slice-requires-clause-follow

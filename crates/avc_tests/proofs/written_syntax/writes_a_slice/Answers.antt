@@ -1,5 +1,4 @@
-use Rattle.avc_tests.proofs.Common.{sym, subst, false, FollowOn}
-use Rattle.avc_tests.proofs.Following.{follow_none}
+use Rattle.avc_tests.proofs.Following.{sym, subst, false, FollowOn, follow_none}
 use Rattle.avc_tests.proofs.written_syntax.writes_a_slice.Goals as goal
 
 pub only_slice-slice-requires-clause-follow : goal.only_slice-slice-requires-clause-follow

@@ -1,4 +1,4 @@
-use Rattle.avc_tools.proofs.AllPieces.{pieces_decode_alike_so}
+use Rattle.avc_tools.proofs.Pieces.{pieces_decode_alike_so}
 use Rattle.avc_tools.proofs.laws.pieces_decode_alike.Goals as goal
 
 pub returns : goal.returns

@@ -1,9 +1,8 @@
-use Rattle.avc_tools.proofs.Taking.{max_unit, cut_more, cut_none}
-use Rattle.avc_tools.proofs.Draining.{all_taken, begun, one_more}
+use Rattle.avc_tools.proofs.Pieces.{max_unit, cut_more, cut_none, all_taken, draining_begun, one_more}
 use Rattle.avc_tools.proofs.piece_text.cut_units_left.Goals as goal
 
 pub loop-unit-init : goal.loop-unit-init
-loop-unit-init c = record { draining = begun max_unit _ _ (cut_none _ _ c.new-piece.ensures.items) }
+loop-unit-init c = record { draining = draining_begun max_unit _ _ (cut_none _ _ c.new-piece.ensures.items) }
 
 pub loop-unit-preserved-in_ok-take_in : goal.loop-unit-preserved-in_ok-take_in
 loop-unit-preserved-in_ok-take_in c = record {

@@ -1,6 +1,5 @@
-use Rattle.avc_params.specs.PpsReading.{pps as pps_part}
-use Rattle.avc_tools.proofs.SetsInForce.{true, false, Some, is_some, ap, sym, ◌∙◌, accepted, is_id, is_pps, start, pps_record, pps_id, OfPps, put_by}
-use Rattle.avc_tools.proofs.SetsInForce.{refused_id, pps_id_is}
+use Rattle.avc_tools.proofs.Pieces.{pps_part, true, false, Some, is_some, ap, sym, ◌∙◌, accepted, is_id, is_pps, start, pps_record, pps_id, OfPps}
+use Rattle.avc_tools.proofs.Pieces.{put_by, refused_id, pps_id_is}
 use Rattle.avc_tools.proofs.sets_in_force.put_read_pps.Goals as goal
 
 pub returns-in-Ok : goal.returns-in-Ok

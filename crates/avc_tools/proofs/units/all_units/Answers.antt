@@ -1,5 +1,5 @@
-use Rattle.avc_tools.proofs.Draining.{◌≡◌, true, ◌++◌, ◌∷◌, [], ap, sym, subst, arith, refl, ◌∙◌, after_feed, after_finish, max_unit, IsDraining, all_taken}
-use Rattle.avc_tools.proofs.Draining.{begun, one_more, whole_stream, whole_units}
+use Rattle.avc_tools.proofs.Pieces.{◌≡◌, true, ◌++◌, ◌∷◌, [], ap, sym, subst, arith, refl, ◌∙◌, after_feed, after_finish, max_unit, IsDraining}
+use Rattle.avc_tools.proofs.Pieces.{all_taken, draining_begun, one_more, whole_stream, whole_units}
 use Rattle.avc_tools.proofs.units.all_units.Goals as goal
 
 pub loop-unit-init : goal.loop-unit-init
@@ -9,7 +9,7 @@ loop-unit-init c =
     record {
       draining =
           subst (λ s. IsDraining max_unit (whole_stream c.args.bytes.now) s (λ done. c.new-all.result.items ≡ done)) (sym whole)
-          (begun max_unit (whole_stream c.args.bytes.now) _ c.new-all.ensures.items);
+          (draining_begun max_unit (whole_stream c.args.bytes.now) _ c.new-all.ensures.items);
     }
 
 pub loop-unit-preserved : goal.loop-unit-preserved

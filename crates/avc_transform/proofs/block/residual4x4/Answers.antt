@@ -1,4 +1,4 @@
-use Rattle.avc_transform.specs.Residual.{scaled_block}
+use Rattle.avc_transform.proofs.Residuals.{scaled_block}
 use Rattle.avc_transform.proofs.block.residual4x4.Goals as goal
 
 pub returns-clause-values : goal.returns-clause-values

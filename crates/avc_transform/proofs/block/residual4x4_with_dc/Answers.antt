@@ -1,4 +1,4 @@
-use Rattle.avc_transform.proofs.Common.{ℤ, subst, w32, to_z-of_z, AreLines, scaled_block_with_dc}
+use Rattle.avc_transform.proofs.Residuals.{ℤ, subst, w32, to_z-of_z, AreLines, scaled_block_with_dc}
 use Rattle.avc_transform.proofs.block.residual4x4_with_dc.Goals as goal
 
 pub returns-clause-values : goal.returns-clause-values

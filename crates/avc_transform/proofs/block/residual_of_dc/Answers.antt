@@ -1,5 +1,4 @@
-use Rattle.avc_transform.proofs.Common.{ℤ, pos, ◌+ℤ◌, ◌∙◌, ap, sym, rules, w32, to_z-of_z, ◌>>ℤ◌}
-use Rattle.avc_transform.proofs.NoResidual.{residual_of_dc}
+use Rattle.avc_transform.proofs.Residuals.{ℤ, pos, ◌+ℤ◌, ◌∙◌, ap, sym, rules, w32, to_z-of_z, ◌>>ℤ◌, residual_of_dc}
 use Rattle.avc_transform.proofs.block.residual_of_dc.Goals as goal
 
 pub returns-clause-values : goal.returns-clause-values

@@ -1,4 +1,4 @@
-use Rattle.avc_transform.proofs.Common.{◌≡◌, ℕ, ◌<◌, ◌+ℤ◌, pos, length, slice_index, slice_index_or, clip1}
+use Rattle.avc_transform.proofs.Residuals.{◌≡◌, ℕ, ◌<◌, ◌+ℤ◌, pos, length, slice_index, slice_index_or, clip1}
 use Rattle.avc_transform.proofs.construction.add_clip.Given as goal
 
 abbrev pub invariant-loop-i : goal.invariant-loop-i

@@ -1,7 +1,5 @@
-use Rattle.avc_transform.proofs.Common.{◌≡◌, ◌+◌, ◌*◌, ◌^◌, pos, slice_index_or, to_z, of_z, w32, get_or-set_other, arith, rules, ap, ◌∙◌}
-use Rattle.avc_transform.proofs.Common.{IsBelow, chroma_dc_scaled}
-use Rattle.avc_transform.proofs.Small.{cast_back, IsBelow-more}
-use Rattle.avc_transform.proofs.Matrices.{place_more}
+use Rattle.avc_transform.proofs.Residuals.{◌≡◌, ◌+◌, ◌*◌, ◌^◌, pos, slice_index_or, to_z, of_z, w32, get_or-set_other, arith, rules, ap, ◌∙◌, IsBelow}
+use Rattle.avc_transform.proofs.Residuals.{chroma_dc_scaled, cast_back, IsBelow-more, place_more}
 use Rattle.avc_transform.proofs.dc.chroma_dc.Goals as goal
 
 pub chroma_dc_scaled-requires-clause-small : goal.chroma_dc_scaled-requires-clause-small

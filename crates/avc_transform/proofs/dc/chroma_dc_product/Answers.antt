@@ -1,8 +1,6 @@
-use Rattle.avc_transform.proofs.Common.{◌≡◌, ℕ, ℤ, ◌*◌, ◌+◌, ◌^◌, ◌<◌, [], ◌∷◌, pos, slice_index_or, to_z, of_z, w32, arith, ◌∙◌, refl}
-use Rattle.avc_transform.proofs.Common.{IsBelow, level, hadamard_row, chroma_dc_product}
-use Rattle.avc_transform.proofs.BelowFour.{below_two, each_of_four}
-use Rattle.avc_transform.proofs.Small.{cast_back, level_read, IsBelow-more}
-use Rattle.avc_transform.proofs.DcValues.{hadamard_row_of, whole_is, across_is, below_is, both_is}
+use Rattle.avc_transform.proofs.Residuals.{◌≡◌, ℕ, ℤ, ◌*◌, ◌+◌, ◌^◌, ◌<◌, [], ◌∷◌, pos, slice_index_or, to_z, of_z, w32, arith, ◌∙◌, refl, IsBelow}
+use Rattle.avc_transform.proofs.Residuals.{level, hadamard_row, chroma_dc_product, below_two, each_of_four, cast_back, level_read, IsBelow-more}
+use Rattle.avc_transform.proofs.Residuals.{hadamard_row_of, whole_is, across_is, below_is, both_is}
 use Rattle.avc_transform.proofs.dc.chroma_dc_product.Goals as goal
 
 -- a product is small, and is what its 32 bits say

@@ -1,7 +1,5 @@
-use Rattle.avc_transform.proofs.Common.{ℤ, ◌∙◌, ◌^◌, ◌*◌, ◌<◌, ap, arith, rules, of_z, to_z, w32, to_z-of_z, ◌>>ℤ◌, IsBelow}
-use Rattle.avc_transform.proofs.Common.{chroma_dc_scaled}
-use Rattle.avc_transform.proofs.Small.{cast_back, IsBelow-more}
-use Rattle.avc_transform.proofs.DcValues.{scale_below, chroma_shifted}
+use Rattle.avc_transform.proofs.Residuals.{ℤ, ◌∙◌, ◌^◌, ◌*◌, ◌<◌, ap, arith, rules, of_z, to_z, w32, to_z-of_z, ◌>>ℤ◌, IsBelow, chroma_dc_scaled}
+use Rattle.avc_transform.proofs.Residuals.{cast_back, IsBelow-more, scale_below, chroma_shifted}
 use Rattle.avc_transform.proofs.dc.chroma_dc_scaled.Goals as goal
 
 pub times-requires-clause-scale : goal.times-requires-clause-scale

@@ -1,5 +1,4 @@
-use Rattle.avc_transform.proofs.Common.{◌*◌, arith, ints, IsBelow}
-use Rattle.avc_transform.proofs.BelowFour.{below_four, each_of_four}
+use Rattle.avc_transform.proofs.Residuals.{◌*◌, arith, ints, IsBelow, below_four, each_of_four}
 use Rattle.avc_transform.proofs.dc.hadamard_row.Goals as goal
 
 pub returns-clause-values : goal.returns-clause-values

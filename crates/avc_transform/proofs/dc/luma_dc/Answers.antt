@@ -1,8 +1,6 @@
-use Rattle.avc_transform.proofs.Common.{◌≡◌, ℕ, ◌+◌, ◌*◌, ◌^◌, ◌<◌, pos, slice_index_or, to_z, of_z, w32, get_or-set_other, arith, rules}
-use Rattle.avc_transform.proofs.Common.{ap, ◌∙◌, IsBelow, matrix, level, zigzag, hadamard_row, luma_dc_scaled}
-use Rattle.avc_transform.proofs.Small.{cast_back, IsBelow-more}
-use Rattle.avc_transform.proofs.Matrices.{place_more}
-use Rattle.avc_transform.proofs.DcValues.{same_hadamard_row, product_is}
+use Rattle.avc_transform.proofs.Residuals.{◌≡◌, ℕ, ◌+◌, ◌*◌, ◌^◌, ◌<◌, pos, slice_index_or, to_z, of_z, w32, get_or-set_other, arith, rules, ap, ◌∙◌}
+use Rattle.avc_transform.proofs.Residuals.{IsBelow, matrix, level, zigzag, hadamard_row, luma_dc_scaled, cast_back, IsBelow-more, place_more}
+use Rattle.avc_transform.proofs.Residuals.{same_hadamard_row, product_is}
 use Rattle.avc_transform.proofs.dc.luma_dc.Goals as goal
 
 pub rows_to_columns-out-requires : goal.rows_to_columns-out-requires

@@ -1,6 +1,5 @@
-use Rattle.avc_transform.proofs.Common.{◌∙◌, ◌^◌, ◌*◌, ◌<◌, ap, arith, rules, of_z, to_z, w32, to_z-of_z, IsBelow, luma_dc_scaled}
-use Rattle.avc_transform.proofs.Small.{cast_back, IsBelow-more}
-use Rattle.avc_transform.proofs.DcValues.{scale_below, luma_shifted}
+use Rattle.avc_transform.proofs.Residuals.{◌∙◌, ◌^◌, ◌*◌, ◌<◌, ap, arith, rules, of_z, to_z, w32, to_z-of_z, IsBelow, luma_dc_scaled, cast_back}
+use Rattle.avc_transform.proofs.Residuals.{IsBelow-more, scale_below, luma_shifted}
 use Rattle.avc_transform.proofs.dc.luma_dc_scaled.Goals as goal
 
 pub times-requires-else-qp-lt36-clause-scale : goal.times-requires-else-qp-lt36-clause-scale

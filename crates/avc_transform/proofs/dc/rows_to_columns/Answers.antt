@@ -1,9 +1,6 @@
-use Rattle.avc_transform.proofs.Common.{◌≡◌, ℕ, ◌+◌, ◌*◌, ◌/◌, ◌%◌, ◌^◌, ◌<◌, pos, slice_index_or, to_z, of_z, w32, arith, rules, ap, ◌∙◌}
-use Rattle.avc_transform.proofs.Common.{sym, add-zero, hadamard_row, IsBelow, AllBelow, matrix}
-use Rattle.avc_transform.proofs.Small.{cast_back, IsBelow-more}
-use Rattle.avc_transform.proofs.Matrices.{place_of_four}
-use Rattle.avc_transform.proofs.DcValues.{hadamard_row_of}
-use Rattle.avc_transform.proofs.Columns.{columns_more}
+use Rattle.avc_transform.proofs.Residuals.{◌≡◌, ℕ, ◌+◌, ◌*◌, ◌/◌, ◌%◌, ◌^◌, ◌<◌, pos, slice_index_or, to_z, of_z, w32, arith, rules, ap, ◌∙◌, sym}
+use Rattle.avc_transform.proofs.Residuals.{add-zero, hadamard_row, IsBelow, AllBelow, matrix, cast_back, IsBelow-more, place_of_four, hadamard_row_of}
+use Rattle.avc_transform.proofs.Residuals.{columns_more}
 use Rattle.avc_transform.proofs.dc.rows_to_columns.Goals as goal
 
 pub loop-y-preserved : goal.loop-y-preserved

@@ -1,4 +1,4 @@
-use Rattle.avc_transform.proofs.Common.{◌≡◌, ℕ, ◌<◌, ◌+◌, ◌*◌, slice_index_or, pos, length, hadamard_row, IsBelow, AllBelow, matrix}
+use Rattle.avc_transform.proofs.Residuals.{◌≡◌, ℕ, ◌<◌, ◌+◌, ◌*◌, slice_index_or, pos, length, hadamard_row, IsBelow, AllBelow, matrix}
 use Rattle.avc_transform.proofs.dc.rows_to_columns.Given as goal
 
 abbrev pub invariant-loop-y : goal.invariant-loop-y

@@ -1,5 +1,4 @@
-use Rattle.std.proofs.Common.{◌+◌, ◌*◌, arith}
-use Rattle.avc_transform.proofs.Small.{AllBelow-more}
+use Rattle.avc_transform.proofs.Residuals.{◌+◌, ◌*◌, arith, AllBelow-more}
 use Rattle.avc_transform.proofs.inverse.inverse4.Goals as goal
 
 pub returns-clause-small : goal.returns-clause-small

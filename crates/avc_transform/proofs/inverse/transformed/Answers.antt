@@ -1,9 +1,6 @@
-use Rattle.avc_transform.proofs.Common.{ℕ, ℤ, ◌≡◌, ◌+◌, ◌*◌, ◌/◌, ◌%◌, ◌^◌, ◌<◌, ◌≤◌, ◌+ℤ◌, arith, ap, ◌∙◌, to_z, of_z, w32, List, [], ◌∷◌}
-use Rattle.avc_transform.proofs.Common.{pos, slice_index_or, ◌>>ℤ◌, AllBelow, IsBelow, AreBelow, transformed_row, transformed}
-use Rattle.avc_transform.specs.declared.lines.Lines.{Lines}
-use Rattle.avc_transform.proofs.BelowFour.{below_four}
-use Rattle.avc_transform.proofs.Matrices.{place_of_four}
-use Rattle.avc_transform.proofs.Small.{AllBelow-more, cast_small, small_cast}
+use Rattle.avc_transform.proofs.Residuals.{ℕ, ℤ, ◌≡◌, ◌+◌, ◌*◌, ◌/◌, ◌%◌, ◌^◌, ◌<◌, ◌≤◌, ◌+ℤ◌, arith, ap, ◌∙◌, to_z, of_z, w32, List, [], ◌∷◌, pos}
+use Rattle.avc_transform.proofs.Residuals.{slice_index_or, ◌>>ℤ◌, AllBelow, IsBelow, AreBelow, transformed_row, transformed, Lines, below_four}
+use Rattle.avc_transform.proofs.Residuals.{place_of_four, AllBelow-more, cast_small, small_cast}
 use Rattle.avc_transform.proofs.inverse.transformed.Goals as goal
 
 more_lines : (m n : ℕ) (l : Lines) → m ≤ n → AreBelow m l → AreBelow n l

@@ -1,7 +1,5 @@
-use Rattle.avc_transform.proofs.Common.{ℕ, ℤ, ◌≡◌, ◌+◌, ◌*◌, ◌^◌, ◌+ℤ◌, arith, ap, ◌∙◌, to_z, of_z, w32, pos, slice_index_or, ◌>>ℤ◌}
-use Rattle.avc_transform.proofs.Common.{IsBelow}
-use Rattle.avc_transform.proofs.BelowFour.{below_four, each_of_four}
-use Rattle.avc_transform.proofs.Small.{cast_small, small_cast}
+use Rattle.avc_transform.proofs.Residuals.{ℕ, ℤ, ◌≡◌, ◌+◌, ◌*◌, ◌^◌, ◌+ℤ◌, arith, ap, ◌∙◌, to_z, of_z, w32, pos, slice_index_or, ◌>>ℤ◌, IsBelow}
+use Rattle.avc_transform.proofs.Residuals.{below_four, each_of_four, cast_small, small_cast}
 use Rattle.avc_transform.proofs.lanes.all_rounded.Goals as goal
 
 shifted : (d r : ℤ) → IsBelow (49 * 2 ^ 25 + 9) d → r ≡ (to_z w32 (of_z w32 d) +ℤ pos 32 >>ℤ 6) → r ≡ (d +ℤ pos 32 >>ℤ 6)

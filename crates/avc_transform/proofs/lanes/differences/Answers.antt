@@ -1,6 +1,5 @@
-use Rattle.avc_transform.proofs.Common.{ℕ, ℤ, ◌≡◌, ◌-ℤ◌, ◌+◌, ◌^◌, ◌<◌, arith, ◌∙◌, sym, subst, to_z, of_z, w32, FitsSigned, pos}
-use Rattle.avc_transform.proofs.Common.{slice_index_or, ints, IsBelow}
-use Rattle.avc_transform.proofs.LaneLaws.{each_lane, lane}
+use Rattle.avc_transform.proofs.Residuals.{ℕ, ℤ, ◌≡◌, ◌-ℤ◌, ◌+◌, ◌^◌, ◌<◌, arith, ◌∙◌, sym, subst, to_z, of_z, w32, FitsSigned, pos, slice_index_or}
+use Rattle.avc_transform.proofs.Residuals.{ints, IsBelow, each_lane, lane}
 use Rattle.avc_transform.proofs.lanes.differences.Goals as goal
 
 fits : (a b : ℤ) → IsBelow (2 ^ 30) a → IsBelow (2 ^ 30) b → FitsSigned w32 (to_z w32 (of_z w32 a) -ℤ to_z w32 (of_z w32 b))

@@ -1,6 +1,5 @@
-use Rattle.avc_transform.proofs.Common.{ℕ, ℤ, ◌≡◌, ◌+◌, ◌*◌, ◌^◌, arith, ap, ◌∙◌, to_z, of_z, w32, pos, slice_index_or, ◌>>ℤ◌, IsBelow}
-use Rattle.avc_transform.proofs.BelowFour.{below_four, each_of_four}
-use Rattle.avc_transform.proofs.Small.{cast_small}
+use Rattle.avc_transform.proofs.Residuals.{ℕ, ℤ, ◌≡◌, ◌+◌, ◌*◌, ◌^◌, arith, ap, ◌∙◌, to_z, of_z, w32, pos, slice_index_or, ◌>>ℤ◌, IsBelow, below_four}
+use Rattle.avc_transform.proofs.Residuals.{each_of_four, cast_small}
 use Rattle.avc_transform.proofs.lanes.halves.Goals as goal
 
 halved : (d r : ℤ) → IsBelow (2 ^ 29) d → r ≡ (to_z w32 (of_z w32 d) >>ℤ 1) → r ≡ (d >>ℤ 1)

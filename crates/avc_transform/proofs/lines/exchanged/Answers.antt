@@ -1,6 +1,4 @@
-use Rattle.std.proofs.Common.{ℕ, ◌<◌, arith, ◌∙◌}
-use Rattle.avc_transform.proofs.BelowFour.{below_four}
-use Rattle.avc_transform.proofs.Small.{cast_back}
+use Rattle.avc_transform.proofs.Residuals.{ℕ, ◌<◌, arith, ◌∙◌, below_four, cast_back}
 use Rattle.avc_transform.proofs.lines.exchanged.Goals as goal
 
 pub returns-clause-values : goal.returns-clause-values

@@ -1,7 +1,5 @@
-use Rattle.avc_transform.proofs.Common.{◌≡◌, ◌+ℤ◌, ◌∙◌, ℤ, ap, pos, nat_abs, of_z, to_z, w16, slice_index, arith, ints, clip3, chroma_qp_at}
-use Rattle.avc_transform.proofs.Common.{CHROMA_QP}
-use Rattle.std.specs.Int.{int_max, int_min}
-use Rattle.avc_transform.proofs.Tables.{chroma_table}
+use Rattle.avc_transform.proofs.Residuals.{◌≡◌, ◌+ℤ◌, ◌∙◌, ℤ, ap, pos, nat_abs, of_z, to_z, w16, slice_index, arith, ints, clip3, chroma_qp_at}
+use Rattle.avc_transform.proofs.Residuals.{CHROMA_QP, int_max, int_min, chroma_table}
 use Rattle.avc_transform.proofs.quantiser.chroma_qp.Goals as goal
 
 held : (s : ℤ) → int_max (pos 0) (int_min s (pos 51)) ≡ clip3 (pos 0) (pos 51) s

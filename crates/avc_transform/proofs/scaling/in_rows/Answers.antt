@@ -1,8 +1,5 @@
-use Rattle.avc_transform.proofs.Common.{◌≡◌, ◌/◌, ◌%◌, ◌^◌, arith, rules, of_z, to_z, w32, slice_index, sym, subst, ap, ◌∙◌, IsBelow, level}
-use Rattle.avc_transform.proofs.Common.{zigzag, ZIGZAG}
-use Rattle.avc_transform.proofs.Matrices.{place_more}
-use Rattle.avc_transform.proofs.Small.{level_read}
-use Rattle.avc_transform.proofs.Tables.{zigzag_table, zigzag_inside}
+use Rattle.avc_transform.proofs.Residuals.{◌≡◌, ◌/◌, ◌%◌, ◌^◌, arith, rules, of_z, to_z, w32, slice_index, sym, subst, ap, ◌∙◌, IsBelow, level}
+use Rattle.avc_transform.proofs.Residuals.{zigzag, ZIGZAG, place_more, level_read, zigzag_table, zigzag_inside}
 use Rattle.avc_transform.proofs.scaling.in_rows.Goals as goal
 
 pub loop-i-preserved : goal.loop-i-preserved

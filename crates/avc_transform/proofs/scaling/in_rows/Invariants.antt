@@ -1,4 +1,4 @@
-use Rattle.avc_transform.proofs.Common.{◌≡◌, ℕ, ◌<◌, ◌/◌, ◌%◌, ◌^◌, pos, length, slice_index_or, IsBelow, level, zigzag}
+use Rattle.avc_transform.proofs.Residuals.{◌≡◌, ℕ, ◌<◌, ◌/◌, ◌%◌, ◌^◌, pos, length, slice_index_or, IsBelow, level, zigzag}
 use Rattle.avc_transform.proofs.scaling.in_rows.Given as goal
 
 abbrev pub invariant-loop-i : goal.invariant-loop-i

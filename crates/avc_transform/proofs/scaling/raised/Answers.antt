@@ -1,5 +1,4 @@
-use Rattle.avc_transform.proofs.Common.{ℕ, ◌*◌, ◌≤◌, ◌<◌, ◌^◌, arith, slice_index, mul-lt}
-use Rattle.avc_transform.proofs.BelowFour.{below_four}
+use Rattle.avc_transform.proofs.Residuals.{ℕ, ◌*◌, ◌≤◌, ◌<◌, ◌^◌, arith, slice_index, mul-lt, below_four}
 use Rattle.avc_transform.proofs.scaling.raised.Goals as goal
 
 small : (s p : ℕ) → s < 30 → p ≤ 2 ^ 8 → s * p < 2 ^ 13

@@ -1,7 +1,5 @@
-use Rattle.std.proofs.Common.{ℕ, ℤ, ◌≡◌, ◌*◌, ◌^◌, ◌<◌, ◌*ℤ◌, arith, ap, ◌∙◌, sym, subst, to_z, of_z, w16, w32, pos, slice_index, slice_index_or}
-use Rattle.avc_transform.specs.Bounds.{IsBelow}
-use Rattle.avc_transform.proofs.BelowFour.{below_four, each_of_four}
-use Rattle.avc_transform.proofs.Small.{cast_small, small_cast, level_back}
+use Rattle.avc_transform.proofs.Residuals.{ℕ, ℤ, ◌≡◌, ◌*◌, ◌^◌, ◌<◌, ◌*ℤ◌, arith, ap, ◌∙◌, sym, subst, to_z, of_z, w16, w32, pos, slice_index}
+use Rattle.avc_transform.proofs.Residuals.{slice_index_or, IsBelow, below_four, each_of_four, cast_small, small_cast, level_back}
 use Rattle.avc_transform.proofs.scaling.scaled.Goals as goal
 
 -- a level of sixteen bits, read into thirty-two

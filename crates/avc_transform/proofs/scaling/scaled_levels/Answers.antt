@@ -1,5 +1,4 @@
-use Rattle.avc_transform.proofs.Common.{ℕ, ◌<◌, arith, level, zigzag}
-use Rattle.avc_transform.proofs.Small.{four_levels, level_back, scaled_of}
+use Rattle.avc_transform.proofs.Residuals.{ℕ, ◌<◌, arith, level, zigzag, four_levels, level_back, scaled_of}
 use Rattle.avc_transform.proofs.scaling.scaled_levels.Goals as goal
 
 pub returns-clause-values : goal.returns-clause-values

@@ -1,6 +1,5 @@
-use Rattle.avc_transform.proofs.Common.{ℕ, ◌<◌, ◌^◌, ◌∙◌, arith, w32, pos, slice_index_or, ints, to_z-of_z, IsBelow, level}
-use Rattle.avc_transform.proofs.BelowFour.{below_four, each_of_four}
-use Rattle.avc_transform.proofs.Small.{AllBelow-more, cast_small, small_cast, level_back, level_small, scaled_of, IsBelow-more}
+use Rattle.avc_transform.proofs.Residuals.{ℕ, ◌<◌, ◌^◌, ◌∙◌, arith, w32, pos, slice_index_or, ints, to_z-of_z, IsBelow, level, below_four}
+use Rattle.avc_transform.proofs.Residuals.{each_of_four, AllBelow-more, cast_small, small_cast, level_back, level_small, scaled_of, IsBelow-more}
 use Rattle.avc_transform.proofs.scaling.scaled_levels_with_dc.Goals as goal
 
 pub scaled-ac-requires-clause-levels : goal.scaled-ac-requires-clause-levels

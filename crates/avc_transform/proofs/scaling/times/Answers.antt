@@ -1,5 +1,4 @@
-use Rattle.avc_transform.proofs.Common.{pos, ◌^◌, ◌*ℤ◌, arith, w32, to_z_pos}
-use Rattle.avc_transform.proofs.Small.{IsBelow-mul, IsBelow-more, cast_back}
+use Rattle.avc_transform.proofs.Residuals.{pos, ◌^◌, ◌*ℤ◌, arith, w32, to_z_pos, IsBelow-mul, IsBelow-more, cast_back}
 use Rattle.avc_transform.proofs.scaling.times.Goals as goal
 
 pub returns-clause-small : goal.returns-clause-small

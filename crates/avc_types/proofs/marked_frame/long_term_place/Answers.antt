@@ -1,5 +1,5 @@
-use Rattle.avc_types.proofs.Common.{◌∙◌, refl, ap, slice_get, arith, rules, has_long_term_frame_idx, references_at}
-use Rattle.avc_types.proofs.Frames.{first-found, filter-none, find-filter}
+use Rattle.avc_types.proofs.Frames.{◌∙◌, refl, ap, slice_get, arith, rules, has_long_term_frame_idx, references_at, first-found, filter-none}
+use Rattle.avc_types.proofs.Frames.{find-filter}
 use Rattle.avc_types.proofs.marked_frame.long_term_place.Goals as goal
 
 pub returns-then-has_long_term_frame_idx-clause-named : goal.returns-then-has_long_term_frame_idx-clause-named

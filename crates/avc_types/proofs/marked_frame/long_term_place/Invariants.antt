@@ -1,4 +1,4 @@
-use Rattle.avc_types.proofs.Common.{◌≡◌, ℕ, ◌<◌, false, slice_index_or, is_marked, has_long_term_frame_idx, no_frame}
+use Rattle.avc_types.proofs.Frames.{◌≡◌, ℕ, ◌<◌, false, slice_index_or, is_marked, has_long_term_frame_idx, no_frame}
 use Rattle.avc_types.proofs.marked_frame.long_term_place.Given as goal
 
 abbrev pub invariant-loop-place : goal.invariant-loop-place

@@ -1,6 +1,5 @@
-use Rattle.avc_types.proofs.Common.{◌≡◌, ◌-◌, refl, sym, ap, slice_get, arith, to_z, of_z, w64, has_pic_num, sorted_by}
-use Rattle.std.proofs.lemmas.Int.{to_z-of_z}
-use Rattle.avc_types.proofs.Frames.{last-found, filter-none, falling}
+use Rattle.avc_types.proofs.Frames.{◌≡◌, ◌-◌, refl, sym, ap, slice_get, arith, to_z, of_z, w64, has_pic_num, sorted_by, to_z-of_z, last-found}
+use Rattle.avc_types.proofs.Frames.{filter-none, falling}
 use Rattle.avc_types.proofs.marked_frame.short_term_place.Goals as goal
 
 pub returns-then-has_pic_num-clause-named : goal.returns-then-has_pic_num-clause-named

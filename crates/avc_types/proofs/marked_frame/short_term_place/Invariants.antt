@@ -1,4 +1,4 @@
-use Rattle.avc_types.proofs.Common.{◌≡◌, ℕ, ◌<◌, ◌≤◌, false, length, slice_index_or, is_marked, has_pic_num, no_frame}
+use Rattle.avc_types.proofs.Frames.{◌≡◌, ℕ, ◌<◌, ◌≤◌, false, length, slice_index_or, is_marked, has_pic_num, no_frame}
 use Rattle.avc_types.proofs.marked_frame.short_term_place.Given as goal
 
 abbrev pub invariant-loop-place : goal.invariant-loop-place

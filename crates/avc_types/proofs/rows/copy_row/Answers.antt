@@ -1,4 +1,4 @@
-use Rattle.avc_types.proofs.Common.{◌+◌, ◌-◌, arith, ap, slice_index, ◌∙◌, inl, inr, cases_lt}
+use Rattle.avc_types.proofs.Frames.{◌+◌, ◌-◌, arith, ap, slice_index, ◌∙◌, inl, inr, cases_lt}
 use Rattle.avc_types.proofs.rows.copy_row.Goals as goal
 
 pub returns-then-count-gt16-clause-here : goal.returns-then-count-gt16-clause-here

@@ -1,5 +1,4 @@
-use Rattle.avc_types.proofs.Common.{◌≡◌, ◌+◌, ◌*◌, slice_index, arith, ◌∙◌, row_fits}
-use borrow.Author.Count.{below_more}
+use Rattle.avc_types.proofs.Frames.{◌≡◌, ◌+◌, ◌*◌, slice_index, arith, ◌∙◌, row_fits, below_more}
 use Rattle.avc_types.proofs.rows.copy_rows.Goals as goal
 
 pub loop-y-preserved : goal.loop-y-preserved

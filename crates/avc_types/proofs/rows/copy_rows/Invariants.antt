@@ -1,4 +1,4 @@
-use Rattle.std.proofs.Common.{◌≡◌, ℕ, ◌+◌, ◌*◌, ◌<◌, slice_index}
+use Rattle.avc_types.proofs.Frames.{◌≡◌, ℕ, ◌+◌, ◌*◌, ◌<◌, slice_index}
 use Rattle.avc_types.proofs.rows.copy_rows.Given as goal
 
 abbrev pub invariant-loop-y : goal.invariant-loop-y

@@ -1,6 +1,4 @@
-use Rattle.std.proofs.Common.{◌≡◌, arith, length, ◌∙◌}
-use Rattle.std.proofs.lemmas.Simd.{length-chunk, get_or-chunk, get_or-put_chunk_below, get_or-put_chunk_at}
-use Rattle.std.specs.Simd.Lanes.{chunk}
+use Rattle.avc_types.proofs.Frames.{◌≡◌, arith, length, ◌∙◌, length-chunk, get_or-chunk, get_or-put_chunk_below, get_or-put_chunk_at, chunk}
 use Rattle.avc_types.proofs.rows.copy_sixteen.Goals as goal
 
 pub returns-clause-before : goal.returns-clause-before

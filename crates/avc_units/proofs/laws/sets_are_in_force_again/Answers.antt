@@ -1,4 +1,4 @@
-use Rattle.avc_units.proofs.Again.{in_force_again}
+use Rattle.avc_units.proofs.SetUnits.{in_force_again}
 use Rattle.avc_units.proofs.laws.sets_are_in_force_again.Goals as goal
 
 pub returns : goal.returns

@@ -1,4 +1,4 @@
-use Rattle.avc_units.proofs.Again.{come_alike}
+use Rattle.avc_units.proofs.SetUnits.{come_alike}
 use Rattle.avc_units.proofs.laws.sets_come_alike.Goals as goal
 
 pub returns : goal.returns

@@ -1,4 +1,4 @@
-use Rattle.avc_units.proofs.Few.{in_force_are_few}
+use Rattle.avc_units.proofs.SetUnits.{in_force_are_few}
 use Rattle.avc_units.proofs.laws.sets_in_force_are_few.Goals as goal
 
 pub returns : goal.returns

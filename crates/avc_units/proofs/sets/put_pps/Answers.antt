@@ -1,5 +1,4 @@
-use Rattle.avc_units.proofs.Common.{ap, sym, ◌∙◌, ends_picture, rbsp_of}
-use Rattle.avc_units.proofs.Refusals.{pps-refused}
+use Rattle.avc_units.proofs.SetUnits.{ap, sym, ◌∙◌, ends_picture, rbsp_of, pps-refused}
 use Rattle.avc_units.proofs.sets.put_pps.Goals as goal
 
 pub returns-in_ok-fault-in-Some-clause-step : goal.returns-in_ok-fault-in-Some-clause-step

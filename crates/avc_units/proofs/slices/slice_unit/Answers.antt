@@ -1,5 +1,4 @@
-use Rattle.avc_units.proofs.Common.{sym, ◌∙◌, sets_after, open_picture_in}
-use Rattle.avc_units.proofs.Coming.{slice_or_start-read, slice_or_start-under}
+use Rattle.avc_units.proofs.SetUnits.{sym, ◌∙◌, sets_after, open_picture_in, slice_or_start-read, slice_or_start-under}
 use Rattle.avc_units.proofs.slices.slice_unit.Goals as goal
 
 pub returns-then-context-starts-clause-step : goal.returns-then-context-starts-clause-step

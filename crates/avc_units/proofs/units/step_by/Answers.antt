@@ -1,4 +1,4 @@
-use Rattle.avc_units.proofs.Refusals.{set-step}
+use Rattle.avc_units.proofs.SetUnits.{set-step}
 use Rattle.avc_units.proofs.units.step_by.Goals as goal
 
 pub returns-in-Sps-clause-slice : goal.returns-in-Sps-clause-slice

@@ -1,5 +1,4 @@
-use Rattle.avc_vlc.proofs.Common.{◌<◌, length, arith, rules, reader_bits}
-use Rattle.avc_vlc.proofs.Entries.{skip-ok, skip-err}
+use Rattle.avc_vlc.proofs.Entries.{◌<◌, length, arith, rules, reader_bits, skip-ok, skip-err}
 use Rattle.avc_vlc.proofs.code.has.Goals as goal
 
 pub returns-in-Ok : goal.returns-in-Ok

@@ -1,4 +1,4 @@
-use Rattle.avc_vlc.proofs.Patterns.{intra_below, inter_below, pattern_intra, pattern_inter}
+use Rattle.avc_vlc.proofs.Entries.{intra_below, inter_below, pattern_intra, pattern_inter}
 use Rattle.avc_vlc.proofs.coded_block_pattern.cbp_of.Goals as goal
 
 pub returns-then-intra-clause-value : goal.returns-then-intra-clause-value

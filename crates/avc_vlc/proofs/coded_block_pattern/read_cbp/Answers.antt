@@ -1,5 +1,4 @@
-use Rattle.avc_vlc.proofs.Common.{arith, reader_bits}
-use Rattle.avc_vlc.proofs.Patterns.{pattern_refused}
+use Rattle.avc_vlc.proofs.Entries.{arith, reader_bits, pattern_refused}
 use Rattle.avc_vlc.proofs.coded_block_pattern.read_cbp.Goals as goal
 
 pub returns-then-number-gt47-clause-read : goal.returns-then-number-gt47-clause-read

@@ -1,6 +1,5 @@
-use Rattle.avc_vlc.proofs.Common.{◌∙◌, ap, sym, refl, arith, ints, coeff_token_0, coeff_token_2, coeff_token_4, tokens, is_token_same}
-use Rattle.avc_vlc.proofs.Common.{word_of}
-use Rattle.avc_vlc.proofs.Writing.{class_0, class_2, class_4}
+use Rattle.avc_vlc.proofs.Entries.{◌∙◌, ap, sym, refl, arith, ints, coeff_token_0, coeff_token_2, coeff_token_4, tokens, is_token_same, word_of}
+use Rattle.avc_vlc.proofs.Entries.{class_0, class_2, class_4}
 use Rattle.avc_vlc.proofs.coeff_token.coeff_token_word.Goals as goal
 
 pub returns-then-nc-lt2 : goal.returns-then-nc-lt2

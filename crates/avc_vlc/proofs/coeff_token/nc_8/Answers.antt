@@ -1,5 +1,4 @@
-use Rattle.avc_vlc.proofs.Common.{ap, sym, ◌∙◌, Some, bits_of}
-use Rattle.avc_vlc.proofs.Indexes.{six_bits_decide}
+use Rattle.avc_vlc.proofs.Entries.{ap, sym, ◌∙◌, Some, bits_of, six_bits_decide}
 use Rattle.avc_vlc.proofs.coeff_token.nc_8.Goals as goal
 
 pub returns : goal.returns

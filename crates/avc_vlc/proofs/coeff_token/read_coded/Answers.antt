@@ -1,5 +1,4 @@
-use Rattle.avc_vlc.specs.Reading.{token_table}
-use Rattle.avc_vlc.proofs.Values.{if_token}
+use Rattle.avc_vlc.proofs.Entries.{token_table, if_token}
 use Rattle.avc_vlc.proofs.coeff_token.read_coded.Goals as goal
 
 pub returns-clause-range : goal.returns-clause-range

@@ -1,5 +1,4 @@
-use Rattle.avc_vlc.proofs.Common.{◌≡◌, ◌<◌, ◌∙◌, true, ap, sym, arith, holds, six_bit_entry, is_token_same}
-use Rattle.avc_vlc.proofs.Writing.{six_found}
+use Rattle.avc_vlc.proofs.Entries.{◌≡◌, ◌<◌, ◌∙◌, true, ap, sym, arith, holds, six_bit_entry, is_token_same, six_found}
 use Rattle.avc_vlc.proofs.coeff_token.six_bit_word.Goals as goal
 
 pub returns-then-holds : goal.returns-then-holds

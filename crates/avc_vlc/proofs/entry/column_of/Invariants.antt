@@ -1,4 +1,4 @@
-use Rattle.avc_vlc.proofs.Common.{◌≡◌, false, take, list_any, holds}
+use Rattle.avc_vlc.proofs.Entries.{◌≡◌, false, take, list_any, holds}
 use Rattle.avc_vlc.proofs.entry.column_of.Given as goal
 
 -- none of the entries so far

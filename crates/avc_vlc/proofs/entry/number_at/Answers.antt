@@ -1,5 +1,4 @@
-use Rattle.avc_vlc.proofs.Common.{◌≡◌, ◌<◌, ◌-◌, length, get_or, [], arith, place_bits}
-use Rattle.avc_vlc.proofs.Indexes.{indexed_place}
+use Rattle.avc_vlc.proofs.Entries.{◌≡◌, ◌<◌, ◌-◌, length, get_or, [], arith, place_bits, indexed_place}
 use Rattle.avc_vlc.proofs.entry.number_at.Goals as goal
 
 pub returns : goal.returns

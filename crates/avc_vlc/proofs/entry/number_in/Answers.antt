@@ -1,5 +1,4 @@
-use Rattle.std.proofs.Common.{arith}
-use Rattle.avc_vlc.proofs.Indexes.{indexed_table}
+use Rattle.avc_vlc.proofs.Entries.{arith, indexed_table}
 use Rattle.avc_vlc.proofs.entry.number_in.Goals as goal
 
 pub returns : goal.returns

@@ -1,5 +1,4 @@
-use Rattle.avc_vlc.proofs.Common.{◌≡◌, length, get_or, [], arith, bits_of}
-use Rattle.avc_vlc.proofs.Indexes.{front_entry}
+use Rattle.avc_vlc.proofs.Entries.{◌≡◌, length, get_or, [], arith, bits_of, front_entry}
 use Rattle.avc_vlc.proofs.entry.number_of_three.Goals as goal
 
 pub returns : goal.returns

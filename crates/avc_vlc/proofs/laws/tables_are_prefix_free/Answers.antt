@@ -1,6 +1,4 @@
-use Rattle.avc_vlc.specs.Reading.{token_table, zeros_table, run_table}
-use Rattle.avc_vlc.proofs.Codes.{prefix_free}
-use Rattle.avc_vlc.proofs.Tests.{tokens_free, zeros_free, runs_free}
+use Rattle.avc_vlc.proofs.Entries.{token_table, zeros_table, run_table, prefix_free, tokens_free, zeros_free, runs_free}
 use Rattle.avc_vlc.proofs.laws.tables_are_prefix_free.Goals as goal
 
 pub returns : goal.returns

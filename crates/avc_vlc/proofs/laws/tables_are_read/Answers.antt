@@ -1,5 +1,4 @@
-use Rattle.avc_vlc.specs.Reading.{token_table, zeros_table, run_table}
-use Rattle.avc_vlc.proofs.Codes.{table_read}
+use Rattle.avc_vlc.proofs.Entries.{token_table, zeros_table, run_table, table_read}
 use Rattle.avc_vlc.proofs.laws.tables_are_read.Goals as goal
 
 pub returns : goal.returns

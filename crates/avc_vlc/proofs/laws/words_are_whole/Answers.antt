@@ -1,4 +1,4 @@
-use Rattle.avc_vlc.proofs.ReadingBack.{chroma_zeros_whole, run_whole, token_whole, zeros_whole}
+use Rattle.avc_vlc.proofs.Entries.{chroma_zeros_whole, run_whole, token_whole, zeros_whole}
 use Rattle.avc_vlc.proofs.laws.words_are_whole.Goals as goal
 
 pub returns : goal.returns

@@ -1,4 +1,4 @@
-use Rattle.avc_vlc.proofs.Common.{◌≡◌, ℕ, refl, true, nat_le, le-leb, run_before_codes, Table, row_at, row_table}
+use Rattle.avc_vlc.proofs.Entries.{◌≡◌, ℕ, refl, true, nat_le, le-leb, run_before_codes, Table, row_at, row_table}
 use Rattle.avc_vlc.proofs.run_before.few_entry.Goals as goal
 
 pub returns : goal.returns

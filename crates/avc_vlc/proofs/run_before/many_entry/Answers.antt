@@ -1,4 +1,4 @@
-use Rattle.avc_vlc.proofs.Common.{◌≡◌, refl, arith, false, nat_le, lt-leb, run_table}
+use Rattle.avc_vlc.proofs.Entries.{◌≡◌, refl, arith, false, nat_le, lt-leb, run_table}
 use Rattle.avc_vlc.proofs.run_before.many_entry.Goals as goal
 
 pub returns : goal.returns

@@ -1,5 +1,4 @@
-use Rattle.avc_vlc.proofs.Common.{arith, ◌≡◌, ◌≤◌, ℕ, Ok, refl, le-leb, Bits, reader_bits, run_before, run_table, table_code}
-use Rattle.avc_vlc.proofs.Entries.{reads_word, reads_cut}
+use Rattle.avc_vlc.proofs.Entries.{arith, ◌≡◌, ◌≤◌, ℕ, Ok, refl, le-leb, Bits, reader_bits, run_before, run_table, table_code, reads_word, reads_cut}
 use Rattle.avc_vlc.proofs.run_before.read_coded.Goals as goal
 
 run_read : (zeros_left run : ℕ) (b left : Bits) → table_code (run_table zeros_left) b ≡ Ok (run, left) → run ≤ zeros_left → run_before zeros_left b ≡ Ok (run, left)

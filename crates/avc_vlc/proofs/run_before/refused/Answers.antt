@@ -1,7 +1,5 @@
-use Rattle.avc_vlc.proofs.Common.{◌≡◌, ◌<◌, ℕ, refl, Option, Some, None, Ok, Err, IfSome, lt-leb, Bits, skip, reader_bits, Entry}
-use Rattle.avc_vlc.proofs.Common.{Decides, run_before, run_table, table_code}
-use Rattle.avc_types.specs.declared.fault.Fault.TheVariants.{BadCode}
-use Rattle.avc_vlc.proofs.Entries.{reads_word, reads_none, reads_cut}
+use Rattle.avc_vlc.proofs.Entries.{◌≡◌, ◌<◌, ℕ, refl, Option, Some, None, Ok, Err, IfSome, lt-leb, Bits, skip, reader_bits, Entry, Decides}
+use Rattle.avc_vlc.proofs.Entries.{run_before, run_table, table_code, BadCode, reads_word, reads_none, reads_cut}
 use Rattle.avc_vlc.proofs.run_before.refused.Goals as goal
 
 run_longer : (zeros_left run : ℕ) (b left : Bits) → table_code (run_table zeros_left) b ≡ Ok (run, left) → zeros_left < run → run_before zeros_left b ≡ Err BadCode

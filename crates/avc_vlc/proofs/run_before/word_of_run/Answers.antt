@@ -1,4 +1,4 @@
-use Rattle.avc_vlc.proofs.Common.{◌≡◌, nat_le, false, refl, arith, lt-leb, run_table}
+use Rattle.avc_vlc.proofs.Entries.{◌≡◌, nat_le, false, refl, arith, lt-leb, run_table}
 use Rattle.avc_vlc.proofs.run_before.word_of_run.Goals as goal
 
 pub returns-in_default : goal.returns-in_default

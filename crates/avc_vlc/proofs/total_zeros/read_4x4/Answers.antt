@@ -1,5 +1,5 @@
-use Rattle.avc_vlc.proofs.Common.{◌≡◌, ℕ, ◌-◌, List, [], refl, ap, arith, Some, None, Err, slice_get_past, Bits, reader_bits}
-use Rattle.avc_vlc.proofs.Common.{total_zeros_4x4, row_at, row_table, table_code}
+use Rattle.avc_vlc.proofs.Entries.{◌≡◌, ℕ, ◌-◌, List, [], refl, ap, arith, Some, None, Err, slice_get_past, Bits, reader_bits, total_zeros_4x4}
+use Rattle.avc_vlc.proofs.Entries.{row_at, row_table, table_code}
 use Rattle.avc_types.specs.declared.fault.Fault.TheVariants as faults
 use Rattle.avc_vlc.proofs.total_zeros.read_4x4.Goals as goal
 

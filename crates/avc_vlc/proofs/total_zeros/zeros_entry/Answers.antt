@@ -1,4 +1,4 @@
-use Rattle.avc_vlc.proofs.Common.{ℕ, refl, subst, ◌∙◌, total_zeros_4x4, Decides, Table, row_at, row_table}
+use Rattle.avc_vlc.proofs.Entries.{ℕ, refl, subst, ◌∙◌, total_zeros_4x4, Decides, Table, row_at, row_table}
 use Rattle.avc_vlc.proofs.total_zeros.zeros_entry.Goals as goal
 
 pub returns : goal.returns

@@ -1,5 +1,4 @@
-use Rattle.avc_yuv.proofs.Common.{◌-◌, arith, length, drop, length-take, sym, subst, take, Appends}
-use Rattle.avc_yuv.proofs.Parts.{done_is, row_more}
+use Rattle.avc_yuv.proofs.Windows.{◌-◌, arith, length, drop, length-take, sym, subst, take, Appends, done_is, row_more}
 use Rattle.avc_yuv.proofs.bytes.write_bytes.Goals as goal
 
 pub loop-done-preserved : goal.loop-done-preserved

@@ -1,4 +1,4 @@
-use Rattle.avc_yuv.proofs.Common.{length, take, ◌-◌, ◌≤◌, Appends}
+use Rattle.avc_yuv.proofs.Windows.{length, take, ◌-◌, ◌≤◌, Appends}
 use Rattle.avc_yuv.proofs.bytes.write_bytes.Given as goal
 
 abbrev pub invariant-loop-done : goal.invariant-loop-done

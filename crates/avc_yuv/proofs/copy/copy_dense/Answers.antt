@@ -1,5 +1,4 @@
-use Rattle.avc_yuv.proofs.Common.{ap, ◌∙◌, take_rest, laid, rows_in}
-use Rattle.avc_yuv.proofs.Copying.{dense_window, end_written}
+use Rattle.avc_yuv.proofs.Windows.{ap, ◌∙◌, take_rest, laid, rows_in, dense_window, end_written}
 use Rattle.avc_yuv.proofs.copy.copy_dense.Goals as goal
 
 pub returns-clause-samples : goal.returns-clause-samples

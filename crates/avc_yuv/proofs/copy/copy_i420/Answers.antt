@@ -1,5 +1,4 @@
-use Rattle.std.proofs.Common.{arith}
-use Rattle.avc_yuv.proofs.Copying.{all_copied, length-i420}
+use Rattle.avc_yuv.proofs.Windows.{arith, all_copied, length-i420}
 use Rattle.avc_yuv.proofs.copy.copy_i420.Goals as goal
 
 pub copy_dense-cb-requires-clause-room : goal.copy_dense-cb-requires-clause-room

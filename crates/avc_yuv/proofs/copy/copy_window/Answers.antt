@@ -1,6 +1,4 @@
-use Rattle.avc_yuv.proofs.Common.{◌+◌, ◌-◌, ◌*◌, ◌≤◌, length, ◌∙◌, arith, refl, mul-le-mul_right}
-use Rattle.avc_yuv.proofs.Copying.{next_row}
-use Rattle.avc_yuv.proofs.Parts.{row_inside}
+use Rattle.avc_yuv.proofs.Windows.{◌+◌, ◌-◌, ◌*◌, ◌≤◌, length, ◌∙◌, arith, refl, mul-le-mul_right, next_row_laid, row_inside}
 use Rattle.avc_yuv.proofs.copy.copy_window.Goals as goal
 
 pub rows-preserved : goal.rows-preserved
@@ -11,7 +9,7 @@ rows-preserved c =
     record {
       same_length = c.copy_row.ensures.same_length ∙ c.rows.invariant.same_length;
       rows =
-          next_row of c.args.samples.now c.rows.row c.args.stride _ c.rows.out _ c.args.out.now refl
+          next_row_laid of c.args.samples.now c.rows.row c.args.stride _ c.rows.out _ c.args.out.now refl
           (row_inside of.row_length of.left of.top of.width of.height c.rows.row _ c.requires.inside.columns c.requires.inside.rows c.rows-test.true)
           c.requires.stride (omega (arith, mul-le-mul_right c.args.stride before_last, room)) c.rows.invariant.rows c.copy_row.ensures.row;
     }

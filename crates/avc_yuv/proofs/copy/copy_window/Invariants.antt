@@ -1,4 +1,4 @@
-use Rattle.avc_yuv.proofs.Common.{◌≡◌, length, laid, rows_in}
+use Rattle.avc_yuv.proofs.Windows.{◌≡◌, length, laid, rows_in}
 use Rattle.avc_yuv.proofs.copy.copy_window.Given as goal
 
 abbrev pub invariant-rows : goal.invariant-rows

@@ -1,5 +1,4 @@
-use Rattle.std.proofs.Common.{arith}
-use Rattle.avc_yuv.proofs.Copying.{length-i420}
+use Rattle.avc_yuv.proofs.Windows.{arith, length-i420}
 use Rattle.avc_yuv.proofs.copy.i420_len.Goals as goal
 
 pub returns : goal.returns

@@ -1,5 +1,4 @@
-use Rattle.std.proofs.Common.{◌<◌, ◌^◌, arith}
-use Rattle.avc_yuv.proofs.Copying.{chroma_inside}
+use Rattle.avc_yuv.proofs.Windows.{◌<◌, ◌^◌, arith, chroma_inside}
 use Rattle.avc_yuv.proofs.copy.window_of.Goals as goal
 
 pub returns-in-Cb-clause-inside : goal.returns-in-Cb-clause-inside

@@ -1,6 +1,4 @@
-use Rattle.std.proofs.Common.{◌∙◌, refl}
-use Rattle.avc_yuv.proofs.Parts.{row_inside}
-use Rattle.avc_yuv.proofs.Windows.{gathered_more}
+use Rattle.avc_yuv.proofs.Windows.{◌∙◌, refl, row_inside, gathered_more}
 use Rattle.avc_yuv.proofs.window_rows.gather.Goals as goal
 
 pub loop-row-preserved : goal.loop-row-preserved

@@ -1,4 +1,4 @@
-use Rattle.avc_yuv.proofs.Common.{◌≡◌, ◌*◌, length, take, window}
+use Rattle.avc_yuv.proofs.Windows.{◌≡◌, ◌*◌, length, take, window}
 use Rattle.avc_yuv.proofs.window_rows.gather.Given as goal
 
 abbrev pub invariant-loop-row : goal.invariant-loop-row

@@ -1,6 +1,5 @@
-use Rattle.avc_yuv.proofs.Common.{◌≡◌, ◌+◌, ◌*◌, Err, sym, ap, ◌∙◌, arith, refl, rules, subst, Appends, window, part_of_row}
-use Rattle.avc_yuv.proofs.Windows.{next_row, row_failed}
-use Rattle.avc_yuv.proofs.Parts.{row_inside, length-rows, length-part_of_row}
+use Rattle.avc_yuv.proofs.Windows.{◌≡◌, ◌+◌, ◌*◌, Err, sym, ap, ◌∙◌, arith, refl, rules, subst, Appends, window, part_of_row, next_row, row_failed}
+use Rattle.avc_yuv.proofs.Windows.{row_inside, length-rows, length-part_of_row}
 use Rattle.avc_yuv.proofs.window_rows.write_each.Goals as goal
 
 pub returns-in_err-written : goal.returns-in_err-written

@@ -1,6 +1,5 @@
-use Rattle.avc_yuv.proofs.Common.{◌≡◌, ◌+◌, ◌*◌, ◌≤◌, Err, refl, sym, ap, ◌∙◌, subst, arith, rules, Appends, window, Writes}
-use Rattle.avc_yuv.proofs.Parts.{length-window}
-use Rattle.avc_yuv.proofs.Windows.{cut_rows, next_room, next_rows, rows_failed}
+use Rattle.avc_yuv.proofs.Windows.{◌≡◌, ◌+◌, ◌*◌, ◌≤◌, Err, refl, sym, ap, ◌∙◌, subst, arith, rules, Appends, window, Writes, length-window, cut_rows}
+use Rattle.avc_yuv.proofs.Windows.{next_room, next_rows, rows_failed}
 use Rattle.avc_yuv.proofs.window_rows.write_window.Goals as goal
 
 pub returns-then-of : goal.returns-then-of

@@ -1,4 +1,4 @@
-use Rattle.avc_yuv.proofs.Common.{◌≡◌, ◌+◌, ◌-◌, ◌*◌, ◌≤◌, Appends, window}
+use Rattle.avc_yuv.proofs.Windows.{◌≡◌, ◌+◌, ◌-◌, ◌*◌, ◌≤◌, Appends, window}
 use Rattle.avc_yuv.proofs.window_rows.write_window.Given as goal
 
 abbrev pub invariant-loop-row : goal.invariant-loop-row

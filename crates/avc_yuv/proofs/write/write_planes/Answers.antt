@@ -1,6 +1,5 @@
-use Rattle.avc_yuv.proofs.Common.{◌≡◌, ◌/◌, length, Err, ap, ◌∙◌, arith, rules, subst, ◌*◌, ◌<◌, ◌^◌, shown_width, shown_height}
-use Rattle.avc_yuv.proofs.Parts.{room, length-window, cb_failed, cr_failed}
-use Rattle.avc_yuv.proofs.Windows.{chroma_rows}
+use Rattle.avc_yuv.proofs.Windows.{◌≡◌, ◌/◌, length, Err, ap, ◌∙◌, arith, rules, subst, ◌*◌, ◌<◌, ◌^◌, shown_width, shown_height, room, length-window}
+use Rattle.avc_yuv.proofs.Windows.{cb_failed, cr_failed, chroma_rows}
 use Rattle.avc_yuv.proofs.write.write_planes.Goals as goal
 
 pub write_window-requires-2-clause-room : goal.write_window-requires-2-clause-room

@@ -1,5 +1,4 @@
-use Rattle.avc_annexb.proofs.Common.{◌∷◌, [], get_or, take, drop, length, ◌-◌, on_ok_weaker, with_bytes}
-use Rattle.avc_annexb.proofs.Taking.{keeps-append, first_and_rest}
+use Rattle.avc_annexb.proofs.Written.{◌∷◌, [], get_or, take, drop, length, ◌-◌, on_ok_weaker, with_bytes, keeps-append, first_and_rest}
 use Rattle.avc_annexb.proofs.open_unit.OpenUnit.append.Goals as goal
 
 pub returns : goal.returns

@@ -1,5 +1,4 @@
-use Rattle.avc_annexb.proofs.Common.{on_ok_weaker, with_bytes}
-use Rattle.avc_annexb.proofs.Taking.{keeps-append}
+use Rattle.avc_annexb.proofs.Written.{on_ok_weaker, with_bytes, keeps-append}
 use Rattle.avc_annexb.proofs.open_unit.OpenUnit.append_after.Goals as goal
 
 pub returns : goal.returns

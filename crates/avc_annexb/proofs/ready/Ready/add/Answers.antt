@@ -1,5 +1,4 @@
-use Rattle.std.proofs.Common.{◌≡◌, ◌∷◌, [], length, length-append, arith}
-use Rattle.avc_annexb.proofs.Taking.{closed_some, units_pushed}
+use Rattle.avc_annexb.proofs.Written.{◌≡◌, ◌∷◌, [], length, length-append, arith, closed_some, units_pushed}
 use Rattle.avc_annexb.proofs.ready.Ready.add.Goals as goal
 
 pub returns-clause-holds : goal.returns-clause-holds

@@ -1,5 +1,4 @@
-use Rattle.std.proofs.lemmas.Result.{on_ok_weaker}
-use Rattle.avc_annexb.proofs.Scanning.{scanned_end}
+use Rattle.avc_annexb.proofs.Written.{on_ok_weaker, scanned_end}
 use Rattle.avc_annexb.proofs.scanner.Scanner.end.Goals as goal
 
 pub returns-clause-ok : goal.returns-clause-ok

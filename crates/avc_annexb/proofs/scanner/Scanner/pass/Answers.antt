@@ -1,5 +1,4 @@
-use Rattle.avc_annexb.proofs.Common.{◌++◌, replicate, length-append, arith, nat_tests, on_ok_weaker, with_more}
-use Rattle.avc_annexb.proofs.Scanning.{scanned_run}
+use Rattle.avc_annexb.proofs.Written.{◌++◌, replicate, length-append, arith, nat_tests, on_ok_weaker, with_more, scanned_run}
 use Rattle.avc_annexb.proofs.scanner.Scanner.pass.Goals as goal
 
 pub returns-clause-ok : goal.returns-clause-ok

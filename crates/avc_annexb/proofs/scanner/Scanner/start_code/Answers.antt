@@ -1,5 +1,4 @@
-use Rattle.avc_annexb.proofs.Common.{◌+◌, ◌++◌, [], Some, length, arith, length_push, on_ok_weaker, closed_unit}
-use Rattle.avc_annexb.proofs.Scanning.{scanned_start}
+use Rattle.avc_annexb.proofs.Written.{◌+◌, ◌++◌, [], Some, length, arith, length_push, on_ok_weaker, closed_unit, scanned_start}
 use Rattle.avc_annexb.proofs.scanner.Scanner.start_code.Goals as goal
 
 pub returns-clause-ok : goal.returns-clause-ok

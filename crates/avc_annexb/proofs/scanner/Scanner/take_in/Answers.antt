@@ -1,5 +1,4 @@
-use Rattle.avc_annexb.proofs.Common.{arith, drop, take_rest, length-drop}
-use Rattle.avc_annexb.proofs.Zeros.{zeros_and_run}
+use Rattle.avc_annexb.proofs.Written.{arith, drop, take_rest, length-drop, zeros_and_run}
 use Rattle.avc_annexb.proofs.scanner.Scanner.take_in.Goals as goal
 
 pub loop-place-preserved : goal.loop-place-preserved

@@ -1,4 +1,4 @@
-use Rattle.avc_annexb.proofs.Common.{◌≡◌, ◌++◌, ◌≤◌, ℕ, ◌-◌, List, length, take, HasScanned}
+use Rattle.avc_annexb.proofs.Written.{◌≡◌, ◌++◌, ◌≤◌, ℕ, ◌-◌, List, length, take, HasScanned}
 use Rattle.avc_annexb.proofs.scanner.Scanner.take_in.Given as goal
 
 -- the bytes before this place were taken in

@@ -1,5 +1,4 @@
-use Rattle.avc_annexb.proofs.Common.{refl, splitter_state}
-use Rattle.avc_annexb.proofs.Taking.{next_in, taken_more, fewer_wait}
+use Rattle.avc_annexb.proofs.Written.{refl, splitter_state, next_in, taken_more, fewer_wait}
 use Rattle.avc_annexb.proofs.splitter.Splitter.next_unit.Goals as goal
 
 pub returns-in-Running : goal.returns-in-Running

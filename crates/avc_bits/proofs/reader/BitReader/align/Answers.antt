@@ -1,4 +1,4 @@
-use Rattle.avc_bits.proofs.Whole.{aligned_after}
+use Rattle.avc_bits.proofs.Reading.{aligned_after}
 use Rattle.avc_bits.proofs.reader.BitReader.align.Goals as goal
 
 pub returns-clause-read : goal.returns-clause-read

@@ -1,5 +1,4 @@
-use Rattle.avc_bits.proofs.Common.{arith, refl, reader_bits}
-use Rattle.avc_bits.proofs.Reading.{length-ahead, short_ue_from}
+use Rattle.avc_bits.proofs.Reading.{arith, refl, reader_bits, length-ahead, short_ue_from}
 use Rattle.avc_bits.proofs.reader.BitReader.any_ue.Goals as goal
 
 pub after-requires : goal.after-requires

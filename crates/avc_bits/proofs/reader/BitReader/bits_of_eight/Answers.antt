@@ -1,6 +1,4 @@
-use Rattle.avc_bits.proofs.Common.{arith, ◌∙◌, position_of}
-use Rattle.avc_bits.proofs.Numbers.{window_from}
-use Rattle.avc_bits.proofs.Reading.{none_beyond}
+use Rattle.avc_bits.proofs.Reading.{arith, ◌∙◌, position_of, window_from, none_beyond}
 use Rattle.avc_bits.proofs.reader.BitReader.bits_of_eight.Goals as goal
 
 pub returns-clause-value : goal.returns-clause-value

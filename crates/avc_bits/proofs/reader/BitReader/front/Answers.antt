@@ -1,5 +1,4 @@
-use Rattle.avc_bits.proofs.Common.{arith, ◌∙◌, ap, sym, number_of, reader_bits}
-use Rattle.avc_bits.proofs.Reading.{length-ahead, leading_from, leading_le, take-ahead}
+use Rattle.avc_bits.proofs.Reading.{arith, ◌∙◌, ap, sym, number_of, reader_bits, length-ahead, leading_from, leading_le, take-ahead}
 use Rattle.avc_bits.proofs.reader.BitReader.front.Goals as goal
 
 pub overflow_sub-zeros-2 : goal.overflow_sub-zeros-2

@@ -1,5 +1,4 @@
-use Rattle.std.proofs.Common.{arith}
-use Rattle.avc_bits.proofs.Reading.{length-ahead}
+use Rattle.avc_bits.proofs.Reading.{arith, length-ahead}
 use Rattle.avc_bits.proofs.reader.BitReader.has_many.Goals as goal
 
 pub returns : goal.returns

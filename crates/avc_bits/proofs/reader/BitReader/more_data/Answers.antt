@@ -1,5 +1,4 @@
-use Rattle.avc_bits.proofs.Common.{sym, ◌∙◌, reader_bits}
-use Rattle.avc_bits.proofs.Reading.{length-ahead, some_left}
+use Rattle.avc_bits.proofs.Reading.{sym, ◌∙◌, reader_bits, length-ahead, some_left}
 use Rattle.avc_bits.proofs.reader.BitReader.more_data.Goals as goal
 
 pub returns : goal.returns

@@ -1,5 +1,4 @@
-use Rattle.avc_bits.proofs.Common.{arith, ap, ◌∙◌, take, drop, byte_bits, number_of}
-use Rattle.avc_bits.proofs.Reading.{within_bytes}
+use Rattle.avc_bits.proofs.Reading.{arith, ap, ◌∙◌, take, drop, byte_bits, number_of, within_bytes}
 use Rattle.avc_bits.proofs.reader.BitReader.next_bits.Goals as goal
 
 pub bits_at-requires-clause-inside : goal.bits_at-requires-clause-inside

@@ -1,5 +1,4 @@
-use Rattle.std.proofs.Common.{arith}
-use Rattle.avc_bits.proofs.Reading.{peek_window}
+use Rattle.avc_bits.proofs.Reading.{arith, peek_window}
 use Rattle.avc_bits.proofs.reader.BitReader.peek.Goals as goal
 
 pub returns-then-is_far-clause-bits : goal.returns-then-is_far-clause-bits

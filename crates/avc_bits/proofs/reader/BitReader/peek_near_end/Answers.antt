@@ -1,5 +1,5 @@
-use Rattle.avc_bits.proofs.Common.{arith, ap, sym, ◌∙◌, take, drop, bits_of, byte_bits, number_of, reader_bits}
-use Rattle.avc_bits.proofs.Reading.{length-ahead, take-ahead, peek_fits, peek_from, within_bytes}
+use Rattle.avc_bits.proofs.Reading.{arith, ap, sym, ◌∙◌, take, drop, bits_of, byte_bits, number_of, reader_bits, length-ahead, take-ahead, peek_fits}
+use Rattle.avc_bits.proofs.Reading.{peek_from, within_bytes}
 use Rattle.avc_bits.proofs.reader.BitReader.peek_near_end.Goals as goal
 
 pub overflow_cast-result-2 : goal.overflow_cast-result-2

@@ -1,5 +1,4 @@
-use Rattle.avc_bits.proofs.Common.{◌+◌, ◌*◌, arith, refl, rules, passed, reader_bits}
-use Rattle.avc_bits.proofs.Reading.{short_ue_from}
+use Rattle.avc_bits.proofs.Reading.{◌+◌, ◌*◌, arith, refl, rules, passed, reader_bits, short_ue_from}
 use Rattle.avc_bits.proofs.reader.BitReader.short_ue.Goals as goal
 
 pub overflow_sub-result-2 : goal.overflow_sub-result-2

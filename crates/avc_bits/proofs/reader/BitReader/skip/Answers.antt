@@ -1,5 +1,4 @@
-use Rattle.avc_bits.proofs.Common.{arith, ap, ◌∙◌, sym, Ok, reader_bits}
-use Rattle.avc_bits.proofs.Reading.{length-ahead, skip_short, skip_long}
+use Rattle.avc_bits.proofs.Reading.{arith, ap, ◌∙◌, sym, Ok, reader_bits, length-ahead, skip_short, skip_long}
 use Rattle.avc_bits.proofs.reader.BitReader.skip.Goals as goal
 
 pub returns-then-left_at_most-count-clause-read : goal.returns-then-left_at_most-count-clause-read

@@ -1,5 +1,4 @@
-use Rattle.std.proofs.Common.{arith}
-use Rattle.avc_bits.proofs.Reading.{length-ahead}
+use Rattle.avc_bits.proofs.Reading.{arith, length-ahead}
 use Rattle.avc_bits.proofs.reader.BitReader.skip_ahead.Goals as goal
 
 pub after-requires : goal.after-requires

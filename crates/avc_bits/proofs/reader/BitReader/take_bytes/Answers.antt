@@ -1,6 +1,4 @@
-use Rattle.avc_bits.proofs.Common.{arith, reader_bits}
-use Rattle.avc_bits.proofs.Reading.{length-ahead}
-use Rattle.avc_bits.proofs.Whole.{times_short, bytes_from}
+use Rattle.avc_bits.proofs.Reading.{arith, reader_bits, length-ahead, times_short, bytes_from}
 use Rattle.avc_bits.proofs.reader.BitReader.take_bytes.Goals as goal
 
 pub returns-then-left-count-clause-read : goal.returns-then-left-count-clause-read

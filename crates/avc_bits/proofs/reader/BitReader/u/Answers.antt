@@ -1,5 +1,4 @@
-use Rattle.avc_bits.proofs.Common.{arith, reader_bits}
-use Rattle.avc_bits.proofs.Reading.{length-ahead, u_short, u_from}
+use Rattle.avc_bits.proofs.Reading.{arith, reader_bits, length-ahead, u_short, u_from}
 use Rattle.avc_bits.proofs.reader.BitReader.u.Goals as goal
 
 pub returns-then-left_within-count-clause-read : goal.returns-then-left_within-count-clause-read

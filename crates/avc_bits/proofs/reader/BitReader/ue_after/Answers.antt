@@ -1,5 +1,4 @@
-use Rattle.avc_bits.proofs.Common.{arith, ◌+◌, ◌*◌, reader_bits}
-use Rattle.avc_bits.proofs.Reading.{length-ahead, ue_too_long, ue_short, ue_from, ue_fits, within_bytes}
+use Rattle.avc_bits.proofs.Reading.{arith, ◌+◌, ◌*◌, reader_bits, length-ahead, ue_too_long, ue_short, ue_from, ue_fits, within_bytes}
 use Rattle.avc_bits.proofs.reader.BitReader.ue_after.Goals as goal
 
 pub returns-then-zeros-gt31-clause-read : goal.returns-then-zeros-gt31-clause-read

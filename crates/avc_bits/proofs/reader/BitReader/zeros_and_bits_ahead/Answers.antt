@@ -1,7 +1,5 @@
-use Rattle.avc_bits.proofs.Common.{◌≡◌, ◌+◌, ◌*◌, ◌/◌, ◌%◌, ◌-◌, ◌^◌, arith, refl, ap, sym, ◌∙◌, take, drop, ℕ, List, Bool, ◌≤◌, ◌<◌}
-use Rattle.avc_bits.proofs.Common.{number_of, passed, reader_bits}
-use Rattle.avc_bits.proofs.Numbers.{pow_lt_trans}
-use Rattle.avc_bits.proofs.Reading.{length-ahead, take-ahead, number-take_lt, before_from, zeros_value, u_after}
+use Rattle.avc_bits.proofs.Reading.{◌≡◌, ◌+◌, ◌*◌, ◌/◌, ◌%◌, ◌-◌, ◌^◌, arith, refl, ap, sym, ◌∙◌, take, drop, ℕ, List, Bool, ◌≤◌, ◌<◌, number_of}
+use Rattle.avc_bits.proofs.Reading.{passed, reader_bits, pow_lt_trans, length-ahead, take-ahead, number-take_lt, before_from, zeros_value, u_after}
 use Rattle.std.specs.Int.Count.{count_leading_zeros}
 use Rattle.avc_bits.proofs.reader.BitReader.zeros_and_bits_ahead.Goals as goal
 

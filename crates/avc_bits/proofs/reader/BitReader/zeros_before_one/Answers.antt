@@ -1,5 +1,4 @@
-use Rattle.avc_bits.proofs.Common.{arith, reader_bits}
-use Rattle.avc_bits.proofs.Reading.{length-ahead, before_many, before_short, before_from}
+use Rattle.avc_bits.proofs.Reading.{arith, reader_bits, length-ahead, before_many, before_short, before_from}
 use Rattle.avc_bits.proofs.reader.BitReader.zeros_before_one.Goals as goal
 
 pub returns-then-zeros-limit-clause-read : goal.returns-then-zeros-limit-clause-read

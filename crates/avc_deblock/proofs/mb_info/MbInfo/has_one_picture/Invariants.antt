@@ -1,4 +1,4 @@
-use Rattle.std.proofs.Common.{◌≡◌, ◌<◌, ℕ, true, slice_index}
+use Rattle.avc_deblock.proofs.FilteredPictures.{◌≡◌, ◌<◌, ℕ, true, slice_index}
 use Rattle.avc_deblock.proofs.mb_info.MbInfo.has_one_picture.Given as goal
 
 abbrev pub invariant-loop-k : goal.invariant-loop-k

@@ -1,4 +1,4 @@
-use Rattle.avc_deblock.proofs.Common.{◌≡◌, ◌<◌, ℕ, true, slice_index_or, zero_vector}
+use Rattle.avc_deblock.proofs.FilteredPictures.{◌≡◌, ◌<◌, ℕ, true, slice_index_or, zero_vector}
 use Rattle.avc_deblock.proofs.mb_info.MbInfo.has_one_vector.Given as goal
 
 abbrev pub invariant-loop-k : goal.invariant-loop-k

@@ -1,4 +1,4 @@
-use Rattle.avc_deblock.proofs.Common.{◌≡◌, ◌<◌, ◌+◌, ◌%◌, ℕ, true, edge_block, inter_strength}
+use Rattle.avc_deblock.proofs.FilteredPictures.{◌≡◌, ◌<◌, ◌+◌, ◌%◌, ℕ, true, edge_block, inter_strength}
 use Rattle.avc_deblock.proofs.mb_info.MbInfo.is_quiet.Given as goal
 
 abbrev pub invariant-loop-k : goal.invariant-loop-k

@@ -1,8 +1,6 @@
-use Rattle.avc_decoder.proofs.Common.{◌≡◌, ◌++◌, Err, List, ℕ, true, length, ap, refl, rules, subst, sym, ◌∙◌, is_none, Machine}
-use Rattle.avc_decoder.proofs.Common.{IsFeedAnswer, NoMemory}
+use Rattle.avc_decoder.proofs.Resuming.{◌≡◌, ◌++◌, Err, List, ℕ, true, length, ap, refl, rules, subst, sym, ◌∙◌, is_none, Machine, IsFeedAnswer}
+use Rattle.avc_decoder.proofs.Resuming.{NoMemory, FeedsIn, going_on, kept_fed, kept_refused, machine_of, ok_so, refused_to, some_bytes}
 use Rattle.avc_decoder.specs.Machine.{after_feed}
-use Rattle.avc_decoder.specs.States.{FeedsIn}
-use Rattle.avc_decoder.proofs.Draining.{going_on, kept_fed, kept_refused, machine_of, ok_so, refused_to, some_bytes}
 use Rattle.avc_decoder.proofs.decoder.Decoder.feed.Goals as goal
 
 pub invariant_of-self : goal.invariant_of-self

@@ -1,6 +1,4 @@
-use Rattle.std.proofs.Common.{[], true, append-nil, subst, sym}
-use Rattle.avc_decoder.specs.States.{EndsIn}
-use Rattle.avc_decoder.proofs.Draining.{going_on, kept_flushed, kept_refused, ok_so}
+use Rattle.avc_decoder.proofs.Resuming.{[], true, append-nil, subst, sym, EndsIn, going_on, kept_flushed, kept_refused, ok_so}
 use Rattle.avc_decoder.proofs.decoder.Decoder.flush.Goals as goal
 
 pub invariant_of-self : goal.invariant_of-self

@@ -1,4 +1,4 @@
-use Rattle.avc_decoder.proofs.Handling.{ends}
+use Rattle.avc_decoder.proofs.Resuming.{ends}
 use Rattle.avc_decoder.proofs.stream.Stream.finish.Goals as goal
 
 pub returns-clause-state : goal.returns-clause-state

@@ -1,5 +1,4 @@
-use Rattle.std.proofs.Common.{ap, not, sym, ◌&&◌, ◌∙◌}
-use Rattle.avc_decoder.proofs.Handling.{closes_and_goes_on, closes_silently, fits_before, fits_closed, stays, works_before}
+use Rattle.avc_decoder.proofs.Resuming.{ap, not, sym, ◌&&◌, ◌∙◌, closes_and_goes_on, closes_silently, fits_before, fits_closed, stays, works_before}
 use Rattle.avc_decoder.proofs.stream.Stream.unit.Goals as goal
 
 -- the open picture stays open, or there is none

@@ -1,9 +1,6 @@
-use Rattle.avc_decoder_core.proofs.Common.{◌≡◌, ◌∙◌, ◌∷◌, map, ap, sym, subst, false, Some, result_map}
-use Rattle.avc_decoder_core.proofs.Common.{SlidingWindow, marked_frame, MarksFrame, marks_after, history_of}
+use Rattle.avc_decoder_core.proofs.Sequences.{◌≡◌, ◌∙◌, ◌∷◌, map, ap, sym, subst, false, Some, result_map, SlidingWindow, marked_frame, MarksFrame}
+use Rattle.avc_decoder_core.proofs.Sequences.{marks_after, history_of, marks_of, missing_frame, marked_then, answered, few_marked}
 use Rattle.avc_marking.specs.Frames.{marking_entry}
-use Rattle.avc_decoder_core.specs.History.{marks_of, missing_frame}
-use Rattle.avc_decoder_core.proofs.Entering.{marked_then}
-use Rattle.avc_decoder_core.proofs.State.{answered, few_marked}
 use Rattle.avc_decoder_core.proofs.frame_buffer.FrameBuffer.can_store_missing.Goals as goal
 
 pub sliding_window-requires : goal.sliding_window-requires

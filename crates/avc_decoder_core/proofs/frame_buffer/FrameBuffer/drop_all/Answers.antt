@@ -1,5 +1,4 @@
-use Rattle.avc_decoder_core.proofs.State.{empty_state, no_buffer}
-use Rattle.std.proofs.Common.{[], ap, ◌∙◌}
+use Rattle.avc_decoder_core.proofs.Sequences.{empty_state, no_buffer, [], ap, ◌∙◌}
 use Rattle.avc_decoder_core.proofs.frame_buffer.FrameBuffer.drop_all.Goals as goal
 
 pub invariant_of-self : goal.invariant_of-self

@@ -1,6 +1,5 @@
-use Rattle.avc_decoder_core.proofs.Common.{◌≡◌, ◌≢◌, [], ◌∙◌, subst, ap, ap₂, sym, false, history_of, empty_frame_buffer, held_pictures}
-use Rattle.avc_dpb.proofs.Picking.{on_err}
-use Rattle.avc_decoder_core.proofs.State.{emptied_all, empty_state, holds_some, no_buffer}
+use Rattle.avc_decoder_core.proofs.Sequences.{◌≡◌, ◌≢◌, [], ◌∙◌, subst, ap, ap₂, sym, false, history_of, empty_frame_buffer, held_pictures, on_err}
+use Rattle.avc_decoder_core.proofs.Sequences.{emptied_all, empty_state, holds_some, no_buffer}
 use Rattle.avc_decoder_core.proofs.frame_buffer.FrameBuffer.empty.Goals as goal
 
 pub invariant_of-self-2 : goal.invariant_of-self-2

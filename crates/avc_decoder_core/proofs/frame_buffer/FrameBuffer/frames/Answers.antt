@@ -1,5 +1,4 @@
-use Rattle.avc_decoder_core.proofs.Common.{◌≡◌, ◌∙◌, ap, false, subst, sym, history_of, AreFramesIn, AreStoredIn}
-use Rattle.avc_decoder_core.proofs.State.{are_frames, are_stored}
+use Rattle.avc_decoder_core.proofs.Sequences.{◌≡◌, ◌∙◌, ap, false, subst, sym, history_of, AreFramesIn, AreStoredIn, are_frames, are_stored}
 use Rattle.avc_decoder_core.proofs.frame_buffer.FrameBuffer.frames.Goals as goal
 
 pub returns-clause-stored : goal.returns-clause-stored

@@ -1,7 +1,5 @@
-use Rattle.avc_decoder_core.proofs.Common.{◌≡◌, ◌∙◌, ◌+◌, ◌-◌, ◌≤◌, false, length, map, ap, sym, subst, arith, marked_frame, max_frame_num}
-use Rattle.avc_decoder_core.proofs.Common.{CountsReferences, frame_nums_from, history_of, IsLongGap, settles_at}
-use Rattle.avc_decoder_core.proofs.Settling.{long_gap}
-use Rattle.avc_decoder_core.proofs.State.{few_frames}
+use Rattle.avc_decoder_core.proofs.Sequences.{◌≡◌, ◌∙◌, ◌+◌, ◌-◌, ◌≤◌, false, length, map, ap, sym, subst, arith, marked_frame, max_frame_num}
+use Rattle.avc_decoder_core.proofs.Sequences.{CountsReferences, frame_nums_from, history_of, IsLongGap, settles_at, long_gap, few_frames}
 use Rattle.avc_decoder_core.proofs.frame_buffer.FrameBuffer.is_settled.Goals as goal
 
 pub returns : goal.returns

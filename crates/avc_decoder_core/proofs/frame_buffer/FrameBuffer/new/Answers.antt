@@ -1,4 +1,4 @@
-use Rattle.avc_decoder_core.proofs.State.{empty_state}
+use Rattle.avc_decoder_core.proofs.Sequences.{empty_state}
 use Rattle.avc_decoder_core.proofs.frame_buffer.FrameBuffer.new.Goals as goal
 
 pub invariant_of-result : goal.invariant_of-result

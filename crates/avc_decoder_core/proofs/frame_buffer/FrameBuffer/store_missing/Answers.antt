@@ -1,12 +1,8 @@
-use Rattle.avc_decoder_core.proofs.Common.{◌≡◌, ◌∙◌, ◌∷◌, ◌+◌, ◌-◌, [], length, map, ap, ap₂, refl, sym, subst, false, Some, Ok, Err}
-use Rattle.avc_decoder_core.proofs.Common.{arith, false≢true, SlidingWindow, marked_frame, MarksFrame, marks_after, history_of}
-use Rattle.avc_decoder_core.proofs.Common.{with_all_marks, IsStateAfter, output_pictures}
+use Rattle.avc_decoder_core.proofs.Sequences.{◌≡◌, ◌∙◌, ◌∷◌, ◌+◌, ◌-◌, [], length, map, ap, ap₂, refl, sym, subst, false, Some, Ok, Err, arith}
+use Rattle.avc_decoder_core.proofs.Sequences.{false≢true, SlidingWindow, marked_frame, MarksFrame, marks_after, history_of, with_all_marks}
+use Rattle.avc_decoder_core.proofs.Sequences.{IsStateAfter, output_pictures, is_ok, Entry, is_same_sps, marks_of, missing_frame, sequence_sps}
+use Rattle.avc_decoder_core.proofs.Sequences.{marked_then, IsTaken, few_marked, taken, frame_made, arrival_of_missing, missing_arrives, outputs_none}
 use Rattle.avc_marking.specs.Frames.{marking_entry}
-use Rattle.std.specs.Result.{is_ok}
-use Rattle.avc_decoder_core.specs.History.{Entry, is_same_sps, marks_of, missing_frame, sequence_sps}
-use Rattle.avc_decoder_core.proofs.Entering.{marked_then}
-use Rattle.avc_decoder_core.proofs.State.{IsTaken, few_marked, taken}
-use Rattle.avc_decoder_core.proofs.StoredEntry.{frame_made, missing_arrival, missing_arrives, outputs_none}
 use Rattle.avc_decoder_core.proofs.frame_buffer.FrameBuffer.store_missing.Goals as goal
 
 pub sliding_window-requires : goal.sliding_window-requires
@@ -67,7 +63,7 @@ stored c =
           c.set_marks.new.dpb c.set_marks.new.dpb c.store.new.self set
           [] c.in_ok-out.out.items (outputs_none c.set_marks.new.dpb) refl
           c.entry_frame-frame.result (c.len.result - 1) _ last made
-          (missing_arrival c.dpb_size.result) (missing_arrives sps frame_num h c.dpb_size.result c.dpb_size.ensures)
+          (arrival_of_missing c.dpb_size.result) (missing_arrives sps frame_num h c.dpb_size.result c.dpb_size.ensures)
           c.in_ok-out.ensures.ok c.in_ok-out.ensures.kept frame_num refl;
     }
 

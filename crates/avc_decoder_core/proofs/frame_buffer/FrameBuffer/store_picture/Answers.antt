@@ -1,13 +1,9 @@
-use Rattle.avc_decoder_core.proofs.Common.{◌≡◌, ◌∙◌, ◌∷◌, ◌+◌, ◌-◌, length, map, ap, ap₂, refl, rules, to_z, of_z, w32, sym, subst}
-use Rattle.avc_decoder_core.proofs.Common.{OnOk, false, Ok, Err, arith, Faulty, NoMemory, order_counts, CanFollow, marked_frame}
-use Rattle.avc_decoder_core.proofs.Common.{padded_planes_of, MarksFrame, frame_num_after_marking, marks_after, history_of, with_all_marks}
-use Rattle.avc_decoder_core.proofs.Common.{IsStateAfter, output_pictures}
+use Rattle.avc_decoder_core.proofs.Sequences.{◌≡◌, ◌∙◌, ◌∷◌, ◌+◌, ◌-◌, length, map, ap, ap₂, refl, rules, to_z, of_z, w32, sym, subst, OnOk, false}
+use Rattle.avc_decoder_core.proofs.Sequences.{Ok, Err, arith, Faulty, NoMemory, order_counts, CanFollow, marked_frame, padded_planes_of, MarksFrame}
+use Rattle.avc_decoder_core.proofs.Sequences.{frame_num_after_marking, marks_after, history_of, with_all_marks, IsStateAfter, output_pictures, is_ok}
+use Rattle.avc_decoder_core.proofs.Sequences.{Entry, decoded_picture, marks_of, order_or_0, pasts, picture_entry, marked_then, IsTaken, few_marked}
+use Rattle.avc_decoder_core.proofs.Sequences.{refused, taken, frame_made, picture_arrival, picture_arrives, picture_previous}
 use Rattle.avc_marking.specs.Frames.{marking_entry}
-use Rattle.std.specs.Result.{is_ok}
-use Rattle.avc_decoder_core.specs.History.{Entry, decoded_picture, marks_of, order_or_0, pasts, picture_entry}
-use Rattle.avc_decoder_core.proofs.Entering.{marked_then}
-use Rattle.avc_decoder_core.proofs.State.{IsTaken, few_marked, refused, taken}
-use Rattle.avc_decoder_core.proofs.StoredEntry.{frame_made, picture_arrival, picture_arrives, picture_previous}
 use Rattle.avc_decoder_core.proofs.frame_buffer.FrameBuffer.store_picture.Goals as goal
 
 pub mark-requires : goal.mark-requires

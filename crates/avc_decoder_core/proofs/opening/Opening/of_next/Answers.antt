@@ -1,6 +1,4 @@
-use Rattle.avc_decoder_core.proofs.Common.{◌≡◌, ◌∙◌, ap₂, Err, to_z, of_z, w32, arith, rules, int_min}
-use Rattle.avc_decoder_core.specs.History.{pasts}
-use Rattle.avc_decoder_core.proofs.MissingNumbers.{counted_next, not_counted}
+use Rattle.avc_decoder_core.proofs.Sequences.{◌≡◌, ◌∙◌, ap₂, Err, to_z, of_z, w32, arith, rules, int_min, pasts, counted_next, not_counted}
 use Rattle.avc_decoder_core.proofs.opening.Opening.of_next.Goals as goal
 
 pub returns-in_err-top : goal.returns-in_err-top

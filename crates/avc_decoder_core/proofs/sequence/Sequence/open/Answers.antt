@@ -1,7 +1,5 @@
-use Rattle.avc_decoder_core.proofs.Common.{◌≡◌, ◌∙◌, ap, sym, subst, None, Ok, refl, false, to_z, of_z, w32, rules, option_map, history_of}
-use Rattle.avc_decoder_core.proofs.Common.{IsOpening, SequenceState, Inside}
-use Rattle.avc_decoder_core.specs.History.{history_at_opening}
-use Rattle.avc_decoder_core.specs.SequenceFields.{IsSequenceState, open_picture_of, sequence_state}
+use Rattle.avc_decoder_core.proofs.Sequences.{◌≡◌, ◌∙◌, ap, sym, subst, None, Ok, refl, false, to_z, of_z, w32, rules, option_map, history_of}
+use Rattle.avc_decoder_core.proofs.Sequences.{IsOpening, SequenceState, Inside, history_at_opening, IsSequenceState, open_picture_of, sequence_state}
 use Rattle.avc_decoder_core.proofs.Sequences.{at_rest, opened_on, opened_state}
 use Rattle.avc_decoder_core.proofs.sequence.Sequence.open.Goals as goal
 

@@ -1,9 +1,7 @@
-use Rattle.avc_decoder_core.proofs.Common.{◌≡◌, ◌∙◌, [], ap, sym, subst, Result, Err, None, false, arith, rules, option_map, Fault, Sps}
-use Rattle.avc_decoder_core.proofs.Common.{order_count_state, Header, history_of, counts_over, Finds, Opening, SequenceState, Inside}
-use Rattle.avc_decoder_core.specs.History.{pasts, with_missing}
-use Rattle.avc_decoder_core.specs.SequenceFields.{IsSequenceState, open_picture_of, sequence_state}
-use Rattle.avc_decoder_core.proofs.MissingNumbers.{counted_over, finds_idr, finds_other, refused_missing, refused_numbers}
-use Rattle.avc_decoder_core.proofs.Sequences.{at_rest, counted_at_rest}
+use Rattle.avc_decoder_core.proofs.Sequences.{◌≡◌, ◌∙◌, [], ap, sym, subst, Result, Err, None, false, arith, rules, option_map, Fault, Sps}
+use Rattle.avc_decoder_core.proofs.Sequences.{order_count_state, Header, history_of, counts_over, Finds, Opening, SequenceState, Inside, pasts}
+use Rattle.avc_decoder_core.proofs.Sequences.{with_missing, IsSequenceState, open_picture_of, sequence_state, counted_over, finds_idr, finds_other}
+use Rattle.avc_decoder_core.proofs.Sequences.{refused_missing, refused_numbers, at_rest, counted_at_rest}
 use Rattle.avc_decoder_core.proofs.sequence.Sequence.opening.Goals as goal
 
 -- No picture is open: the frame buffer's history is that of the sequence, and its pictures are those that were counted.

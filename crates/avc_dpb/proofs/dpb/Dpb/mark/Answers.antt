@@ -1,5 +1,4 @@
-use Rattle.avc_dpb.proofs.Common.{◌<◌, length, ap, ◌∙◌, sym, subst, with_mark}
-use Rattle.avc_dpb.proofs.Removing.{changed_read}
+use Rattle.avc_dpb.proofs.EarlyOrder.{◌<◌, length, ap, ◌∙◌, sym, subst, with_mark, changed_read}
 use Rattle.avc_dpb.proofs.dpb.Dpb.mark.Goals as goal
 
 pub returns : goal.returns

@@ -1,5 +1,4 @@
-use Rattle.avc_dpb.proofs.Common.{subst, refl, false, Contents, Stores, BumpsWhile, ForRoom}
-use Rattle.avc_dpb.proofs.Standing.{stored}
+use Rattle.avc_dpb.proofs.EarlyOrder.{subst, refl, false, Contents, Stores, BumpsWhile, ForRoom, stored}
 use Rattle.avc_dpb.proofs.dpb.Dpb.store.Goals as goal
 
 pub returns-clause-ok : goal.returns-clause-ok

@@ -1,5 +1,5 @@
-use Rattle.avc_info.proofs.Common.{ap, sym, ◌∙◌, ◌++◌, append-nil, StreamSoFar, max_unit, left_by_feed, info_so_far}
-use Rattle.avc_info.proofs.Noted.{feed_keeps_end, noted_again, nothing_yet, open_still, stays_by_piece}
+use Rattle.avc_info.proofs.Noted.{ap, sym, ◌∙◌, ◌++◌, append-nil, StreamSoFar, max_unit, left_by_feed, info_so_far, feed_keeps_end, noted_again}
+use Rattle.avc_info.proofs.Noted.{nothing_yet, open_still, stays_by_piece}
 use Rattle.avc_info.proofs.info_lines.InfoLinesStreamText.feed.Goals as goal
 
 pub invariant_of-self-2 : goal.invariant_of-self-2

@@ -1,5 +1,5 @@
-use Rattle.avc_info.proofs.Common.{ap, sym, ◌∙◌, ◌++◌, append-nil, arith, refl, true, StreamSoFar, max_unit, left_by_finish, info_so_far}
-use Rattle.avc_info.proofs.Noted.{noted_again, stays_by_end, told_at_end}
+use Rattle.avc_info.proofs.Noted.{ap, sym, ◌∙◌, ◌++◌, append-nil, arith, refl, true, StreamSoFar, max_unit, left_by_finish, info_so_far, noted_again}
+use Rattle.avc_info.proofs.Noted.{stays_by_end, told_at_end}
 use Rattle.avc_info.proofs.info_lines.InfoLinesStreamText.finish.Goals as goal
 
 pub invariant_of-self-2 : goal.invariant_of-self-2

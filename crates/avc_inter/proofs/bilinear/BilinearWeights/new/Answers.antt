@@ -1,4 +1,4 @@
-use Rattle.avc_inter.proofs.Common.{ℕ, ◌≡◌, ◌+◌, ◌-◌, ◌*◌, ◌<◌, arith, ap, sym, ◌∙◌, add-mul}
+use Rattle.avc_inter.proofs.SixRows.{ℕ, ◌≡◌, ◌+◌, ◌-◌, ◌*◌, ◌<◌, arith, ap, sym, ◌∙◌, add-mul}
 use Rattle.avc_inter.proofs.bilinear.BilinearWeights.new.Goals as goal
 
 all_shares : (r d : ℕ) → r < 8 → d < 8 → (8 - r) * (8 - d) + r * (8 - d) + (8 - r) * d + r * d ≡ 64

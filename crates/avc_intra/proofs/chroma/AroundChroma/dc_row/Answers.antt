@@ -1,4 +1,4 @@
-use Rattle.avc_intra.specs.Chroma.{predict_dc_chroma}
+use Rattle.avc_intra.proofs.Predictions.{predict_dc_chroma}
 use Rattle.avc_intra.proofs.chroma.AroundChroma.dc_row.Goals as goal
 
 pub returns : goal.returns

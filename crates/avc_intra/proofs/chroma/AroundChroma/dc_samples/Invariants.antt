@@ -1,4 +1,4 @@
-use Rattle.std.proofs.Common.{◌≡◌, ℕ, ◌+◌, ◌*◌, ◌/◌, ◌<◌, [], length, slice_index, slice_index_or}
+use Rattle.avc_intra.proofs.Predictions.{◌≡◌, ℕ, ◌+◌, ◌*◌, ◌/◌, ◌<◌, [], length, slice_index, slice_index_or}
 use Rattle.avc_intra.proofs.chroma.AroundChroma.dc_samples.Given as goal
 
 abbrev pub invariant-loop-y : goal.invariant-loop-y

@@ -1,6 +1,5 @@
-use Rattle.avc_intra.proofs.Common.{◌≡◌, to_z, of_z, w32, pos, ◌+◌, ◌*◌, arith, ints, strided_same, top, left_of, predict_plane_chroma}
-use Rattle.avc_intra.proofs.Common.{IsWithin}
-use Rattle.avc_intra.proofs.PlaneLaws.{gradient_of_side, same_plane}
+use Rattle.avc_intra.proofs.Predictions.{◌≡◌, to_z, of_z, w32, pos, ◌+◌, ◌*◌, arith, ints, strided_same, top, left_of, predict_plane_chroma, IsWithin}
+use Rattle.avc_intra.proofs.Predictions.{gradient_of_side, same_plane}
 use Rattle.avc_intra.proofs.chroma.AroundChroma.lay_plane.Goals as goal
 
 pub returns-clause-samples : goal.returns-clause-samples

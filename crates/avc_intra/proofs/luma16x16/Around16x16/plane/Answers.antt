@@ -1,4 +1,4 @@
-use Rattle.std.proofs.Common.{slice_index, ap, ◌∙◌, arith}
+use Rattle.avc_intra.proofs.Predictions.{slice_index, ap, ◌∙◌, arith}
 use Rattle.avc_intra.proofs.luma16x16.Around16x16.plane.Goals as goal
 
 pub returns : goal.returns

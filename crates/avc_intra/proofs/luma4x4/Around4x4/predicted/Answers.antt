@@ -1,4 +1,4 @@
-use Rattle.avc_intra.specs.Luma4x4.{extended}
+use Rattle.avc_intra.proofs.Predictions.{extended}
 use Rattle.avc_intra.proofs.luma4x4.Around4x4.predicted.Goals as goal
 
 pub returns-in-DiagonalDownLeft : goal.returns-in-DiagonalDownLeft

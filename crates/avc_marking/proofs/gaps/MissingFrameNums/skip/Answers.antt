@@ -1,5 +1,4 @@
-use Rattle.std.proofs.Common.{arith}
-use Rattle.avc_marking.proofs.Numbers.{length_numbers, numbers-mod, numbers_skipped}
+use Rattle.avc_marking.proofs.KeptFrames.{arith, length_numbers, numbers-mod, numbers_skipped}
 use Rattle.avc_marking.proofs.gaps.MissingFrameNums.skip.Goals as goal
 
 pub overflow_sub-result : goal.overflow_sub-result

@@ -1,6 +1,5 @@
-use Rattle.avc_mbsyntax.proofs.Common.{◌≡◌, true, false, ap, sym, subst, refl, ◌∙◌, arith, rules, more_data, reader_bits, Skipped, stopped}
-use Rattle.avc_mbsyntax.proofs.Common.{Follows, IsStage, one_more, rest_at, rest_of}
-use Rattle.avc_mbsyntax.proofs.DataSteps.{run_ends, run_goes_on}
+use Rattle.avc_mbsyntax.proofs.SliceDataReading.{◌≡◌, true, false, ap, sym, subst, refl, ◌∙◌, arith, rules, more_data, reader_bits, Skipped, stopped}
+use Rattle.avc_mbsyntax.proofs.SliceDataReading.{Follows, IsStage, one_more, rest_at, rest_of, run_ends, run_goes_on}
 use Rattle.avc_mbsyntax.proofs.slice_data.SliceData.go_on.Goals as goal
 
 pub returns-then-count-gt0 : goal.returns-then-count-gt0

@@ -1,4 +1,4 @@
-use Rattle.avc_mbsyntax.proofs.Common.{ap, arith, sym, reader_bits, data_from, rest_of}
+use Rattle.avc_mbsyntax.proofs.SliceDataReading.{ap, arith, sym, reader_bits, data_from, rest_of}
 use Rattle.avc_mbsyntax.proofs.slice_data.SliceData.new.Goals as goal
 
 pub returns : goal.returns

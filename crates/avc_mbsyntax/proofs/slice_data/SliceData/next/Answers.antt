@@ -1,4 +1,4 @@
-use Rattle.avc_mbsyntax.proofs.Common.{◌≡◌, ap, reader_bits, ended, rest_at, rest_of}
+use Rattle.avc_mbsyntax.proofs.SliceDataReading.{◌≡◌, ap, reader_bits, ended, rest_at, rest_of}
 use Rattle.avc_mbsyntax.proofs.slice_data.SliceData.next.Goals as goal
 
 pub returns-in-Ended : goal.returns-in-Ended

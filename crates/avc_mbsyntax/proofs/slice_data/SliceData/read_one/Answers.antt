@@ -1,6 +1,7 @@
-use Rattle.avc_mbsyntax.proofs.Common.{◌≡◌, ◌<◌, ◌-◌, false, ap, sym, subst, ◌∙◌, arith, length, Ok, ◌==◌, option_copied, more_data}
-use Rattle.avc_mbsyntax.proofs.Common.{reader_bits, IsSyntax, macroblock, context, placed, IsStage, rest_of}
-use Rattle.avc_mbsyntax.proofs.DataSteps.{context_is, is_open, one_longer, one_read, stage_is}
+use Rattle.avc_mbsyntax.proofs.SliceDataReading.{◌≡◌, ◌<◌, ◌-◌, false, ap, sym, subst, ◌∙◌, arith, length, Ok, ◌==◌, option_copied, more_data}
+use Rattle.avc_mbsyntax.proofs.SliceDataReading.{reader_bits, IsSyntax, macroblock, context, IsStage, rest_of, context_is, is_open, one_longer}
+use Rattle.avc_mbsyntax.proofs.SliceDataReading.{one_read, stage_is}
+use Rattle.avc_mbsyntax.specs.SliceData.{placed}
 use Rattle.avc_mbsyntax.proofs.slice_data.SliceData.read_one.Goals as goal
 
 pub returns : goal.returns

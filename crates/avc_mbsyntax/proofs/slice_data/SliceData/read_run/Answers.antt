@@ -1,6 +1,5 @@
-use Rattle.avc_mbsyntax.proofs.Common.{◌≡◌, ap, ◌∙◌, rules, reader_bits, stopped, rest_at, rest_of}
+use Rattle.avc_mbsyntax.proofs.SliceDataReading.{◌≡◌, ap, ◌∙◌, rules, reader_bits, stopped, rest_at, rest_of, p_fault, p_full, p_over, p_run}
 use Rattle.avc_types.specs.declared.fault.Fault.TheVariants as faults
-use Rattle.avc_mbsyntax.proofs.DataSteps.{p_fault, p_full, p_over, p_run}
 use Rattle.avc_mbsyntax.proofs.slice_data.SliceData.read_run.Goals as goal
 
 pub returns-then-self-eq0-clause-run : goal.returns-then-self-eq0-clause-run

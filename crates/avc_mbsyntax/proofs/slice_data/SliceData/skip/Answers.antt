@@ -1,6 +1,6 @@
-use Rattle.avc_mbsyntax.proofs.Common.{◌≡◌, ◌<◌, ◌+◌, ◌-◌, ◌++◌, ◌∷◌, [], suc, ap, sym, subst, ◌∙◌, arith, length, reader_bits, Skipped}
-use Rattle.avc_mbsyntax.proofs.Common.{placed, skipped, IsStage, rest_at, rest_of}
-use Rattle.avc_mbsyntax.proofs.DataSteps.{one_longer, skip_more}
+use Rattle.avc_mbsyntax.proofs.SliceDataReading.{◌≡◌, ◌<◌, ◌+◌, ◌-◌, ◌++◌, ◌∷◌, [], suc, ap, sym, subst, ◌∙◌, arith, length, reader_bits, Skipped}
+use Rattle.avc_mbsyntax.proofs.SliceDataReading.{skipped, IsStage, rest_at, rest_of, one_longer, skip_more}
+use Rattle.avc_mbsyntax.specs.SliceData.{placed}
 use Rattle.avc_mbsyntax.proofs.slice_data.SliceData.skip.Goals as goal
 
 pub returns : goal.returns

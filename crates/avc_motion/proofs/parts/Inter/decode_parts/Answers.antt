@@ -1,5 +1,4 @@
-use Rattle.avc_motion.proofs.Common.{Err, ◌≡◌, rules, sym, ◌∙◌, arith, info_of, motion_near}
-use Rattle.avc_motion.proofs.Stepping.{goes_on, stops}
+use Rattle.avc_motion.proofs.MacroblockMotion.{Err, ◌≡◌, rules, sym, ◌∙◌, arith, info_of, motion_near, goes_on, stops}
 use Rattle.avc_motion.proofs.parts.Inter.decode_parts.Goals as goal
 
 pub returns-in_err-motion : goal.returns-in_err-motion

@@ -1,4 +1,4 @@
-use Rattle.avc_motion.proofs.Common.{◌≡◌, drop, info_of, motion_near, decoded}
+use Rattle.avc_motion.proofs.MacroblockMotion.{◌≡◌, drop, info_of, motion_near, decoded}
 use Rattle.avc_motion.proofs.parts.Inter.decode_parts.Given as goal
 
 abbrev pub invariant-loop-i : goal.invariant-loop-i

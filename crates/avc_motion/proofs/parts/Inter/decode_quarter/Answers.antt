@@ -1,5 +1,4 @@
-use Rattle.avc_motion.proofs.Common.{◌≡◌, ◌+◌, rules, [], ◌∷◌, part, quarter_x, quarter_y, info_of, motion_near}
-use Rattle.avc_motion.proofs.Stepping.{of_same_parts}
+use Rattle.avc_motion.proofs.MacroblockMotion.{◌≡◌, ◌+◌, rules, [], ◌∷◌, part, quarter_x, quarter_y, info_of, motion_near, of_same_parts}
 use Rattle.avc_motion.proofs.parts.Inter.decode_quarter.Goals as goal
 
 pub returns-in-Sub4x4 : goal.returns-in-Sub4x4

@@ -1,6 +1,5 @@
-use Rattle.avc_motion.proofs.Common.{Err, slice_index_or, ◌≡◌, ◌∙◌, rules, arith, sym, ap}
-use Rattle.avc_motion.proofs.Common.{parts_of_quarter, quarter_x, quarter_y, Sub8x8, info_of, motion_near, decoded}
-use Rattle.avc_motion.proofs.Stepping.{decodes_ok, decodes_err, quarter_goes_on, quarter_stops, all_behind}
+use Rattle.avc_motion.proofs.MacroblockMotion.{Err, slice_index_or, ◌≡◌, ◌∙◌, rules, arith, sym, ap, parts_of_quarter, quarter_x, quarter_y, Sub8x8}
+use Rattle.avc_motion.proofs.MacroblockMotion.{info_of, motion_near, decoded, decodes_ok, decodes_err, quarter_goes_on, quarter_stops, all_behind}
 use Rattle.avc_motion.proofs.parts.Inter.decode_quarters.Goals as goal
 
 pub returns-in_err-decode_quarter-clause-motion : goal.returns-in_err-decode_quarter-clause-motion

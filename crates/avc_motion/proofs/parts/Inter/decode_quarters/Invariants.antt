@@ -1,4 +1,4 @@
-use Rattle.avc_motion.proofs.Common.{◌≡◌, ◌≤◌, ◌*◌, drop, parts_of_quarters, info_of, motion_near, decoded}
+use Rattle.avc_motion.proofs.MacroblockMotion.{◌≡◌, ◌≤◌, ◌*◌, drop, parts_of_quarters, info_of, motion_near, decoded}
 use Rattle.avc_motion.proofs.parts.Inter.decode_quarters.Given as goal
 
 abbrev pub invariant-loop-quarter : goal.invariant-loop-quarter

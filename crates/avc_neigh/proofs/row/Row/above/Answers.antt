@@ -1,5 +1,4 @@
-use Rattle.avc_neigh.proofs.Common.{◌∙◌, ap, of_slice}
-use Rattle.avc_neigh.proofs.Asked.{above_is}
+use Rattle.avc_neigh.proofs.Found.{◌∙◌, ap, of_slice, above_is}
 use Rattle.avc_neigh.proofs.row.Row.above.Goals as goal
 
 pub returns : goal.returns

@@ -1,5 +1,4 @@
-use Rattle.avc_neigh.proofs.Common.{◌∙◌, ap, of_slice}
-use Rattle.avc_neigh.proofs.Asked.{left_is}
+use Rattle.avc_neigh.proofs.Found.{◌∙◌, ap, of_slice, left_is}
 use Rattle.avc_neigh.proofs.row.Row.left.Goals as goal
 
 pub returns : goal.returns

@@ -1,5 +1,4 @@
-use Rattle.std.proofs.Common.{refl}
-use Rattle.avc_neigh.proofs.RowKeeping.{keeps_more}
+use Rattle.avc_neigh.proofs.Found.{refl, keeps_more}
 use Rattle.avc_neigh.proofs.row.Row.put.Goals as goal
 
 pub invariant_of-self : goal.invariant_of-self

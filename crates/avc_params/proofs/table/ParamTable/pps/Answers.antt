@@ -1,5 +1,4 @@
-use Rattle.avc_params.proofs.Common.{◌∙◌, PpsIsInForce}
-use Rattle.avc_params.proofs.InForce.{lent, pps_in_force_is}
+use Rattle.avc_params.proofs.ParameterSets.{◌∙◌, PpsIsInForce, lent, pps_in_force_is}
 use Rattle.avc_params.proofs.table.ParamTable.pps.Goals as goal
 
 pub returns-clause-kept : goal.returns-clause-kept

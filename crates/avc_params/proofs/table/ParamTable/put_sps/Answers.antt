@@ -1,5 +1,4 @@
-use Rattle.std.proofs.Common.{sym, ◌∙◌}
-use Rattle.avc_params.proofs.InForce.{keeps_accepted_sps, keeps_refused_sps}
+use Rattle.avc_params.proofs.ParameterSets.{sym, ◌∙◌, keeps_accepted_sps, keeps_refused_sps}
 use Rattle.avc_params.proofs.table.ParamTable.put_sps.Goals as goal
 
 pub invariant_of-self-in-Ok : goal.invariant_of-self-in-Ok

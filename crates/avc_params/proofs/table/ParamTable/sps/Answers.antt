@@ -1,5 +1,4 @@
-use Rattle.avc_params.proofs.Common.{◌∙◌, SpsIsInForce}
-use Rattle.avc_params.proofs.InForce.{lent, sps_in_force_is}
+use Rattle.avc_params.proofs.ParameterSets.{◌∙◌, SpsIsInForce, lent, sps_in_force_is}
 use Rattle.avc_params.proofs.table.ParamTable.sps.Goals as goal
 
 pub returns-clause-kept : goal.returns-clause-kept

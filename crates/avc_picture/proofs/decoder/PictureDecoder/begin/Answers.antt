@@ -1,5 +1,4 @@
-use Rattle.avc_picture.proofs.Common.{◌≡◌, ◌++◌, ap, sym, subst, ◌∙◌, IsDecoderState}
-use Rattle.avc_picture.proofs.Kept.{kept-first}
+use Rattle.avc_picture.proofs.Slices.{◌≡◌, ◌++◌, ap, sym, subst, ◌∙◌, IsDecoderState, kept-first}
 use Rattle.avc_picture.proofs.decoder.PictureDecoder.begin.Goals as goal
 
 pub invariant_of-result : goal.invariant_of-result

@@ -1,8 +1,6 @@
-use Rattle.avc_picture.proofs.Common.{◌≡◌, None, List, ℕ, sym, subst, ◌∙◌, arith, height_in_mbs, size_in_mbs, width_in_mbs}
-use Rattle.avc_picture.proofs.Common.{padded_planes_of, planes_of, AreSized, IsDecoderState, planes_after_slices}
-use Rattle.avc_picture.specs.Decoding.{CanStandAt, Decoding, end_fault, start_at}
-use Rattle.avc_picture.proofs.DataAnswers.{none-of}
-use Rattle.avc_picture.proofs.Kept.{agrees, are-sized, differs, first-at-end, missing-at-end, none-at-end, planes-at-end}
+use Rattle.avc_picture.proofs.Slices.{◌≡◌, None, List, ℕ, sym, subst, ◌∙◌, arith, height_in_mbs, size_in_mbs, width_in_mbs, padded_planes_of}
+use Rattle.avc_picture.proofs.Slices.{planes_of, AreSized, IsDecoderState, planes_after_slices, CanStandAt, Decoding, end_fault, start_at, none-of}
+use Rattle.avc_picture.proofs.Slices.{agrees, are-sized, differs, first-at-end, missing-at-end, none-at-end, planes-at-end}
 use Rattle.avc_picture.proofs.decoder.PictureDecoder.finish.Goals as goal
 
 pub returns-in-Some-clause-answer : goal.returns-in-Some-clause-answer

@@ -1,7 +1,5 @@
-use Rattle.avc_picture.proofs.Common.{◌≡◌, ◌<◌, ◌*◌, ℕ, List, arith, sym, subst, size_of, height_in_mbs, width_in_mbs, samples_of}
-use Rattle.avc_picture.proofs.Common.{IsDecoderState, IsCovered, planes_so_far}
-use Rattle.avc_picture.specs.Decoding.{CanStandAt, Decoding, HasNoFault}
-use Rattle.avc_picture.proofs.Kept.{covered-now, none-kept, sample-now}
+use Rattle.avc_picture.proofs.Slices.{◌≡◌, ◌<◌, ◌*◌, ℕ, List, arith, sym, subst, size_of, height_in_mbs, width_in_mbs, samples_of, IsDecoderState}
+use Rattle.avc_picture.proofs.Slices.{IsCovered, planes_so_far, CanStandAt, Decoding, HasNoFault, covered-now, none-kept, sample-now}
 use Rattle.avc_picture.proofs.decoder.PictureDecoder.sample.Goals as goal
 
 pub sample-requires : goal.sample-requires

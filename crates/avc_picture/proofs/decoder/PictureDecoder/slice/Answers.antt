@@ -1,7 +1,5 @@
-use Rattle.avc_picture.proofs.Common.{◌≡◌, List, ap, sym, subst, ◌∙◌, arith, IsHeader, Slice, IsDecoderState, IsWellSomewhere}
-use Rattle.avc_picture.specs.Decoding.{AreFramesOf, Decoding, Refuses, with_slice_more}
-use Rattle.avc_picture.proofs.DataAnswers.{none-of}
-use Rattle.avc_picture.proofs.Kept.{refused-again, well-somewhere}
+use Rattle.avc_picture.proofs.Slices.{◌≡◌, List, ap, sym, subst, ◌∙◌, arith, IsHeader, Slice, IsDecoderState, IsWellSomewhere, AreFramesOf, Decoding}
+use Rattle.avc_picture.proofs.Slices.{Refuses, with_slice_more, none-of, refused-again, well-somewhere}
 use Rattle.avc_picture.proofs.decoder.PictureDecoder.slice.Goals as goal
 
 pub returns-in-Some : goal.returns-in-Some

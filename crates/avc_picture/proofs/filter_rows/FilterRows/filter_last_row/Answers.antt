@@ -1,6 +1,5 @@
-use Rattle.avc_picture.proofs.Common.{◌≡◌, ◌∙◌, ◌<◌, ◌-◌, ◌/◌, length, sym, ap, subst, arith, rules, w8, to_z, of_z, planes_of, HasRoom}
-use Rattle.avc_picture.proofs.Common.{AreInfoOf, FilterInfo, FiltersUpTo, filtered_rows, AreSized}
-use Rattle.avc_picture.proofs.LastRows.{row_filtered, row_sized, row_of}
+use Rattle.avc_picture.proofs.Slices.{◌≡◌, ◌∙◌, ◌<◌, ◌-◌, ◌/◌, length, sym, ap, subst, arith, rules, w8, to_z, of_z, planes_of, HasRoom, AreInfoOf}
+use Rattle.avc_picture.proofs.Slices.{FilterInfo, FiltersUpTo, filtered_rows, AreSized, row_filtered, row_sized, row_of_last}
 use Rattle.avc_picture.proofs.filter_rows.FilterRows.filter_last_row.Goals as goal
 
 pub returns-then-self-gt0-clause-sized : goal.returns-then-self-gt0-clause-sized
@@ -9,7 +8,7 @@ returns-then-self-gt0-clause-sized g c = λ w h sized.
     let k = c.self.invariant in
     let f : FilterInfo = record { width = s.width; info = s.info.items } in
     let last : length c.deref-then-self-gt0.result.now ≡ s.width = ap length c.deref-then-self-gt0.ensures.value ∙ k.last_long in
-    let at : length f.info / f.width - 1 ≡ s.row - 1 = ap (λ n. n - 1) (row_of f s.column s.row s.current.items s.last.items s.above.items k) in
+    let at : length f.info / f.width - 1 ≡ s.row - 1 = ap (λ n. n - 1) (row_of_last f s.column s.row s.current.items s.last.items s.above.items k) in
     subst (AreSized w h) (sym c.row.ensures.lines)
     (row_sized (to_z w8 (of_z w8 c.args.chroma_qp_index_offset)) (s.row - 1) c.deref.result.now c.deref-then-self-gt0.result.now (planes_of c.args.planes.now)
     (λ column low. subst (λ r. HasRoom column r (planes_of c.args.planes.now)) at

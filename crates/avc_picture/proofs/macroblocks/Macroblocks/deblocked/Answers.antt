@@ -1,6 +1,5 @@
-use Rattle.avc_picture.proofs.Common.{◌≡◌, ◌∙◌, ◌/◌, refl, sym, ap, subst, arith, length, rules, w8, to_z, of_z, planes_of, HoldsFirst}
-use Rattle.avc_picture.proofs.Common.{MbsState, AreInfoOf, FiltersUpTo, filtered_rows, state_of}
-use Rattle.avc_picture.proofs.Whole.{filtered_is}
+use Rattle.avc_picture.proofs.Slices.{◌≡◌, ◌∙◌, ◌/◌, refl, sym, ap, subst, arith, length, rules, w8, to_z, of_z, planes_of, HoldsFirst, MbsState}
+use Rattle.avc_picture.proofs.Slices.{AreInfoOf, FiltersUpTo, filtered_rows, state_of, filtered_is}
 use Rattle.avc_picture.proofs.macroblocks.Macroblocks.deblocked.Goals as goal
 
 pub returns : goal.returns

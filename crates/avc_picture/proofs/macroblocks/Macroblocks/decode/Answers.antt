@@ -1,11 +1,8 @@
-use Rattle.avc_picture.proofs.Common.{Err, slice_get, suc, [], ◌∷◌, ◌++◌, ◌≡◌, ◌∙◌, ◌<◌, ◌*◌, ◌+◌, ℕ, refl, sym, ap, subst, rules}
-use Rattle.avc_picture.proofs.Common.{length, add-one, w8, to_z, of_z, Around, PictureInfo, HasModes, macroblock_fault, HoldsFirst}
-use Rattle.avc_picture.proofs.Common.{MbsState, planes_of, AreInfoOf, FilterInfo, FiltersUpTo, filtered_rows, PartsAgree, state_of}
-use Rattle.avc_neigh.specs.Around.{info_of, with_info}
-use Rattle.avc_picture_core.specs.CanvasFields.{with_planes}
-use Rattle.avc_picture.proofs.Keeping.{kept_more}
-use Rattle.avc_picture.proofs.Ranges.{modes_above, modes_left}
-use Rattle.avc_picture.proofs.Step.{build_fault, decoded_more, vector_fault}
+use Rattle.avc_picture.proofs.Slices.{Err, slice_get, suc, [], ◌∷◌, ◌++◌, ◌≡◌, ◌∙◌, ◌<◌, ◌*◌, ◌+◌, ℕ, refl, sym, ap, subst, rules, length, add-one}
+use Rattle.avc_picture.proofs.Slices.{w8, to_z, of_z, Around, PictureInfo, HasModes, macroblock_fault, HoldsFirst, MbsState, planes_of, AreInfoOf}
+use Rattle.avc_picture.proofs.Slices.{FilterInfo, FiltersUpTo, filtered_rows, PartsAgree, state_of, with_info, with_planes, kept_more, modes_above}
+use Rattle.avc_picture.proofs.Slices.{modes_left, build_fault, decoded_more, vector_fault}
+use Rattle.avc_neigh.specs.Around.{info_of}
 use Rattle.avc_picture.proofs.macroblocks.Macroblocks.decode.Goals as goal
 
 pub returns-in_err-set_neighbour_info-clause-decoded : goal.returns-in_err-set_neighbour_info-clause-decoded

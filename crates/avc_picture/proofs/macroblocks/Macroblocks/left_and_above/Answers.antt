@@ -1,6 +1,5 @@
-use Rattle.avc_picture.proofs.Common.{option_map, ◌∙◌, sym, ap, subst, take, Around, left_total_coeffs, up_total_coeffs, HoldsFirst}
-use Rattle.avc_picture.proofs.Common.{MbsState, state_of}
-use Rattle.avc_picture.proofs.Beside.{left_is, up_is}
+use Rattle.avc_picture.proofs.Slices.{option_map, ◌∙◌, sym, ap, subst, take, Around, left_total_coeffs, up_total_coeffs, HoldsFirst, MbsState}
+use Rattle.avc_picture.proofs.Slices.{state_of, left_is, up_is}
 use Rattle.avc_picture.proofs.macroblocks.Macroblocks.left_and_above.Goals as goal
 
 pub returns-clause-left : goal.returns-clause-left

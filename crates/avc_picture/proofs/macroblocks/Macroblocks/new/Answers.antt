@@ -1,6 +1,5 @@
-use Rattle.avc_picture.proofs.Common.{◌≡◌, ◌∙◌, ◌≤◌, ◌*◌, refl, sym, ap, subst, arith, w8, w32, to_z, of_z, ints, max_macroblocks}
-use Rattle.avc_picture.proofs.Common.{height_in_mbs, Planes, planes_of, FilterInfo, CanvasState, HoldsFirst, PartsAgree, IsSized}
-use Rattle.avc_picture.proofs.Keeping.{holds_none, kept_none, whole_plane}
+use Rattle.avc_picture.proofs.Slices.{◌≡◌, ◌∙◌, ◌≤◌, ◌*◌, refl, sym, ap, subst, arith, w8, w32, to_z, of_z, ints, max_macroblocks, height_in_mbs}
+use Rattle.avc_picture.proofs.Slices.{Planes, planes_of, FilterInfo, CanvasState, HoldsFirst, PartsAgree, IsSized, holds_none, kept_none, whole_plane}
 use Rattle.avc_picture.proofs.macroblocks.Macroblocks.new.Goals as goal
 
 pub invariant_of-result : goal.invariant_of-result

@@ -1,6 +1,5 @@
-use Rattle.avc_picture.proofs.Common.{◌∙◌, ◌<◌, ◌*◌, arith, sym, ap, subst, empty_planes, samples_of, size_of, HoldsFirst, MbsState}
-use Rattle.avc_picture.proofs.Common.{state_of, covering_address, row_late}
-use Rattle.avc_picture.proofs.LateAgree.{component_columns, component_rows, sample_late}
+use Rattle.avc_picture.proofs.Slices.{◌∙◌, ◌<◌, ◌*◌, arith, sym, ap, subst, empty_planes, samples_of, size_of, HoldsFirst, MbsState, state_of}
+use Rattle.avc_picture.proofs.Slices.{covering_address, row_late, component_columns, component_rows, sample_late}
 use Rattle.avc_picture.proofs.macroblocks.Macroblocks.sample.Goals as goal
 
 pub sample_of-requires : goal.sample_of-requires

@@ -1,4 +1,4 @@
-use Rattle.avc_picture.proofs.Common.{arith, w32, ints}
+use Rattle.avc_picture.proofs.Slices.{arith, w32, ints}
 use Rattle.avc_picture.proofs.slice_context.SliceContext.new.Goals as goal
 
 pub returns : goal.returns

@@ -1,7 +1,5 @@
-use Rattle.avc_picture_core.proofs.Common.{rules, ◌≡◌, ◌∙◌, ℤ, w8, to_z, of_z, ap, subst, Mb, info_of, planes_of, chroma_qp}
-use Rattle.avc_picture_core.specs.Canvas.{IsBuilt, IsPlaceOn}
-use Rattle.avc_picture_core.specs.CanvasFields.{with_planes}
-use Rattle.avc_picture_core.proofs.PlaceOn.{canvas_built}
+use Rattle.avc_picture_core.proofs.InterTiles.{rules, ◌≡◌, ◌∙◌, ℤ, w8, to_z, of_z, ap, subst, Mb, info_of, planes_of, chroma_qp, IsBuilt, IsPlaceOn}
+use Rattle.avc_picture_core.proofs.InterTiles.{with_planes, canvas_built}
 use Rattle.avc_picture_core.proofs.canvas.Canvas.build.Goals as goal
 
 pub returns-clause-built : goal.returns-clause-built

@@ -1,5 +1,4 @@
-use Rattle.avc_plane.proofs.Common.{◌∙◌, ◌<◌, sym, ap, subst, get_or_default_zero, Plane, sample, stored_place}
-use Rattle.avc_plane.proofs.Stored.{fits, stored_sample}
+use Rattle.avc_plane.proofs.PlaneMaps.{◌∙◌, ◌<◌, sym, ap, subst, get_or_default_zero, Plane, sample, stored_place, fits, stored_sample}
 use Rattle.avc_plane.proofs.padded.PaddedPlane.get.Goals as goal
 
 pub returns : goal.returns

@@ -1,5 +1,4 @@
-use Rattle.avc_plane.proofs.Common.{ℕ, ◌≡◌, ◌+◌, ◌-◌, ◌*◌, ◌∙◌, ◌<◌, arith, drop, take, refl, sym, ap, subst, slice_range, Plane}
-use Rattle.avc_plane.proofs.Stored.{stored_row}
+use Rattle.avc_plane.proofs.PlaneMaps.{ℕ, ◌≡◌, ◌+◌, ◌-◌, ◌*◌, ◌∙◌, ◌<◌, arith, drop, take, refl, sym, ap, subst, slice_range, Plane, stored_row}
 use Rattle.avc_plane.proofs.padded.PaddedPlane.row.Goals as goal
 
 pub returns : goal.returns

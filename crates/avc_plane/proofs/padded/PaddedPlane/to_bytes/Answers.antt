@@ -1,6 +1,5 @@
-use Rattle.avc_plane.proofs.Common.{ℕ, ◌≡◌, ◌+◌, ◌*◌, ◌∙◌, ◌++◌, List, length, take, drop, slice_range, arith, ap, sym, subst, mul_comm}
-use Rattle.avc_plane.proofs.Common.{take-add, take-length, Plane, stored_place, slice_index}
-use Rattle.avc_plane.proofs.PlaneMaps.{length-plane_of}
+use Rattle.avc_plane.proofs.PlaneMaps.{ℕ, ◌≡◌, ◌+◌, ◌*◌, ◌∙◌, ◌++◌, List, length, take, drop, slice_range, arith, ap, sym, subst, mul_comm, take-add}
+use Rattle.avc_plane.proofs.PlaneMaps.{take-length, Plane, stored_place, slice_index, length-plane_of}
 use Rattle.avc_plane.proofs.padded.PaddedPlane.to_bytes.Goals as goal
 
 -- one row more

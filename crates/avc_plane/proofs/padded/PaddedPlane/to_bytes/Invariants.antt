@@ -1,4 +1,4 @@
-use Rattle.avc_plane.proofs.Common.{◌≡◌, ◌*◌, take}
+use Rattle.avc_plane.proofs.PlaneMaps.{◌≡◌, ◌*◌, take}
 use Rattle.avc_plane.proofs.padded.PaddedPlane.to_bytes.Given as goal
 
 abbrev pub invariant-loop-y : goal.invariant-loop-y

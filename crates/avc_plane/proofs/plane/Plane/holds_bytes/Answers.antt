@@ -1,5 +1,4 @@
-use Rattle.avc_plane.proofs.Common.{◌≡◌, ◌*◌, length, subst, slice_index, Plane, stored_place}
-use Rattle.avc_plane.proofs.PlaneMaps.{length-plane_of}
+use Rattle.avc_plane.proofs.PlaneMaps.{◌≡◌, ◌*◌, length, subst, slice_index, Plane, stored_place, length-plane_of}
 use Rattle.avc_plane.proofs.plane.Plane.holds_bytes.Goals as goal
 
 pub returns-clause-all : goal.returns-clause-all

@@ -1,4 +1,4 @@
-use Rattle.avc_plane.proofs.Common.{◌<◌, ◌≤◌, ℕ, sample}
+use Rattle.avc_plane.proofs.PlaneMaps.{◌<◌, ◌≤◌, ℕ, sample}
 use Rattle.avc_plane.proofs.plane.Plane.holds_bytes.Given as goal
 
 abbrev pub invariant-loop-y : goal.invariant-loop-y

@@ -1,5 +1,4 @@
-use Rattle.avc_plane.proofs.Common.{◌∙◌, ap, Plane}
-use Rattle.avc_plane.proofs.Stored.{all_stored}
+use Rattle.avc_plane.proofs.PlaneMaps.{◌∙◌, ap, Plane, all_stored}
 use Rattle.avc_plane.proofs.plane.Plane.into_bytes.Goals as goal
 
 pub returns-clause-samples : goal.returns-clause-samples

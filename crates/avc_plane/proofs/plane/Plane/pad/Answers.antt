@@ -1,5 +1,5 @@
-use Rattle.avc_plane.proofs.Common.{◌≡◌, ◌+◌, ◌*◌, ◌<◌, ◌∙◌, length, arith, ap, sym, subst, with_items_is, Plane, inner_plane, IsPadded}
-use Rattle.avc_plane.proofs.Surrounded.{same_plane, surrounded}
+use Rattle.avc_plane.proofs.PlaneMaps.{◌≡◌, ◌+◌, ◌*◌, ◌<◌, ◌∙◌, length, arith, ap, sym, subst, with_items_is, Plane, inner_plane, IsPadded}
+use Rattle.avc_plane.proofs.PlaneMaps.{same_plane, surrounded}
 use Rattle.avc_plane.proofs.plane.Plane.pad.Goals as goal
 
 pub from_rows-requires : goal.from_rows-requires

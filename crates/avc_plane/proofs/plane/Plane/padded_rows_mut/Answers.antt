@@ -1,5 +1,4 @@
-use Rattle.avc_plane.proofs.Common.{ℕ, List, refl, sym, ap, subst, ◌∙◌, Plane, HaveSamples, with_rows}
-use Rattle.avc_plane.proofs.Lending.{rows_written, have_samples}
+use Rattle.avc_plane.proofs.PlaneMaps.{ℕ, List, refl, sym, ap, subst, ◌∙◌, Plane, HaveSamples, with_rows, rows_written, have_samples}
 use Rattle.avc_plane.proofs.plane.Plane.padded_rows_mut.Goals as goal
 
 pub returns : goal.returns

@@ -1,7 +1,5 @@
-use Rattle.avc_plane.proofs.Common.{◌≡◌, ◌*◌, ◌∙◌, ◌+◌, ◌≤◌, length, arith, sym, ap, subst, slice_index, Plane, sample, stored_place}
-use Rattle.avc_plane.proofs.PlaneMaps.{length-plane_of}
-use Rattle.avc_plane.proofs.Stored.{stored_sample}
-use Rattle.avc_plane.proofs.Rectangles.{small, room, place}
+use Rattle.avc_plane.proofs.PlaneMaps.{◌≡◌, ◌*◌, ◌∙◌, ◌+◌, ◌≤◌, length, arith, sym, ap, subst, slice_index, Plane, sample, stored_place}
+use Rattle.avc_plane.proofs.PlaneMaps.{length-plane_of, stored_sample, small, room, rectangle_place}
 use Rattle.avc_plane.proofs.plane.Plane.rectangle.Goals as goal
 
 pub load-requires : goal.load-requires
@@ -22,7 +20,7 @@ returns-clause-samples g c x y x_low y_low =
     let columns : c.args.left + r.W ≤ a.width = subst (λ (p : Plane). c.args.left + r.W ≤ p.width) (sym c.self.view_is) c.requires.columns in
     let rows : c.args.top + r.H ≤ a.height = subst (λ (p : Plane). c.args.top + r.H ≤ p.height) (sym c.self.view_is) c.requires.rows in
     c.load.ensures x y x_low y_low
-    ∙ ap (slice_index c.deref.result.now) (place r.PAD a.width a.height c.args.left c.args.top r.W r.H a.stored.items c.self.invariant.long columns rows x y)
+    ∙ ap (slice_index c.deref.result.now) (rectangle_place r.PAD a.width a.height c.args.left c.args.top r.W r.H a.stored.items c.self.invariant.long columns rows x y)
     ∙ ap (λ s. slice_index s (stored_place r.PAD a.width (c.args.left + x) (c.args.top + y))) c.deref.ensures.value
     ∙ stored_sample r.PAD a.width a.height a.stored.items c.self.invariant.long (c.args.left + x) (c.args.top + y) (omega arith) (omega arith)
     ∙ ap (λ (p : Plane). sample p (c.args.left + x) (c.args.top + y)) c.self.view_is

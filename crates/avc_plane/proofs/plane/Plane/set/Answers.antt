@@ -1,5 +1,4 @@
-use Rattle.avc_plane.proofs.Common.{◌∙◌, ◌<◌, sym, ap, subst, Plane, with_sample}
-use Rattle.avc_plane.proofs.Stored.{stored_set}
+use Rattle.avc_plane.proofs.PlaneMaps.{◌∙◌, ◌<◌, sym, ap, subst, Plane, with_sample, stored_set}
 use Rattle.avc_plane.proofs.plane.Plane.set.Goals as goal
 
 pub returns : goal.returns

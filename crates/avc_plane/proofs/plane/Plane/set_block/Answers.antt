@@ -1,7 +1,6 @@
-use Rattle.std.proofs.Common.{ℕ, ◌≡◌, ◌+◌, ◌-◌, ◌*◌, ◌∙◌, ◌<◌, ◌≤◌, length, get_or, take, drop, length-drop, arith, ap, subst, mul_comm}
-use Rattle.avc_plane.proofs.Common.{slice_index, length-take-le, get_or-take, get_or-drop, row_fits, Plane, with_block, stored_place}
-use Rattle.avc_plane.proofs.PlaneMaps.{length-plane_of}
-use Rattle.avc_plane.proofs.Blocks.{no_line, line_more}
+use Rattle.avc_plane.proofs.PlaneMaps.{ℕ, ◌≡◌, ◌+◌, ◌-◌, ◌*◌, ◌∙◌, ◌<◌, ◌≤◌, length, get_or, take, drop, length-drop, arith, ap, subst, mul_comm}
+use Rattle.avc_plane.proofs.PlaneMaps.{slice_index, length-take-le, get_or-take, get_or-drop, row_fits, Plane, with_block, stored_place}
+use Rattle.avc_plane.proofs.PlaneMaps.{length-plane_of, no_line, line_more}
 use Rattle.avc_plane.proofs.plane.Plane.set_block.Goals as goal
 
 pub loop-row-init : goal.loop-row-init

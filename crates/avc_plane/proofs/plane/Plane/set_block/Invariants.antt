@@ -1,4 +1,4 @@
-use Rattle.avc_plane.proofs.Common.{◌≡◌, ◌+◌, ◌*◌, slice_index, with_block}
+use Rattle.avc_plane.proofs.PlaneMaps.{◌≡◌, ◌+◌, ◌*◌, slice_index, with_block}
 use Rattle.avc_plane.proofs.plane.Plane.set_block.Given as goal
 
 abbrev pub invariant-loop-row : goal.invariant-loop-row

@@ -1,8 +1,6 @@
-use Rattle.avc_plane.proofs.Common.{ℕ, ◌≡◌, ◌+◌, ◌-◌, ◌∙◌, ◌<◌, ◌≤◌, ◌++◌, List, length, take, drop, append_assoc, arith, refl, sym, ap}
-use Rattle.avc_plane.proofs.Common.{subst, slice_index, take-length, with_items_is, Plane, with_block, stored_place, inner_plane}
-use borrow.Rule.Slice.PartMut.{put_mid}
-use Rattle.std.proofs.lemmas.Slice.{put_mid-paste}
-use Rattle.avc_plane.proofs.Blocks.{spliced, length-spliced, within, stored_line}
+use Rattle.avc_plane.proofs.PlaneMaps.{ℕ, ◌≡◌, ◌+◌, ◌-◌, ◌∙◌, ◌<◌, ◌≤◌, ◌++◌, List, length, take, drop, append_assoc, arith, refl, sym, ap, subst}
+use Rattle.avc_plane.proofs.PlaneMaps.{slice_index, take-length, with_items_is, Plane, with_block, stored_place, inner_plane, put_mid, put_mid-paste}
+use Rattle.avc_plane.proofs.PlaneMaps.{spliced, length-spliced, within, stored_line}
 use Rattle.avc_plane.proofs.plane.Plane.set_line.Goals as goal
 
 pub returns : goal.returns

@@ -1,6 +1,5 @@
-use Rattle.avc_plane.proofs.Common.{◌≡◌, ◌∙◌, ℕ, ◌+◌, ◌*◌, ◌≤◌, List, length, arith, sym, ap, subst, slice_index, with_items_is, Plane}
-use Rattle.avc_plane.proofs.Common.{with_block, inner_plane, IsSameOutside}
-use Rattle.avc_plane.proofs.Rectangles.{small, room, stored_rectangle}
+use Rattle.avc_plane.proofs.PlaneMaps.{◌≡◌, ◌∙◌, ℕ, ◌+◌, ◌*◌, ◌≤◌, List, length, arith, sym, ap, subst, slice_index, with_items_is, Plane, with_block}
+use Rattle.avc_plane.proofs.PlaneMaps.{inner_plane, IsSameOutside, small, room, stored_rectangle}
 use Rattle.avc_plane.proofs.plane.Plane.store_rectangle.Goals as goal
 
 pub store-requires : goal.store-requires

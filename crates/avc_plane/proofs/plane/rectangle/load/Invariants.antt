@@ -1,4 +1,4 @@
-use Rattle.std.proofs.Common.{◌≡◌, ◌<◌, ◌+◌, ◌*◌, ℕ, length, slice_index}
+use Rattle.avc_plane.proofs.PlaneMaps.{◌≡◌, ◌<◌, ◌+◌, ◌*◌, ℕ, length, slice_index}
 use Rattle.avc_plane.proofs.plane.rectangle.load.Given as goal
 
 abbrev pub invariant-loop-y : goal.invariant-loop-y

@@ -1,4 +1,4 @@
-use Rattle.std.proofs.Common.{◌≡◌, ◌<◌, ◌≤◌, ◌+◌, ℕ, length, slice_index}
+use Rattle.avc_plane.proofs.PlaneMaps.{◌≡◌, ◌<◌, ◌≤◌, ◌+◌, ℕ, length, slice_index}
 use Rattle.avc_plane.proofs.plane.rectangle.put_row.Given as goal
 
 abbrev pub invariant-loop-x : goal.invariant-loop-x

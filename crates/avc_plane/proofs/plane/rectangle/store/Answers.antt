@@ -1,5 +1,5 @@
-use Rattle.avc_plane.proofs.Common.{◌≡◌, ◌≢◌, ℕ, ◌+◌, ◌-◌, ◌*◌, ◌<◌, ◌≤◌, slice_index, arith, rules, ◌∙◌, ⊎_elim, below_more, cases_lt}
-use Rattle.avc_plane.proofs.Common.{mul-le-mul_right}
+use Rattle.avc_plane.proofs.PlaneMaps.{◌≡◌, ◌≢◌, ℕ, ◌+◌, ◌-◌, ◌*◌, ◌<◌, ◌≤◌, slice_index, arith, rules, ◌∙◌, ⊎_elim, below_more, cases_lt}
+use Rattle.avc_plane.proofs.PlaneMaps.{mul-le-mul_right}
 use Rattle.avc_plane.proofs.plane.rectangle.store.Goals as goal
 
 earlier_row : (start stride width y i x : ℕ) → y < i → x < width → width ≤ stride → start + y * stride + x < start + i * stride

@@ -1,4 +1,4 @@
-use Rattle.std.proofs.Common.{length}
+use Rattle.avc_plane.proofs.PlaneMaps.{length}
 use Rattle.avc_plane.proofs.spare.SparePlanes.take.Given as goal
 
 abbrev pub decreases-planes : goal.decreases-planes

@@ -1,5 +1,4 @@
-use Rattle.std.proofs.Common.{◌∙◌, ◌+◌}
-use Rattle.avc_poc.proofs.CountingGaps.{counted_from, some_numbers}
+use Rattle.avc_poc.proofs.OrderCounts.{◌∙◌, ◌+◌, counted_from, some_numbers}
 use Rattle.avc_poc.proofs.poc.Poc.missing_from.Goals as goal
 
 pub returns : goal.returns

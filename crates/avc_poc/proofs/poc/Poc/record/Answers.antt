@@ -1,4 +1,4 @@
-use Rattle.avc_poc.proofs.Common.{◌+◌, ap, ◌∙◌, is_ok, counts_from, previous_for, OrderCountState, picture_offset}
+use Rattle.avc_poc.proofs.OrderCounts.{◌+◌, ap, ◌∙◌, is_ok, counts_from, previous_for, OrderCountState, picture_offset}
 use Rattle.avc_poc.proofs.poc.Poc.record.Goals as goal
 
 pub previous_after-self-inside-requires-clause-counted : goal.previous_after-self-inside-requires-clause-counted

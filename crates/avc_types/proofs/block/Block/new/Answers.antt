@@ -1,4 +1,4 @@
-use Rattle.avc_types.proofs.Common.{◌*◌, take-replicate, mul-le}
+use Rattle.avc_types.proofs.Frames.{◌*◌, take-replicate, mul-le}
 use Rattle.avc_types.proofs.block.Block.new.Goals as goal
 
 pub returns : goal.returns

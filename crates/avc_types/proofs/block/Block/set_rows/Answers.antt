@@ -1,5 +1,4 @@
-use Rattle.avc_types.proofs.Common.{◌+◌, ◌*◌, slice_index, arith, mul-le}
-use Rattle.avc_types.proofs.Blocks.{block_is}
+use Rattle.avc_types.proofs.Frames.{◌+◌, ◌*◌, slice_index, arith, mul-le, block_is}
 use Rattle.avc_types.proofs.block.Block.set_rows.Goals as goal
 
 pub returns : goal.returns

@@ -1,5 +1,4 @@
-use Rattle.avc_types.proofs.Common.{◌≡◌, pos, ◌∙◌, length, ap, sym, arith, replicate, total_coeff}
-use Rattle.avc_types.proofs.NoLevels.{none_counted}
+use Rattle.avc_types.proofs.Frames.{◌≡◌, pos, ◌∙◌, length, ap, sym, arith, replicate, total_coeff, none_counted}
 use Rattle.avc_types.proofs.levels.Levels.clear.Goals as goal
 
 pub returns-else-self-ne0 : goal.returns-else-self-ne0

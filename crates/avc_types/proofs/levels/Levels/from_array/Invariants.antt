@@ -1,4 +1,4 @@
-use Rattle.avc_types.proofs.Common.{◌≡◌, ◌≤◌, take, total_coeff}
+use Rattle.avc_types.proofs.Frames.{◌≡◌, ◌≤◌, take, total_coeff}
 use Rattle.avc_types.proofs.levels.Levels.from_array.Given as goal
 
 abbrev pub invariant-levels : goal.invariant-levels

@@ -1,4 +1,4 @@
-use Rattle.std.proofs.Common.{◌≡◌, take}
+use Rattle.avc_types.proofs.Frames.{◌≡◌, take}
 use Rattle.avc_types.proofs.up_to.UpTo.copied.Given as goal
 
 abbrev pub invariant-loop-item : goal.invariant-loop-item

@@ -1,5 +1,4 @@
-use Rattle.std.proofs.Common.{arith}
-use Rattle.avc_vlc.proofs.Places.{agree_number, front_below}
+use Rattle.avc_vlc.proofs.Entries.{arith, agree_number, front_below}
 use Rattle.avc_vlc.proofs.code.Code.front.Goals as goal
 
 pub returns-clause-below : goal.returns-clause-below

@@ -1,7 +1,6 @@
-use Rattle.avc_vlc.proofs.Common.{◌≡◌, ◌≤◌, rules, length, min, arith, reader_bits}
-use Rattle.avc_vlc.proofs.Places.{code_is}
-use Rattle.avc_vlc.proofs.code.Code.next.Goals as goal
+use Rattle.avc_vlc.proofs.Entries.{◌≡◌, ◌≤◌, rules, length, min, arith, reader_bits, code_is}
 use Rattle.avc_vlc.proofs.code.Code.next.Goals.{then-count-test+else-not-has, else-count-test}
+use Rattle.avc_vlc.proofs.code.Code.next.Goals as goal
 
 pub returns-clause-bits : goal.returns-clause-bits
 returns-clause-bits g c =

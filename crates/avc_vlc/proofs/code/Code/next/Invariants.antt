@@ -1,4 +1,4 @@
-use Rattle.avc_vlc.proofs.Common.{◌≤◌, length, min, reader_bits}
+use Rattle.avc_vlc.proofs.Entries.{◌≤◌, length, min, reader_bits}
 use Rattle.avc_vlc.proofs.code.Code.next.Given as goal
 
 abbrev pub invariant-count : goal.invariant-count

@@ -1,5 +1,4 @@
-use Rattle.std.proofs.Common.{arith}
-use Rattle.avc_vlc.proofs.Places.{number_is}
+use Rattle.avc_vlc.proofs.Entries.{arith, number_is}
 use Rattle.avc_vlc.proofs.code.Code.number.Goals as goal
 
 pub returns : goal.returns

@@ -1,5 +1,4 @@
-use Rattle.avc_vlc.proofs.Common.{arith, and_mask, one_shl}
-use Rattle.avc_vlc.proofs.Places.{agree_place}
+use Rattle.avc_vlc.proofs.Entries.{arith, and_mask, one_shl, agree_place}
 use Rattle.avc_vlc.proofs.code.Code.place.Goals as goal
 
 pub returns-clause-agrees : goal.returns-clause-agrees

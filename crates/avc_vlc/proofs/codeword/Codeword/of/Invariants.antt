@@ -1,4 +1,4 @@
-use Rattle.avc_vlc.proofs.Common.{◌≡◌, false, take, list_any, holds}
+use Rattle.avc_vlc.proofs.Entries.{◌≡◌, false, take, list_any, holds}
 use Rattle.avc_vlc.proofs.codeword.Codeword.of.Given as goal
 
 -- none of the rows so far has the value

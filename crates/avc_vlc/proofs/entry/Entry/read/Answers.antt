@@ -1,5 +1,4 @@
-use Rattle.avc_bits.specs.Reader.{reader_bits}
-use Rattle.avc_vlc.proofs.Entries.{reads_word, reads_cut}
+use Rattle.avc_vlc.proofs.Entries.{reader_bits, reads_word, reads_cut}
 use Rattle.avc_vlc.proofs.entry.Entry.read.Goals as goal
 
 pub returns-in-Ok-clause-read : goal.returns-in-Ok-clause-read

@@ -1,5 +1,4 @@
-use Rattle.avc_bits.specs.Reader.{reader_bits}
-use Rattle.avc_vlc.proofs.Entries.{reads_none, reads_cut}
+use Rattle.avc_vlc.proofs.Entries.{reader_bits, reads_none, reads_cut}
 use Rattle.avc_vlc.proofs.entry.Entry.refused.Goals as goal
 
 pub returns-in-Ok : goal.returns-in-Ok

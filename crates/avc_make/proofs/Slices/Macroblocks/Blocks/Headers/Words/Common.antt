@@ -25,21 +25,21 @@ pub use Rattle.std.specs.List.{flat_map, sum, zip, range_with_len, All}
 pub use Rattle.std.specs.Option.{option_map, option_copied}
 pub use Rattle.std.specs.Prelude.{◌==◌, if◌then◌else◌, int_lt, replicate, bit_or, IsTrue, slice_get, int_le}
 pub use Rattle.avc_annexb.specs.Escapes.{rbsp}
-pub use Rattle.avc_bits.proofs.CodeLaws.{u_reads}
-pub use Rattle.avc_bits.proofs.Numbers.{bits_of-number, byte_bits-append, length-bits_of, length-byte_bits, number-append, number-bits_of, number-zeros}
-pub use Rattle.avc_bits.proofs.Numbers.{bits_of-zero, number-inj}
+pub use Rattle.avc_bits.proofs.Reading.{u_reads}
+pub use Rattle.avc_bits.proofs.Reading.Numbers.{bits_of-number, byte_bits-append, length-bits_of, length-byte_bits, number-append, number-bits_of, number-zeros}
+pub use Rattle.avc_bits.proofs.Reading.Numbers.{bits_of-zero, number-inj}
 pub use Rattle.avc_bits.proofs.Reading.{before_found, before_many, before_short}
-pub use Rattle.avc_bits.proofs.Stops.{before_one}
+pub use Rattle.avc_bits.proofs.Reading.Numbers.{before_one}
 pub use Rattle.avc_bits.specs.Bits.{Read, ◌>>=◌, bits_of, give, or_none, times, Bits, ◌>>◌, check, bits_before_stop, byte_bits, number_of, refuse, start, more}
 pub use Rattle.avc_bits.specs.Bits.{where_set, more_data, before_last_one, passed}
 pub use Rattle.avc_bits.specs.Codes.{u, IsReadBy, IsU, Takes, flag, zeros, zeros_before_one, se_within, ue_to, align, skip, te_to, bits, se, signed_value, te}
 pub use Rattle.avc_bits.specs.Codes.{u_to, ue, IsSe, IsTe, IsUe}
 pub use Rattle.avc_bits.specs.Reader.{reader_bits}
 unfoldable pub use Rattle.avc_bits.specs.Reader.{leading}
-pub use Rattle.avc_cavlc.proofs.RunSteps.{before, run_last, run_most}
+pub use Rattle.avc_cavlc.proofs.Levels.TrailingOnes.{before, run_last, run_most}
 pub use Rattle.avc_cavlc.specs.Block.{level, level_code, level_of_code, levels, next_suffix_length, residual_block, run, runs, suffix_size, token_levels}
 pub use Rattle.avc_cavlc.specs.Block.{trailing_one, each_after_zeros, IsLevel}
-pub use Rattle.avc_mbsyntax.proofs.BlockSteps.{token_capped}
+pub use Rattle.avc_mbsyntax.proofs.SliceDataReading.Macroblocks.{token_capped}
 pub use Rattle.avc_mbsyntax.specs.Reading.{after_pattern, block_mode, block_where, chroma_dc, residual_blocks, i_mb, i_nxn_mb, i_pcm_mb, is_coded, mvd_l0, p_mb}
 pub use Rattle.avc_mbsyntax.specs.Reading.{p_mb_type, qp_after, qp_delta, qp_delta_where, ref_idx_l0, residual, sub_mb_type, macroblock}
 unfoldable pub use Rattle.avc_mbsyntax.specs.Reading.{blocks}
@@ -47,14 +47,14 @@ pub use Rattle.avc_mbsyntax.specs.SliceData.{skipped, slice_data, SliceStart, co
 pub use Rattle.avc_mbsyntax.specs.SliceData.{left_total_coeffs, up_total_coeffs}
 pub use Rattle.avc_mbsyntax.specs.declared.context.Context.{Context}
 pub use Rattle.avc_neigh.proofs.Found.{total_coeffs_found}
-pub use Rattle.avc_neigh.proofs.RowKeeping.{slice_get-append, slice_get-next}
+pub use Rattle.avc_neigh.proofs.Found.RowKeeping.{slice_get-append, slice_get-next}
 pub use Rattle.avc_neigh.specs.Around.{PictureInfo, mb_a, mb_b}
 pub use Rattle.avc_neigh.specs.Blocks.{available, Location, at_location, location_at}
 pub use Rattle.avc_neigh.specs.Laws.{InfoTell}
 pub use Rattle.avc_neigh.specs.TotalCoeffs.{nc, total_coeffs_of}
 pub use Rattle.avc_neigh.specs.declared.neighbour_info.NeighbourInfo.{NeighbourInfo}
 pub use Rattle.avc_neigh.specs.declared.neighbour_info.TotalCoeffs.{TotalCoeffs}
-pub use Rattle.avc_params.proofs.Rows.{plain, small}
+pub use Rattle.avc_params.proofs.ParameterSets.{plain, small}
 pub use Rattle.avc_params.specs.Limits.{max_frame_num, size_in_mbs, max_macroblocks, max_side}
 pub use Rattle.avc_params.specs.Parsing.{optional}
 pub use Rattle.avc_params.specs.PpsReading.{pps, pps_after}
@@ -97,11 +97,11 @@ pub use Rattle.avc_types.specs.declared.references.Modification.TheVariants.{Sub
 pub use Rattle.avc_types.specs.declared.references.Operation.{Operation}
 pub use Rattle.avc_types.specs.declared.references.Operation.TheVariants.{UnmarkShortTerm, UnmarkLongTerm, AssignLongTerm, MaxLongTermFrameIdx, UnmarkAll}
 pub use Rattle.avc_types.specs.declared.references.Operation.TheVariants.{CurrentToLongTerm}
-pub use Rattle.avc_vlc.proofs.Codes.{table_read}
+pub use Rattle.avc_vlc.proofs.Entries.Codes.{table_read}
 pub use Rattle.avc_vlc.proofs.Entries.{split-append}
-pub use Rattle.avc_vlc.proofs.OwnWords.{run_own, token_own, zeros_own}
-pub use Rattle.avc_vlc.proofs.ReadingBack.{run_back, run_whole, token_back, token_whole, zeros_back, chroma_zeros_whole, zeros_whole}
-pub use Rattle.avc_vlc.proofs.Values.{all_in, is_token, token_tested, tokens_tested}
+pub use Rattle.avc_vlc.proofs.Entries.Codes.{run_own, token_own, zeros_own}
+pub use Rattle.avc_vlc.proofs.Entries.Codes.{run_back, run_whole, token_back, token_whole, zeros_back, chroma_zeros_whole, zeros_whole}
+pub use Rattle.avc_vlc.proofs.Entries.Codes.{all_in, is_token, token_tested, tokens_tested}
 pub use Rattle.avc_vlc.specs.Laws.{IsReadBack, IsRead}
 pub use Rattle.avc_vlc.specs.Reading.{IsToken, coeff_token, run_before, token, total_zeros, IsIn, token_table, coded_block_pattern, pattern_at}
 pub use Rattle.avc_vlc.specs.Tables.{cbp_intra, cbp_inter}

@@ -1,0 +1,371 @@
+-- The filter of a picture row by row is that of the whole picture.
+pub mod Edges
+unfoldable pub use Edges.*
+
+-- ---- the filter by the info of a coded picture's macroblocks is that of the picture
+
+other_strength : (z : Bool) → ◌≡◌ {A = ℕ} (if z then 4 else 3) (if not z then 3 else 4)
+other_strength true = refl
+other_strength false = refl
+
+module _ (c : Coded) (motion : List (List Motion)) (names : Names) (column row a : ℕ) (at : IsAt c column row a) (offset : ℤ) (same_offset : c.chroma_qp_index_offset ≡ offset)
+    (v : Bool) where
+  module _ (n : ℕ) (low : n < 4) (p q : MbInfo) (across : v ≡ true → 1 ≤ 4 * column + n) (down : v ≡ false → 1 ≤ 4 * row + n)
+      (hp : HasInfo c motion names (p_address c v n a) p) (hq : HasInfo c motion names a q) where
+    strength_by : (k : ℕ) → k < 4 → (e : Bool) → (p.is_intra || q.is_intra) ≡ e →
+        strength_of p q v n k ≡ strength_between c motion (p_address c v n a) (edge_block v ((n + 3) % 4) k) a (edge_block v n k)
+    strength_by k k_low true is =
+        ap (λ (b : Bool). if b then (if n == 0 then 4 else 3) else inter_strength p (edge_block v ((n + 3) % 4) k) q (edge_block v n k)) is
+        ∙ other_strength (n == 0)
+        ∙ ap (λ (b : Bool). if b then 3 else 4) (sym (same_mb c v column row a n at across down))
+        ∙ sym (intra_between c motion names (p_address c v n a) a p (edge_block v ((n + 3) % 4) k) q (edge_block v n k) hp hq is)
+    strength_by k k_low false is =
+        let neither = both_false p.is_intra q.is_intra is in
+        ap (λ (b : Bool). if b then (if n == 0 then 4 else 3) else inter_strength p (edge_block v ((n + 3) % 4) k) q (edge_block v n k)) is
+        ∙ inter_between c motion names (p_address c v n a) a p (edge_block v ((n + 3) % 4) k) q (edge_block v n k)
+        (low_block v ((n + 3) % 4) k (omega arith) k_low) (low_block v n k low k_low) hp hq neither.0 neither.1
+
+    pub edge_is : (s : Planes) → edge_by_info v column row n offset p q s ≡ planes_edge c motion v a n s
+    edge_is s = grind (arith, strength_by, edge_planes)
+
+  outer_is : (o : Bool) (p q : MbInfo) → (o ≡ true → v ≡ true → 1 ≤ column) → (o ≡ true → v ≡ false → 1 ≤ row) →
+      (o ≡ true → HasInfo c motion names (p_address c v 0 a) p) → HasInfo c motion names a q → (s : Planes) →
+      (if o then edge_by_info v column row 0 offset p q s else s) ≡ (if o then planes_edge c motion v a 0 s else s)
+  outer_is false p q across down hp hq s = refl
+  outer_is true p q across down hp hq s = grind (arith, edge_is)
+
+  inner_is : (i : Bool) (q : MbInfo) → HasInfo c motion names a q → (s : Planes) →
+      (if i then edge_by_info v column row 3 offset q q (edge_by_info v column row 2 offset q q (edge_by_info v column row 1 offset q q s)) else s)
+      ≡ (if i then planes_edge c motion v a 3 (planes_edge c motion v a 2 (planes_edge c motion v a 1 s)) else s)
+  inner_is false q hq s = refl
+  inner_is true q hq s = grind (arith, edge_is)
+
+  pub edges_are : (o i : Bool) (p q : MbInfo) → (o ≡ true → v ≡ true → 1 ≤ column) → (o ≡ true → v ≡ false → 1 ≤ row) →
+      (o ≡ true → HasInfo c motion names (p_address c v 0 a) p) → HasInfo c motion names a q → (s : Planes) →
+      edges_by_info v column row offset o i p q s ≡ planes_edges c motion v o i a s
+  edges_are o i p q across down hp hq s = grind (arith, inner_is, outer_is)
+
+pub some_coded : (b : Bool) (n : ℕ) → (nat_lt 0 n && b) ≡ true → 1 ≤ n
+some_coded b zero t = let never : nat_lt 0 0 ≡ true = (and_parts (nat_lt 0 0) b t).0 in absurd (cc)
+some_coded b (suc n) t = omega arith
+
+pub mb_is : (c : Coded) (motion : List (List Motion)) (names : Names) (column row a : ℕ) (at : IsAt c column row a) (offset : ℤ) → c.chroma_qp_index_offset ≡ offset →
+    (left above q : MbInfo) → HasInfo c motion names a q → (1 ≤ column → HasInfo c motion names (a - 1) left) → (1 ≤ row → HasInfo c motion names (a - c.width) above) →
+    (s : Planes) → mb_by_info offset column row left above q s ≡ planes_mb c motion a s
+mb_is c motion names column row a at offset same left above q hq hl ha s =
+    let l : Bool = nat_lt 0 column && filters_between q left in
+    let u : Bool = nat_lt 0 row && filters_between q above in
+    let i : Bool = filters_between q q in
+    let inside : Bool = filters_edge_to c a a in
+    edges_are c motion names column row a at offset same false u i above q (λ e f. absurd (cc)) (λ e f. some_coded (filters_between q above) row e) (λ e. ha (some_coded (filters_between q above) row e)) hq
+    (edges_by_info true column row offset l i left q s)
+    ∙ ap (planes_edges c motion false u i a)
+    (edges_are c motion names column row a at offset same true l i left q (λ e f. some_coded (filters_between q left) column e) (λ e f. absurd (cc)) (λ e. hl (some_coded (filters_between q left) column e)) hq s)
+    ∙ ap (λ (b : Bool). planes_edges c motion false u b a (planes_edges c motion true l b a s)) (between_is c motion names a a q q hq hq)
+    ∙ ap (λ (b : Bool). planes_edges c motion false b inside a (planes_edges c motion true l inside a s)) (above_is c motion names column row a q above at hq ha)
+    ∙ ap (λ (b : Bool). planes_edges c motion false (filters_horizontal c a 0) inside a (planes_edges c motion true b inside a s)) (left_is c motion names column row a q left at hq hl)
+
+pub row_part : (c : Coded) (motion : List (List Motion)) (names : Names) (row : ℕ) (offset : ℤ) (above info : List MbInfo) (s : Planes) →
+    AreOfRow c motion names row offset above info → (n : ℕ) → n ≤ length info →
+    row_by_info offset row above info n s ≡ all_filtered c motion s (flat_map (mb_lines c) (range_with_len (row * c.width) n))
+row_part c motion names row offset above info s are zero low = refl
+row_part c motion names row offset above info s are (suc n) low =
+    let width = are.width_is in
+    let same = are.same in
+    one_more c motion (row * c.width) n (suc n) s (row_by_info offset row above info n s) (row_by_info offset row above info (suc n) s) (omega arith)
+    (row_part c motion names row offset above info s are n (omega arith))
+    (mb_is c motion names n row (row * c.width + n) (record { within = omega arith; address = refl }) offset are.offset_is
+    (slice_index_or info (n - 1) no_info) (slice_index_or above n no_info) (slice_index_or info n no_info) (are.info_are n no_info (omega arith))
+    (λ more. shifted c motion names _ _ _ (omega arith) (are.info_are (n - 1) no_info (omega arith)))
+    (λ more.
+    let back : row ≡ (row - 1) + 1 = omega arith in
+    let rows : row * c.width ≡ ((row - 1) + 1) * c.width = ap (λ (r : ℕ). r * c.width) back in
+    shifted c motion names _ _ _ (omega (arith, rows)) (are.above_are more n no_info (omega arith)))
+    (row_by_info offset row above info n s))
+
+pub row_lines_filtered : (c : Coded) (motion : List (List Motion)) (names : Names) (row : ℕ) (offset : ℤ) (above info : List MbInfo) (s : Planes) →
+    AreOfRow c motion names row offset above info → row_by_info offset row above info (length info) s ≡ all_filtered c motion s (row_lines c row)
+unfolding row_lines
+row_lines_filtered c motion names row offset above info s are =
+    row_part c motion names row offset above info s are (length info) (omega arith)
+    ∙ ap (λ (k : ℕ). all_filtered c motion s (flat_map (mb_lines c) (range_with_len (row * c.width) k))) (sym are.width_is)
+
+-- ---- the filter of a row of macroblocks reads and changes samples of a few rows alone
+
+-- ---- changes of the three planes, each by itself
+
+pub record ActsApart (wl wb wr row : ℕ) (g : Planes → Planes) : Type 0 where
+  pub luma : Plane → Plane
+  pub cb : Plane → Plane
+  pub cr : Plane → Plane
+  pub is : (s : Planes) → g s ≡ record { luma = luma s.luma; cb = cb s.cb; cr = cr s.cr }
+  pub luma_local : IsLocal wl (16 * row - 3) (16 * row + 16) luma
+  pub cb_local : IsLocal wb (8 * row - 1) (8 * row + 8) cb
+  pub cr_local : IsLocal wr (8 * row - 1) (8 * row + 8) cr
+
+abbrev planes_from : Plane → Plane → Plane → Planes
+planes_from l b r = record { luma = l; cb = b; cr = r }
+
+even_low : (n : ℕ) → n < 4 → (n % 2 == 0) ≡ true → n ≤ 2
+even_low n low even = grind (arith, nat_tests)
+
+module _ (wl wb wr row : ℕ) where
+  acts_none : ActsApart wl wb wr row (λ s. s)
+  acts_none = record {
+    luma = λ s. s;
+    cb = λ s. s;
+    cr = λ s. s;
+    is = λ s. refl;
+    luma_local = local_none;
+    cb_local = local_none;
+    cr_local = local_none;
+  }
+
+  acts_then : {g h : Planes → Planes} → ActsApart wl wb wr row g → ActsApart wl wb wr row h → ActsApart wl wb wr row (λ s. h (g s))
+  acts_then {g} {h} a b = record {
+    luma = λ s. b.luma (a.luma s);
+    cb = λ s. b.cb (a.cb s);
+    cr = λ s. b.cr (a.cr s);
+    is = λ s. ap h (a.is s) ∙ b.is (planes_from (a.luma s.luma) (a.cb s.cb) (a.cr s.cr));
+    luma_local = local_then a.luma_local b.luma_local;
+    cb_local = local_then a.cb_local b.cb_local;
+    cr_local = local_then a.cr_local b.cr_local;
+  }
+
+  acts_if : (b : Bool) {g : Planes → Planes} → (b ≡ true → ActsApart wl wb wr row g) → ActsApart wl wb wr row (λ s. if b then g s else s)
+  acts_if true h = h refl
+  acts_if false h = acts_none
+
+  -- ---- one edge
+
+  module _ (column : ℕ) (luma_fits : 16 * column + 16 ≤ wl) (cb_fits : 8 * column + 8 ≤ wb) (cr_fits : 8 * column + 8 ≤ wr) (offset : ℤ) where
+    -- d samples behind a side
+    acts_behind : (w size reach d : ℕ) (f : ℕ → Setting) → ((i : ℕ) → HasReach (f i) reach) → size * column + size ≤ w → d + 4 ≤ size → (v : Bool) →
+        (v ≡ true → 4 ≤ size * column + d) → (v ≡ false → 4 ≤ size * row + d) → IsLocal w (size * row - reach) (size * row + size) (edge_behind size f v column row d)
+    acts_behind w size reach d f keeps fits inside true across down =
+        let back : (size * column + d) - 4 + 4 ≡ size * column + d = (let far = across refl in omega arith) in
+        subst (λ x. IsLocal w (size * row - reach) (size * row + size) (edge_filtered f true x (size * row) size)) back
+        (local_edge w (size * row - reach) (size * row + size) f true (size * column + d - 4) (size * row) size reach keeps (λ i k less low. (omega arith, omega arith)) (λ i k less p q. omega arith))
+    acts_behind w size reach d f keeps fits inside false across down =
+        let far = down refl in
+        let back : (size * row + d) - 4 + 4 ≡ size * row + d = omega arith in
+        subst (λ y. IsLocal w (size * row - reach) (size * row + size) (edge_filtered f false (size * column) y size)) back
+        (local_edge w (size * row - reach) (size * row + size) f false (size * column) (size * row + d - 4) size reach keeps (λ i k less low. (omega arith, omega arith)) (λ i k less p q. omega arith))
+
+    edge_acts : (v : Bool) (n : ℕ) → n < 4 → (v ≡ true → 1 ≤ 4 * column + n) → (v ≡ false → 1 ≤ 4 * row + n) → (p q : MbInfo) →
+        ActsApart wl wb wr row (edge_by_info v column row n offset p q)
+    edge_acts v n low across down p q =
+        let st = strength_of p q v n in
+        let luma = luma_qp_of p q in
+        let chroma = chroma_qp_of offset p q in
+        let acts_chroma : (w : ℕ) → 8 * column + 8 ≤ w → IsLocal w (8 * row - 1) (8 * row + 8) (chroma_behind v column row n st chroma) =
+        λ w fits.
+        local_if w _ _ (n % 2 == 0) (edge_behind 8 (chroma_setting st chroma) v column row (2 * n))
+        (λ even.
+        let two = even_low n low even in
+        acts_behind w 8 1 (2 * n) (chroma_setting st chroma) (λ i. chroma_reach (chroma_setting st chroma i) refl) fits (omega arith) v
+        (λ e. far_enough column n (across e) even) (λ e. far_enough row n (down e) even)) in
+        record {
+          luma = luma_of_edge v column row n st luma;
+          cb = chroma_behind v column row n st chroma;
+          cr = chroma_behind v column row n st chroma;
+          is = in_parts v column row n st luma chroma;
+          luma_local = acts_behind wl 16 3 (4 * n) (luma_setting st luma) (λ i. luma_reach (luma_setting st luma i)) luma_fits (omega arith) v
+              (λ e. let some_coded = across e in omega arith) (λ e. let some_coded = down e in omega arith);
+          cb_local = acts_chroma wb cb_fits;
+          cr_local = acts_chroma wr cr_fits;
+        }
+
+    -- ---- the edges of a macroblock
+
+    edges_act : (v o i : Bool) → (o ≡ true → v ≡ true → 1 ≤ column) → (o ≡ true → v ≡ false → 1 ≤ row) → (p q : MbInfo) →
+        ActsApart wl wb wr row (edges_by_info v column row offset o i p q)
+    edges_act v o i across down p q =
+        let inner : (n : ℕ) → 1 ≤ n → n < 4 → ActsApart wl wb wr row (edge_by_info v column row n offset q q) =
+        λ n some_coded low. edge_acts v n low (λ e. omega arith) (λ e. omega arith) q q in
+        acts_then
+        (acts_if o (λ on. edge_acts v 0 (omega arith) (λ e. let h : 1 ≤ column = across on e in omega arith) (λ e. let h : 1 ≤ row = down on e in omega arith) p q))
+        (acts_if i (λ on. acts_then (acts_then (inner 1 (omega arith) (omega arith)) (inner 2 (omega arith) (omega arith))) (inner 3 (omega arith) (omega arith))))
+
+    mb_acts : (left above q : MbInfo) → ActsApart wl wb wr row (mb_by_info offset column row left above q)
+    mb_acts left above q =
+        acts_then
+        (edges_act true (nat_lt 0 column && filters_between q left) (filters_between q q) (λ o e. some_coded (filters_between q left) column o) (λ o e. absurd (cc)) left q)
+        (edges_act false (nat_lt 0 row && filters_between q above) (filters_between q q) (λ o e. absurd (cc)) (λ o e. some_coded (filters_between q above) row o) above q)
+
+  pub row_acts : (offset : ℤ) (above info : List MbInfo) (n : ℕ) → ((k : ℕ) → k < n → 16 * k + 16 ≤ wl) → ((k : ℕ) → k < n → 8 * k + 8 ≤ wb) →
+      ((k : ℕ) → k < n → 8 * k + 8 ≤ wr) → ActsApart wl wb wr row (row_by_info offset row above info n)
+  row_acts offset above info zero l b r = acts_none
+  row_acts offset above info (suc n) l b r =
+      acts_then (row_acts offset above info n (λ k low. l k (omega arith)) (λ k low. b k (omega arith)) (λ k low. r k (omega arith)))
+      (mb_acts n (l n (omega arith)) (b n (omega arith)) (r n (omega arith)) offset
+      (slice_index_or info (n - 1) no_info) (slice_index_or above n no_info) (slice_index_or info n no_info))
+
+-- ---- one plane
+
+module _ (first end : ℕ) (g : Plane → Plane) (s : Plane) (a : IsLocal s.width first end g) (full : length s.samples ≡ s.width * s.height) (rows : end ≤ s.height) where
+  size : IsSized s.width s.height (s.width * s.height) s
+  size = record { width = refl; height = refl; long = full }
+
+  changes_of : ChangesWithin first end s (g s)
+  changes_of = record { width = a.width s; height = a.height s; long = a.long s; samples = λ x y column row out. a.kept s.height s size rows x y column out }
+
+  reads_of : (t : Plane) → AgreesAbove end s t → AgreesAbove end (g s) (g t)
+  reads_of t agrees = record {
+    width = a.width t ∙ agrees.width ∙ sym (a.width s);
+    height = a.height t ∙ agrees.height ∙ sym (a.height s);
+    long = a.long t ∙ agrees.long ∙ sym (a.long s);
+    samples = λ x y column row.
+        a.same s.height s t size (record { width = agrees.width; height = agrees.height; long = agrees.long ∙ full }) rows agrees.samples x y (omega (arith, a.width s)) row;
+  }
+
+  -- a block below
+  module _ (left top width height : ℕ) (f : ℕ → ℕ → ℕ) (below : end ≤ top) where
+    abbrev built : Plane
+    built = with_block s left top width height f
+
+    built_size : IsSized s.width s.height (s.width * s.height) built
+    built_size = record {
+      width = refl;
+      height = refl;
+      long = length-plane_of s.width s.height (λ x y. if is_inside left top width height x y then f (x - left) (y - top) else sample s x y);
+    }
+
+    commute_of : g built ≡ with_block (g s) left top width height f
+    commute_of =
+        let wide = a.width s in
+        let tall = a.height s in
+        block_is (g s) (g built) left top width height f
+        (record { width = a.width built ∙ sym wide; height = a.height built ∙ sym tall; long = rw (wide, tall) (a.long built ∙ built_size.long) })
+        (λ x y column row p q r u.
+        a.kept s.height built built_size rows x y (omega arith) (λ lo hi. omega arith) ∙ inside_block s left top width height f x y (omega arith) (omega arith) p q r u)
+        (λ x y column row out.
+        ⊎_elim
+        (λ less. a.same s.height s built size built_size rows (λ i j i_low j_low. outside_block s left top width height f i j i_low (omega arith) (λ p q r u. omega arith)) x y (omega arith) less)
+        (λ no. a.kept s.height built built_size rows x y (omega arith) (λ lo hi. omega arith) ∙ outside_block s left top width height f x y (omega arith) (omega arith) out
+        ∙ sym (a.kept s.height s size rows x y (omega arith) (λ lo hi. omega arith)))
+        (cases_lt y end))
+
+-- ---- the laws
+
+module _ (offset : ℤ) (row : ℕ) (above info : List MbInfo) (s : Planes) (has : HasRow row (length info) s) where
+  acts : ActsApart s.luma.width s.cb.width s.cr.width row (row_by_info offset row above info (length info))
+  acts = row_acts s.luma.width s.cb.width s.cr.width row offset above info (length info) (λ k low. (has.room k low).luma_columns) (λ k low. (has.room k low).cb_columns) (λ k low. (has.room k low).cr_columns)
+
+pub row_changes : (offset : ℤ) (row : ℕ) (above info : List MbInfo) (s : Planes) → HasRow row (length info) s → ChangesInRow row s (row_by_info offset row above info (length info) s)
+row_changes offset row above info s has =
+    let a = acts offset row above info s has in
+    subst (ChangesInRow row s) (sym (a.is s))
+    (record {
+      luma = changes_of (16 * row - 3) (16 * row + 16) a.luma s.luma a.luma_local has.full.luma has.luma_rows;
+      cb = changes_of (8 * row - 1) (8 * row + 8) a.cb s.cb a.cb_local has.full.cb has.cb_rows;
+      cr = changes_of (8 * row - 1) (8 * row + 8) a.cr s.cr a.cr_local has.full.cr has.cr_rows;
+    })
+
+pub row_reads : (offset : ℤ) (row : ℕ) (above info : List MbInfo) (s t : Planes) → HasRow row (length info) s → AgreesToRow row s t →
+    AgreesToRow row (row_by_info offset row above info (length info) s) (row_by_info offset row above info (length info) t)
+row_reads offset row above info s t has agrees =
+    let a = acts offset row above info s has in
+    let g : Planes → Planes = row_by_info offset row above info (length info) in
+    let built : Planes → Planes = λ p. planes_from (a.luma p.luma) (a.cb p.cb) (a.cr p.cr) in
+    subst (λ p. AgreesToRow row p (g t)) (sym (a.is s))
+    (subst (AgreesToRow row (built s)) (sym (a.is t))
+    (record {
+      luma = reads_of (16 * row - 3) (16 * row + 16) a.luma s.luma a.luma_local has.full.luma has.luma_rows t.luma agrees.luma;
+      cb = reads_of (8 * row - 1) (8 * row + 8) a.cb s.cb a.cb_local has.full.cb has.cb_rows t.cb agrees.cb;
+      cr = reads_of (8 * row - 1) (8 * row + 8) a.cr s.cr a.cr_local has.full.cr has.cr_rows t.cr agrees.cr;
+    }))
+
+module _ (row n : ℕ) (s : Planes) (has : HasRow row n s) (g : Planes → Planes) (a : ActsApart s.luma.width s.cb.width s.cr.width row g) (left top width height : ℕ) (f : ℕ → ℕ → ℕ) where
+  abbrev with_it : Plane → Plane
+  with_it p = with_block p left top width height f
+
+  acts_commute : (k : ℕ) → 16 / luma_per_sample k * (row + 1) ≤ top →
+      planes_from (a.luma (in_component k with_it s).luma) (a.cb (in_component k with_it s).cb) (a.cr (in_component k with_it s).cr)
+      ≡ in_component k with_it (planes_from (a.luma s.luma) (a.cb s.cb) (a.cr s.cr))
+  acts_commute zero below = grind (arith, nat_tests, commute_of)
+  acts_commute (suc zero) below = grind (arith, nat_tests, commute_of)
+  acts_commute (suc (suc k)) below = grind (arith, nat_tests, commute_of)
+
+pub row_commutes : (offset : ℤ) (row : ℕ) (above info : List MbInfo) (s : Planes) → HasRow row (length info) s → (k left top width height : ℕ) (f : ℕ → ℕ → ℕ) →
+    16 / luma_per_sample k * (row + 1) ≤ top →
+    row_by_info offset row above info (length info) (in_component k (λ p. with_block p left top width height f) s)
+    ≡ in_component k (λ p. with_block p left top width height f) (row_by_info offset row above info (length info) s)
+row_commutes offset row above info s has k left top width height f below =
+    let a = acts offset row above info s has in
+    let b : Plane → Plane = λ (p : Plane). with_block p left top width height f in
+    a.is (in_component k b s)
+    ∙ acts_commute row (length info) s has (row_by_info offset row above info (length info)) a left top width height f k below
+    ∙ sym (ap (in_component k b) (a.is s))
+
+-- ---- worked values of the line filter
+
+abbrev one_row : List ℕ → Plane
+one_row samples = record { width = 12; height = 1; samples = samples }
+
+-- a step from 100 to 160 at QP 51, at strength 4 and then four samples to the right at strength 3: the second line reads what the first left
+pub two_lines :
+    line_filtered (setting_of true 3 51 51 (pos 0) (pos 0)) true 8 0
+    (line_filtered (setting_of true 4 51 51 (pos 0) (pos 0)) true 4 0
+    (one_row (100 ∷ 100 ∷ 100 ∷ 100 ∷ 160 ∷ 160 ∷ 160 ∷ 160 ∷ 160 ∷ 160 ∷ 160 ∷ 160 ∷ [])))
+    ≡ one_row (100 ∷ 108 ∷ 115 ∷ 123 ∷ 138 ∷ 145 ∷ 152 ∷ 159 ∷ 161 ∷ 160 ∷ 160 ∷ 160 ∷ [])
+two_lines = refl
+
+abbrev line_row : (p0 p1 p2 p3 q0 q1 q2 q3 : ℕ) → Line
+line_row p0 p1 p2 p3 q0 q1 q2 q3 = record { p0 = p0; p1 = p1; p2 = p2; p3 = p3; q0 = q0; q1 = q1; q2 = q2; q3 = q3 }
+
+-- a setting, a line, and the line that it becomes
+pub record Worked : Type 0 where
+  pub setting : Setting
+  pub before : Line
+  pub after : Line
+
+abbrev worked : Setting → Line → Line → Worked
+worked setting before after = record { setting = setting; before = before; after = after }
+
+-- lines of all strengths, luma and chroma, beside the values of a filter written as one loop
+abbrev lines : List Worked
+lines =
+    worked (setting_of true 1 39 50 (pos 4) (negsuc 3)) (line_row 177 186 182 182 179 177 172 179) (line_row 179 180 182 182 177 175 172 179) ∷
+    worked (setting_of true 1 47 44 (pos 4) (negsuc 3)) (line_row 123 115 117 116 113 107 107 106) (line_row 119 117 117 116 117 112 107 106) ∷
+    worked (setting_of true 1 40 32 (negsuc 5) (pos 6)) (line_row 197 199 191 196 188 189 189 188) (line_row 194 198 191 196 191 190 189 188) ∷
+    worked (setting_of true 2 28 31 (pos 0) (pos 6)) (line_row 199 201 204 202 197 201 195 194) (line_row 198 201 204 202 198 200 195 194) ∷
+    worked (setting_of true 2 32 37 (pos 0) (negsuc 3)) (line_row 191 191 183 186 198 198 195 196) (line_row 194 191 183 186 195 195 195 196) ∷
+    worked (setting_of true 2 28 38 (pos 0) (pos 6)) (line_row 32 34 35 38 26 19 18 22) (line_row 31 32 35 38 27 21 18 22) ∷
+    worked (setting_of true 3 46 33 (negsuc 5) (negsuc 3)) (line_row 210 211 204 211 210 210 217 215) (line_row 210 207 204 211 210 213 217 215) ∷
+    worked (setting_of true 3 38 41 (pos 0) (pos 6)) (line_row 169 175 169 172 179 176 175 175) (line_row 174 171 169 172 174 174 175 175) ∷
+    worked (setting_of true 3 49 24 (pos 0) (pos 6)) (line_row 28 31 31 27 50 47 41 46) (line_row 35 35 31 27 43 42 41 46) ∷
+    worked (setting_of true 4 26 44 (negsuc 5) (pos 0)) (line_row 28 24 24 27 23 32 24 24) (line_row 26 25 25 27 27 27 25 24) ∷
+    worked (setting_of true 4 40 48 (pos 4) (negsuc 3)) (line_row 126 127 130 128 137 137 138 131) (line_row 131 130 130 128 133 135 135 131) ∷
+    worked (setting_of true 4 39 32 (negsuc 5) (pos 0)) (line_row 95 101 94 97 100 106 108 109) (line_row 99 98 97 97 101 102 105 109) ∷
+    worked (setting_of false 1 39 31 (pos 0) (pos 0)) (line_row 102 101 95 100 84 87 92 89) (line_row 99 101 95 100 87 87 92 89) ∷
+    worked (setting_of false 1 30 50 (pos 0) (pos 0)) (line_row 142 143 146 144 140 146 146 143) (line_row 141 143 146 144 141 146 146 143) ∷
+    worked (setting_of false 1 32 51 (pos 4) (negsuc 3)) (line_row 182 185 180 184 184 182 178 177) (line_row 183 185 180 184 183 182 178 177) ∷
+    worked (setting_of false 2 28 36 (pos 0) (negsuc 3)) (line_row 192 197 193 192 206 205 196 206) (line_row 195 197 193 192 203 205 196 206) ∷
+    worked (setting_of false 2 44 41 (pos 4) (pos 6)) (line_row 25 24 23 21 41 32 38 32) (line_row 32 24 23 21 34 32 38 32) ∷
+    worked (setting_of false 2 48 39 (pos 4) (pos 6)) (line_row 222 231 224 224 225 222 220 218) (line_row 225 231 224 224 222 222 220 218) ∷
+    worked (setting_of false 3 36 51 (pos 4) (negsuc 3)) (line_row 27 28 29 32 23 23 24 17) (line_row 26 28 29 32 24 23 24 17) ∷
+    worked (setting_of false 3 41 42 (pos 4) (pos 6)) (line_row 43 39 44 44 39 46 36 42) (line_row 40 39 44 44 42 46 36 42) ∷
+    worked (setting_of false 3 30 31 (pos 0) (negsuc 3)) (line_row 223 225 223 228 233 231 240 231) (line_row 227 225 223 228 229 231 240 231) ∷
+    worked (setting_of false 4 34 41 (pos 0) (pos 0)) (line_row 99 98 94 99 105 98 97 104) (line_row 98 98 94 99 100 98 97 104) ∷
+    worked (setting_of false 4 49 28 (pos 0) (negsuc 3)) (line_row 142 140 145 139 127 133 130 135) (line_row 139 140 145 139 133 133 130 135) ∷
+    worked (setting_of false 4 40 41 (pos 0) (pos 6)) (line_row 155 157 154 154 170 162 164 168) (line_row 158 157 154 154 163 162 164 168) ∷
+    []
+
+pub lines_filtered_row : map (λ (w : Worked). filtered w.setting w.before) lines ≡ map (λ (w : Worked). w.after) lines
+lines_filtered_row = refl
+
+pub alphas_row : map alpha_of (range_with_len 0 52) ≡ 0 ∷ 0 ∷ 0 ∷ 0 ∷ 0 ∷ 0 ∷ 0 ∷ 0 ∷ 0 ∷ 0 ∷ 0 ∷ 0 ∷ 0 ∷ 0 ∷ 0 ∷ 0 ∷ 4 ∷ 4 ∷ 5 ∷ 6 ∷ 7 ∷ 8 ∷ 9 ∷ 10 ∷ 12 ∷ 13 ∷ 15 ∷ 17 ∷ 20 ∷ 22 ∷ 25 ∷ 28 ∷ 32 ∷ 36 ∷ 40 ∷ 45 ∷ 50 ∷ 56 ∷ 63 ∷ 71 ∷ 80 ∷ 90 ∷ 101 ∷ 113 ∷ 127 ∷ 144 ∷ 162 ∷ 182 ∷ 203 ∷ 226 ∷ 255 ∷ 255 ∷ []
+alphas_row = refl
+
+pub betas_row : map beta_of (range_with_len 0 52) ≡ 0 ∷ 0 ∷ 0 ∷ 0 ∷ 0 ∷ 0 ∷ 0 ∷ 0 ∷ 0 ∷ 0 ∷ 0 ∷ 0 ∷ 0 ∷ 0 ∷ 0 ∷ 0 ∷ 2 ∷ 2 ∷ 2 ∷ 3 ∷ 3 ∷ 3 ∷ 3 ∷ 4 ∷ 4 ∷ 4 ∷ 6 ∷ 6 ∷ 7 ∷ 7 ∷ 8 ∷ 8 ∷ 9 ∷ 9 ∷ 10 ∷ 10 ∷ 11 ∷ 11 ∷ 12 ∷ 12 ∷ 13 ∷ 13 ∷ 14 ∷ 14 ∷ 15 ∷ 15 ∷ 16 ∷ 16 ∷ 17 ∷ 17 ∷ 18 ∷ 18 ∷ []
+betas_row = refl
+
+pub tc0_1 : map (tc0_of 1) (range_with_len 0 52) ≡ 0 ∷ 0 ∷ 0 ∷ 0 ∷ 0 ∷ 0 ∷ 0 ∷ 0 ∷ 0 ∷ 0 ∷ 0 ∷ 0 ∷ 0 ∷ 0 ∷ 0 ∷ 0 ∷ 0 ∷ 0 ∷ 0 ∷ 0 ∷ 0 ∷ 0 ∷ 0 ∷ 1 ∷ 1 ∷ 1 ∷ 1 ∷ 1 ∷ 1 ∷ 1 ∷ 1 ∷ 1 ∷ 1 ∷ 2 ∷ 2 ∷ 2 ∷ 2 ∷ 3 ∷ 3 ∷ 3 ∷ 4 ∷ 4 ∷ 4 ∷ 5 ∷ 6 ∷ 6 ∷ 7 ∷ 8 ∷ 9 ∷ 10 ∷ 11 ∷ 13 ∷ []
+tc0_1 = refl
+
+pub tc0_2 : map (tc0_of 2) (range_with_len 0 52) ≡ 0 ∷ 0 ∷ 0 ∷ 0 ∷ 0 ∷ 0 ∷ 0 ∷ 0 ∷ 0 ∷ 0 ∷ 0 ∷ 0 ∷ 0 ∷ 0 ∷ 0 ∷ 0 ∷ 0 ∷ 0 ∷ 0 ∷ 0 ∷ 0 ∷ 1 ∷ 1 ∷ 1 ∷ 1 ∷ 1 ∷ 1 ∷ 1 ∷ 1 ∷ 1 ∷ 1 ∷ 2 ∷ 2 ∷ 2 ∷ 2 ∷ 3 ∷ 3 ∷ 3 ∷ 4 ∷ 4 ∷ 5 ∷ 5 ∷ 6 ∷ 7 ∷ 8 ∷ 8 ∷ 10 ∷ 11 ∷ 12 ∷ 13 ∷ 15 ∷ 17 ∷ []
+tc0_2 = refl
+
+pub tc0_3 : map (tc0_of 3) (range_with_len 0 52) ≡ 0 ∷ 0 ∷ 0 ∷ 0 ∷ 0 ∷ 0 ∷ 0 ∷ 0 ∷ 0 ∷ 0 ∷ 0 ∷ 0 ∷ 0 ∷ 0 ∷ 0 ∷ 0 ∷ 0 ∷ 1 ∷ 1 ∷ 1 ∷ 1 ∷ 1 ∷ 1 ∷ 1 ∷ 1 ∷ 1 ∷ 1 ∷ 2 ∷ 2 ∷ 2 ∷ 2 ∷ 3 ∷ 3 ∷ 3 ∷ 4 ∷ 4 ∷ 4 ∷ 5 ∷ 6 ∷ 6 ∷ 7 ∷ 8 ∷ 9 ∷ 10 ∷ 11 ∷ 13 ∷ 14 ∷ 16 ∷ 18 ∷ 20 ∷ 23 ∷ 25 ∷ []
+tc0_3 = refl

@@ -1,0 +1,685 @@
+-- The events of a stream unit by unit, what calls and replies tell of them, and worked streams.
+pub mod Steps
+unfoldable pub use Steps.*
+use Rattle.avc_annexb.specs.SplitterState.{after_feed}
+use Rattle.avc_decoder.specs.Machine.{IsRefused}
+use Rattle.avc_decoder.specs.Machine as machine
+use Rattle.avc_decoder.specs.declared.calls.Reply.TheVariants as replies
+use Rattle.avc_types.specs.declared.fault.Fault.TheVariants as faults
+
+-- ---- the events of a stream's units, one after another, and the state after them
+
+-- ---- the state
+
+-- in this mode and phase, after these units with parameter sets
+abbrev pub state_of : Output → List SetUnit → Phase → State
+state_of output units p = record { output = output; sets = units; phase = p }
+
+-- one unit's sets, and then the others'
+pub sets-append : (a b c : List SetUnit) → (a ++ (b ++ [])) ++ c ≡ a ++ (b ++ c)
+sets-append a b c = append_assoc a (b ++ []) c ∙ ap (λ m. a ++ m) (append_assoc b [] c)
+
+-- those that came, and then what the units bring
+pub sets_through : (s : State) (us : List Unit) → (state_through s us).sets ≡ s.sets ++ set_units us
+sets_through s [] = sym (append-nil s.sets)
+sets_through s (u ∷ us) = sets_through (state_after s u (after_unit s u)) us ∙ sets-append s.sets _ (set_units us)
+
+-- the mode stays
+pub output_through : (s : State) (us : List Unit) → (state_through s us).output ≡ s.output
+output_through s [] = refl
+output_through s (u ∷ us) = output_through (state_after s u (after_unit s u)) us
+
+-- ---- the events
+
+-- of some units and then others
+pub events-append : (s : State) (us vs : List Unit) (ended : Bool) → events_from s (us ++ vs) ended ≡ events_from s us false ++ events_from (state_through s us) vs ended
+events-append s [] vs ended = refl
+events-append s (u ∷ us) vs ended =
+    let o = after_unit s u in
+    cc (events-append (state_after s u o) us vs ended, append_assoc o.events (events_from (state_after s u o) us false) (events_from (state_through (state_after s u o) us) vs ended))
+
+-- how many macroblocks of some units and then others are read
+pub read-append : (s : State) (us vs : List Unit) → read_from s (us ++ vs) ≡ read_from s us + read_from (state_through s us) vs
+read-append s [] vs = omega arith
+read-append s (u ∷ us) vs =
+    let o = after_unit s u in
+    ap (λ n. o.read + n) (read-append (state_after s u o) us vs) ∙ sym (add_assoc o.read (read_from (state_after s u o) us) (read_from (state_through (state_after s u o) us) vs))
+
+-- no fewer are read of more bytes, or of all
+pub turns_grow : (output : Output) (max : ℕ) (bytes more : List ℕ) (ended : Bool) → turns output max bytes false ≤ turns output max (bytes ++ more) ended
+turns_grow output max bytes more ended =
+    let units_more = units_stay_first max bytes more ended in
+    let us = units max bytes false in
+    let all : read_from (first_state output) (units max (bytes ++ more) ended) ≡ read_from (first_state output) us + read_from (state_through (first_state output) us) units_more.0 =
+    ap (read_from (first_state output)) units_more.1 ∙ read-append (first_state output) us units_more.0 in
+    omega (arith, all)
+
+pub events_grow : UnitsStay → EventsOnlyGrow
+events_grow stay output max bytes more ended =
+    let units_more = stay max bytes more ended in (
+      events_from (state_through (first_state output) (units max bytes false)) units_more.0 ended,
+      ap (λ us. events_from (first_state output) us ended) units_more.1 ∙ events-append (first_state output) (units max bytes false) units_more.0 ended,
+    )
+
+-- ---- the units that were not taken are handled, and with them all
+
+pub drop_some : {A : Type 0} (xs : List A) (n : ℕ) (x : A) → Some x ≡ slice_get xs n → drop n xs ≡ x ∷ drop (suc n) xs
+drop_some (y ∷ ys) (suc n) x e = drop_some ys n x e
+drop_some _ _ x e = cc e
+
+pub drop_none : {A : Type 0} (xs : List A) (n : ℕ) → ◌≡◌ {A = Option A} None (slice_get xs n) → drop n xs ≡ []
+drop_none [] zero e = refl
+drop_none (y ∷ ys) (suc n) e = drop_none ys n e
+drop_none _ _ e = cc e
+
+-- ---- want of memory
+
+-- more bytes change the machine
+pub some_bytes : (m : Machine) (piece : List ℕ) → (length piece == 0) ≡ false → machine.after_feed piece m ≡ m → ⊥
+some_bytes m piece some same =
+    let positive : 0 < length piece = grind (arith, nat_tests) in
+    omega (arith, ap (λ (x : Machine). length x.bytes) same, length-append m.bytes piece, positive)
+
+pub refused_to : (m after new : Machine) (result : Result (Prim.Unit {0}) DecodeError) → m.failed ≡ false → m.ended ≡ false → (after ≡ m → ⊥) → after.output ≡ m.output → result ≡ Err NoMemory
+    → new ≡ record after { failed = true } → IsFeedAnswer m after result new
+refused_to m after new result going unended changes output e is =
+    subst (λ r. IsFeedAnswer m after r new) (sym e) (record {
+      refused = is ∙ sym (ap (λ b. elim b [ true ↦ m | false ↦ record after { failed = true } ]) going);
+      before_end = λ _. unended;
+      changes = λ _. changes;
+      output = ap (λ (x : Machine). x.output) is ∙ output;
+    })
+
+-- ---- the units that wait, one after another
+
+-- from the first state on, some units were handled
+pub record Left (max : ℕ) (first : SplitterState) (flow : StreamState) (s : SplitterState) (t : StreamState) : Type 0 where
+  pub splitter : s ≡ record first { taken = s.taken }
+  pub going : first.failed ≡ false
+  pub handles : after_units_in_stream (drop s.taken (units max first.bytes first.ended)) t ≡ after_units_in_stream (drop first.taken (units max first.bytes first.ended)) flow
+  pub counts : s.taken + length (drop s.taken (units max first.bytes first.ended)) ≡ first.taken + length (drop first.taken (units max first.bytes first.ended))
+
+next_at : (max : ℕ) (first s : SplitterState) → s ≡ record first { taken = s.taken } → first.failed ≡ false → next_unit_of max s ≡ slice_get (units max first.bytes first.ended) s.taken
+next_at max first s e on = ap (next_unit_of max) e ∙ rw on refl
+
+pub one_more : {max : ℕ} {first : SplitterState} {flow : StreamState} {s s1 : SplitterState} {t t1 : StreamState} {u : Piece}
+    → Left max first flow s t → Some u ≡ next_unit_of max s → s1 ≡ after_next_unit s (Some u) → t1 ≡ after_unit_in_stream u t
+    → Left max first flow s1 t1
+one_more {max} {first} {s = s} {t = t} {u = u} l e es et =
+    let all = units max first.bytes first.ended in
+    let next = drop_some all s.taken u (e ∙ next_at max first s l.splitter l.going) in
+    rw (es, et, add-one) (record {
+      splitter = ap (λ (x : SplitterState). record x { taken = suc s.taken }) l.splitter;
+      going = l.going;
+      handles = sym (ap (λ us. after_units_in_stream us t) next) ∙ l.handles;
+      counts = omega (arith, l.counts, ap length next);
+    })
+
+-- with no further unit, all were handled
+pub no_more : {max : ℕ} {first : SplitterState} {flow : StreamState} {s s1 : SplitterState} {t : StreamState} → Left max first flow s t
+    → None ≡ next_unit_of max s → s1 ≡ after_next_unit s None → HandlesAll max first s1 flow t
+no_more {max} {first} {s = s} {t = t} l e es =
+    let all = units max first.bytes first.ended in
+    let none : drop s.taken all ≡ [] = drop_none all s.taken (e ∙ next_at max first s l.splitter l.going) in
+    let counted : s.taken ≡ first.taken + length (drop first.taken all) = omega (arith, l.counts, ap length none) in
+    record {
+      splitter = es ∙ l.splitter ∙ ap (λ n. record first { taken = n }) counted;
+      stream = sym (ap (λ us. after_units_in_stream us t) none) ∙ l.handles;
+    }
+
+-- ---- what the handled units come to
+
+pub state_through-append : (s : State) (us vs : List Piece) → state_through s (us ++ vs) ≡ state_through (state_through s us) vs
+state_through-append s [] vs = refl
+state_through-append s (u ∷ us) vs = state_through-append (state_after s u (after_unit s u)) us vs
+
+-- Units were handled.
+pub record Handled (us : List Piece) (f f' : StreamState) : Type 0 where
+  pub state : f'.state ≡ state_through f.state us
+  pub events : f'.events ≡ f.events ++ events_from f.state us false
+  pub taken : f'.taken ≡ f.taken
+  pub read : (n : ℕ) → f.read ≡ saturated n → f'.read ≡ saturated (n + read_from f.state us)
+
+-- a count that was held counts on as the whole does
+held_more : (n more : ℕ) → more_read (saturated n) more ≡ saturated (n + more)
+held_more n zero = ap saturated (sym (add-zero n))
+held_more n (suc more) = omega arith
+
+handled_all : (us : List Piece) (f : StreamState) → Handled us f (after_units_in_stream us f)
+handled_all [] f = record {
+  state = refl;
+  events = sym (append-nil f.events);
+  taken = refl;
+  read = λ n e. e
+      ∙ ap saturated (sym (add-zero n));
+}
+handled_all (u ∷ us) f =
+    let h = handled_all us (after_unit_in_stream u f) in
+    let o = after_unit f.state u in
+    let rest = read_from (state_after f.state u o) us in
+    record {
+      state = h.state;
+      events = h.events ∙ append_assoc f.events _ _;
+      taken = h.taken;
+      read = λ n e. h.read (n + o.read) (ap (λ m. more_read m o.read) e ∙ held_more n o.read) ∙ ap saturated (add_assoc n o.read rest);
+    }
+
+-- of all units, so many had been handled, and then the others
+record AllHandled (output : Output) (all : List Piece) (n : ℕ) (t2 t : StreamState) : Type 0 where
+  counted : n + length (drop n all) ≡ length all
+  state : t2.state ≡ state_through (first_state output) all
+  events : t2.events ≡ events_from (first_state output) all false
+  taken : t2.taken ≡ t.taken
+  read : t2.read ≡ saturated (read_from (first_state output) all)
+
+rest_handled : (output : Output) (us more all : List Piece) (n : ℕ) (t t2 : StreamState) → all ≡ us ++ more
+    → n ≡ length us → t.state ≡ state_through (first_state output) us
+    → t.events ≡ events_from (first_state output) us false
+    → t.read ≡ saturated (read_from (first_state output) us) → t2 ≡ after_units_in_stream (drop n all) t → AllHandled output all n t2 t
+rest_handled output us more all n t t2 e len at es er et =
+    let first = first_state output in
+    let d : drop n all ≡ more = ap₂ drop len e ∙ drop-append_seam us more in
+    let h = handled_all more t in
+    let is : t2 ≡ after_units_in_stream more t = et ∙ ap (λ ps. after_units_in_stream ps t) d in
+    record {
+      counted = omega (arith, len, ap length d, ap length e, length-append us more);
+      state = cc (is, h.state, at, state_through-append first us more, e);
+      events = cc (is, h.events, es, at, events-append first us more false, e);
+      taken = cc (is, h.taken);
+      read = cc (is, h.read (read_from first us) er, at, read-append first us more, e);
+    }
+
+-- The decoder has come to this: all units are handled.
+pub record DecodedTo (output : Output) (max : ℕ) (bytes : List ℕ) (ended : Bool) (taken : ℕ) (s : SplitterState) (t : StreamState) : Type 0 where
+  pub decoded : IsDecoded output max s ended t
+  pub bytes_are : s.bytes ≡ bytes
+  pub taken_are : t.taken ≡ taken
+
+-- what comes behind the units, where they have ended
+record ClosesTo (ended : Bool) (t2 t3 : StreamState) : Type 0 where
+  state : ended ≡ false → t3.state ≡ t2.state
+  events : t3.events ≡ t2.events ++ events_from t2.state [] ended
+  taken : t3.taken ≡ t2.taken
+  read : t3.read ≡ t2.read
+
+-- the units of these bytes are those before, and more
+decoded_at : (output : Output) (max : ℕ) (s s2 : SplitterState) (t t2 t3 : StreamState) (bytes : List ℕ) (ended : Bool) (more : List Piece)
+    → IsDecoded output max s false t → units max bytes ended ≡ units max s.bytes false ++ more
+    → HandlesAll max (record s { bytes = bytes; ended = ended }) s2 t t2 → ClosesTo ended t2 t3
+    → DecodedTo output max bytes ended t.taken s2 t3
+decoded_at output max s s2 t t2 t3 bytes ended more d all h closes =
+    let r = rest_handled output (units max s.bytes false) more (units max bytes ended) s.taken t t2 all d.counted
+    (d.state refl) d.events d.read h.stream in
+    let events_are = events-append (first_state output) (units max bytes ended) [] ended in
+    rw h.splitter (record {
+      decoded = record {
+        going = d.going;
+        ends = refl;
+        counted = r.counted;
+        state = λ off. closes.state off ∙ r.state ∙ ap (λ b. state_through (first_state output) (units max bytes b)) off;
+        events =
+            closes.events ∙ ap₂ (λ es x. es ++ events_from x [] ended) r.events r.state ∙ sym events_are
+            ∙ ap (λ us. events_from (first_state output) us ended) (append-nil (units max bytes ended));
+        read = closes.read ∙ r.read;
+      };
+      bytes_are = refl;
+      taken_are = closes.taken ∙ r.taken;
+    })
+
+decoded_fed : (output : Output) (max : ℕ) (ended : Bool) (s s2 : SplitterState) (t t2 : StreamState) (piece : List ℕ)
+    → IsDecoded output max s ended t → ended ≡ false → HandlesAll max (after_feed s piece) s2 t t2
+    → DecodedTo output max (s.bytes ++ piece) ended t.taken s2 t2
+decoded_fed output max true s s2 t t2 piece d e h = cc
+decoded_fed output max false s s2 t t2 piece d e h =
+    let stay = units_stay_first max s.bytes piece false in
+    let fed : after_feed s piece ≡ record s { bytes = s.bytes ++ piece; ended = false } = rw d.ends refl in
+    decoded_at output max s s2 t t2 t2 (s.bytes ++ piece) false stay.0 d stay.1 (subst (λ x. HandlesAll max x s2 t t2) fed h)
+    (record { state = λ _. refl; events = sym (append-nil t2.events); taken = refl; read = refl })
+
+decoded_finished : (output : Output) (max : ℕ) (ended : Bool) (s s2 : SplitterState) (t t2 t3 : StreamState)
+    → IsDecoded output max s ended t → ended ≡ false → HandlesAll max (after_finish s) s2 t t2
+    → t3 ≡ after_stream_end t2
+    → DecodedTo output max s.bytes true t.taken s2 t3
+decoded_finished output max true s s2 t t2 t3 d e h f = cc
+decoded_finished output max false s s2 t t2 t3 d e h f =
+    let stay = units_stay_first max s.bytes [] true in
+    let all = ap (λ b. units max b true) (sym (append-nil s.bytes)) ∙ stay.1 in
+    decoded_at output max s s2 t t2 t3 s.bytes true stay.0 d all h
+    (rw f (record { state = λ off. absurd (false≢true (sym off)); events = refl; taken = refl; read = refl }))
+
+-- ---- the same of the whole decoder
+
+-- a machine of these parts
+abbrev pub machine_of : Output → List ℕ → (ended : Bool) → (taken : ℕ) → (failed : Bool) → Machine
+machine_of output bytes ended taken failed = record { output = output; bytes = bytes; ended = ended; taken = taken; failed = failed }
+
+-- no call was refused memory
+pub going_on : {A : Type 0} (o : Option A) (none : Bool) → is_some o ≡ not none → none ≡ false → is_none o ≡ false
+going_on o none e off = ap not e ∙ ap (λ b. not (not b)) off
+
+-- what the answer says
+pub ok_so : (P : ℕ → Type 0) (answer answer' : Result ℕ OutOfMemory) (read : ℕ) → IfOk answer P → answer' ≡ answer
+    → answer' ≡ Ok read → P read
+ok_so P answer answer' read is same e = rw (sym same ∙ e) at is
+
+-- a piece more was handled
+pub kept_fed : {output : Output} {max : ℕ} {bytes : List ℕ} (bytes' piece : List ℕ) {ended : Bool} {taken : ℕ}
+    (running running' : Option (Parts max)) {read read' : ℕ}
+    → IsDecoderState max (machine_of output bytes ended taken (is_none running)) running read
+    → ended ≡ false → bytes' ≡ bytes ++ piece → FeedsIn max running piece read' running'
+    → IsDecoderState max (machine_of output bytes' ended taken (is_none running')) running' read'
+kept_fed {output} {max} bytes' piece {ended} (Some p) (Some p') i unended given f =
+    let k = decoded_fed output max ended p.splitter p'.splitter (stream_state p.stream)
+    (stream_state p'.stream) piece i.parts.decoded unended f.handles in
+    let same : (p'.splitter).bytes ≡ bytes' = k.bytes_are ∙ ap (λ bs. bs ++ piece) i.parts.bytes ∙ sym given in
+    record {
+      count_is = f.count ∙ (k.decoded).read ∙ ap (λ bs. turns output max bs ended) same;
+      parts = record { works = f.works; decoded = k.decoded; bytes = same; taken = k.taken_are ∙ i.parts.taken };
+    }
+kept_fed bytes' piece _ _ i unended given f = absurd f
+
+-- the end was handled
+pub kept_flushed : {output : Output} {max : ℕ} {bytes : List ℕ} {ended : Bool} {taken : ℕ}
+    (running running' : Option (Parts max)) {read read' : ℕ}
+    → IsDecoderState max (machine_of output bytes ended taken (is_none running)) running read
+    → ended ≡ false → EndsIn max running read' running'
+    → IsDecoderState max (machine_of output bytes true taken (is_none running')) running' read'
+kept_flushed {output} {max} {bytes} {ended} (Some p) (Some p') i unended f =
+    let k = decoded_finished output max ended p.splitter p'.splitter (stream_state p.stream) f.before
+    (stream_state p'.stream) i.parts.decoded unended f.handles f.ends in
+    let same : (p'.splitter).bytes ≡ bytes = k.bytes_are ∙ i.parts.bytes in
+    record {
+      count_is = f.count ∙ (k.decoded).read ∙ ap (λ bs. turns output max bs true) same;
+      parts = record { works = f.works; decoded = k.decoded; bytes = same; taken = k.taken_are ∙ i.parts.taken };
+    }
+kept_flushed _ _ i unended f = absurd f
+
+-- memory was refused to a call with these bytes: the count is that before it
+pub kept_refused : {output : Output} {max : ℕ} {bytes : List ℕ} (bytes' piece : List ℕ) (ended ended' : Bool) {taken : ℕ}
+    (running running' : Option (Parts max)) {read : ℕ}
+    → IsDecoderState max (machine_of output bytes ended taken (is_none running)) running read
+    → is_none running ≡ false → ended ≡ false → bytes' ≡ bytes ++ piece → running' ≡ None
+    → IsDecoderState max (machine_of output bytes' ended' taken (is_none running')) running' read
+kept_refused {output} {max} {bytes} bytes' piece false ended' (Some p) running' i going unended given none =
+    rw (none, given) (record {
+      count_is = le_trans (le_of_eq i.count_is) (turns_grow output max bytes piece ended');
+      parts = tt;
+    })
+kept_refused bytes' piece _ ended' _ running' i going unended given none = cc
+
+-- ---- what calls and replies tell of the stream
+
+-- a machine that was not refused memory is as the calls and replies tell
+pub record Agrees (m : Machine) (s : SinceReset) : Type 0 where
+  pub bytes : m.bytes ≡ s.bytes
+  pub ended : m.ended ≡ s.ended
+  pub taken : m.taken ≡ length s.taken
+
+-- the events that were taken are the first that are defined
+abbrev pub IsFirst : Output → (max : ℕ) → SinceReset → Type 0
+IsFirst output max s = (others : List Event) × (defined_events output max s ≡ s.taken ++ others)
+
+pub record Tells (output : Output) (max : ℕ) (m : Machine) (s : SinceReset) : Type 0 where
+  pub agrees : m.failed ≡ false → Agrees m s
+  pub mode : m.output ≡ output
+  pub first : IsFirst output max s
+
+-- ---- the first that were not taken
+
+next_is : {A : Type 0} (front others : List A) (x : A) → slice_get (front ++ others) (length front) ≡ Some x → (rest : List A) × (others ≡ x ∷ rest)
+next_is front others x e =
+    (drop (suc (length front)) (front ++ others), sym (drop-append_seam front others) ∙ drop_some (front ++ others) (length front) x (sym e))
+
+none_left : {A : Type 0} (front others : List A) → slice_get (front ++ others) (length front) ≡ None → others ≡ []
+none_left front others e = sym (drop-append_seam front others) ∙ drop_none (front ++ others) (length front) (sym e)
+
+-- ---- one call
+
+refused_fails : (before : Bool) (old after new : Machine) → old.failed ≡ before → new ≡ elim before [ true ↦ old | false ↦ record after { failed = true } ] → new.failed ≡ true
+refused_fails true old after new was e = ap (λ (m : Machine). m.failed) e ∙ was
+refused_fails false old after new was e = ap (λ (m : Machine). m.failed) e
+
+refused_tells : (output : Output) (max : ℕ) (m after m' : Machine) (s : SinceReset) → IsRefused m after m' → m'.output ≡ m.output → Tells output max m s → Tells output max m' s
+refused_tells output max m after m' s r kept t =
+    let failed = refused_fails m.failed m after m' refl r.refused in
+    record { agrees = λ going. let q : true ≡ false = sym failed ∙ going in cc; mode = kept ∙ t.mode; first = t.first }
+
+-- with more bytes, or with the end said
+bytes_grown : EventsOnlyGrow → (output : Output) (max : ℕ) (s : SinceReset) (more : List ℕ) (ended : Bool) → s.ended ≡ false → IsFirst output max s →
+    (others : List Event) × (events output max (s.bytes ++ more) ended ≡ s.taken ++ others)
+bytes_grown grow output max s more ended going f =
+    let later = grow output max s.bytes more ended in (
+      f.0 ++ later.0,
+      later.1 ∙ ap (λ e. events output max s.bytes e ++ later.0) (sym going) ∙ ap (λ es. es ++ later.0) f.1 ∙ append_assoc s.taken f.0 later.0,
+    )
+
+fed_tells : EventsOnlyGrow → (output : Output) (max : ℕ) (m : Machine) (s : SinceReset) (piece : List ℕ) → m.failed ≡ false → m.ended ≡ false → Tells output max m s →
+    Tells output max (after_call piece m) (record s { bytes = s.bytes ++ piece })
+fed_tells grow output max m s piece going unended t =
+    let a = t.agrees going in
+    let f = bytes_grown grow output max s piece false (sym a.ended ∙ unended) t.first in
+    record {
+      agrees = λ _. record { bytes = ap (λ bs. bs ++ piece) a.bytes; ended = a.ended; taken = a.taken };
+      mode = t.mode;
+      first = (f.0, ap (λ e. events output max (s.bytes ++ piece) e) (sym a.ended ∙ unended) ∙ f.1);
+    }
+
+flushed_tells : EventsOnlyGrow → (output : Output) (max : ℕ) (m : Machine) (s : SinceReset) → m.failed ≡ false → m.ended ≡ false → Tells output max m s →
+    Tells output max (after_flush m) (record s { ended = true })
+flushed_tells grow output max m s going unended t =
+    let a = t.agrees going in
+    let f = bytes_grown grow output max s [] true (sym a.ended ∙ unended) t.first in
+    record {
+      agrees = λ _. record { bytes = a.bytes; ended = refl; taken = a.taken };
+      mode = t.mode;
+      first = (f.0, ap (λ bs. events output max bs true) (sym (append-nil s.bytes)) ∙ f.1);
+    }
+
+-- what a machine would hand out next, by what was taken
+next_by : (output : Output) (max : ℕ) (m : Machine) (s : SinceReset) → m.output ≡ output → Agrees m s → (f : IsFirst output max s) → next_event max m ≡ slice_get (s.taken ++ f.0) (length s.taken)
+next_by output max m s mode a f =
+    ap (λ o. slice_get (events o max m.bytes m.ended) m.taken) mode
+    ∙ ap (λ bs. slice_get (events output max bs m.ended) m.taken) a.bytes
+    ∙ ap (λ e. slice_get (events output max s.bytes e) m.taken) a.ended
+    ∙ ap (λ n. slice_get (events output max s.bytes s.ended) n) a.taken
+    ∙ ap (λ es. slice_get es (length s.taken)) f.1
+
+taken_tells : (output : Output) (max : ℕ) (m : Machine) (s : SinceReset) (e : Event) → m.failed ≡ false → Some e ≡ next_event max m → Tells output max m s →
+    Tells output max (after_take (Some e) m) (record s { taken = s.taken ++ e ∷ [] })
+taken_tells output max m s e going is t =
+    let a = t.agrees going in
+    let r = next_is s.taken t.first.0 e (sym (is ∙ next_by output max m s t.mode a t.first)) in
+    record {
+      agrees = λ _. record { bytes = a.bytes; ended = a.ended; taken = ap (λ n. n + 1) a.taken ∙ sym (length-append s.taken (e ∷ [])) };
+      mode = t.mode;
+      first = (r.0, t.first.1 ∙ ap (λ os. s.taken ++ os) r.1 ∙ sym (append_assoc s.taken (e ∷ []) r.0));
+    }
+
+at_first : (output : Output) (max : ℕ) (m : Machine) → m ≡ new_machine output → Tells output max m no_call
+at_first output max m e = rw e (record {
+  agrees = λ _. record { bytes = refl; ended = refl; taken = refl };
+  mode = refl;
+  first = (events output max [] false, refl);
+})
+
+answered : EventsOnlyGrow → (output : Output) (max : ℕ) (m m' : Machine) (s : SinceReset) (call : Call) (reply : Reply) → Tells output max m s → IsCallAnswer max m call reply m' → Tells output max m' (with_call s call reply)
+answered grow output max m m' s (Feed piece) (replies.Fed (Ok done)) t g = rw g.2 (fed_tells grow output max m s piece g.0 g.1 t)
+answered grow output max m m' s (Feed piece) (replies.Fed (Err Ended)) t g = rw g.2 t
+answered grow output max m m' s (Feed piece) (replies.Fed (Err NoMemory)) t g = refused_tells output max m (after_call piece m) m' s g g.output t
+answered grow output max m m' s Take (replies.Taken (Ok (Some e))) t g = rw g.2 (taken_tells output max m s e g.0 g.1 t)
+answered grow output max m m' s Take (replies.Taken (Ok None)) t g = rw g.2 t
+answered grow output max m m' s Take (replies.Taken (Err NoMemory)) t g = rw g.1 t
+answered grow output max m m' s Flush (replies.Flushed (Ok done)) t g = rw g.2 (flushed_tells grow output max m s g.0 g.1 t)
+answered grow output max m m' s Flush (replies.Flushed (Err Ended)) t g = rw g.2 t
+answered grow output max m m' s Flush (replies.Flushed (Err NoMemory)) t g = refused_tells output max m (after_flush m) m' s g g.output t
+answered grow output max m m' s Reset replies.Reset t g = at_first output max m' (g ∙ ap new_machine t.mode)
+answered grow output max m m' s call reply t g = absurd g
+
+-- ---- any calls
+
+run_tells : EventsOnlyGrow → (output : Output) (max : ℕ) (m last : Machine) (s : SinceReset) (calls : List Call) (answers : List Reply) → Tells output max m s → Run max m calls answers last →
+    Tells output max last (since_reset s calls answers)
+run_tells grow output max m last s [] [] t r = rw r t
+run_tells grow output max m last s (call ∷ calls) (reply ∷ answers) t r =
+    run_tells grow output max r.0 last (with_call s call reply) calls answers (answered grow output max m r.0 s call reply t r.1) r.2
+run_tells grow output max m last s _ _ t r = absurd r
+
+pub takes_them : EventsOnlyGrow → TakesThem
+takes_them grow output max calls answers last r = (run_tells grow output max (new_machine output) last no_call calls answers (at_first output max (new_machine output) refl) r).first
+
+pub takes_all : EventsOnlyGrow → TakesAll
+takes_all grow output max calls answers before last r none =
+    let s = since_reset no_call calls answers in
+    let t = run_tells grow output max (new_machine output) before no_call calls answers (at_first output max (new_machine output) refl) r in
+    let g = none.1 in
+    let left = none_left s.taken t.first.0 (sym (g.1 ∙ next_by output max before s t.mode (t.agrees g.0) t.first)) in
+    t.first.1 ∙ ap (λ os. s.taken ++ os) left ∙ append-nil s.taken
+
+-- ---- one call more
+
+pub run_more : (max : ℕ) (calls : List Call) (replies : List Reply) (old between new : Machine) (call : Call) (reply : Reply) → Run max old calls replies between → IsCallAnswer max between call reply new
+    → Run max old (calls ++ call ∷ []) (replies ++ reply ∷ []) new
+run_more max [] [] old between new call reply r s = (new, subst (λ (m : Machine). IsCallAnswer max m call reply new) r s, refl)
+run_more max (x ∷ xs) (y ∷ ys) old between new call reply r s = (r.0, r.1, run_more max xs ys r.0 between new call reply r.2 s)
+run_more max _ _ old between new call reply r s = absurd r
+
+-- ---- worked examples of whole streams
+
+abbrev max : ℕ
+max = 134217728
+
+-- 16x16 luma samples, order count type 2, one reference frame
+abbrev sps_small : List ℕ
+sps_small = 0 ∷ 0 ∷ 0 ∷ 1 ∷ 0x67 ∷ 0x42 ∷ 0xC0 ∷ 0x0A ∷ 0xDA ∷ 0x71 ∷ []
+
+-- the same 32 samples wide
+abbrev sps_wide : List ℕ
+sps_wide = 0 ∷ 0 ∷ 0 ∷ 1 ∷ 0x67 ∷ 0x42 ∷ 0xC0 ∷ 0x0A ∷ 0xDA ∷ 0x2C ∷ 0x40 ∷ []
+
+-- that of sps_small with bitstream_restriction: max_num_reorder_frames 0, max_dec_frame_buffering 1
+abbrev sps_in_order : List ℕ
+sps_in_order = 0 ∷ 0 ∷ 0 ∷ 1 ∷ 0x67 ∷ 0x42 ∷ 0xC0 ∷ 0x0A ∷ 0xDA ∷ 0x72 ∷ 0x01 ∷ 0xFD ∷ 0x40 ∷ []
+
+-- no deblocking fields in slices
+abbrev pps_plain : List ℕ
+pps_plain = 0 ∷ 0 ∷ 0 ∷ 1 ∷ 0x68 ∷ 0xCE ∷ 0x38 ∷ 0x80 ∷ []
+
+abbrev sets : List ℕ
+sets = sps_small ++ pps_plain
+
+-- an IDR slice of one Intra 16x16 macroblock without levels
+abbrev idr : List ℕ
+idr = 0 ∷ 0 ∷ 1 ∷ 0x65 ∷ 0x88 ∷ 0x84 ∷ 0x93 ∷ 0xC0 ∷ []
+
+-- a P slice of one skipped macroblock, frame_num 1
+abbrev skipping : List ℕ
+skipping = 0 ∷ 0 ∷ 1 ∷ 0x41 ∷ 0x9A ∷ 0x22 ∷ 0xA0 ∷ []
+
+-- the same with frame_num 2
+abbrev skipping_later : List ℕ
+skipping_later = 0 ∷ 0 ∷ 1 ∷ 0x41 ∷ 0x9A ∷ 0x42 ∷ 0xA0 ∷ []
+
+-- an IDR slice of one I_PCM macroblock: what stands before its samples, and these
+abbrev pcm : (front samples : List ℕ) → List ℕ
+pcm front samples = (0 ∷ 0 ∷ 1 ∷ 0x65 ∷ []) ++ front ++ samples ++ 0x80 ∷ []
+
+-- first_mb_in_slice 0; idr_pic_id 0, 1, and 1 with no_output_of_prior_pics_flag 1
+abbrev first_mb : List ℕ
+first_mb = 0x88 ∷ 0x84 ∷ 0x86 ∷ 0x80 ∷ []
+
+abbrev next_picture : List ℕ
+next_picture = 0x88 ∷ 0x82 ∷ 0x21 ∷ 0xA0 ∷ []
+
+abbrev dropping_picture : List ℕ
+dropping_picture = 0x88 ∷ 0x82 ∷ 0xA1 ∷ 0xA0 ∷ []
+
+-- first_mb_in_slice 1
+abbrev second_mb : List ℕ
+second_mb = 0x42 ∷ 0x21 ∷ 0x21 ∷ 0xA0 ∷ []
+
+abbrev of_one : ℕ → List ℕ
+of_one sample = replicate 384 sample
+
+-- with no reordering: a picture, and the access unit delimiter that closes it
+abbrev picture_in_order : List ℕ
+picture_in_order = sps_in_order ++ pps_plain ++ pcm first_mb (of_one 64) ++ 0 ∷ 0 ∷ 1 ∷ 0x09 ∷ 0x10 ∷ []
+
+-- a refusal, or a picture by its first luma sample and the number of its luma samples
+data Seen : Type 0 where
+  refusal : ℕ → Fault → Seen
+  shown : (first count : ℕ) → Seen
+
+abbrev seen : Event → Seen
+seen (Picture p) = shown (slice_index p.luma 0) (length p.luma)
+seen (Refused unit f) = refusal unit f
+
+abbrev seen_under : Output → List ℕ → Bool → List Seen
+seen_under output bytes ended = map seen (events output max bytes ended)
+
+abbrev seen_all : List ℕ → Bool → List Seen
+seen_all bytes ended = seen_under Full bytes ended
+
+-- ---- units and parameter sets
+
+-- a set that is refused, and then no set for the slice
+cabac : seen_all (sps_small ++ (0 ∷ 0 ∷ 0 ∷ 1 ∷ 0x68 ∷ 0xEE ∷ 0x38 ∷ 0x80 ∷ []) ++ idr) true ≡ refusal 1 faults.Cabac ∷ refusal 2 faults.NoParameterSet ∷ []
+cabac = refl
+
+slice_groups : seen_all (sps_small ++ (0 ∷ 0 ∷ 0 ∷ 1 ∷ 0x68 ∷ 0xC5 ∷ 0x80 ∷ []) ++ idr) true ≡ refusal 1 faults.SliceGroups ∷ refusal 2 faults.NoParameterSet ∷ []
+slice_groups = refl
+
+forbidden : seen_all (0 ∷ 0 ∷ 1 ∷ 0xE7 ∷ 0x42 ∷ []) true ≡ refusal 0 faults.ForbiddenBit ∷ []
+forbidden = refl
+
+profile : seen_all (0 ∷ 0 ∷ 0 ∷ 1 ∷ 0x67 ∷ 0x64 ∷ 0x00 ∷ 0x0A ∷ 0xDA ∷ 0x71 ∷ []) true ≡ refusal 0 faults.Profile ∷ []
+profile = refl
+
+too_long : map seen (events Full 5 (sets ++ idr) true) ≡ refusal 0 faults.NalTooLong ∷ refusal 2 faults.NoParameterSet ∷ []
+too_long = refl
+
+-- ---- pictures
+
+rising : events Full max (sets ++ pcm first_mb (range_with_len 0 256 ++ replicate 64 0x40 ++ replicate 64 0xC0)) true
+    ≡ Picture (record {
+      width = 16;
+      height = 16;
+      crop = record { left = 0; right = 0; top = 0; bottom = 0 };
+      luma = range_with_len 0 256;
+      cb = replicate 64 0x40;
+      cr = replicate 64 0xC0;
+    })
+    ∷ []
+rising = refl
+
+-- the second IDR picture puts the first out, or drops it
+two_pictures : seen_all (sets ++ pcm first_mb (of_one 64) ++ pcm next_picture (of_one 80)) true ≡ shown 64 256 ∷ shown 80 256 ∷ []
+two_pictures = refl
+
+dropped : seen_all (sets ++ pcm first_mb (of_one 64) ++ pcm dropping_picture (of_one 80)) true ≡ shown 80 256 ∷ []
+dropped = refl
+
+-- none goes out before the next picture or the end
+held_back : seen_all (sets ++ pcm first_mb (of_one 64) ++ 0 ∷ 0 ∷ 1 ∷ []) false ≡ []
+held_back = refl
+
+-- where no picture is reordered, early output gives each picture once it is closed
+early : seen_under Early (picture_in_order ++ 0 ∷ 0 ∷ 1 ∷ []) false ≡ shown 64 256 ∷ []
+early = refl
+
+early_at_end : seen_under Early picture_in_order true ≡ shown 64 256 ∷ []
+early_at_end = refl
+
+not_early : seen_under Full (picture_in_order ++ 0 ∷ 0 ∷ 1 ∷ []) false ≡ []
+not_early = refl
+
+at_end_row : seen_under Full picture_in_order true ≡ shown 64 256 ∷ []
+at_end_row = refl
+
+-- how many pictures and missing numbers the coded video sequences of a stream have
+abbrev lengths : List ℕ → List ℕ
+lengths bytes = map (λ (s : EndedSequence). length s.history) (sequences max bytes)
+
+-- two pictures in order are one sequence, in which none is reordered and none dropped
+one_sequence : lengths (picture_in_order ++ skipping) ≡ 2 ∷ []
+one_sequence = refl
+
+in_order : All IsReorderedWithin (sequences max (picture_in_order ++ skipping))
+in_order zero d lt = (omega arith, (omega arith, tt))
+in_order (suc k) d lt = absurd (omega (arith, lt))
+
+not_dropped : All IsNotDropped (sequences max (picture_in_order ++ skipping))
+not_dropped zero d lt = refl
+not_dropped (suc k) d lt = absurd (omega (arith, lt))
+
+-- a fault ends a sequence, and the next IDR picture begins another
+two_sequences : lengths (sets ++ pcm first_mb (of_one 80) ++ skipping_later ++ pcm next_picture (of_one 64)) ≡ 1 ∷ 1 ∷ []
+two_sequences = refl
+
+-- so does the next IDR picture alone
+next_sequence : lengths (sets ++ pcm first_mb (of_one 80) ++ skipping ++ pcm next_picture (of_one 64)) ≡ 2 ∷ 1 ∷ []
+next_sequence = refl
+
+waits : seen_all (sets ++ skipping ++ pcm first_mb (of_one 80)) true ≡ shown 80 256 ∷ []
+waits = refl
+
+-- a skipped macroblock is that of the picture before
+p_picture : seen_all (sets ++ pcm first_mb (of_one 80) ++ skipping) true ≡ shown 80 256 ∷ shown 80 256 ∷ []
+p_picture = refl
+
+-- frame_num 1 is missing, and the sequence allows no gaps
+gap : seen_all (sets ++ pcm first_mb (of_one 80) ++ skipping_later) true ≡ shown 80 256 ∷ refusal 3 faults.FrameNumGap ∷ []
+gap = refl
+
+-- ---- slices
+
+two_slices : seen_all (sps_wide ++ pps_plain ++ pcm first_mb (of_one 80) ++ pcm second_mb (of_one 90)) true ≡ shown 80 512 ∷ []
+two_slices = refl
+
+incomplete : seen_all (sps_wide ++ pps_plain ++ pcm first_mb (of_one 80)) true ≡ refusal 2 faults.MissingMacroblocks ∷ []
+incomplete = refl
+
+incomplete_not_yet : seen_all (sps_wide ++ pps_plain ++ pcm first_mb (of_one 80)) false ≡ []
+incomplete_not_yet = refl
+
+out_of_order : seen_all (sps_wide ++ pps_plain ++ pcm first_mb (of_one 80) ++ pcm second_mb (of_one 80) ++ pcm second_mb (of_one 80)) true
+    ≡ refusal 4 faults.ArbitrarySliceOrder ∷ []
+out_of_order = refl
+
+begun_late : seen_all (sps_wide ++ pps_plain ++ pcm second_mb (of_one 80) ++ pcm first_mb (of_one 80)) true ≡ refusal 3 faults.MissingMacroblocks ∷ []
+begun_late = refl
+
+truncated : seen_all (sets ++ pcm first_mb (replicate 300 80)) true ≡ refusal 2 faults.Truncated ∷ []
+truncated = refl
+
+-- ---- the macroblocks that are read
+
+one_macroblock : turns Full max (sets ++ pcm first_mb (of_one 80)) true ≡ 1
+one_macroblock = refl
+
+two_in_two_slices : turns Full max (sps_wide ++ pps_plain ++ pcm first_mb (of_one 80) ++ pcm second_mb (of_one 90)) true ≡ 2
+two_in_two_slices = refl
+
+two_pictures_of_one : turns Full max (sets ++ pcm first_mb (of_one 80) ++ skipping) true ≡ 2
+two_pictures_of_one = refl
+
+-- a slice that is refused for its address adds none
+none_out_of_order : turns Full max (sps_wide ++ pps_plain ++ pcm first_mb (of_one 80) ++ pcm second_mb (of_one 80) ++ pcm second_mb (of_one 80)) true ≡ 2
+none_out_of_order = refl
+
+-- ---- where decoding starts again
+
+-- as events of the whole stream, which begins with k units that have m parameter sets in force
+abbrev seen_from : (m k : ℕ) → List ℕ → List Seen
+seen_from m k bytes = map (λ e. seen (renumbered m k e)) (events Full max bytes true)
+
+-- after a gap that is refused, with unit 4; unit 5 has first_mb_in_slice 1, where the picture has one macroblock
+abbrev behind_gap : List ℕ
+behind_gap = pcm next_picture (of_one 64) ++ pcm second_mb (of_one 64)
+
+abbrev with_gap : List ℕ
+with_gap = sets ++ pcm first_mb (of_one 80) ++ skipping_later ++ behind_gap
+
+gap_and_resumed : seen_all with_gap true ≡ shown 80 256 ∷ refusal 3 faults.FrameNumGap ∷ shown 64 256 ∷ refusal 5 faults.OutOfRange ∷ []
+gap_and_resumed = refl
+
+resumed_behind_gap : resumed max with_gap 4 ≡ sets ++ 0 ∷ behind_gap
+resumed_behind_gap = refl
+
+seen_behind_gap : seen_all (sets ++ 0 ∷ behind_gap) true ≡ shown 64 256 ∷ refusal 3 faults.OutOfRange ∷ []
+seen_behind_gap = refl
+
+numbered_behind_gap : seen_from 2 4 (sets ++ 0 ∷ behind_gap) ≡ shown 64 256 ∷ refusal 5 faults.OutOfRange ∷ []
+numbered_behind_gap = refl
+
+sets_behind_gap : length (sets_in_force (take 4 (units max with_gap true))) ≡ 2
+sets_behind_gap = refl
+
+-- unit 3 closes a picture without its second macroblock, and begins one that lacks it too
+abbrev two_short : List ℕ
+two_short = sps_wide ++ pps_plain ++ pcm first_mb (of_one 80) ++ pcm next_picture (of_one 64)
+
+short_and_resumed : seen_all two_short true ≡ refusal 2 faults.MissingMacroblocks ∷ refusal 3 faults.MissingMacroblocks ∷ []
+short_and_resumed = refl
+
+numbered_behind_short : seen_from 2 3 (resumed max two_short 3) ≡ refusal 3 faults.MissingMacroblocks ∷ []
+numbered_behind_short = refl

@@ -1,0 +1,669 @@
+-- The step of a unit: what it does to the phase, and what has gone out of the history.
+pub mod OpenPictures
+unfoldable pub use OpenPictures.*
+use Rattle.avc_types.specs.Results.{◌>>=◌}
+use Rattle.avc_units.specs.Grouping.{pps as pps_kind, slice as slice_kind, sps as sps_kind, list_of}
+use Rattle.avc_decoder.specs.Events.{running as running_phase}
+
+-- ---- what has gone out of a history as it grows, and that each of its pictures could come
+
+-- ---- what comes of a history
+
+-- one history has come of another
+pub record Follows (h full : History) : Type 0 where
+  pub more : History
+  pub is : full ≡ more ++ h
+
+-- ---- what has gone out
+
+-- the pictures that a history has handed out
+abbrev pub gone : Output → History → List Decoded
+gone output h = pictures_at h (buffer_of output h).out
+
+-- all its pictures, in the order in which they go out in the end
+abbrev pub all_of : Output → History → List Decoded
+all_of output h = pictures_at h (output_order output h)
+
+shown_in_turn : (h : History) (first others : List ℕ) → pictures_at h (first ++ others) ≡ pictures_at h first ++ pictures_at h others
+shown_in_turn h first others = flat_map-append (λ place. entry_pictures (entry_at h place)) first others
+
+pub gone_and_held : (output : Output) (h : History) → gone output h ++ held_pictures output h ≡ all_of output h
+gone_and_held output h = sym (shown_in_turn h (buffer_of output h).out (all_held output h))
+
+all_first : (P : ℕ → Type 0) (xs ys : List ℕ) → All P (xs ++ ys) → All P xs
+all_first P [] ys a = All-nil P
+all_first P (x ∷ xs) ys a = All-cons P x xs (All-head P x (xs ++ ys) a) (all_first P xs ys (All-tail P x (xs ++ ys) a))
+
+-- the places of what has gone out
+gone_below : (output : Output) (h : History) → All (λ p. p < length h) (buffer_of output h).out
+gone_below output h = all_first (λ p. p < length h) (buffer_of output h).out (all_held output h) (places_below output h)
+
+-- with one entry more
+gone_more : (output : Output) (e : Entry) (h : History) → gone output h ++ output_pictures output h (e ∷ h) ≡ gone output (e ∷ h)
+gone_more output e h =
+    let out = (buffer_of output h).out in
+    ap (λ l. l ++ output_pictures output h (e ∷ h)) (sym (pictures_stay e h out (gone_below output h)))
+    ∙ sym (shown_in_turn (e ∷ h) out (new_output output h (e ∷ h)))
+    ∙ ap (pictures_at (e ∷ h)) (sym (out_only_grows output (length (arrivals h)) (arrival e h) (buffer_of output h)))
+
+-- The new history has put out what the old one has, and then more.
+record Grown (output : Output) (old new : History) : Type 0 where
+  extends : Extends output old new
+  in_turn : gone output old ++ output_pictures output old new ≡ gone output new
+
+grown : (output : Output) (h more : History) → Grown output h (more ++ h)
+grown output h [] = record {
+  extends = extends_itself output h;
+  in_turn = ap (λ l. gone output h ++ l) (sym (nothing_goes_out output h)) ∙ append-nil (gone output h);
+}
+grown output h (e ∷ more) =
+    let so_far = grown output h more in
+    let mid = more ++ h in
+    record {
+      extends = extends_more output e h mid so_far.extends;
+      in_turn =
+          ap (λ l. gone output h ++ l) (output_more output e h mid so_far.extends)
+          ∙ sym (append_assoc (gone output h) (output_pictures output h mid) (output_pictures output mid (e ∷ mid)))
+          ∙ ap (λ l. l ++ output_pictures output mid (e ∷ mid)) so_far.in_turn
+          ∙ gone_more output e mid;
+    }
+
+pub gone_later : (output : Output) (old new : History) → Follows old new
+    → gone output old ++ output_pictures output old new ≡ gone output new
+gone_later output old new f =
+    subst (λ l. gone output old ++ output_pictures output old l ≡ gone output l) (sym f.is) (grown output old f.more).in_turn
+
+-- ---- each picture could come
+
+-- Each picture of the history could come, and each entry was marked.
+pub record IsSound (h : History) : Type 0 where
+  pub each : EachCanCome h
+  pub marked : is_ok (marks_of h) ≡ true
+
+pub none_sound : IsSound []
+none_sound = record { each = tt; marked = refl }
+
+-- a picture that is one of an IDR picture has the marking of one
+abbrev pub HasItsMarking : Header → Type 0
+HasItsMarking h = is_idr h ≡ true → has_idr_marking h ≡ true
+
+-- The open picture stands on such a history.
+pub record IsSoundOpen (o : OpenPicture) : Type 0 where
+  pub before : IsSound o.before
+  pub idr : HasItsMarking (first_header o)
+
+-- It has come of such a history by missing numbers, or is that.
+pub record Grows (h full : History) : Type 0 where
+  pub follows : Follows h full
+  pub sound : IsSound full
+
+-- What holds of a history, and still with a missing frame more that can be marked, holds once missing numbers are taken in.
+missing_keeps : (P : History → Type 0) (sps : Sps)
+    → ((n : ℕ) (x : History) → P x → is_ok (marks_of (missing_frame sps n ∷ x)) ≡ true → P (missing_frame sps n ∷ x))
+    → (numbers : List ℕ) (h full : History) → P h → with_missing sps numbers h ≡ Ok full → P full
+missing_keeps P sps more [] h full p e = subst P (ok_same h full e) p
+missing_keeps P sps more (n ∷ numbers) h full p e =
+    by_marks (marks_of (missing_frame sps n ∷ h)) refl (missing_keeps P sps more numbers (missing_frame sps n ∷ h) full) e
+  where
+    by_marks : (r : Result Marks Fault) → marks_of (missing_frame sps n ∷ h) ≡ r
+        → (P (missing_frame sps n ∷ h) → with_missing sps numbers (missing_frame sps n ∷ h) ≡ Ok full → P full)
+        → (r >>= λ m. with_missing sps numbers (missing_frame sps n ∷ h)) ≡ Ok full → P full
+    by_marks (Ok m) is others e' = others (more n h p (ap is_ok is)) e'
+    by_marks (Err f) is others e' = cc
+
+-- The same of the history before the open picture, and of that on which it stands.
+pub base_keeps : (P : History → Type 0) (o : OpenPicture)
+    → ((n : ℕ) (x : History) → P x → is_ok (marks_of (missing_frame o.sps n ∷ x)) ≡ true → P (missing_frame o.sps n ∷ x))
+    → P o.before → P (history_of o)
+base_keeps P o more p = by_address (first_header o).first_mb_in_slice (history_at_opening_of o) opening_keeps
+  where
+    opening_keeps : (h : History) → history_at_opening_of o ≡ Ok h → P h
+    opening_keeps h e =
+        let opened = opened_by o.sps (first_header o) o.before h e in
+        missing_keeps P o.sps more opened.numbers o.before h p opened.missing
+
+    by_address : (address : ℕ) (opened : Result History Fault) → ((h : History) → opened ≡ Ok h → P h)
+        → P (history_by address opened o.before)
+    by_address zero (Ok h) keeps = keeps h refl
+    by_address _ opened keeps = p
+
+-- the history on which the open picture stands
+pub base_grows : (o : OpenPicture) → IsSound o.before → Grows o.before (history_of o)
+base_grows o s =
+    base_keeps (Grows o.before) o (λ n x g marked. record {
+      follows = record { more = missing_frame o.sps n ∷ g.follows.more; is = ap (λ l. missing_frame o.sps n ∷ l) g.follows.is };
+      sound = record { each = g.sound.each; marked = marked };
+    }) (record { follows = record { more = []; is = refl }; sound = s })
+
+-- ---- a picture that is closed
+
+-- The open picture has no fault, and closing gives this history.
+pub record HasClosed (o : OpenPicture) (full : History) : Type 0 where
+  pub opened : history_at_opening_of o ≡ Ok (history_of o)
+  pub closed : closed_history o (history_of o) ≡ Ok full
+
+-- where no fault is found, whatever `others` looks for on the history with the missing numbers
+opens : (address : ℕ) (opened : Result History Fault) (unit : ℕ) (before : History) (others : History → Option (ℕ × Fault))
+    → fault_by address unit opened others ≡ None → opened ≡ Ok (history_by address opened before)
+opens zero (Ok h) unit before others e = refl
+opens _ opened unit before others e = cc
+
+pub has_closed : (o : OpenPicture) (full : History) → closing_result o ≡ Ok full → HasClosed o full
+has_closed o full e = by_fault (first_fault o true) refl (closed_history o (history_of o)) refl e
+  where
+    opened_there : first_fault o true ≡ None → history_at_opening_of o ≡ Ok (history_of o)
+    opened_there = opens (first_header o).first_mb_in_slice (history_at_opening_of o) (first_slice o).unit o.before _
+
+    by_fault : (f : Option (ℕ × Fault)) → first_fault o true ≡ f → (r : Result History Fault) → closed_history o (history_of o) ≡ r
+        → unless_found f (at_last_slice o r) ≡ Ok full → HasClosed o full
+    by_fault (Some found) is r closed e' = cc
+    by_fault None is (Err f) closed e' = cc
+    by_fault None is (Ok h) closed e' = let same : h ≡ full = cc in record { opened = opened_there is; closed = closed ∙ ap Ok same }
+
+-- the history that it gives can be marked
+pub closing_is : (sps : Sps) (hd : Header) (planes : Planes) (h full : History) → history_after_closing sps hd planes h ≡ Ok full
+    → (full ≡ with_picture sps hd planes h) × (is_ok (marks_of full) ≡ true)
+closing_is sps hd planes h full e = by_marks (with_picture sps hd planes h) (marks_of (with_picture sps hd planes h)) refl e
+  where
+    by_marks : (x : History) (r : Result Marks Fault) → marks_of x ≡ r → (r >>= λ m. Ok x) ≡ Ok full
+        → (full ≡ x) × (is_ok (marks_of full) ≡ true)
+    by_marks x (Ok m) is e' = let same = sym (ok_same x full e') in (same, ap (λ l. is_ok (marks_of l)) same ∙ ap is_ok is)
+    by_marks x (Err f) is e' = cc
+
+-- What closing leaves: a history that has come of the one before, or of none with an IDR picture.
+pub record IsSoundlyClosed (o : OpenPicture) (full : History) : Type 0 where
+  pub sound : IsSound full
+  pub follows : Follows (earlier_in_sequence (first_header o) (history_of o)) full
+
+pub closed_sound : (o : OpenPicture) (full : History) → IsSoundOpen o → closing_result o ≡ Ok full → IsSoundlyClosed o full
+closed_sound o full s e =
+    let c = has_closed o full e in
+    let closing = closing_is o.sps (first_header o) (picture_planes o (history_of o)) (history_of o) full c.closed in
+    record {
+      sound = record { each = subst EachCanCome (sym closing.0) (can_come c.opened (is_idr (first_header o)) refl); marked = closing.1 };
+      follows = record { more = decoded_picture o.sps (first_header o) (picture_planes o (history_of o)) ∷ []; is = closing.0 };
+    }
+  where
+    hd : Header
+    hd = first_header o
+
+    base : History
+    base = history_of o
+
+    can_come : history_at_opening_of o ≡ Ok base → (b : Bool) → is_idr hd ≡ b
+        → let earlier = elim b as (λ _. History) [ true ↦ [] | false ↦ base ] in CanCome o.sps hd earlier × EachCanCome earlier
+    can_come opened true is = (record { idr = s.idr; first = λ _. refl; same = λ other. absurd (false≢true (sym other ∙ is)) }, tt)
+    can_come opened false is =
+        let set = ap (λ set. is_same_sps set o.sps) (set_at_opening o.sps hd o.before base opened) in (
+          record {
+            idr = s.idr;
+            first = λ idr. absurd (false≢true (sym is ∙ idr));
+            same = λ other. set ∙ (opened_by o.sps hd o.before base opened).same other;
+          },
+          ((base_grows o s.before).sound).each,
+        )
+
+-- ---- what the grouper's steps bring, and when they keep the parameter sets
+
+-- ---- what comes next
+
+-- no picture is open after closing
+abbrev pub rests : (closes : Bool) → Option OpenPictureFacts → Bool
+rests true open' = true
+rests false None = true
+rests false (Some o) = false
+
+abbrev pub GoesOn : Option OpenPictureFacts → Slice → Type 0
+GoesOn None s = ⊥
+GoesOn (Some o) s = begins o.last s.header ≡ false
+
+abbrev pub BringsNext : (read : Result Slice Fault) → Option OpenPictureFacts → (closes : Bool) → Next → Type 0
+BringsNext read open' closes (Begins s) = (rests closes open' ≡ true) × (read ≡ Ok s)
+BringsNext read open' closes (Continues s) = (closes ≡ false) × GoesOn open' s × (read ≡ Ok s)
+BringsNext read open' closes _ = Prim.Unit {0}
+
+-- A picture begins where none is open, and goes on where the last slice is of the same one; its slice is the one that is read.
+pub record Brings (read : Result Slice Fault) (open' : Option OpenPictureFacts) (w : Step) : Type 0 where
+  pub brings : BringsNext read open' w.closes w.next
+
+brings_unreadable : (read : Result Slice Fault) (open' : Option OpenPictureFacts) (f : Fault) → Brings read open' (unreadable open' f)
+brings_unreadable read None f = record { brings = tt }
+brings_unreadable read (Some o) f =
+    either (Brings read (Some o)) o.full _ _ (λ _. record { brings = tt }) (λ _. record { brings = tt })
+
+brings_slice : (open' : Option OpenPictureFacts) (starts : Bool) (read : Result Slice Fault) → Brings read open' (slice_step open' starts read)
+brings_slice None starts (Ok s) = record { brings = (refl, refl) }
+brings_slice (Some o) starts (Ok s) =
+    either (Brings (Ok s) (Some o)) (begins o.last s.header) _ _ (λ _. record { brings = (refl, refl) }) (λ e. record { brings = (refl, e, refl) })
+brings_slice open' starts (Err f) = brings_unreadable (Err f) open' f
+
+brings_set : (read : Result Slice Fault) (open' : Option OpenPictureFacts) (f : Option Fault) → Brings read open' (ends_picture (refusal_of f))
+brings_set read open' None = record { brings = tt }
+brings_set read open' (Some f) = record { brings = tt }
+
+brings_running : (sets : Sets) (open' : Option OpenPictureFacts) (u : Piece) (k : Kind) → Brings (slice_in sets u) open' (running_step sets open' u k)
+brings_running sets open' u (slice_kind idr) = brings_slice open' (is_start u) (slice_in sets u)
+brings_running sets open' u partition = brings_unreadable (slice_in sets u) open' DataPartition
+brings_running sets open' u sps_kind = brings_set (slice_in sets u) open' (set_fault sps_kind (rbsp_of u))
+brings_running sets open' u pps_kind = brings_set (slice_in sets u) open' (set_fault pps_kind (rbsp_of u))
+brings_running sets open' u _ = record { brings = tt }
+
+brings_waiting : (sets : Sets) (u : Piece) (k : Kind) → Brings (slice_in sets u) None (waiting_step sets u k)
+brings_waiting sets u (slice_kind idr) =
+    either (Brings (slice_in sets u) None) (is_start u) _ _ (λ _. brings_running sets None u (slice_kind idr)) (λ _. record { brings = tt })
+brings_waiting sets u partition = record { brings = tt }
+brings_waiting sets u k = brings_running sets None u k
+
+pub brings_step : (sets : Sets) (running : Bool) (open' : Option OpenPictureFacts) (u : Piece) → (running ≡ false → open' ≡ None)
+    → Brings (slice_in sets u) open' (step sets running open' u)
+brings_step sets running open' u w =
+    either (Brings (slice_in sets u) open') (forbidden_zero_bit u.header) _ _ (λ _. record { brings = tt })
+    (λ _. either (Brings (slice_in sets u) open') running _ _ (λ _. brings_running sets open' u (kind u))
+    (λ e. rw (w e) (brings_waiting sets u (kind u))))
+
+-- ---- a picture that begins
+
+-- A picture begins while none is open, and one that is an IDR picture has the marking of one.
+abbrev pub Allows : Next → (is_open : Bool) → Type 0
+Allows (Begins s) true = ⊥
+Allows (Begins s) false = HasItsMarking s.header
+Allows _ is_open = Prim.Unit {0}
+
+-- The same, once the open picture is closed where the step says so.
+abbrev pub Fits : Option OpenPictureFacts → (closes : Bool) → Next → Type 0
+Fits None closes n = Allows n false
+Fits (Some facts) closes n = Allows n (not closes)
+
+pub rules_in : HeadersKeepIdrRules → (sets : Sets) (u : Piece) (s : Slice) → slice_in sets u ≡ Ok s → KeepsIdrRules s.header
+rules_in rules sets u s e = let of_unit = slice_of_unit sets u s e in rules u.header sets of_unit.rbsp s.header of_unit.is_read
+
+pub fits : HeadersKeepIdrRules → (sets : Sets) (u : Piece) (o : Option OpenPictureFacts) (closes : Bool) (n : Next)
+    → BringsNext (slice_in sets u) o closes n → Fits o closes n
+fits rules sets u None closes (Begins s) b = (rules_in rules sets u s b.1).marking
+fits rules sets u (Some facts) true (Begins s) b = (rules_in rules sets u s b.1).marking
+fits rules sets u (Some facts) false (Begins s) b = cc b.0
+fits rules sets u None closes _ b = tt
+fits rules sets u (Some facts) closes _ b = tt
+
+-- ---- the parameter sets
+
+abbrev at_kind : Sets → Option OpenPictureFacts → Piece → (running : Bool) → Kind → Step
+at_kind sets open' u running k = elim running [ true ↦ running_step sets open' u k | false ↦ waiting_step sets u k ]
+
+abbrev at_bit : (forbidden : Bool) → Step → Step
+at_bit forbidden w =
+    elim forbidden [ true ↦ record { closes = false; next = Refusal ForbiddenBit; even_after_fault = true } | false ↦ w ]
+
+keeps_by_kind : (k : Kind) (running : Bool) (sets : Sets) (open' : Option OpenPictureFacts) (u : Piece)
+    → (at_kind sets open' u running k).closes ≡ false → set_of k (rbsp_of u) ≡ None
+keeps_by_kind sps_kind true sets open' u h = cc
+keeps_by_kind sps_kind false sets open' u h = cc
+keeps_by_kind pps_kind true sets open' u h = cc
+keeps_by_kind pps_kind false sets open' u h = cc
+keeps_by_kind _ running sets open' u h = refl
+
+-- a unit that does not end the open picture brings none
+pub keeps_sets : (sets : Sets) (running : Bool) (open' : Option OpenPictureFacts) (u : Piece) → (step sets running open' u).closes ≡ false
+    → set_units (u ∷ []) ≡ []
+keeps_sets sets running open' u = by_bit (forbidden_zero_bit u.header)
+  where
+    by_bit : (b : Bool) → (at_bit b (at_kind sets open' u running (kind u))).closes ≡ false
+        → list_of (if b then None else set_of (kind u) (rbsp_of u)) ++ [] ≡ []
+    by_bit true h = refl
+    by_bit false h = ap (λ s. list_of s ++ []) (keeps_by_kind (kind u) running sets open' u h)
+
+-- ---- a further slice
+
+-- it names the picture parameter set that the slice before it names
+pub same_set : (g h : Header) → begins g h ≡ false → g.pic_parameter_set_id ≡ h.pic_parameter_set_id
+same_set g h e = grind (arith, nat_tests, e)
+
+same_some : (g h : Header) (a b : Option ℕ) → begins (record g { idr_pic_id = a }) (record h { idr_pic_id = b }) ≡ false → is_some a ≡ is_some b
+same_some g h (Some a) None e = grind (arith, e)
+same_some g h None (Some b) e = grind (arith, e)
+same_some g h _ _ e = refl
+
+-- it is one of an IDR picture where the slice before it is
+pub same_kind : (g h : Header) → begins g h ≡ false → is_idr g ≡ is_idr h
+same_kind g h e = same_some g h g.idr_pic_id h.idr_pic_id e
+
+-- One that continues an IDR picture is one of an IDR picture.
+pub idr_continues : (g h : Header) → is_idr g ≡ true → begins g h ≡ false → is_idr h ≡ true
+idr_continues g h i e = sym (same_kind g h e) ∙ i
+
+-- ---- what the phase knows of the open picture
+
+-- where none is open, a new one is decoded on that of the sequence
+pub base_here : (s : SequenceState) (p : PhaseHere) → IsPhase s p → current_in p ≡ None
+    → base_in (phase_of s p) ≡ s.history
+base_here s Waiting w none = sym w.1
+base_here s (Running None) w none = refl
+base_here s (Running (Some c)) w none = refl
+
+pub none_open : (s : SequenceState) (p : PhaseHere) → IsPhase s p → current_in p ≡ None → s.open_picture ≡ None
+none_open s Waiting w none = (w.0).none
+none_open s (Running None) w none = w.none
+none_open s (Running (Some c)) w none = cc
+
+-- ---- what a unit finds
+
+pub facts_are : (s : SequenceState) (p : PhaseHere) (last : Option Header) (full : Bool) → IsPhase s p
+    → last ≡ last_header_in p → IfSome (current_in p) (λ c. IsFull full c.decoder)
+    → open_picture_of full last ≡ open_facts_in (phase_of s p)
+facts_are s (Running (Some c)) last full w e f =
+    let o = opened_as s c.decoder w.last w.earlier in
+    let full_at : History → Bool = λ h. is_full (start_on o h) (progress_on o h) in
+    let same = ap full_at (history_is o (current_history s) (stands_as s c w))
+    ∙ on_open s c w (λ g. is_full (start_on o (current_history s)) g ≡ full) f in
+    let here : open_picture_of full (Some c.last_header) ≡ open_facts_in (running_phase s.history (Some o)) = rw (w.header, sym same) refl in
+    rw e (here ∙ ap open_facts_in (sym (opened_phase s c w)))
+facts_are s _ last full w e f = rw e refl
+
+pub runs : (s : SequenceState) (p : PhaseHere) → not (is_waiting_in p) ≡ is_running (phase_of s p)
+runs s (Running (Some c)) = refl
+runs s _ = refl
+
+-- ---- a further slice
+
+-- a slice that can be decoded is within the sets that it names
+pub within_named : (sets : Sets) (slice : Slice) (pps : Pps) (sps : Sps) → IsSliceUnder sets slice → sets.pps (slice.header).pic_parameter_set_id ≡ Some pps → sets.sps pps.seq_parameter_set_id ≡ Some sps
+    → IsHeader sps pps slice.rbsp slice.header
+within_named sets slice pps sps t ep es =
+    let p : t.pps ≡ pps = some_is t.pps pps (sym t.pps_is ∙ ep) in
+    let s : t.sps ≡ sps = some_is t.sps sps (sym t.sps_is ∙ ap (λ (q : Pps). sets.sps q.seq_parameter_set_id) p ∙ es) in
+    rw (p, s) at t.within
+
+-- a picture's sets are those that its first slice names
+pub named_first : (sets : Sets) (slice : Slice) (sps : Sps) (pps : Pps) (frames : List (Frame 32))
+    → IsSliceUnder sets slice → sets_named sets slice.header ≡ Some (pps, sps)
+    → IsNamed sets (begun_with_slice sps pps frames slice)
+named_first sets slice sps pps frames t e =
+    let named : sets_named sets slice.header ≡ Some (t.pps, t.sps) = cc (t.pps_is, t.sps_is) in
+    let same : ◌≡◌ {A = Pps × Sps} (t.pps, t.sps) (pps, sps) = some_is _ _ (sym named ∙ e) in
+    let p : t.pps ≡ pps = ap (λ (x : Pps × Sps). x.0) same in
+    let s : t.sps ≡ sps = ap (λ (x : Pps × Sps). x.1) same in
+    record {
+      pps = t.pps_is ∙ ap Some p;
+      sps = ap (λ (q : Pps). sets.sps q.seq_parameter_set_id) (sym p) ∙ t.sps_is
+          ∙ ap Some s;
+    }
+
+-- and so are those that a further one names
+pub named_further : (sets : Sets) (p : PhaseHere) (slice : Slice) → IfSome (current_in p) (IsNamed sets)
+    → IfSome (current_in p) (λ c. begins c.last_header slice.header ≡ false)
+    → IfSome (current_in p) (λ c. IsNamed sets (with_last slice c))
+named_further sets (Running (Some c)) slice named goes = record
+    { pps = ap sets.pps (sym (same_set c.last_header slice.header goes)) ∙ named.pps; sps = named.sps }
+named_further sets _ slice named goes = tt
+
+pub can_have : (sets : Sets) (s : SequenceState) (p : PhaseHere) (slice : Slice) → Works sets s p
+    → IsSliceUnder sets slice → IfSome (current_in p) (λ c. begins c.last_header slice.header ≡ false)
+    → IfSome (current_in p) (λ c. CanHave s c.decoder slice)
+can_have sets s (Running (Some c)) slice w t goes =
+    let open' = w.stands in
+    let named = named_further sets (Running (Some c)) slice w.named goes in
+    record {
+      frames = same_frames s (open'.last).header slice.header c.decoder
+          (ap is_idr (sym open'.header) ∙ same_kind c.last_header slice.header goes) open'.frames;
+      within = within_named sets slice (c.decoder).pps (c.decoder).sps t named.pps named.sps;
+    }
+can_have sets s _ slice w t goes = tt
+
+-- ---- closing
+
+pub open_is : (p : PhaseHere) (c : CurrentPicture) → ◌≡◌ {A = Option CurrentPicture} (Some c) (current_in p)
+    → p ≡ Running (Some c)
+open_is Waiting c e = cc
+open_is (Running o) c e = ap Running (sym e)
+
+-- ---- what a unit does, joined from its parts: closing the open picture, and what comes next
+
+and_false : (b : Bool) → (b && false) ≡ true → ⊥
+and_false true e = cc
+and_false false e = cc
+
+-- ---- what a step asks for can be carried out
+
+-- where no picture is open
+fits_none : (sets : Sets) (p : PhaseHere) (next : Next) → current_in p ≡ None → IfSlice next (IsSliceUnder sets)
+    → FitsPhase sets p next
+fits_none sets p (Begins s) none under = (under, none)
+fits_none sets p (Continues s) none under = (under, rw none tt)
+fits_none sets p _ none under = tt
+
+-- where it stays open
+fits_open : (sets : Sets) (c : CurrentPicture) (full : Bool) (read : Result Slice Fault) (next : Next)
+    → BringsNext read (open_picture_of full (Some c.last_header)) false next → IfSlice next (IsSliceUnder sets)
+    → FitsPhase sets (Running (Some c)) next
+fits_open sets c full read (Begins s) b under = cc b.0
+fits_open sets c full read (Continues s) b under = (under, b.1)
+fits_open sets c full read _ b under = tt
+
+-- the open picture is not closed, or there is none
+pub fits_before : {table table' : List SetUnit} (p : PhaseHere) {u : Piece} {w : Step} → HasStep table p u w table'
+    → (w.closes && is_some (current_in p)) ≡ false → FitsPhase (sets_after table') p w.next
+fits_before {table} {table'} (Running (Some c)) {u} {w} k stays =
+    let facts = open_picture_of k.full (Some c.last_header) in
+    let brings = brings_step (sets_after table) true facts u (λ e. absurd (false≢true (sym e))) in
+    let here : Brings (slice_in (sets_after table) u) facts w = subst (Brings (slice_in (sets_after table) u) facts) (sym k.is) brings in
+    fits_open (sets_after table') c k.full (slice_in (sets_after table) u) w.next
+    (subst (λ b. BringsNext (slice_in (sets_after table) u) facts b w.next) (sym (and-true w.closes) ∙ stays) here.brings) k.under
+fits_before {table' = table'} Waiting {w = w} k stays = fits_none (sets_after table') Waiting w.next refl k.under
+fits_before {table' = table'} (Running None) {w = w} k stays = fits_none (sets_after table') (Running None) w.next refl k.under
+
+-- its parameter sets stay in force
+pub works_before : {table table' : List SetUnit} {s : SequenceState} (p : PhaseHere) {u : Piece} {w : Step}
+    → Works (sets_after table) s p → HasStep table p u w table'
+    → (w.closes && is_some (current_in p)) ≡ false → Works (sets_after table') s p
+works_before {table} {table'} (Running (Some c)) {u} {w} works k stays =
+    let none = keeps_sets (sets_after table) true (open_picture_of k.full (Some c.last_header)) u
+    (ap (λ (x : Step). x.closes) (sym k.is) ∙ sym (and-true w.closes) ∙ stays) in
+    let same : table' ≡ table = k.put ∙ ap (λ ss. table ++ ss) none ∙ append-nil table in
+    rw same works
+works_before Waiting works k stays = record { stands = works.stands; named = tt }
+works_before (Running None) works k stays = record { stands = works.stands; named = tt }
+
+-- ---- closing
+
+closed_facts : (output : Output) (o : OpenPicture) (x : Result History (ℕ × Fault))
+    → open_facts_in (closed_outcome output o x).phase ≡ None
+closed_facts output o (Ok h) = refl
+closed_facts output o (Err found) = refl
+
+none_after_closing : (output : Output) (p : Phase) → open_facts_in (closed_in output p).phase ≡ None
+none_after_closing output (running_phase h (Some o)) = closed_facts output o (closing_result o)
+none_after_closing output _ = refl
+
+none_here : (s : SequenceState) (p : PhaseHere) → IsPhase s p → open_facts_in (phase_of s p) ≡ None
+    → current_in p ≡ None
+none_here s (Running (Some c)) w e =
+    let there = sym (ap open_facts_in (opened_phase s c w)) ∙ e in
+    cc
+none_here s _ w e = refl
+
+-- it leaves none open
+pub fits_closed : (t t' : Stream) (next : Next)
+    → HasOutcome t (closed_in t.sequence.output (phase_of t.sequence t.phase)) t' → IfSlice next (IsSliceUnder (sets_after t.table))
+    → FitsPhase (sets_after t'.table) t'.phase next
+fits_closed t t' next r under =
+    rw r.sets (fits_none (sets_after t.table) t'.phase next
+    (none_here t'.sequence t'.phase r.works.stands
+    (ap open_facts_in r.phase ∙ none_after_closing t.sequence.output (phase_of t.sequence t.phase))) under)
+
+-- nothing is read
+closed_read : (output : Output) (o : OpenPicture) (x : Result History (ℕ × Fault))
+    → (closed_outcome output o x).read ≡ 0
+closed_read output o (Ok h) = refl
+closed_read output o (Err f) = refl
+
+pub none_read : (output : Output) (p : Phase) → (closed_in output p).read ≡ 0
+none_read output (running_phase h (Some o)) = closed_read output o (closing_result o)
+none_read output _ = refl
+
+-- ---- what the unit comes to
+
+-- where it does not close the open picture, or there is none
+stays_as : (output : Output) (sets : Sets) (unit : ℕ) (w : Step) (s : SequenceState) (p : PhaseHere) → IsPhase s p
+    → (w.closes && is_some (current_in p)) ≡ false
+    → in_phase output sets unit w (phase_of s p) ≡ after_next output sets unit (phase_of s p) w.next
+stays_as output sets unit w s (Running (Some c)) stands e = rw (opened_phase s c stands)
+    (rw (sym (and-true w.closes) ∙ e) refl)
+stays_as output sets unit w s _ stands e = refl
+
+-- where it does
+closes_as : (output : Output) (sets : Sets) (unit : ℕ) (w : Step) (s : SequenceState) (p : PhaseHere) → IsPhase s p
+    → (w.closes && is_some (current_in p)) ≡ true
+    → in_phase output sets unit w (phase_of s p) ≡ after_closing output sets unit w (closed_in output (phase_of s p))
+closes_as output sets unit w s (Running (Some c)) stands e = rw (opened_phase s c stands)
+    (rw (sym (and-true w.closes) ∙ e) refl)
+closes_as output sets unit w s _ stands e = absurd (and_false w.closes e)
+
+waits_here : (s : SequenceState) (p : PhaseHere) → is_waiting (phase_of s p) ≡ is_waiting_in p
+waits_here s (Running (Some c)) = refl
+waits_here s _ = refl
+
+-- the sets before a slice are those after it
+same_next : (output : Output) (next : Next) (table table' : List SetUnit) (unit : ℕ) (p : Phase)
+    → IfSlice next (λ _. table' ≡ table)
+    → after_next output (sets_after table') unit p next ≡ after_next output (sets_after table) unit p next
+same_next output (Begins s) table table' unit p e = ap (λ t. after_next output (sets_after t) unit p (Begins s)) e
+same_next output _ table table' unit p e = refl
+
+-- one outcome, in which nothing is read, and then another
+then_comes : (t t1 t' : Stream) (o1 o2 : Outcome) → o1.read ≡ 0 → HasOutcome t o1 t1
+    → HasOutcome t1 o2 t' → HasOutcome t (followed_by o1 o2) t'
+then_comes t t1 t' o1 o2 none a b = record {
+  works = b.works;
+  phase = b.phase;
+  output_is = b.output_is ∙ a.output_is;
+  queue = b.queue ∙ ap (with_events o2.events) a.queue
+      ∙ ap (λ es. record t.queue { events = es }) (append_assoc t.queue.events o1.events o2.events);
+  count = b.count ∙ ap (λ m. more_read m o2.read) (a.count ∙ ap (more_read t.read) none)
+      ∙ ap (more_read t.read) (omega (arith, none));
+  sets = b.sets ∙ a.sets;
+}
+
+same_state : {o o' : Output} {t t' : List SetUnit} {a a' : Phase} → o ≡ o' → t ≡ t' → a ≡ a'
+    → (let x : State = record { output = o; sets = t; phase = a } in x) ≡ record
+    { output = o'; sets = t'; phase = a' }
+same_state e f g = cc
+
+-- the stream's state is that after the unit
+state_is : (f : StreamState) (u : Piece) (x : Outcome) (st : State) (es : List Event) (t n : ℕ)
+    → st ≡ state_after f.state u x → es ≡ f.events ++ x.events → t ≡ f.taken → n ≡ more_read f.read x.read
+    → x ≡ after_unit f.state u → (let f' : StreamState = record { state = st; events = es; taken = t; read = n } in f')
+    ≡ after_unit_in_stream u f
+state_is f u x st es t n a b c d e = rw (a, b, c, d, e) refl
+
+unit_done : (t t' : Stream) (table1 : List SetUnit) (u : Piece) (x : Outcome) → HasOutcome (record t { table = table1 }) x t'
+    → table1 ≡ t.table ++ set_units (u ∷ []) → x ≡ after_unit (stream_state t).state u
+    → stream_state t' ≡ after_unit_in_stream u (stream_state t)
+unit_done t t' table1 u x r put is =
+    state_is (stream_state t) u x (stream_state t').state t'.queue.events t'.queue.taken t'.read
+    (same_state r.output_is (r.sets ∙ put) r.phase) (ap (λ (k : QueueState). k.events) r.queue)
+    (ap (λ (k : QueueState). k.taken) r.queue) r.count is
+
+-- what after_unit is by the step that the unit has
+unit_is : (t : Stream) (table' : List SetUnit) (u : Piece) (w : Step) → IsPhase t.sequence t.phase → HasStep t.table t.phase u w table'
+    → in_phase t.sequence.output (sets_after t.table) u.index w (phase_of t.sequence t.phase) ≡ after_unit (stream_state t).state u
+unit_is t table' u w stands k =
+    let sets = sets_after t.table in
+    let p = phase_of t.sequence t.phase in
+    ap (λ v. in_phase t.sequence.output sets u.index v p)
+    (k.is ∙ ap (λ r. step sets r (open_picture_of k.full (last_header_in t.phase)) u) (runs t.sequence t.phase)
+    ∙ ap (λ o. step sets (is_running p) o u) (facts_are t.sequence t.phase (last_header_in t.phase) k.full stands refl k.is_full))
+
+-- the open picture stays open, or there is none
+pub stays : (t t' : Stream) {table1 : List SetUnit} {u : Piece} {w : Step} → IsPhase t.sequence t.phase
+    → HasStep t.table t.phase u w table1 → (w.closes && is_some (current_in t.phase)) ≡ false
+    → HasOutcome (record t { table = table1 })
+    (after_next t.sequence.output (sets_after table1) u.index (phase_of t.sequence t.phase) w.next) t'
+    → stream_state t' ≡ after_unit_in_stream u (stream_state t)
+stays t t' {table1} {u} {w} stands k open' r =
+    let p = phase_of t.sequence t.phase in
+    unit_done t t' table1 u _ r k.put
+    (same_next t.sequence.output w.next t.table table1 u.index p k.same
+    ∙ sym (stays_as t.sequence.output (sets_after t.table) u.index w t.sequence t.phase stands open')
+    ∙ unit_is t table1 u w stands k)
+
+-- what the unit gives once the picture is closed
+after_it : (t t1 : Stream) (table1 : List SetUnit) (u : Piece) (w : Step) (silent : Bool) → IsPhase t.sequence t.phase
+    → HasStep t.table t.phase u w table1 → (w.closes && is_some (current_in t.phase)) ≡ true
+    → HasOutcome (record t { table = table1 }) (closed_in t.sequence.output (phase_of t.sequence t.phase)) t1
+    → (is_waiting_in t1.phase && not w.even_after_fault) ≡ silent
+    → let o = closed_in t.sequence.output (phase_of t.sequence t.phase) in
+    unless_silent silent o (after_next t.sequence.output (sets_after t.table) u.index o.phase w.next) ≡ after_unit (stream_state t).state u
+after_it t t1 table1 u w silent stands k shuts r is =
+    cc (
+      waits_here t1.sequence t1.phase,
+      closes_as t.sequence.output (sets_after t.table) u.index w t.sequence t.phase stands shuts,
+      unit_is t table1 u w stands k,
+    )
+
+-- it was closed; that was a fault, and nothing comes after it
+pub closes_silently : (t t' : Stream) {table1 : List SetUnit} {u : Piece} {w : Step} → IsPhase t.sequence t.phase
+    → HasStep t.table t.phase u w table1 → (w.closes && is_some (current_in t.phase)) ≡ true
+    → HasOutcome (record t { table = table1 }) (closed_in t.sequence.output (phase_of t.sequence t.phase)) t'
+    → (is_waiting_in t'.phase && not w.even_after_fault) ≡ true
+    → stream_state t' ≡ after_unit_in_stream u (stream_state t)
+closes_silently t t' {table1} {u} {w} stands k shuts r silent =
+    unit_done t t' table1 u _ r k.put (after_it t t' table1 u w true stands k shuts r silent)
+
+-- it was closed, and then comes what the unit does next
+pub closes_and_goes_on : (t t1 t' : Stream) {table1 : List SetUnit} {u : Piece} {w : Step} → IsPhase t.sequence t.phase
+    → HasStep t.table t.phase u w table1 → (w.closes && is_some (current_in t.phase)) ≡ true
+    → HasOutcome (record t { table = table1 }) (closed_in t.sequence.output (phase_of t.sequence t.phase)) t1
+    → (is_waiting_in t1.phase && not w.even_after_fault) ≡ false
+    → HasOutcome t1 (after_next t1.sequence.output (sets_after t1.table) u.index (phase_of t1.sequence t1.phase) w.next) t'
+    → stream_state t' ≡ after_unit_in_stream u (stream_state t)
+closes_and_goes_on t t1 t' {table1} {u} {w} stands k shuts r on r' =
+    let output = t.sequence.output in
+    let o = closed_in output (phase_of t.sequence t.phase) in
+    let next : after_next t1.sequence.output (sets_after t1.table) u.index (phase_of t1.sequence t1.phase) w.next
+    ≡ after_next output (sets_after t.table) u.index o.phase w.next =
+    rw (r.output_is, r.phase, r.sets) (same_next output w.next t.table table1 u.index o.phase k.same) in
+    unit_done t t' table1 u _
+    (then_comes (record t { table = table1 }) t1 t' o _ (none_read output (phase_of t.sequence t.phase)) r r') k.put
+    (ap (followed_by o) next ∙ after_it t t1 table1 u w false stands k shuts r on)
+
+-- ---- the end of the units
+
+end_events : (output : Output) (p : Phase) → (closed_in output p).events ++ held_after output
+    (closed_in output p).phase ≡ at_end output p
+end_events output (running_phase h (Some o)) = refl
+end_events output _ = refl
+
+held_here : (output : Output) (s : SequenceState) (p : PhaseHere) → IsPhase s p → open_facts_in (phase_of s p) ≡ None
+    → pictures (held_pictures output (current_history s)) ≡ held_after output (phase_of s p)
+held_here output s Waiting w none = rw ((w.0).none, w.1) refl
+held_here output s (Running None) w none = rw w.none refl
+held_here output s (Running (Some c)) w none =
+    let there = sym (ap open_facts_in (opened_phase s c w)) ∙ none in
+    cc
+
+end_is : (f : StreamState) (st : State) (es : List Event) (t n : ℕ)
+    → st ≡ record { output = (f.state).output; sets = (f.state).sets; phase = waiting }
+    → es ≡ f.events ++ at_end (f.state).output (f.state).phase → t ≡ f.taken → n ≡ f.read
+    → (let f' : StreamState = record { state = st; events = es; taken = t; read = n } in f') ≡ after_stream_end f
+end_is f st es t n a b c d = rw (a, b, c, d) refl
+
+pub ends : (t t1 t' : Stream) → HasOutcome t (closed_in t.sequence.output (phase_of t.sequence t.phase)) t1
+    → WaitsAfter t1 (pictures (held_pictures t1.sequence.output (current_history t1.sequence))) t'
+    → stream_state t' ≡ after_stream_end (stream_state t)
+ends t t1 t' r waits =
+    let output = t.sequence.output in
+    let x = closed_in output (phase_of t.sequence t.phase) in
+    let w = waits.0 in
+    let none = ap open_facts_in r.phase ∙ none_after_closing output (phase_of t.sequence t.phase) in
+    let held : pictures (held_pictures t1.sequence.output (current_history t1.sequence)) ≡ held_after output x.phase =
+    held_here t1.sequence.output t1.sequence t1.phase r.works.stands none ∙ ap₂ held_after r.output_is r.phase in
+    let events : t'.queue.events ≡ t.queue.events ++ at_end output (phase_of t.sequence t.phase) =
+    ap (λ (k : QueueState). k.events) w.queue
+    ∙ ap₂ (λ (k : QueueState) es. k.events ++ es) r.queue held
+    ∙ append_assoc t.queue.events x.events (held_after output x.phase)
+    ∙ ap (λ es. t.queue.events ++ es) (end_events output (phase_of t.sequence t.phase)) in
+    let taken = ap (λ (k : QueueState). k.taken) w.queue ∙ ap (λ (k : QueueState). k.taken) r.queue in
+    let read = waits.1 ∙ r.count ∙ ap (more_read t.read) (none_read output (phase_of t.sequence t.phase)) in
+    end_is (stream_state t) (stream_state t').state t'.queue.events t'.queue.taken t'.read
+    (same_state (ap (λ (s : SequenceState). s.output) w.sequence ∙ r.output_is) (waits.2 ∙ r.sets) (ap₂ phase_of w.sequence w.phase))
+    events taken read

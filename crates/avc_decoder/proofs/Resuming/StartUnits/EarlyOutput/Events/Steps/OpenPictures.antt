@@ -1,0 +1,811 @@
+-- A slice header that was read, and an open picture: its first fault, one slice more, and what closing it comes to.
+pub mod Common
+unfoldable pub use Common.*
+use Rattle.avc_bits.specs.Bits.{◌>>=◌}
+use Rattle.avc_decoder.specs.Events.{running}
+use Rattle.avc_decoder.specs.PictureFrames.{IsRefused}
+use Rattle.avc_types.specs.declared.fault.Fault.TheVariants as faults
+
+-- ---- what is known of a slice header that can be read, and of the unit that it stands in
+
+-- ---- parts that could be read
+
+-- what a first part gave, and the second after it
+record AreRead {A B : Type 0} (part : Read A) (next : A → Read B) (b : Bits) (r : B × Bits) : Type 0 where
+  value : A
+  rest : Bits
+  first : part b ≡ Ok (value, rest)
+  then_read : next value rest ≡ Ok r
+
+are_read : {A B : Type 0} (part : Read A) (next : A → Read B) (b : Bits) (r : B × Bits) → (part >>= next) b ≡ Ok r
+    → AreRead part next b r
+are_read {A} {B} part next b r e = by_part (part b) refl e
+  where
+    by_part : (x : Result (A × Bits) Fault) → part b ≡ x
+        → ◌≡◌ {A = Result (B × Bits) Fault} (elim x [ Ok y ↦ next y.0 y.1 | Err f ↦ Err f ]) (Ok r) → AreRead part next b r
+    by_part (Ok y) is e' = record { value = y.0; rest = y.1; first = is; then_read = e' }
+    by_part (Err f) is e' = cc
+
+found_is : {A : Type 0} (o : Option A) (f : Fault) (b : Bits) (r : A × Bits) → found o f b ≡ Ok r → o ≡ Some r.0
+found_is None f b r e = cc
+found_is (Some a) f b r e = ap (λ o. Some o) (ap (λ x. x.0) (ok_same (a, b) r e))
+
+-- ---- the parts of a header
+
+-- its first_mb_in_slice is what stands first
+record BeginsWith (b : Bits) (g : Front) : Type 0 where
+  rest : Bits
+  is_read : ue b ≡ Ok (g.first_mb_in_slice, rest)
+
+front_begins : (nal_ref_idc : ℕ) (idr : Bool) (b : Bits) (r : Front × Bits) → front nal_ref_idc idr b ≡ Ok r
+    → BeginsWith b r.0
+front_begins nal_ref_idc idr b r e =
+    let a = are_read ue _ b r e in
+    let number = are_read (ue_to 9) _ a.rest r a.then_read in
+    let kind = are_read (found (slice_type_of number.value) faults.SliceType) _ number.rest r number.then_read in
+    let checked = are_read (check (not (idr && (nal_ref_idc == 0 || is_p_type kind.value))) faults.BadIdr) _ kind.rest r kind.then_read in
+    let pps = are_read (ue_to 255) _ checked.rest r checked.then_read in
+    let same = ap (λ (x : Front × Bits). (x.0).first_mb_in_slice) (ok_same _ r pps.then_read) in
+    record { rest = a.rest; is_read = a.first ∙ ap (λ n. Ok (n, a.rest)) same }
+
+where_set_is : {A : Type 0} (idr : Bool) (part : Read A) (b : Bits) (r : Option A × Bits) → where_set idr part b ≡ Ok r
+    → idr ≡ true
+    → is_some r.0 ≡ true
+where_set_is false part b r e i = cc
+where_set_is true part b r e i =
+    let a = are_read part _ b r e in
+    sym (ap (λ (x : Option _ × Bits). is_some x.0) (ok_same _ r a.then_read))
+
+-- idr_pic_id stands in it
+numbers_have : (idr : Bool) (pps : Pps) (sps : Sps) (b : Bits) (r : Numbers × Bits) → numbers idr pps sps b ≡ Ok r
+    → idr ≡ true
+    → is_some (r.0).idr_pic_id ≡ true
+numbers_have idr pps sps b r e i =
+    let frame_num = are_read (u (sps.log2_max_frame_num_minus4 + 4)) _ b r e in
+    let checked = are_read (check (not (idr && not (frame_num.value == 0))) faults.BadIdr) _ frame_num.rest r frame_num.then_read in
+    let of_idr = are_read (idr_pic_id idr) _ checked.rest r checked.then_read in
+    let order = are_read (coded_order sps.order_count pps.bottom_field_pic_order_in_frame_present_flag) _ of_idr.rest r of_idr.then_read in
+    let redundant = are_read (redundant_pic_cnt pps.redundant_pic_cnt_present_flag) _ order.rest r order.then_read in
+    let same = ap (λ (x : Numbers × Bits). is_some (x.0).idr_pic_id) (ok_same _ r redundant.then_read) in
+    sym same ∙ where_set_is idr (ue_to 65535) checked.rest (of_idr.value, of_idr.rest) of_idr.first i
+
+-- it has the front, and idr_pic_id where it is one of an IDR picture
+record HasFront (idr : Bool) (g : Front) (h : Header) : Type 0 where
+  address : g.first_mb_in_slice ≡ h.first_mb_in_slice
+  pps_id : g.pic_parameter_set_id ≡ h.pic_parameter_set_id
+  of_idr : idr ≡ true → is_idr h ≡ true
+
+back_has : (nal_ref_idc : ℕ) (idr : Bool) (g : Front) (pps : Pps) (sps : Sps) (b : Bits) (r : Header × Bits)
+    → back nal_ref_idc idr g pps sps b ≡ Ok r → HasFront idr g r.0
+back_has nal_ref_idc idr g pps sps b r e =
+    let checked = are_read (check (nat_lt g.first_mb_in_slice (size_in_mbs sps)) faults.OutOfRange) _ b r e in
+    let of_picture = are_read (numbers idr pps sps) _ checked.rest r checked.then_read in
+    let list = are_read (list_part (is_p_type g.slice_type) pps sps) _ of_picture.rest r of_picture.then_read in
+    let marked = are_read (where_set (not (nal_ref_idc == 0)) (marking idr)) _ list.rest r list.then_read in
+    let filtered = are_read (filtering pps) _ marked.rest r marked.then_read in
+    let same = ok_same _ r filtered.then_read in
+    record {
+      address = ap (λ (x : Header × Bits). (x.0).first_mb_in_slice) same;
+      pps_id = ap (λ (x : Header × Bits). (x.0).pic_parameter_set_id) same;
+      of_idr = λ i.
+          sym (ap (λ (x : Header × Bits). is_some (x.0).idr_pic_id) same)
+          ∙ numbers_have idr pps sps checked.rest (of_picture.value, of_picture.rest) of_picture.first i;
+    }
+
+-- What can be read has its parameter sets, and its first_mb_in_slice stands first.
+pub record IsRead (header : ℕ) (sets : Sets) (rbsp : List ℕ) (h : Header) : Type 0 where
+  pub named : is_some (sets_named sets h) ≡ true
+  pub address : reads_zero (ue (start rbsp)) ≡ true → h.first_mb_in_slice ≡ 0
+  pub of_idr : (header % 32 == 5) ≡ true → is_idr h ≡ true
+
+value_is : (x : Result (Header × Bits) Fault) (h : Header) → value_or_fault x ≡ Ok h → (r : Header × Bits) × (x ≡ Ok r) × (r.0 ≡ h)
+value_is (Ok r) h e = (r, refl, ok_same r.0 h e)
+value_is (Err f) h e = cc
+
+abbrev named_in : Sets → Option Pps → Option (Pps × Sps)
+named_in sets p = elim p [ None ↦ None | Some pps ↦ both (Some pps) (sets.sps pps.seq_parameter_set_id) ]
+
+named_by : (sets : Sets) (o : Option Pps) (pps : Pps) (sps : Sps) → o ≡ Some pps
+    → sets.sps pps.seq_parameter_set_id ≡ Some sps
+    → is_some (named_in sets o) ≡ true
+named_by sets o pps sps e f = ap (λ p. is_some (named_in sets p)) e ∙ ap (λ s. is_some (both (Some pps) s)) f
+
+header_is : (header : ℕ) (sets : Sets) (rbsp : List ℕ) (r : Header × Bits) → header_of header sets (start rbsp) ≡ Ok r
+    → IsRead header sets rbsp r.0
+header_is header sets rbsp r is =
+    let nal_ref_idc = header / 32 % 4 in
+    let idr = header % 32 == 5 in
+    let g = are_read (front nal_ref_idc idr) _ (start rbsp) r is in
+    let pps = are_read (found (sets.pps (g.value).pic_parameter_set_id) faults.NoParameterSet) _ g.rest r g.then_read in
+    let sps = are_read (found (sets.sps (pps.value).seq_parameter_set_id) faults.NoParameterSet) _ pps.rest r pps.then_read in
+    let has = back_has nal_ref_idc idr g.value pps.value sps.value sps.rest r sps.then_read in
+    let begun = front_begins nal_ref_idc idr (start rbsp) (g.value, g.rest) g.first in
+    let pps_read = found_is (sets.pps (g.value).pic_parameter_set_id) faults.NoParameterSet g.rest (pps.value, pps.rest) pps.first in
+    let pps_there = ap sets.pps (sym has.pps_id) ∙ pps_read in
+    let sps_there = found_is (sets.sps (pps.value).seq_parameter_set_id) faults.NoParameterSet pps.rest (sps.value, sps.rest) sps.first in
+    record {
+      named = named_by sets (sets.pps (r.0).pic_parameter_set_id) pps.value sps.value pps_there sps_there;
+      address = λ zero_read. sym has.address ∙ eqb-true (g.value).first_mb_in_slice 0 (sym (ap reads_zero begun.is_read) ∙ zero_read);
+      of_idr = has.of_idr;
+    }
+
+pub is_read : (header : ℕ) (sets : Sets) (rbsp : List ℕ) (h : Header) → header_in_rbsp header sets rbsp ≡ Ok h
+    → IsRead header sets rbsp h
+is_read header sets rbsp h e =
+    let r = value_is (header_of header sets (start rbsp)) h e in
+    subst (IsRead header sets rbsp) r.2 (header_is header sets rbsp r.0 r.1)
+
+-- ---- the slice of a unit
+
+-- its header stands in the unit's RBSP
+pub record IsOfUnit (sets : Sets) (u : Piece) (s : Slice) : Type 0 where
+  pub rbsp : List ℕ
+  pub there : rbsp_of u ≡ Some rbsp
+  pub is_read : header_in_rbsp u.header sets rbsp ≡ Ok s.header
+
+some_read : {A B : Type 0} (o : Option A) (f : Fault) (read : A → Result B Fault) (s : B)
+    → ◌≡◌ {A = Result B Fault} (elim o [ None ↦ Err f | Some a ↦ read a ]) (Ok s) → (a : A) × (o ≡ Some a) × (read a ≡ Ok s)
+some_read None f read s e = cc
+some_read (Some a) f read s e = (a, refl, e)
+
+header_read : (u : Piece) (bytes : List ℕ) (h : Result Header Fault) (s : Slice) → with_header u bytes h ≡ Ok s → h ≡ Ok s.header
+header_read u bytes (Ok h) s e = ap (λ (t : Slice). Ok t.header) (ok_same _ s e)
+header_read u bytes (Err f) s e = cc
+
+pub slice_of_unit : (sets : Sets) (u : Piece) (s : Slice) → slice_in sets u ≡ Ok s → IsOfUnit sets u s
+slice_of_unit sets u s e =
+    let some = some_read (rbsp_of u) faults.NalTooLong (λ bytes. with_header u bytes (header_in_rbsp u.header sets bytes)) s e in
+    record { rbsp = some.0; there = some.1; is_read = header_read u some.0 (header_in_rbsp u.header sets some.0) s some.2 }
+
+-- ---- a unit to start with
+
+pub record Starts (u : Piece) : Type 0 where
+  pub allowed : forbidden_zero_bit u.header ≡ false
+  pub of_idr : nal_unit_type u.header ≡ 5
+  pub reads : (rbsp : List ℕ) → rbsp_of u ≡ Some rbsp → reads_zero (ue (start rbsp)) ≡ true
+
+pub starts : (u : Piece) → is_start u ≡ true → Starts u
+starts u e =
+    let zero_in : Option (List ℕ) → Bool = λ o. elim o [ None ↦ false | Some bytes ↦ reads_zero (ue (start bytes)) ] in
+    let allowed = not (forbidden_zero_bit u.header) in
+    let both_so = first_so (allowed && nal_unit_type u.header == 5) (zero_in (rbsp_of u)) e in
+    record {
+      allowed = not-true (forbidden_zero_bit u.header) (first_so allowed (nal_unit_type u.header == 5) both_so);
+      of_idr = eqb-true (nal_unit_type u.header) 5 (second_so allowed (nal_unit_type u.header == 5) both_so);
+      reads = λ rbsp there. sym (ap zero_in there) ∙ second_so (allowed && nal_unit_type u.header == 5) (zero_in (rbsp_of u)) e;
+    }
+
+-- ---- slices of one picture
+
+-- One whose first_mb_in_slice is 0 begins a picture.
+pub begins_at_zero : (g h : Header) → h.first_mb_in_slice ≡ 0 → begins g h ≡ true
+begins_at_zero g h e = ap (λ n. begins g (record h { first_mb_in_slice = n })) e
+
+-- ---- the cases of what an open picture gives: each a function of what it is by
+
+-- what holds in each case of a test
+pub either : {A : Type 0} (P : A → Type 0) (b : Bool) (x y : A) → (b ≡ true → P x) → (b ≡ false → P y)
+    → P (elim b [ true ↦ x | false ↦ y ])
+either P true x y p q = p refl
+either P false x y p q = q refl
+
+pub if_either : {A : Type 0} (P : A → Type 0) (b : Bool) (x y : A) → P x → P y → P (if b then x else y)
+if_either P true x y p q = p
+if_either P false x y p q = q
+
+-- ---- by the address of its first macroblock, and by what opening gives
+
+-- the history on which it stands
+abbrev pub history_by : ℕ → Result History Fault → (before : History) → History
+history_by address opened before = elim address [ suc _ ↦ before | zero ↦ elim opened [ Err f ↦ before | Ok history ↦ history ] ]
+
+-- how many macroblocks have been read
+abbrev pub count_by : ℕ → Result History Fault → (History → ℕ) → ℕ
+count_by address opened counted = elim address [ suc _ ↦ 0 | zero ↦ elim opened [ Err f ↦ 0 | Ok history ↦ counted history ] ]
+
+-- its first fault
+abbrev pub fault_by : ℕ → (unit : ℕ) → Result History Fault → (History → Option (ℕ × Fault)) → Option (ℕ × Fault)
+fault_by address unit opened later = elim address [
+  | suc _ ↦ Some (unit, faults.MissingMacroblocks)
+  | zero ↦ elim opened [ Err f ↦ Some (unit, f) | Ok history ↦ later history ]
+]
+
+-- ---- at closing
+
+abbrev marked : (unit : ℕ) → Result History Fault → Option (ℕ × Fault)
+marked unit (Ok h) = None
+marked unit (Err f) = Some (unit, f)
+
+-- macroblocks are missing, or marking is refused
+abbrev pub by_full : (full : Bool) → (unit : ℕ) → Result History Fault → Option (ℕ × Fault)
+by_full full unit closed = elim full [ false ↦ Some (unit, faults.MissingMacroblocks) | true ↦ marked unit closed ]
+
+-- the same of the picture on this history
+abbrev pub found_at_closing : OpenPicture → History → Option (ℕ × Fault)
+found_at_closing o h = by_full (is_full (start_on o h) (progress_on o h)) (o.last).unit (closed_history o h)
+
+-- that of the slices comes first
+abbrev pub then_closing : Option (ℕ × Fault) → (closing : Bool) → Option (ℕ × Fault) → Option (ℕ × Fault)
+then_closing f closing closed = elim f [ Some found ↦ Some found | None ↦ elim closing [ true ↦ closed | false ↦ None ] ]
+
+-- what closing gives, where no fault was found before
+abbrev pub unless_found : Option (ℕ × Fault) → Result History (ℕ × Fault) → Result History (ℕ × Fault)
+unless_found f closed = elim f [ Some found ↦ Err found | None ↦ closed ]
+
+-- ---- what a unit does
+
+-- the last header, and whether the picture is full
+abbrev pub facts_by : Header → (full : Bool) → OpenPictureFacts
+facts_by last full = record { last = last; full = full }
+
+-- by these events, this phase and so many macroblocks read
+abbrev pub outcome_of : List Event → Phase → (read : ℕ) → Outcome
+outcome_of es p read = record { events = es; phase = p; read = read }
+
+-- by the first fault with the slice
+abbrev pub slice_outcome : Output → Option (ℕ × Fault) → History → OpenPicture → (now : History) → (read : ℕ) → Outcome
+slice_outcome output f before o now read = elim f [
+  | Some found ↦ failed_at output before found.0 found.1 read
+  | None ↦ record { events = pictures (output_pictures output before now); phase = running o.before (Some o); read = read }
+]
+
+-- by whether a fault at closing leaves the unit without effect
+abbrev pub unless_silent : Bool → (closed next : Outcome) → Outcome
+unless_silent silent closed next = elim silent [ true ↦ closed | false ↦ followed_by closed next ]
+
+-- by whether the unit closes the picture
+abbrev pub chosen : Bool → (closed other : Outcome) → Outcome
+chosen closes closed other = elim closes [ true ↦ closed | false ↦ other ]
+
+-- ---- when an open picture's first fault is which
+
+-- The picture's macroblocks begin at 0, and it stands on this history.
+pub record Stands (o : OpenPicture) (h : History) : Type 0 where
+  pub first : (first_header o).first_mb_in_slice ≡ 0
+  pub stands : history_at_opening_of o ≡ Ok h
+
+pub history_is : (o : OpenPicture) (h : History) → Stands o h → history_of o ≡ h
+history_is o h s = cc (s.first, s.stands)
+
+pub read_is : (o : OpenPicture) (h : History) → Stands o h → read_of o ≡ (progress_on o h).read
+read_is o h s = cc (s.first, s.stands)
+
+pub slice_fault : (o : OpenPicture) (h : History) (closing : Bool) (found : ℕ × Fault) → Stands o h → (progress_on o h).fault ≡ Some found → first_fault o closing ≡ Some found
+slice_fault o h closing found s e = cc (s.first, s.stands, e)
+
+-- the missing numbers could not be taken in
+pub unopened : (o : OpenPicture) (f : Fault) (closing : Bool) → (first_header o).first_mb_in_slice ≡ 0
+    → history_at_opening_of o ≡ Err f → first_fault o closing ≡ Some ((first_slice o).unit, f)
+unopened o f closing a e = cc (a, e)
+
+pub unopened_read : (o : OpenPicture) (f : Fault) → (first_header o).first_mb_in_slice ≡ 0
+    → history_at_opening_of o ≡ Err f → read_of o ≡ 0
+unopened_read o f a e = cc (a, e)
+
+pub no_fault : (o : OpenPicture) (h : History) → Stands o h → (progress_on o h).fault ≡ None → first_fault o false ≡ None
+no_fault o h s e = cc (s.first, s.stands, e)
+
+pub not_full : (o : OpenPicture) (h : History) → Stands o h → (progress_on o h).fault ≡ None → is_full (start_on o h) (progress_on o h) ≡ false
+    → closing_result o ≡ Err ((o.last).unit, MissingMacroblocks)
+not_full o h s e f = cc (s.first, s.stands, e, f)
+
+-- a full picture is closed as the history after it says
+pub closes_by : (o : OpenPicture) (h : History) (r : Result History Fault) → Stands o h → (progress_on o h).fault ≡ None → is_full (start_on o h) (progress_on o h) ≡ true → closed_history o h ≡ r
+    → closing_result o ≡ at_last_slice o r
+closes_by o h (Ok h') s e f c =
+    let none : first_fault o true ≡ None = cc (s.first, s.stands, e, f, c) in
+    let same : closed_history o (history_of o) ≡ Ok h' = ap (closed_history o) (history_is o h s) ∙ c in
+    cc (none, same)
+closes_by o h (Err g) s e f c = cc (s.first, s.stands, e, f, c)
+
+-- ---- what a picture decoder says holds on the history of the sequence, and the frames have the picture's size
+
+-- ---- the history's frames
+
+-- Places at which the frames can stand; the picture is decoded there as on the history.
+pub record StandsOn (history : History) (d : Decoding 32) : Type 0 where
+  pub entries : List ℕ
+  pub stand : CanStandAt entries d
+  pub same : progress_at entries d ≡ progress_on_history history d
+
+none_rises : IsStrictlyIncreasing []
+none_rises k below = search arith
+
+-- the list of no places is that of no frames
+stand_nowhere : (d : Decoding 32) → d.frames ≡ [] → CanStandAt [] d
+stand_nowhere d none = rw none (record { each = refl; rising = none_rises })
+
+stands_by : (idr : Bool) (s : SequenceState) (d : Decoding 32) → d.frames ≡ elim idr [ true ↦ [] | false ↦ s.frames ] → (idr ≡ true → All IsISlice d.slices) → (idr ≡ false → AreStoredIn (current_history s) s.frames)
+    → StandsOn (current_history s) d
+stands_by true s d e intra stored = record { entries = []; stand = stand_nowhere d e; same = progress-other (start_at [] d) (stored_frames (current_history s)) d.slices (intra refl) }
+stands_by false s d e intra stored =
+    let a = stored refl in
+    record {
+      entries = a.entries;
+      stand = subst (λ (fs : List (Frame 32)). StandAt a.entries (map marked_frame fs)) (sym e) a.stand;
+      same = ap (λ fs. progress (start_with fs d) d.slices) (ap (stored_at a.entries) e ∙ a.stored);
+    }
+
+stands_on : (s : SequenceState) (h : Header) (d : Decoding 32) → HasItsFrames s h d → StandsOn (current_history s) d
+stands_on s h d f = stands_by (is_idr h) s d f.frames f.intra f.stored
+
+-- ---- what the picture decoder says
+
+-- wherever it can stand, holds on the history
+pub on_history : (s : SequenceState) (h : Header) (d : Decoding 32) → HasItsFrames s h d → (Says : Progress → Type 0)
+    → ((entries : List ℕ) → CanStandAt entries d → Says (progress_at entries d)) → Says (progress_on_history (current_history s) d)
+on_history s h d f Says says = let k = stands_on s h d f in subst Says k.same (says k.entries k.stand)
+
+pub with_one_more : (s : SequenceState) (d : Decoding 32) (slice : Slice) → CanHave s d slice → HasItsFrames s slice.header (with_slice_more slice d)
+with_one_more s d slice can = record {
+  frames = can.frames.frames;
+  intra = λ idr. All-cons IsISlice slice d.slices (can.within.intra idr) (can.frames.intra idr);
+  stored = can.frames.stored;
+}
+
+pub refused : (s : SequenceState) (d : Decoding 32) (slice : Slice) (f : Fault) → CanHave s d slice → HasNoFault d → Refuses d slice f (with_slice_more slice d) → IsRefused (current_history s) (with_slice_more slice d) slice f
+refused s d slice f can well r =
+    on_history s slice.header (with_slice_more slice d) (with_one_more s d slice can) (λ g. g.fault ≡ Some (slice.unit, f)) (r.unit well)
+
+pub slice_read : (s : SequenceState) (d d' : Decoding 32) (slice : Slice) (before after read : ℕ) → CanHave s d slice → d' ≡ with_slice_more slice d → HasRead before d → HasRead after d' → read ≡ after - before
+    → read ≡ read_of_slice (current_history s) d slice
+slice_read s d d' slice before after read can e so_far then' is =
+    let b = on_history s slice.header d can.frames (λ g. g.read ≡ before) so_far in
+    let a =
+    on_history s slice.header (with_slice_more slice d) (with_one_more s d slice can) (λ g. g.read ≡ after) (subst (HasRead after) e then') in
+    is ∙ ap₂ (λ m n. m - n) (sym a) (sym b)
+
+-- a slice more of a picture of the same kind
+pub same_frames : (s : SequenceState) (g h : Header) (d : Decoding 32) → is_idr g ≡ is_idr h → HasItsFrames s g d → HasItsFrames s h d
+same_frames s g h d e f = record {
+  frames = f.frames ∙ ap (λ (b : Bool). elim b as (λ _. List (Frame 32)) [ true ↦ [] | false ↦ s.frames ]) e;
+  intra = λ idr. f.intra (e ∙ idr);
+  stored = λ other. f.stored (e ∙ other);
+}
+
+-- ---- the frames' size
+
+-- sets of the same contents give the same size
+same_size : (a b : Sps) → same_sps a b ≡ true → (width_in_mbs a ≡ width_in_mbs b) × (height_in_mbs a ≡ height_in_mbs b)
+same_size a b e =
+    let e1 = second_so (a.profile_idc == b.profile_idc) _ e in
+    let e2 = second_so (same_constraints a.constraint_flags b.constraint_flags) _ e1 in
+    let e3 = second_so (a.reserved_zero_2bits == b.reserved_zero_2bits) _ e2 in
+    let e4 = second_so (a.level_idc == b.level_idc) _ e3 in
+    let e5 = second_so (a.seq_parameter_set_id == b.seq_parameter_set_id) _ e4 in
+    let e6 = second_so (a.log2_max_frame_num_minus4 == b.log2_max_frame_num_minus4) _ e5 in
+    let e7 = second_so (same_order a.order_count b.order_count) _ e6 in
+    let e8 = second_so (a.max_num_ref_frames == b.max_num_ref_frames) _ e7 in
+    let e9 = second_so (same_flag a.gaps_in_frame_num_value_allowed_flag b.gaps_in_frame_num_value_allowed_flag) _ e8 in
+    let e10 = second_so (a.pic_width_in_mbs_minus1 == b.pic_width_in_mbs_minus1) _ e9 in (
+      ap (λ n. n + 1) (eqb-true a.pic_width_in_mbs_minus1 b.pic_width_in_mbs_minus1 (first_so (a.pic_width_in_mbs_minus1 == b.pic_width_in_mbs_minus1) _ e9)),
+      ap (λ n. n + 1) (eqb-true a.pic_height_in_map_units_minus1 b.pic_height_in_map_units_minus1 (first_so (a.pic_height_in_map_units_minus1 == b.pic_height_in_map_units_minus1) _ e10)),
+    )
+
+-- before a picture that is no IDR picture the parameter set stays, whatever numbers are missing
+pub record StaysIn (sps : Sps) (history full : History) : Type 0 where
+  pub set : sequence_sps full ≡ sequence_sps history
+  pub same : is_same_sps (sequence_sps history) sps ≡ true
+
+stays_in : (sps : Sps) (hd : Header) (h h' : History) → is_idr hd ≡ false → history_at_opening sps hd h ≡ Ok h' → StaysIn sps h h'
+stays_in sps hd h h' other e = record { set = set_at_opening sps hd h h' e; same = (opened_by sps hd h h' e).same other }
+
+fit_set : (sps : Sps) (set : Option Sps) (frames : List (Frame 32)) → is_same_sps set sps ≡ true → IfSome set (λ before. AreFrames (width_in_mbs before) (height_in_mbs before) frames) → AreFramesOf sps frames
+fit_set sps None frames same fit = cc
+fit_set sps (Some before) frames same fit =
+    let size = same_size before sps same in
+    rw (← size.0, ← size.1) fit
+
+no_frames_fit : (sps : Sps) → AreFramesOf {PAD = 32} sps []
+no_frames_fit sps = record { few = omega arith; sized = All-nil _ }
+
+-- the frames have the size of the picture that is opened
+pub frames_fit : (s s1 : SequenceState) (sps : Sps) (h : Header) (out : List Decoded) (frames : List (Frame 32)) → IsOpened s sps h out s1 → frames ≡ frames_for h s1
+    → (is_idr h ≡ false → s1.failed ≡ false → AreFramesIn (current_history s1) s1.frames) → AreFramesOf sps frames
+frames_fit s s1 sps h out frames i is sized = by_idr (is_idr h) is (λ other. stays_in sps h s.history (current_history s1) other i.stands) (λ other. sized other going)
+  where
+    going : s1.failed ≡ false
+    going = ap (λ (x : SequenceState). x.failed) i.state ∙ i.going
+
+    by_idr : (idr : Bool) → frames ≡ elim idr [ true ↦ [] | false ↦ s1.frames ] → (idr ≡ false → StaysIn sps s.history (current_history s1)) → (idr ≡ false → AreFramesIn (current_history s1) s1.frames) → AreFramesOf sps frames
+    by_idr true e stays fit = rw e (no_frames_fit sps)
+    by_idr false e stays fit =
+        let k = stays refl in
+        rw e (fit_set sps (sequence_sps (current_history s1)) s1.frames (ap (λ set. is_same_sps set sps) k.set ∙ k.same) (fit refl))
+
+-- ---- what closing the open picture comes to
+
+pub some_is : {A : Type 0} (x y : A) → ◌≡◌ {A = Option A} (Some x) (Some y) → x ≡ y
+some_is x y e = cc
+
+-- ---- the open picture
+
+-- of a sequence and a picture decoder with these slices
+abbrev pub opened_as : SequenceState → Decoding 32 → Slice → List Slice → OpenPicture
+opened_as s d last earlier = record { before = s.history; sps = d.sps; pps = d.pps; last = last; earlier = earlier }
+
+pub stands_as : (s : SequenceState) (c : CurrentPicture) (w : IsOpenIn s c)
+    → Stands (opened_as s c.decoder w.last w.earlier) (current_history s)
+stands_as s c w = record { first = w.first; stands = w.stands }
+
+pub opened_phase : (s : SequenceState) (c : CurrentPicture) (w : IsOpenIn s c)
+    → phase_of s (Running (Some c)) ≡ running s.history (Some (opened_as s c.decoder w.last w.earlier))
+opened_phase s c w = ap (λ ss. running s.history (open_picture_from s.history (c.decoder).sps (c.decoder).pps ss))
+    w.slices
+
+-- what the picture decoder says, wherever it can stand, holds of it
+pub on_open : (s : SequenceState) (c : CurrentPicture) (w : IsOpenIn s c) (Says : Progress → Type 0)
+    → ((entries : List ℕ) → CanStandAt entries c.decoder → Says (progress_at entries c.decoder))
+    → Says (progress_on (opened_as s c.decoder w.last w.earlier) (current_history s))
+on_open s c w Says says =
+    subst (λ ss. Says (progress (start_with (stored_frames (current_history s)) c.decoder) ss)) w.slices
+    (on_history s (w.last).header c.decoder w.frames Says says)
+
+pub well_at : (s : SequenceState) (c : CurrentPicture) (w : IsOpenIn s c)
+    → (progress_on (opened_as s c.decoder w.last w.earlier) (current_history s)).fault ≡ None
+well_at s c w = on_open s c w (λ g. g.fault ≡ None) w.well
+
+-- ---- decoding waits
+
+-- so many macroblocks were read before
+pub stops_at : {output : Output} {q q' : QueueState} {n n' : ℕ} {table table' : List SetUnit} {s' : SequenceState}
+    {p' : PhaseHere} (x : Outcome) → x.phase ≡ waiting → Stops output q x.events s' p' q' → n' ≡ more_read n x.read
+    → table' ≡ table → ComesTo output q n table x s' p' q' n' table'
+stops_at x e w read same =
+    rw (w.sequence, w.phase) (record {
+      works = record { stands = (record { on = refl; none = refl }, refl); named = tt };
+      phase = sym e;
+      output_is = refl;
+      queue = w.queue;
+      count = read;
+      sets = same;
+    })
+
+-- ---- what closing gives
+
+-- it was a fault
+fails : (t t' : Stream) (c : CurrentPicture) (f : Fault) (w : IsOpenIn t.sequence c)
+    → closing_result (opened_as t.sequence c.decoder w.last w.earlier) ≡ Err (c.last_unit, f)
+    → WaitsAfter t (failed_at t.sequence.output (current_history t.sequence) c.last_unit f 0).events t'
+    → HasOutcome t (closed_in t.sequence.output (phase_of t.sequence (Running (Some c)))) t'
+fails t t' c f w e stops =
+    let s = t.sequence in
+    let o = opened_as s c.decoder w.last w.earlier in
+    subst (λ p. HasOutcome t (closed_in s.output p) t') (sym (opened_phase s c w))
+    (subst (λ x. HasOutcome t (closed_outcome s.output o x) t') (sym e)
+    (subst (λ h. HasOutcome t (failed_at s.output h c.last_unit f 0) t') (sym (history_is o (current_history s) (stands_as s c w)))
+    (stops_at _ refl stops.0 stops.1 stops.2)))
+
+-- ---- without a fault in the slices a picture ends by its macroblocks alone
+
+full_alone : (o : Option (ℕ × Fault)) (full : Bool) → o ≡ None → fault_at_end o full ≡ None → full ≡ true
+full_alone None true none e = refl
+full_alone None false none e = cc
+full_alone (Some found) full none e = cc
+
+short_alone : (o : Option (ℕ × Fault)) (full : Bool) (f : Fault) → o ≡ None → fault_at_end o full ≡ Some f → (full ≡ false) × (f ≡ MissingMacroblocks)
+short_alone None true f none e = cc
+short_alone None false f none e = (refl, cc)
+short_alone (Some found) full f none e = cc
+
+-- macroblocks are missing
+pub closes_short : (t t' : Stream) (c : CurrentPicture) {f : Fault} {e : PictureError} → IsOpenIn t.sequence c → e ≡ Faulty f
+    → IsFinishAnswer c.decoder (Err e)
+    → WaitsAfter t (failed_at t.sequence.output (current_history t.sequence) c.last_unit f 0).events t'
+    → HasOutcome t (closed_in t.sequence.output (phase_of t.sequence (Running (Some c)))) t'
+closes_short t t' c {f} w is answer stops =
+    let s = t.sequence in
+    let o = opened_as s c.decoder w.last w.earlier in
+    let h = current_history s in
+    let start = start_on o h in
+    let g = progress_on o h in
+    let well = well_at s c w in
+    let ends = on_open s c w (λ x. fault_at_end x.fault (is_full start x) ≡ Some f)
+    (subst (λ x. IsFinishAnswer c.decoder (Err x)) is answer) in
+    let short = short_alone g.fault (is_full start g) f well ends in
+    fails t t' c f w (not_full o h (stands_as s c w) well short.0 ∙ rw (w.unit, short.1) refl) stops
+
+-- it was finished, and the sequence says what comes of it
+finished : (s : SequenceState) (c : CurrentPicture) (w : IsOpenIn s c) (planes : PaddedPlanes 32) (r : Result History Fault)
+    → IsFinishAnswer c.decoder (Ok planes)
+    → history_after_closing (c.decoder).sps (oldest w.last w.earlier).header (padded_planes_of planes) (current_history s) ≡ r
+    → let o = opened_as s c.decoder w.last w.earlier in closing_result o ≡ at_last_slice o r
+finished s c w planes r answer closes =
+    let o = opened_as s c.decoder w.last w.earlier in
+    let h = current_history s in
+    let start = start_on o h in
+    let g = progress_on o h in
+    let well = well_at s c w in
+    let ends = on_open s c w (λ x. fault_at_end x.fault (is_full start x) ≡ None) answer.0 in
+    let made = on_open s c w (λ x. padded_planes_of planes ≡ deblocked (coded_of start x)) answer.1 in
+    closes_by o h r (stands_as s c w) well (full_alone g.fault (is_full start g) well ends)
+    (ap (λ ps. history_after_closing o.sps (first_header o) ps h) (sym made) ∙ closes)
+
+pub closes_done : {s s' : SequenceState} {q q' : QueueState} {n : ℕ} {table : List SetUnit} (c : CurrentPicture)
+    (planes : PaddedPlanes 32) (out : List Decoded) → IsOpenIn s c → IsFinishAnswer c.decoder (Ok planes)
+    → ((p : OpenPictureStart) → s.open_picture ≡ Some p → IsClosed s p (padded_planes_of planes) out s')
+    → q' ≡ with_events (pictures out) q
+    → ComesTo s.output q n table (closed_in s.output (phase_of s (Running (Some c)))) s' (Running None) q' n table
+closes_done {s} {s'} {q} {q'} {n} {table} c planes out w answer closed eq =
+    let o = opened_as s c.decoder w.last w.earlier in
+    let k = closed _ w.open_picture in
+    let stands = sym (history_is o (current_history s) (stands_as s c w)) in
+    subst (λ p. ComesTo s.output q n table (closed_in s.output p) s' (Running None) q' n table) (sym (opened_phase s c w))
+    (subst (λ x. ComesTo s.output q n table (closed_outcome s.output o x) s' (Running None) q' n table)
+    (sym (finished s c w planes (Ok s'.history) answer k.closes))
+    (record {
+      works = record {
+        stands = record {
+          on = ap (λ (t : SequenceState). t.failed) k.state;
+          none = ap (λ (t : SequenceState). t.open_picture) k.state;
+        };
+        named = tt;
+      };
+      phase = refl;
+      output_is = ap (λ (t : SequenceState). t.output) k.state;
+      queue = eq ∙ ap (λ ps. with_events (pictures ps) q)
+          (k.pictures ∙ ap (λ h. output_at_closing s.output (first_header o) h s'.history) stands);
+      count = refl;
+      sets = refl;
+    }))
+
+-- it could not be marked
+pub closes_unmarked : (t t' : Stream) (between : SequenceState) (c : CurrentPicture) (planes : PaddedPlanes 32) {f : Fault}
+    {e : PictureError} → IsOpenIn t.sequence c → IsFinishAnswer c.decoder (Ok planes)
+    → ((p : OpenPictureStart) → t.sequence.open_picture ≡ Some p
+    → Fails t.sequence (history_after_closing p.sps p.header (padded_planes_of planes) (current_history t.sequence)) e between) → e ≡ Faulty f
+    → WaitsAfter (record t { sequence = between }) (failed_at between.output (current_history between) c.last_unit f 0).events t'
+    → HasOutcome t (closed_in t.sequence.output (phase_of t.sequence (Running (Some c)))) t'
+closes_unmarked t t' between c planes {f} w answer refuses is stops =
+    let s = t.sequence in
+    let k : (s.failed ≡ false) × (between ≡ s) × (history_after_closing (c.decoder).sps
+    (oldest w.last w.earlier).header (padded_planes_of planes) (current_history s) ≡ Err f) = rw is at (refuses _ w.open_picture) in
+    fails t t' c f w (finished s c w planes (Err f) answer k.2 ∙ rw w.unit refl) (rw k.1 at stops)
+
+-- the planes have the size of the picture that is open
+pub sized_as : (s : SequenceState) (c : CurrentPicture) (planes : Planes) → IsOpenIn s c
+    → AreSized (width_in_mbs (c.decoder).sps) (height_in_mbs (c.decoder).sps) planes
+    → (o : OpenPictureStart) → s.open_picture ≡ Some o → AreSizedAs o planes
+sized_as s c planes w sized o e = subst (λ p. AreSizedAs p planes) (some_is _ o (sym w.open_picture ∙ e)) sized
+
+-- ---- what one slice more comes to
+
+-- ---- a slice of a picture that is open
+
+-- what it gives, by the first fault, where the picture stands on this history
+slice_is : (output : Output) (before after : History) (already : ℕ) (o : OpenPicture) (f : Option (ℕ × Fault)) → Stands o after
+    → first_fault o false ≡ f
+    → with_slice output before already o ≡ slice_outcome output f before o after (read_of o - already)
+slice_is output before after already o f st e =
+    ap (λ x. slice_outcome output x before o (history_of o) (read_of o - already)) e
+    ∙ ap (λ h. slice_outcome output f before o h (read_of o - already)) (history_is o after st)
+
+-- The picture with this slice and these before it is open in the sequence; the slice was not decoded.
+record Awaits (s : SequenceState) (c : CurrentPicture) (slice : Slice) (earlier : List Slice) : Type 0 where
+  on : s.failed ≡ false
+  slices : (c.decoder).slices ≡ earlier
+  open_picture : s.open_picture ≡ Some (record { sps = (c.decoder).sps; header = (oldest slice earlier).header })
+  first : ((oldest slice earlier).header).first_mb_in_slice ≡ 0
+  stands : history_at_opening (c.decoder).sps (oldest slice earlier).header s.history ≡ Ok (current_history s)
+
+-- What goes out before it and at a fault is that of the history `before`.
+slice_comes : (s : SequenceState) (before : History) (already : ℕ) (c : CurrentPicture) (slice : Slice) (earlier : List Slice)
+    (q q1 : QueueState) {q' : QueueState} (n n' : ℕ) (table : List SetUnit) {s' : SequenceState} (p' : PhaseHere)
+    → Awaits s c slice earlier → IsNamed (sets_after table) (with_last slice c) → Decodes c slice s q1 p' s' q'
+    → n' ≡ more_read n (read_of_slice (current_history s) c.decoder slice)
+    → read_of_slice (current_history s) c.decoder slice ≡ read_of (opened_as s c.decoder slice earlier) - already
+    → q1 ≡ with_events (pictures (output_pictures s.output before (current_history s))) q
+    → ((f : Fault) → with_events (failed_at s.output (current_history s) slice.unit f 0).events q1
+    ≡ with_events (failed_at s.output before slice.unit f 0).events q)
+    → ComesTo s.output q n table (with_slice s.output before already (opened_as s c.decoder slice earlier)) s' p' q' n' table
+slice_comes s before already c slice earlier q q1 n n' table (Running (Some c')) a named k counts read released held =
+    let o = opened_as s c.decoder slice earlier in
+    let h = current_history s in
+    let st : Stands o h = record { first = a.first; stands = a.stands } in
+    let open' : IsOpenIn s (with_last slice c) = record {
+      last = slice;
+      earlier = earlier;
+      on = a.on;
+      slices = ap (λ ss. slice ∷ ss) a.slices;
+      header = refl;
+      unit = refl;
+      frames = subst (λ (x : CurrentPicture). HasItsFrames s slice.header x.decoder) k.0 k.1;
+      well = subst (λ (x : CurrentPicture). HasNoFault x.decoder) k.0 k.2;
+      open_picture = a.open_picture;
+      first = a.first;
+      stands = a.stands;
+    } in
+    let none = no_fault o h st (well_at s (with_last slice c) open') in
+    rw (k.0, k.3, k.4)
+    (subst (λ x. ComesTo s.output q n table x s (Running (Some (with_last slice c))) q1 n' table)
+    (sym (slice_is s.output before h already o None st none))
+    (record {
+      works = record { stands = open'; named = named };
+      phase = opened_phase s (with_last slice c) open';
+      output_is = refl;
+      queue = released;
+      count = counts ∙ ap (more_read n) read;
+      sets = refl;
+    }))
+slice_comes s before already c slice earlier q q1 n n' table (Running None) a named k counts read released held = absurd k
+slice_comes s before already c slice earlier q q1 n n' table Waiting a named k counts read released held =
+    let o = opened_as s c.decoder slice earlier in
+    let h = current_history s in
+    let st : Stands o h = record { first = a.first; stands = a.stands } in
+    let fault = ap (λ ss. (progress (start_with (stored_frames h) c.decoder) (slice ∷ ss)).fault) (sym a.slices) ∙ k.1 in
+    let found = slice_fault o h false (slice.unit, k.0) st fault in
+    rw (k.2, k.3)
+    (subst (λ x. ComesTo s.output q n table x (empty_sequence s.output) Waiting
+    (with_events (failed_at s.output h slice.unit k.0 0).events q1) n' table)
+    (sym (slice_is s.output before h already o (Some (slice.unit, k.0)) st found))
+    (stops_at _ refl (record { sequence = refl; phase = refl; queue = held k.0 }) (counts ∙ ap (more_read n) read) refl))
+
+-- ---- a further slice
+
+-- nothing goes out where the history stays
+no_more_output : (output : Output) (h : History) (q : QueueState) → q ≡ with_events (pictures (output_pictures output h h)) q
+no_more_output output h q =
+    sym (ap (λ out. with_events (pictures (pictures_at h out)) q) (drop-length (buffer_of output h).out)
+    ∙ ap (λ es. record q { events = es }) (append-nil q.events))
+
+-- what one slice more adds to what was read
+read_further : (s : SequenceState) (c : CurrentPicture) (slice : Slice) (w : IsOpenIn s c)
+    → read_of_slice (current_history s) c.decoder slice
+    ≡ read_of (opened_as s c.decoder slice (w.last ∷ w.earlier)) - read_of (opened_as s c.decoder w.last w.earlier)
+read_further s c slice w =
+    let h = current_history s in
+    let read_at : List Slice → ℕ = λ ss. (progress (start_with (stored_frames h) c.decoder) ss).read in
+    ap (λ ss. read_at (slice ∷ ss) - read_at ss) w.slices
+    ∙ ap₂ (λ m n. m - n)
+    (sym (read_is (opened_as s c.decoder slice (w.last ∷ w.earlier)) h (record { first = w.first; stands = w.stands })))
+    (sym (read_is (opened_as s c.decoder w.last w.earlier) h (stands_as s c w)))
+
+-- nothing has come of it
+pub nothing_comes : (s : SequenceState) (q : QueueState) (n : ℕ) (table : List SetUnit) (p : PhaseHere)
+    → Works (sets_after table) s p → ComesTo s.output q n table (no_change (phase_of s p)) s p q n table
+nothing_comes s q n table p w = record {
+  works = w;
+  phase = refl;
+  output_is = refl;
+  queue = sym (ap (λ es. record q { events = es }) (append-nil q.events));
+  count = refl;
+  sets = refl;
+}
+
+-- of the open picture, if there is one
+pub next_slice_comes : (s s' : SequenceState) (q q' : QueueState) (n n' : ℕ) (table table' : List SetUnit)
+    (slice : Slice) (p p' : PhaseHere) → Works (sets_after table) s p
+    → IfSome (current_in p) (λ c. IsNamed (sets_after table) (with_last slice c)) → DecodesAs p slice s q n p' s' q' n'
+    → table' ≡ table
+    → ComesTo s.output q n table (after_next_slice s.output (phase_of s p) slice) s' p' q' n' table'
+next_slice_comes s s' q q' n n' table table' slice (Running (Some c)) p' w named k same =
+    let open' = w.stands in
+    let h = current_history s in
+    let o = opened_as s c.decoder open'.last open'.earlier in
+    let more = opened_as s c.decoder slice (open'.last ∷ open'.earlier) in
+    let awaits : Awaits s c slice (open'.last ∷ open'.earlier) = record {
+      on = open'.on;
+      slices = open'.slices;
+      open_picture = open'.open_picture;
+      first = open'.first;
+      stands = open'.stands;
+    } in
+    rw same
+    (subst (λ p. ComesTo s.output q n table (after_next_slice s.output p slice) s' p' q' n' table) (sym (opened_phase s c open'))
+    (subst (λ b. ComesTo s.output q n table (with_slice s.output b (read_of o) more) s' p' q' n' table)
+    (sym (history_is o h (stands_as s c open')))
+    (slice_comes s h (read_of o) c slice (open'.last ∷ open'.earlier) q q n n' table p' awaits named k.0 k.1
+    (read_further s c slice open') (no_more_output s.output h q) (λ f. refl))))
+next_slice_comes s s' q q' n n' table table' slice (Running None) p' w named k same = rw (same, k.0, k.1, k.2, k.3)
+    (nothing_comes s q n table (Running None) w)
+next_slice_comes s s' q q' n n' table table' slice Waiting p' w named k same = rw (same, k.0, k.1, k.2, k.3)
+    (nothing_comes s q n table Waiting w)
+
+-- ---- the first slice
+
+-- a picture with its first slice
+abbrev pub begun_with_slice : Sps → Pps → List (Frame 32) → Slice → CurrentPicture
+begun_with_slice sps pps frames slice = record {
+  decoder = with_slice_more slice
+      (no_slice_yet sps pps frames);
+  last_header = slice.header;
+  last_unit = slice.unit;
+}
+
+-- what the missing numbers let out, and what was held then
+together : MissingNumbersKeepTheOrder → (output : Output) (sps : Sps) (slice : Slice) (h full : History) (unit : ℕ) (f : Fault) (q : QueueState) → history_at_opening sps slice.header h ≡ Ok full
+    → with_events (failed_at output full unit f 0).events (with_events (pictures (output_pictures output h full)) q) ≡ with_events (failed_at output h unit f 0).events q
+together law output sps slice h full unit f q e =
+    let held = ap pictures (law output sps slice.header h full e) ∙ map-append (λ p. Picture p) (output_pictures output h full) (held_pictures output full) in
+    let refusal = Refused unit f ∷ [] in
+    ap (λ es. record q { events = es })
+    (append_assoc q.events (pictures (output_pictures output h full)) (pictures (held_pictures output full) ++ refusal)
+    ∙ ap (λ es. q.events ++ es) (sym (append_assoc (pictures (output_pictures output h full)) (pictures (held_pictures output full)) refusal))
+    ∙ ap (λ es. q.events ++ (es ++ refusal)) (sym held))
+
+-- it could not be opened
+pub first_unopened : (t t' : Stream) (between : SequenceState) (sps : Sps) (pps : Pps) (slice : Slice) (h : History) {f : Fault}
+    {e : PictureError} → h ≡ t.sequence.history → t.sequence.open_picture ≡ None → (slice.header).first_mb_in_slice ≡ 0
+    → Fails t.sequence (history_at_opening sps slice.header t.sequence.history) e between → e ≡ Faulty f
+    → WaitsAfter (record t { sequence = between }) (failed_at between.output (current_history between) slice.unit f 0).events t'
+    → sets_named (sets_after t.table) slice.header ≡ Some (pps, sps)
+    → HasOutcome t (after_first_slice t.sequence.output (sets_named (sets_after t.table) slice.header) h slice) t'
+first_unopened t t' between sps pps slice h {f} base none first fails is stops names =
+    let s = t.sequence in
+    let o : OpenPicture = record { before = s.history; sps = sps; pps = pps; last = slice; earlier = [] } in
+    let k : (s.failed ≡ false) × (between ≡ s) × (history_at_opening sps slice.header s.history ≡ Err f) = rw is
+    at fails in
+    let closed : current_history s ≡ s.history = rw none refl in
+    let w : WaitsAfter t (failed_at s.output s.history slice.unit f 0).events t' = rw (k.1, closed) at stops in
+    let faulty : with_slice s.output s.history 0 o ≡ failed_at s.output s.history slice.unit f 0 =
+    ap₂ (λ x n. slice_outcome s.output x s.history o (history_of o) (n - 0)) (unopened o f false first k.2) (unopened_read o f first k.2) in
+    rw (names, base) (subst (λ x. HasOutcome t x t') (sym faulty) (stops_at _ refl w.0 w.1 w.2))
+
+pub first_slice_more : MissingNumbersKeepTheOrder → (s s1 s' : SequenceState) (q q1 q' : QueueState) (n n' : ℕ)
+    (table table' : List SetUnit) (sps : Sps) (pps : Pps) (frames : List (Frame 32)) (slice : Slice)
+    (out : List Decoded) (h : History) (c : CurrentPicture) (p' : PhaseHere)
+    → h ≡ s.history → (slice.header).first_mb_in_slice ≡ 0 → IsOpened s sps slice.header out s1
+    → q1 ≡ with_events (pictures out) q → c.decoder ≡ no_slice_yet sps pps frames → Decodes c slice s1 q1 p' s' q'
+    → n' ≡ more_read n (read_of_slice (current_history s1) c.decoder slice) → table' ≡ table
+    → sets_named (sets_after table) slice.header ≡ Some (pps, sps)
+    → IsNamed (sets_after table) (begun_with_slice sps pps frames slice)
+    → ComesTo s.output q n table (after_first_slice s.output (sets_named (sets_after table) slice.header) h slice) s'
+    p' q' n' table'
+first_slice_more law s s1 s' q q1 q' n n' table table' sps pps frames slice out h c p' base first i eq ed k er same names
+    named =
+    let opened = with_open_picture sps slice.header s1.frames s in
+    let begun : CurrentPicture = record c { decoder = no_slice_yet sps pps frames } in
+    let o = opened_as opened begun.decoder slice [] in
+    let full = current_history opened in
+    let stands : history_at_opening sps slice.header s.history ≡ Ok full = rw i.state at i.stands in
+    let awaits : Awaits opened begun slice [] =
+    record { on = i.going; slices = refl; open_picture = refl; first = first; stands = stands } in
+    rw (same, names, base)
+    (slice_comes opened s.history 0 begun slice [] q (with_events (pictures (output_pictures s.output s.history full)) q) n n' table p'
+    awaits named (rw (eq, i.pictures, i.state, ed) at k) (rw (i.state, ed) at er)
+    (ap (λ m. m - 0) (sym (read_is o full (record { first = first; stands = stands })))) refl
+    (λ f. together law s.output sps slice s.history full slice.unit f q stands))
+
+-- ---- what one slice more is answered in the open picture
+
+read_more : (s : SequenceState) (c c' : CurrentPicture) (slice : Slice) (a : SliceAnswer) (n n' : ℕ)
+    → CanHave s c.decoder slice → HasAnswered c slice a c'
+    → c'.decoder ≡ record c.decoder { slices = slice ∷ (c.decoder).slices }
+    → n' ≡ more_read n a.read → n' ≡ more_read n (read_of_slice (current_history s) c.decoder slice)
+read_more s c c' slice a n n' can is e counts =
+    let r = is.read in
+    counts ∙ ap (more_read n) (slice_read s c.decoder c'.decoder slice r.before r.after a.read can e r.has_before
+    r.has_after r.more)
+
+last_is : (c : CurrentPicture) (d : Decoding 32) (h : Header) (unit : ℕ) → c.decoder ≡ d → c.last_header ≡ h
+    → c.last_unit ≡ unit → c ≡ record { decoder = d; last_header = h; last_unit = unit }
+last_is c d h unit a b e = rw (← a, ← b, ← e) refl
+
+pub answered_well : (s : SequenceState) (q : QueueState) (slice : Slice) (a : SliceAnswer) (p p' : PhaseHere)
+    (n n' : ℕ) → IfSome (current_in p) (λ c. CanHave s c.decoder slice)
+    → IsAnswerIn p slice a p' → a.answer ≡ Ok tt → n' ≡ more_read n a.read → DecodesAs p slice s q n p' s q n'
+answered_well s q slice a (Running (Some c)) (Running (Some c')) n n' can is e counts =
+    let answer = subst (λ x. IsSliceAnswer c.decoder slice (picture_answer x) c'.decoder) e is.answer in
+    let frames : HasItsFrames s slice.header c'.decoder = subst (HasItsFrames s slice.header) (sym answer.0)
+    (with_one_more s c.decoder slice can) in
+    let last = last_is c' _ slice.header slice.unit answer.0 is.header is.unit in
+    ((last, frames, answer.1, refl, refl), read_more s c c' slice a n n' can is answer.0 counts)
+answered_well s q slice a (Running (Some c)) _ n n' can is e counts = absurd is
+answered_well s q slice a _ p' n n' can is e counts = (is.0, refl, refl, counts ∙ ap (more_read n) is.2)
+
+pub answered_faulty : (s s' : SequenceState) (q q' : QueueState) (slice : Slice) (a : SliceAnswer)
+    (p between p' : PhaseHere) (n n' : ℕ) (f : Fault) → IfSome (current_in p) (λ c. CanHave s c.decoder slice)
+    → IfSome (current_in p) (λ c. HasNoFault c.decoder) → IsAnswerIn p slice a between → a.answer ≡ Err f
+    → Stops s.output q (failed_at s.output (current_history s) slice.unit f 0).events s' p' q'
+    → n' ≡ more_read n a.read → DecodesAs p slice s q n p' s' q' n'
+answered_faulty s s' q q' slice a (Running (Some c)) (Running (Some c')) p' n n' f can well is e stops counts =
+    let answer = subst (λ x. IsSliceAnswer c.decoder slice (picture_answer x) c'.decoder) e is.answer in
+    let refuses = subst (λ d. Refuses c.decoder slice f d) answer.0 answer.1 in
+    rw stops.phase (
+      (f, refused s c.decoder slice f can well refuses, stops.sequence, stops.queue),
+      read_more s c c' slice a n n' can is answer.0 counts,
+    )
+answered_faulty s s' q q' slice a (Running (Some c)) _ p' n n' f can well is e stops counts = absurd is
+answered_faulty s s' q q' slice a _ between p' n n' f can well is e stops counts =
+    let wrong : ◌≡◌ {A = Result (Prim.Unit {0}) Fault} (Ok tt) (Err f) = sym is.1 ∙ e in
+    cc

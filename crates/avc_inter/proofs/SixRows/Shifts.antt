@@ -1,0 +1,417 @@
+-- Shifts and sums in few bits, lanes and lines of samples, and places about a plane.
+pub mod Common
+unfoldable pub use Common.*
+
+-- ---- a shift right by its bounds, and the sum of six taps in sixteen bits
+
+pub low_4 : (z : ℤ) → (pos 4 *ℤ (z >>ℤ 2)) ≤ℤ z
+low_4 (pos a) = omega (arith, ints)
+low_4 (negsuc a) = omega (arith, ints)
+
+pub high_4 : (z : ℤ) → z ≤ℤ (pos 4 *ℤ (z >>ℤ 2) +ℤ pos 3)
+high_4 (pos a) = omega (arith, ints)
+high_4 (negsuc a) = omega (arith, ints)
+
+pub low_64 : (z : ℤ) → (pos 64 *ℤ (z >>ℤ 6)) ≤ℤ z
+low_64 (pos a) = omega (arith, ints)
+low_64 (negsuc a) = omega (arith, ints)
+
+pub high_64 : (z : ℤ) → z ≤ℤ (pos 64 *ℤ (z >>ℤ 6) +ℤ pos 63)
+high_64 (pos a) = omega (arith, ints)
+high_64 (negsuc a) = omega (arith, ints)
+
+pub low_1024 : (z : ℤ) → (pos 1024 *ℤ (z >>ℤ 10)) ≤ℤ z
+low_1024 (pos a) = omega (arith, ints)
+low_1024 (negsuc a) = omega (arith, ints)
+
+pub high_1024 : (z : ℤ) → z ≤ℤ (pos 1024 *ℤ (z >>ℤ 10) +ℤ pos 1023)
+high_1024 (pos a) = omega (arith, ints)
+high_1024 (negsuc a) = omega (arith, ints)
+
+-- where the sum of sixteen bits is exact, in thirds of the way: a quarter, a sixteenth, and the whole
+pub exact : (a b c t u v w : ℤ) → (pos 4 *ℤ t) ≤ℤ (a -ℤ b) →
+    (a -ℤ b) ≤ℤ (pos 4 *ℤ t +ℤ pos 3) →
+    (pos 4 *ℤ u) ≤ℤ (t -ℤ b +ℤ c) →
+    (t -ℤ b +ℤ c) ≤ℤ (pos 4 *ℤ u +ℤ pos 3) →
+    (pos 64 *ℤ v) ≤ℤ (u +ℤ c +ℤ pos 32) →
+    (u +ℤ c +ℤ pos 32) ≤ℤ (pos 64 *ℤ v +ℤ pos 63) →
+    (pos 1024 *ℤ w) ≤ℤ (a -ℤ pos 5 *ℤ b +ℤ pos 20 *ℤ c +ℤ pos 512) →
+    (a -ℤ pos 5 *ℤ b +ℤ pos 20 *ℤ c +ℤ pos 512) ≤ℤ (pos 1024 *ℤ w +ℤ pos 1023) →
+    v ≡ w
+exact a b c t u v w p q p' q' p'' q'' r s = omega (arith, ints)
+
+-- samples on one side of the range are clipped alike
+clip_low : (v w : ℤ) → v <ℤ pos 0 → w <ℤ pos 0 → clip1 v ≡ clip1 w
+clip_low (negsuc n) (negsuc m) p q = refl
+clip_low (negsuc n) (pos m) p q = omega (arith, ints)
+clip_low (pos n) w p q = omega (arith, ints)
+
+clip_high : (v w : ℤ) → pos 255 <ℤ v → pos 255 <ℤ w → clip1 v ≡ clip1 w
+clip_high v w p q = search (arith, ints)
+
+high_c : (a b c t d e : ℤ) → a ≤ℤ pos 21420 → neg_ℤ (pos 5100) ≤ℤ b → d ≡ a -ℤ b → (pos 4 *ℤ t) ≤ℤ d → e ≡ t -ℤ b → pos 32767 <ℤ (e +ℤ c) → pos 21038 ≤ℤ c
+high_c a b c t d e p q r s u v = omega (arith, ints)
+
+high_v : (c q u x v : ℤ) → pos 21038 ≤ℤ c → q ≡ pos 32767 → q ≤ℤ (pos 4 *ℤ u +ℤ pos 3) → x ≡ u +ℤ c +ℤ pos 32 → x ≤ℤ (pos 64 *ℤ v +ℤ pos 63) → pos 255 <ℤ v
+high_v c q u x v p r s t y = omega (arith, ints)
+
+high_w : (a b c w : ℤ) → neg_ℤ (pos 5100) ≤ℤ a → b ≤ℤ pos 21420 → pos 21038 ≤ℤ c → (a -ℤ pos 5 *ℤ b +ℤ pos 20 *ℤ c +ℤ pos 512) ≤ℤ (pos 1024 *ℤ w +ℤ pos 1023) → pos 255 <ℤ w
+high_w a b c w p q r s = omega (arith, ints)
+
+low_c : (a b c t d e : ℤ) → neg_ℤ (pos 5100) ≤ℤ a → b ≤ℤ pos 21420 → d ≡ a -ℤ b → d ≤ℤ (pos 4 *ℤ t +ℤ pos 3) → e ≡ t -ℤ b → (e +ℤ c) <ℤ neg_ℤ (pos 32768) → c ≤ℤ neg_ℤ (pos 4719)
+low_c a b c t d e p q r s u v = omega (arith, ints)
+
+low_v : (c q u x v : ℤ) → c ≤ℤ neg_ℤ (pos 4719) → q ≡ neg_ℤ (pos 32768) → (pos 4 *ℤ u) ≤ℤ q → x ≡ u +ℤ c +ℤ pos 32 → (pos 64 *ℤ v) ≤ℤ x → v <ℤ pos 0
+low_v c q u x v p r s t y = omega (arith, ints)
+
+low_w : (a b c w : ℤ) → a ≤ℤ pos 21420 → neg_ℤ (pos 5100) ≤ℤ b → c ≤ℤ neg_ℤ (pos 4719) → (pos 1024 *ℤ w) ≤ℤ (a -ℤ pos 5 *ℤ b +ℤ pos 20 *ℤ c +ℤ pos 512) → w <ℤ pos 0
+low_w a b c w p q r s = omega (arith, ints)
+
+-- a sum below, in or above sixteen bits
+Where : ℤ → Type 0
+Where z = (z <ℤ neg_ℤ (pos 32768)) ⊎ (((neg_ℤ (pos 32768) ≤ℤ z) × (z ≤ℤ pos 32767)) ⊎ (pos 32767 <ℤ z))
+
+where_is : (z : ℤ) → Where z
+unfolding Where
+where_is (pos n) = ⊎_elim (λ big. inr (inr (omega (arith, ints)))) (λ fits. inr (inl ((omega (arith, ints)), (omega (arith, ints))))) (cases_lt 32767 n)
+where_is (negsuc n) = ⊎_elim (λ big. inl (omega (arith, ints))) (λ fits. inr (inl ((omega (arith, ints)), (omega (arith, ints))))) (cases_lt 32767 n)
+
+exact_by : (a b c d t e q u x v w : ℤ) → d ≡ a -ℤ b → (pos 4 *ℤ t) ≤ℤ d → d ≤ℤ (pos 4 *ℤ t +ℤ pos 3) → e ≡ t -ℤ b → q ≡ e +ℤ c →
+    (pos 4 *ℤ u) ≤ℤ q → q ≤ℤ (pos 4 *ℤ u +ℤ pos 3) → x ≡ u +ℤ c +ℤ pos 32 → (pos 64 *ℤ v) ≤ℤ x → x ≤ℤ (pos 64 *ℤ v +ℤ pos 63) →
+    (pos 1024 *ℤ w) ≤ℤ (a -ℤ pos 5 *ℤ b +ℤ pos 20 *ℤ c +ℤ pos 512) → (a -ℤ pos 5 *ℤ b +ℤ pos 20 *ℤ c +ℤ pos 512) ≤ℤ (pos 1024 *ℤ w +ℤ pos 1023) → v ≡ w
+exact_by a b c d t e q u x v w dd tl th ee qq ul uh xx vl vh wl wh =
+    exact a b c t u v w (rw (← dd) tl) (rw (← dd) th) (omega (arith, ints)) (omega (arith, ints)) (rw (← xx) vl) (rw (← xx) vh) wl wh
+
+-- by sixteen bits, and at once
+pub near : (a b c d t e q u x v : ℤ) → IsPair a → IsPair b → IsPair c →
+    d ≡ a -ℤ b → (pos 4 *ℤ t) ≤ℤ d → d ≤ℤ (pos 4 *ℤ t +ℤ pos 3) → e ≡ t -ℤ b →
+    (neg_ℤ (pos 32768) ≤ℤ (e +ℤ c) → (e +ℤ c) ≤ℤ pos 32767 → q ≡ e +ℤ c) → ((e +ℤ c) <ℤ neg_ℤ (pos 32768) → q ≡ neg_ℤ (pos 32768)) → (pos 32767 <ℤ (e +ℤ c) → q ≡ pos 32767) →
+    (pos 4 *ℤ u) ≤ℤ q → q ≤ℤ (pos 4 *ℤ u +ℤ pos 3) → x ≡ u +ℤ c +ℤ pos 32 → (pos 64 *ℤ v) ≤ℤ x → x ≤ℤ (pos 64 *ℤ v +ℤ pos 63) →
+    clip1 v ≡ clip1 (a -ℤ pos 5 *ℤ b +ℤ pos 20 *ℤ c +ℤ pos 512 >>ℤ 10)
+unfolding Where
+near a b c d t e q u x v pa pb pc dd tl th ee in_range below above ul uh xx vl vh =
+    let all = a -ℤ pos 5 *ℤ b +ℤ pos 20 *ℤ c +ℤ pos 512 in
+    let w = all >>ℤ 10 in
+    let wl = low_1024 all in
+    let wh = high_1024 all in
+    ⊎_elim
+    (λ under. let small = low_c a b c t d e pa.low pb.high dd th ee under in clip_low v w (low_v c q u x v small (below under) ul xx vl) (low_w a b c w pa.high pb.low small wl))
+    (λ rest. ⊎_elim
+    (λ fits. ap clip1 (exact_by a b c d t e q u x v w dd tl th ee (in_range fits.0 fits.1) ul uh xx vl vh wl wh))
+    (λ over. let big = high_c a b c t d e pa.high pb.low dd tl ee over in clip_high v w (high_v c q u x v big (above over) uh xx vh) (high_w a b c w pa.low pb.high big wh))
+    rest)
+    (where_is (e +ℤ c))
+
+-- the same, where calls see some of the numbers through their bits
+pub near_cast : (a b c d t e q u x v c' q' v' : ℤ) → c' ≡ c → q' ≡ q → v' ≡ v → IsPair a → IsPair b → IsPair c →
+    d ≡ a -ℤ b → (pos 4 *ℤ t) ≤ℤ d → d ≤ℤ (pos 4 *ℤ t +ℤ pos 3) → e ≡ t -ℤ b →
+    (neg_ℤ (pos 32768) ≤ℤ (e +ℤ c') → (e +ℤ c') ≤ℤ pos 32767 → q ≡ e +ℤ c') → ((e +ℤ c') <ℤ neg_ℤ (pos 32768) → q ≡ neg_ℤ (pos 32768)) → (pos 32767 <ℤ (e +ℤ c') → q ≡ pos 32767) →
+    (pos 4 *ℤ u) ≤ℤ q' → q' ≤ℤ (pos 4 *ℤ u +ℤ pos 3) → x ≡ u +ℤ c +ℤ pos 32 → (pos 64 *ℤ v) ≤ℤ x → x ≤ℤ (pos 64 *ℤ v +ℤ pos 63) →
+    clip1 v' ≡ clip1 (a -ℤ pos 5 *ℤ b +ℤ pos 20 *ℤ c +ℤ pos 512 >>ℤ 10)
+near_cast a b c d t e q u x v c' q' v' c_is q_is v_is pa pb pc dd tl th ee i l h ul uh xx vl vh =
+    ap clip1 v_is ∙ near a b c d t e q u x v pa pb pc dd tl th ee
+    (rw (← c_is) i) (rw (← c_is) l) (rw (← c_is) h) (rw (← q_is) ul) (rw (← q_is) uh) xx vl vh
+
+-- numbers that calls see through their bits
+pub back : (z : ℤ) → neg_ℤ (pos 32768) ≤ℤ z → z ≤ℤ pos 32767 → to_z w16 (of_z w16 z) ≡ z
+back z p q = omega (arith, ints)
+
+pub first_is : (a b : ℤ) → IsPair a → IsPair b → to_z w16 (of_z w16 (to_z w16 (of_z w16 a) -ℤ to_z w16 (of_z w16 b))) ≡ a -ℤ b
+first_is a b p q =
+    rw (back a (omega (arith, ints, p.low)) (omega (arith, ints, p.high)), back b (omega (arith, ints, q.low)) (omega (arith, ints, q.high)))
+    (back (a -ℤ b) (omega (arith, ints, p.low, q.high)) (omega (arith, ints, p.high, q.low)))
+
+pub second_is : (a b d t : ℤ) → IsPair a → IsPair b → d ≡ a -ℤ b → (pos 4 *ℤ t) ≤ℤ d → d ≤ℤ (pos 4 *ℤ t +ℤ pos 3) →
+    to_z w16 (of_z w16 (to_z w16 (of_z w16 t) -ℤ to_z w16 (of_z w16 b))) ≡ t -ℤ b
+second_is a b d t p q e r s =
+    let pl = p.low in
+    let ph = p.high in
+    let ql = q.low in
+    let qh = q.high in
+    rw (back t (omega (arith, ints)) (omega (arith, ints)), back b (omega (arith, ints)) (omega (arith, ints)))
+    (back (t -ℤ b) (omega (arith, ints)) (omega (arith, ints)))
+
+pub third_is : (c q u : ℤ) → IsPair c → neg_ℤ (pos 32768) ≤ℤ q → q ≤ℤ pos 32767 → (pos 4 *ℤ u) ≤ℤ q → q ≤ℤ (pos 4 *ℤ u +ℤ pos 3) →
+    to_z w16 (of_z w16 (to_z w16 (of_z w16 (to_z w16 (of_z w16 u) +ℤ to_z w16 (of_z w16 c))) +ℤ pos 32)) ≡ u +ℤ c +ℤ pos 32
+third_is c q u p l h r s =
+    let pl = p.low in
+    let ph = p.high in
+    rw (back u (omega (arith, ints)) (omega (arith, ints)), back c (omega (arith, ints)) (omega (arith, ints)), back (u +ℤ c) (omega (arith, ints)) (omega (arith, ints)))
+    (back (u +ℤ c +ℤ pos 32) (omega (arith, ints)) (omega (arith, ints)))
+
+-- the taps by pairs
+pub by_pairs : (e f g h i j e' f' g' h' i' j' a b c a' b' c' : ℤ) → e' ≡ e → f' ≡ f → g' ≡ g → h' ≡ h → i' ≡ i → j' ≡ j →
+    a ≡ e' +ℤ j' → b ≡ f' +ℤ i' → c ≡ g' +ℤ h' → a' ≡ a → b' ≡ b → c' ≡ c →
+    a' -ℤ pos 5 *ℤ b' +ℤ pos 20 *ℤ c' +ℤ pos 512 ≡ six_taps e f g h i j +ℤ pos 512
+by_pairs e f g h i j e' f' g' h' i' j' a b c a' b' c' k l m n o p q r s t u v = omega (arith, ints)
+
+pub back_pair : (z : ℤ) → IsPair z → to_z w16 (of_z w16 z) ≡ z
+back_pair z p = back z (omega (arith, ints, p.low)) (omega (arith, ints, p.high))
+
+pub back_sum : (z : ℤ) → neg_ℤ (pos 2550) ≤ℤ z → z ≤ℤ pos 10710 → to_z w16 (of_z w16 z) ≡ z
+back_sum z p q = back z (omega (arith, ints)) (omega (arith, ints))
+
+pub same_taps : (e f g h i j e' f' g' h' i' j' : ℕ) → e ≡ e' → f ≡ f' → g ≡ g' → h ≡ h' → i ≡ i' → j ≡ j' →
+    six_taps (pos e) (pos f) (pos g) (pos h) (pos i) (pos j) ≡ six_taps (pos e') (pos f') (pos g') (pos h') (pos i') (pos j')
+same_taps e f g h i j e' f' g' h' i' j' a b c d x y = cc (a, b, c, d, x, y)
+
+pub same_centre : (e f g h i j e' f' g' h' i' j' : ℤ) → e ≡ e' → f ≡ f' → g ≡ g' → h ≡ h' → i ≡ i' → j ≡ j' →
+    clip1 (six_taps e f g h i j +ℤ pos 512 >>ℤ 10) ≡ clip1 (six_taps e' f' g' h' i' j' +ℤ pos 512 >>ℤ 10)
+same_centre e f g h i j e' f' g' h' i' j' a b c d x y = cc (a, b, c, d, x, y)
+
+of_sum : (z : ℤ) → IsSum z → to_z w16 (of_z w16 z) ≡ z
+of_sum z p = back_sum z p.low p.high
+
+pub centre_cast : (e f g h i j : ℤ) (r : ℕ) → IsSum e → IsSum f → IsSum g → IsSum h → IsSum i → IsSum j →
+    r ≡ clip1 (six_taps (to_z w16 (of_z w16 e)) (to_z w16 (of_z w16 f)) (to_z w16 (of_z w16 g)) (to_z w16 (of_z w16 h)) (to_z w16 (of_z w16 i)) (to_z w16 (of_z w16 j)) +ℤ pos 512 >>ℤ 10) →
+    r ≡ clip1 (six_taps e f g h i j +ℤ pos 512 >>ℤ 10)
+centre_cast e f g h i j r p q s t u v is =
+    is ∙ same_centre _ _ _ _ _ _ _ _ _ _ _ _ (of_sum e p) (of_sum f q) (of_sum g s) (of_sum h t) (of_sum i u) (of_sum j v)
+
+-- ---- lanes one by one
+
+pub sums_small : (m n : ℕ) (a b : List ℕ) → Each1 (λ x. x ≤ m) a → Each1 (λ y. y ≤ n) b → Each1 (λ z. z ≤ m + n) (zip2 (λ x y. x + y) a b)
+sums_small m n a b p q =
+    Each1-zip2 (λ x y. x + y) (λ z. z ≤ m + n) a b (Each2-of (λ x. x ≤ m) (λ y. y ≤ n) (λ x y. x + y ≤ m + n) (λ x y h k. omega arith) a b p q)
+
+pub multiples_small : (m by : ℕ) (a : List ℕ) → Each1 (λ x. x ≤ m) a → Each1 (λ z. z ≤ m * by) (map (λ x. x * by) a)
+multiples_small m by [] p = tt
+multiples_small m by (x ∷ xs) p = (mul-le-mul_right by p.0, multiples_small m by xs p.1)
+
+pub get_or-multiples : (by : ℕ) (a : List ℕ) (k : ℕ) → get_or (map (λ x. x * by) a) k 0 ≡ get_or a k 0 * by
+get_or-multiples by [] k = omega arith
+get_or-multiples by (x ∷ xs) zero = refl
+get_or-multiples by (x ∷ xs) (suc k) = get_or-multiples by xs k
+
+-- numbers that fit stay as they are through their bits
+pub get_or-through_bits : (w : Width) (ds : List ℤ) (k : ℕ) → FitsSigned w (get_or ds k (pos 0)) → get_or (map (to_z w) (map (of_z w) ds)) k (pos 0) ≡ get_or ds k (pos 0)
+get_or-through_bits w [] k h = refl
+get_or-through_bits w (d ∷ ds) zero h = to_z-of_z w d h
+get_or-through_bits w (d ∷ ds) (suc k) h = get_or-through_bits w ds k h
+
+-- differences that fit, one by one
+module _ (w : Width) where
+  pub fit : ((x y : ℕ) → x ≤ 16383 → y ≤ 16383 → FitsSigned w (to_z w x -ℤ to_z w y)) → (xs ys : List ℕ) → Each1 (λ x. x ≤ 16383) xs → Each1 (λ x. x ≤ 16383) ys →
+      Each2 (λ x y. FitsSigned w (to_z w x -ℤ to_z w y)) (map (λ x. x) xs) (map (λ y. y) ys)
+  fit one [] ys p q = tt
+  fit one (x ∷ xs) [] p q = tt
+  fit one (x ∷ xs) (y ∷ ys) p q = (one x y p.0 q.0, fit one xs ys p.1 q.1)
+
+  module _ (one : (x y : ℕ) → x ≤ 16383 → y ≤ 16383 → to_z w (of_z w (to_z w x -ℤ to_z w y)) ≡ pos x -ℤ pos y) where
+    pub are : (xs ys : List ℕ) → Each1 (λ x. x ≤ 16383) xs → Each1 (λ x. x ≤ 16383) ys →
+        map (to_z w) (zip2 (λ (x y : ℕ). of_z w (to_z w x -ℤ to_z w y)) (map (λ x. x) xs) (map (λ y. y) ys)) ≡ zip2 (λ x y. pos x -ℤ pos y) xs ys
+    are [] ys p q = refl
+    are (x ∷ xs) [] p q = refl
+    are (x ∷ xs) (y ∷ ys) p q = cc (one x y p.0 q.0, are xs ys p.1 q.1)
+
+    pub value : (xs ys : List ℕ) (k : ℕ) → Each1 (λ x. x ≤ 16383) xs → Each1 (λ x. x ≤ 16383) ys → k < length xs → k < length ys →
+        get_or (map (to_z w) (zip2 (λ (x y : ℕ). of_z w (to_z w x -ℤ to_z w y)) (map (λ x. x) xs) (map (λ y. y) ys))) k (pos 0) ≡ pos (get_or xs k 0) -ℤ pos (get_or ys k 0)
+    value xs ys k p q h j = ap (λ (v : List ℤ). get_or v k (pos 0)) (are xs ys p q) ∙ get_or-zip2 (λ x y. pos x -ℤ pos y) xs ys k 0 0 (pos 0) h j
+
+-- lane k of a row that was loaded
+pub lane_of_row : (r q v : List ℕ) (k : ℕ) → v ≡ chunk 0 16 q → q ≡ r → k < 16 → get_or v k 0 ≡ get_or r k 0
+lane_of_row r q v k e same h =
+    ap (λ (w : List ℕ). get_or w k 0) e ∙ get_or-chunk 0 16 q k 0 h ∙ ap (λ n. get_or q n 0) (omega arith) ∙ ap (λ (w : List ℕ). get_or w k 0) same
+
+-- lanes that are small enough to be added
+pub addable : (n : ℕ) (v : List ℕ) → n ≤ 16383 → Each1 (λ x. x ≤ n) v → Each1 (λ x. x ≤ 16383) v
+addable n v low small = Each1-weaker (λ x. x ≤ n) (λ x. x ≤ 16383) (λ x p. omega (arith, p, low)) v small
+
+-- the taps, positive ones apart from negative ones
+pub six_taps_apart : (e f g h i j s m : ℕ) → s ≡ e + j + (g + h) * 20 → m ≡ (f + i) * 5 → pos s -ℤ pos m ≡ six_taps (pos e) (pos f) (pos g) (pos h) (pos i) (pos j)
+six_taps_apart e f g h i j s m p q = omega (arith, ints)
+
+-- a store of sixteen results behind those that are there
+pub stored_more : (P : ℕ → ℤ → Type 0) (dst r : List ℤ) (at : ℕ) → at + 16 ≤ length dst → length r ≡ 16 →
+    ((k : ℕ) → k < 16 → FitsSigned w32 (get_or r k (pos 0))) →
+    ((k : ℕ) → k < at → P k (get_or dst k (pos 0))) → ((j : ℕ) → j < 16 → P (at + j) (get_or r j (pos 0))) →
+    (k : ℕ) → k < at + 16 → P k (get_or (put_chunk at dst (map (to_z w32) (map (of_z w32) r))) k (pos 0))
+stored_more P dst r at room long fits old new k h =
+    let ys = map (to_z w32) (map (of_z w32) r) in
+    let n : length ys ≡ 16 = length-map (map (of_z w32) r) (to_z w32) ∙ length-map r (of_z w32) ∙ long in
+    ⊎_elim (λ below. subst (P k) (sym (get_or-put_chunk_below at dst ys k (pos 0) below)) (old k below))
+    (λ above.
+    let j = k - at in
+    let place : at + j ≡ k = omega arith in
+    let within : j < 16 = omega arith in
+    let value = get_or-put_chunk_at at dst ys j (pos 0) (omega arith) (omega arith) ∙ get_or-through_bits w32 r j (fits j within) in
+    subst (λ i. P i (get_or (put_chunk at dst ys) i (pos 0))) place (subst (P (at + j)) (sym value) (new j within)))
+    (cases_lt k at)
+
+-- ---- places on and about a plane: in sixty-four bits, and in its padded rows
+
+-- the rows that a place was found in
+pub there_in : {pad w h : ℕ} {p : Plane} {left top : ℤ} (found : Option RowsPlace) (at : RowsPlace) → found ≡ Some at →
+    IfSome found (λ at. (rows : List ℕ) → IsSurrounded pad p rows → IsThere (clamped p.width p.height (sample p)) left top w h at.first at.stride rows) →
+    (rows : List ℕ) → IsSurrounded pad p rows → IsThere (clamped p.width p.height (sample p)) left top w h at.first at.stride rows
+there_in found at is holds = rw is at holds
+
+-- a place that a call sees through its bits, and one further on
+pub place_back : (z : ℤ) → IsPlace z → to_z w64 (of_z w64 z) ≡ z
+place_back z p = omega (arith, ints, p.low, p.high)
+
+pub moved_back : (z : ℤ) (i : ℕ) → IsPlace z → i < 2 ^ 16 → to_z w64 (of_z w64 (to_z w64 (of_z w64 z) +ℤ to_z w64 i)) ≡ z +ℤ pos i
+moved_back z i p q =
+    let low = p.low in
+    let high = p.high in
+    let first : to_z w64 (of_z w64 z) ≡ z = place_back z p in
+    let second : to_z w64 i ≡ pos i = omega (arith, ints) in
+    rw (first, second) (omega (arith, ints))
+
+-- a coordinate held inside a width that a call gave, of a place that it saw through its bits
+pub held_moved : (u n width : ℕ) (z : ℤ) (i : ℕ) → IsPlace z → i < 2 ^ 16 → n ≡ width →
+    u ≡ nat_abs (clip3 (pos 0) (pos n -ℤ pos 1) (to_z w64 (of_z w64 (to_z w64 (of_z w64 z) +ℤ to_z w64 i)))) →
+    u ≡ nat_abs (clip3 (pos 0) (pos width -ℤ pos 1) (z +ℤ pos i))
+held_moved u n width z i p q same is =
+    is ∙ ap (λ v. nat_abs (clip3 (pos 0) (pos n -ℤ pos 1) v)) (moved_back z i p q) ∙ ap (λ m. nat_abs (clip3 (pos 0) (pos m -ℤ pos 1) (z +ℤ pos i))) same
+
+same_place : (s : Wide) (u v u' v' : ℤ) → u ≡ u' → v ≡ v' → s u v ≡ s u' v'
+same_place s u v u' v' p q = ap (λ z. s z v) p ∙ ap (λ z. s u' z) q
+
+pub moved_sample : (s : Wide) (left top : ℤ) (i j : ℕ) → IsPlace left → IsPlace top →
+    s (to_z w64 (of_z w64 left) +ℤ pos i) (to_z w64 (of_z w64 top) +ℤ pos j) ≡ s (left +ℤ pos i) (top +ℤ pos j)
+moved_sample s left top i j p q = same_place s _ _ _ _ (ap (λ z. z +ℤ pos i) (place_back left p)) (ap (λ z. z +ℤ pos j) (place_back top q))
+
+-- the padded rows from the place (left, top) of the plane on, which is in column `column` and row `row` of them
+module _ (pad : ℕ) (p : Plane) (rows : List ℕ) (all : IsSurrounded pad p rows) (left top : ℤ) (column row columns count : ℕ) (place_left : IsPlace left) (place_top : IsPlace top)
+    (is_column : pos column ≡ to_z w64 (of_z w64 left) +ℤ pos pad) (is_row : pos row ≡ to_z w64 (of_z w64 top) +ℤ pos pad)
+    (within : column + columns ≤ p.width + 2 * pad) (below : row + count ≤ p.height + 2 * pad) where
+  abbrev stride : ℕ
+  stride = p.width + 2 * pad
+
+  pub row_is_there : (j : ℕ) → j < count → row * stride + column + j * stride + columns ≤ length rows
+  row_is_there j less =
+      omega (arith, all.long, row_fits (row + j) stride (p.height + 2 * pad) stride (omega arith) (omega arith), add-mul row j stride)
+
+  pub sample_there : (i j : ℕ) → i < columns → j < count →
+      slice_index rows (row * stride + column + j * stride + i) ≡ clamped p.width p.height (sample p) (left +ℤ pos i) (top +ℤ pos j)
+  sample_there i j less under =
+      let l = place_back left place_left in
+      let t = place_back top place_top in
+      ap (λ k. slice_index rows k) (omega (arith, add-mul row j stride))
+      ∙ all.near (column + i) (row + j) (omega arith) (omega arith)
+      ∙ same_place (clamped p.width p.height (sample p)) (pos (column + i) -ℤ pos pad) (pos (row + j) -ℤ pos pad) (left +ℤ pos i) (top +ℤ pos j) (omega (arith, ints)) (omega (arith, ints))
+
+-- a rectangle inside the plane, whose upper left sample is in column x and row y
+module _ (pad : ℕ) (p : Plane) (rows : List ℕ) (all : IsSurrounded pad p rows) (x y w h first stride : ℕ) (columns : x + w ≤ p.width) (lines : y + h ≤ p.height)
+    (is_first : first ≡ stored_place pad p.width x y) (is_stride : stride ≡ p.width + 2 * pad) where
+  pub room_inside : IsRoom w h first stride (length rows)
+  room_inside = rw (is_first, is_stride) (room pad p.width p.height x y w h rows all.long columns lines)
+
+  pub sample_inside : (i j : ℕ) → i < w → j < h → slice_index rows (first + j * stride + i) ≡ clamped p.width p.height (sample p) (pos x +ℤ pos i) (pos y +ℤ pos j)
+  sample_inside i j column row =
+      rw (is_first, is_stride)
+      (ap (slice_index rows) (omega (arith, add-mul (y + pad) j (p.width + 2 * pad)))
+      ∙ all.near (x + pad + i) (y + pad + j) (omega arith) (omega arith)
+      ∙ same_place (clamped p.width p.height (sample p)) (pos (x + pad + i) -ℤ pos pad) (pos (y + pad + j) -ℤ pos pad) (pos x +ℤ pos i) (pos y +ℤ pos j) (omega (arith, ints)) (omega (arith, ints)))
+
+-- ---- lines of samples that are copied four at a time, each four counted from their first sample on
+
+pub fours : (four stride : ℕ) → four * (4 * stride) ≡ 4 * four * stride
+fours four stride = search arith
+
+pub line_of_four : (start four y stride : ℕ) → start + four * (4 * stride) + y * stride ≡ start + (4 * four + y) * stride
+line_of_four start four y stride = omega (arith, fours four stride, add-mul (4 * four) y stride)
+
+-- four lines of those that there is room for
+pub room_of_four : (w h start stride long four : ℕ) → IsRoom w h start stride long → four < h / 4 → IsRoom w 4 (start + four * (4 * stride)) stride long
+room_of_four w h start stride long four room below y low =
+    omega (arith, room (4 * four + y) (omega arith), line_of_four start four y stride)
+
+pub begins : (w h start stride long four : ℕ) → IsRoom w h start stride long → four < h / 4 → start + four * (4 * stride) ≤ long
+begins w h start stride long four room below = omega (arith, room_of_four w h start stride long four room below 0 (omega arith))
+
+-- ---- a part of a list behind its first `a` elements
+
+abbrev pub rest : (a : ℕ) → List ℕ → List ℕ
+rest a xs = take (length xs - a) (drop a xs)
+
+in_rest : (a k : ℕ) (xs : List ℕ) → a + k < length xs → slice_index (rest a xs) k ≡ slice_index xs (a + k)
+in_rest a k xs within = get_or-take (length xs - a) (drop a xs) k 0 (omega arith) ∙ get_or-drop a xs k 0
+
+length-rest : (a : ℕ) (xs : List ℕ) → a ≤ length xs → length (rest a xs) ≡ length xs - a
+length-rest a xs within = omega (arith, length-take-le (length xs - a) (drop a xs) (omega (arith, length-drop a xs)))
+
+-- a list whose rest was changed
+module _ (a : ℕ) (xs ys : List ℕ) (within : a ≤ length xs) (long : length ys ≡ length (rest a xs)) where
+  abbrev changed : List ℕ
+  changed = put_mid a (length xs - a) xs ys
+
+  front : length (take a xs) ≡ a
+  front = length-take-le a xs within
+
+  none : length (post_of a (length xs - a) xs) ≡ 0
+  none = omega (arith, length-drop (length xs - a) (drop a xs), length-drop a xs)
+
+  length-changed : length changed ≡ length xs
+  length-changed =
+      omega (arith, length-append (take a xs) (ys ++ post_of a (length xs - a) xs), length-append ys (post_of a (length xs - a) xs), front, none, long, length-rest a xs within)
+
+  changed_before : (j : ℕ) → j < a → slice_index changed j ≡ slice_index xs j
+  changed_before j below = get_or_append_left (take a xs) (ys ++ post_of a (length xs - a) xs) 0 j (omega (arith, front)) ∙ get_or-take a xs j 0 below
+
+  changed_behind : (k : ℕ) → a + k < length xs → slice_index changed (a + k) ≡ slice_index ys k
+  changed_behind k below =
+      get_or-append_right (take a xs) (ys ++ post_of a (length xs - a) xs) a (a + k) 0 front (omega arith)
+      ∙ ap (λ n. get_or (ys ++ post_of a (length xs - a) xs) n 0) (omega arith)
+      ∙ get_or_append_left ys (post_of a (length xs - a) xs) 0 k (omega (arith, long, length-rest a xs within))
+
+-- lines that are set in the rest of a list are set in the list
+module _ (w h from source_stride to stride : ℕ) (p old new : List ℕ) (some : 0 < h)
+    (source : IsRoom w h from source_stride (length p)) (room : IsRoom w h to stride (length old))
+    (set : IsStridedSet w h 0 stride (λ x y. slice_index (rest from p) (0 + y * source_stride + x)) (rest to old) new) where
+  begins_within : to ≤ length old
+  begins_within = omega (arith, room 0 some)
+
+  at_place : (y x : ℕ) → y < h → x < w → slice_index (changed to old new begins_within set.long) (to + y * stride + x) ≡ slice_index p (from + y * source_stride + x)
+  at_place y x low column =
+      ap (slice_index (changed to old new begins_within set.long)) (omega arith)
+      ∙ changed_behind to old new begins_within set.long (0 + y * stride + x) (omega (arith, room y low))
+      ∙ set.inside y low x column
+      ∙ in_rest from (0 + y * source_stride + x) p (omega (arith, source y low))
+      ∙ ap (slice_index p) (omega arith)
+
+  elsewhere : IsSameOutside w h to stride old (changed to old new begins_within set.long)
+  elsewhere j apart = elim (cases_lt j to) [
+    | inl before ↦ changed_before to old new begins_within set.long j before
+    | inr behind ↦ elim (cases_lt j (length old)) [
+      | inl within ↦
+          ap (slice_index (changed to old new begins_within set.long)) (omega arith)
+          ∙ changed_behind to old new begins_within set.long (j - to) (omega arith)
+          ∙ set.outside (j - to) (λ x y column low e. apart x y column low (omega (arith, e)))
+          ∙ in_rest to (j - to) old (omega arith)
+          ∙ ap (slice_index old) (omega arith)
+      | inr past ↦
+          get_or_past (changed to old new begins_within set.long) j 0 (omega (arith, length-changed to old new begins_within set.long))
+          ∙ sym (get_or_past old j 0 past)
+    ]
+  ]
+
+  pub set_in_rest : IsStridedSet w h to stride (λ x y. slice_index p (from + y * source_stride + x)) old (put_mid to (length old - to) old new)
+  set_in_rest = record {
+    long = length-changed to old new begins_within set.long;
+    inside = λ y low x column. at_place y x low column;
+    outside = elsewhere;
+  }
+
+-- ---- a loop that fills a list from the front
+
+pub stored : {X : Type 0} (P : ℕ → X → Type 0) (xs : List X) (n : ℕ) (v d : X) → n < length xs → P n v → ((k : ℕ) → k < n → P k (get_or xs k d)) →
+    (k : ℕ) → k < n + 1 → P k (get_or (slice_set xs n v) k d)
+stored P xs n v d room new old k h =
+    ⊎_elim (λ below. subst (P k) (sym (get_or-set_other xs n k v d (λ e. omega arith))) (old k below))
+    (λ above.
+    let e : n ≡ k = omega arith in
+    subst (λ i. P i (get_or (slice_set xs n v) i d)) e (subst (P n) (sym (get_or-set_same xs n v d room)) new))
+    (cases_lt k n)
+
+-- ---- a block sample by sample
+
+pub back_within : (z : ℤ) → IsWithin 128 z → to_z w32 (of_z w32 z) ≡ z
+back_within z p = omega (arith, ints, p.low, p.high)
+
+pub mapped_is : (width height : ℕ) (f : ℕ → ℕ) (block samples : List ℕ) → length block ≡ width * height → ((k : ℕ) → k < width * height → slice_index samples k ≡ f (slice_index block k)) →
+    block_of width height (λ x y. slice_index samples (0 + y * width + x)) ≡ map f block
+mapped_is width height f block samples long all =
+    sym (fill_by_all (λ i. slice_index samples (0 + (i / width) * width + i % width)) (map f block) (width * height) 0 (length-map block f ∙ long)
+    (λ k below. get_or-map f block k 0 0 (omega arith) ∙ sym (all k below) ∙ ap (λ i. slice_index samples i) (omega (arith, place_of_sample width height k below))))

@@ -1,0 +1,714 @@
+-- One macroblock more and one slice more of a picture, and worked pictures.
+pub mod Contexts
+unfoldable pub use Contexts.*
+use Rattle.avc_neigh.specs.declared.neighbour_info.Motion.TheVariants.{Absent as absent, Intra as intra, Inter as inter}
+use Rattle.avc_motion.specs.Motion.{HasMotion}
+use Rattle.avc_picture_core.specs.Built.{reference_of}
+use Rattle.avc_plane.specs.declared.frame.Frame.{Frame}
+use Rattle.avc_picture.specs.Slices.{info_of}
+use Rattle.avc_types.specs.declared.edges.FilteredEdges.TheVariants.{All}
+
+-- ---- one macroblock more of a picture
+
+-- whether a macroblock is intra, by its first block
+intra_seen : (f : NeighbourInfo) (motion : List Motion) → f.motion ≡ motion → motion ≡ replicate 16 intra → is_intra_info f ≡ true
+intra_seen f motion e is = ap (λ xs. is_intra_info (record f { motion = xs })) (e ∙ is)
+
+inter_seen : (c : Coded) (slice : ℕ) (f : NeighbourInfo) (m : Motion) → slice_index_or f.motion 0 absent ≡ m
+    → is_picture (reference_of c slice m) ≡ true → is_intra_info f ≡ false
+inter_seen c slice f absent e there = cc
+inter_seen c slice f intra e there = cc
+inter_seen c slice f (inter r v) e there = rw e refl
+
+seen : (c : Coded) (slice : ℕ) (f : NeighbourInfo) (s : MbSyntax)
+    → (is_intra s ≡ true → f.motion ≡ replicate 16 intra)
+    → (is_intra s ≡ false → is_picture (reference_of c slice (slice_index_or f.motion 0 absent)) ≡ true)
+    → is_intra_info f ≡ is_intra s
+seen c slice f p_skip e there = inter_seen c slice f _ refl (there refl)
+seen c slice f (p_inter shape refs mvds r) e there = inter_seen c slice f _ refl (there refl)
+seen c slice f (i_pcm luma cb cr) e there = intra_seen f _ refl (e refl)
+seen c slice f (i_nxn modes chroma r) e there = intra_seen f _ refl (e refl)
+seen c slice f (i_16x16 mode chroma r) e there = intra_seen f _ refl (e refl)
+
+intra_motion : (c : Coded) (known : List (List Motion)) (a : ℕ) (s : MbSyntax) → is_intra s ≡ true → motion_of c known a s ≡ replicate 16 intra
+intra_motion c known a p_skip e = cc
+intra_motion c known a (p_inter shape refs mvds r) e = cc
+intra_motion c known a (i_pcm luma cb cr) e = refl
+intra_motion c known a (i_nxn modes chroma r) e = refl
+intra_motion c known a (i_16x16 mode chroma r) e = refl
+
+module _ {PAD : ℕ} (c : Coded) (names : Names) (old : MbsState) (holds : HoldsFirst c names old) (kept : PartsAgree old)
+    (s : SliceContext PAD) (slice : IsSlice c names s) (mb : Mb) (is : slice_get c.mbs old.next ≡ Some (record { slice = s.number; mb = mb }))
+    (n : Around) (n_is : n ≡ around old.row s.number) where
+  abbrev a : ℕ
+  a = old.next
+
+  abbrev m : PicMb
+  m = record { slice = s.number; mb = mb }
+
+  abbrev step_place : Place
+  step_place = place_of c (modes_before c (suc a)) (motion_before c (suc a)) a m
+
+  abbrev step_moved : List Motion
+  step_moved = motion_of c (motion_before c a) a mb.syntax
+
+  step_row_width : old.row.width ≡ c.width
+  step_row_width = kept.row_width ∙ holds.width
+
+  step_is_wide : 0 < c.width
+  step_is_wide = subst (λ w. 0 < w) holds.width kept.wide
+
+  motion_in : MotionIsAround n c.mbs c.width (motion_before c a) a
+  motion_in = subst (λ x. MotionIsAround x c.mbs c.width (motion_before c a) a) (sym n_is) (motion_around c a m is old.row step_row_width step_is_wide holds.neighbours)
+
+  modes_in : ModesAreAround n c.mbs c.width (modes_before c a) a
+  modes_in = subst (λ x. ModesAreAround x c.mbs c.width (modes_before c a) a) (sym n_is) (modes_around c a m is old.row step_row_width step_is_wide holds.neighbours)
+
+  -- Its vectors can't be had.
+  pub vector_fault : (f : Fault) → HasMotion n mb.syntax (Err f) → macroblock_fault c a ≡ Some f
+  vector_fault f has =
+      macroblock_fault_is c a m is ∙ out_of_range step_place step_moved (motion_last c a m is) f (has c (motion_before c a) a motion_in)
+
+  module _ (info : NeighbourInfo) (has : HasMotion n mb.syntax (Ok info.motion)) (constrained : Bool)
+      (flag : constrained ≡ old.canvas.constrained_intra_pred) (told : IsNeighbourInfo s.number n constrained mb info)
+      (references : List (Option (ReferencePicture PAD))) (references_are : references ≡ s.references) where
+    motion_is : slice_index_or (motion_before c (suc a)) a [] ≡ info.motion
+    motion_is = motion_found step_place step_moved (motion_last c a m is) info.motion (has c (motion_before c a) a motion_in)
+
+    moved_is : step_moved ≡ info.motion
+    moved_is = sym (motion_last c a m is) ∙ motion_is
+
+    modes_are : modes_of c (modes_before c a) a mb.syntax ≡ info.modes
+    modes_are = sym (told.modes_are c (modes_before c a) a (sym (flag ∙ holds.constrained)) modes_in)
+
+    place_on : IsPlaceOn old.canvas a mb info n references step_place
+    place_on = record {
+      width = sym holds.width;
+      height = sym holds.height;
+      offset = sym holds.offset;
+      address_is = refl;
+      mb_is = refl;
+      modes = modes_last c a m is ∙ modes_are;
+      motion = motion_is;
+      sides = λ intra k h.
+          sides_are c a m is old.row step_row_width step_is_wide holds.neighbours intra k h
+          ∙ ap (λ b. sides_near b (around old.row s.number) k) (sym holds.constrained)
+          ∙ ap (λ x. sides_near old.canvas.constrained_intra_pred x k) (sym n_is);
+      references_are = subst (AreReferences c s.number) (sym references_are) slice.references;
+    }
+
+    not_out : macroblock_fault c a ≡ refusal step_place
+    not_out = macroblock_fault_is c a m is ∙ in_range step_place step_moved (motion_last c a m is) info.motion (has c (motion_before c a) a motion_in)
+
+    -- It is refused where its samples are to be built.
+    pub build_fault : (f : Fault) (canvas : CanvasState)
+        → ((p : Place) → IsPlaceOn old.canvas a mb info n references p → IsBuilt p (Err f) old.canvas canvas) → macroblock_fault c a ≡ Some f
+    build_fault f canvas built = not_out ∙ built step_place place_on
+
+    module _ (canvas : CanvasState) (done : Unit {0})
+        (built : (p : Place) → IsPlaceOn old.canvas a mb info n references p → IsBuilt p (Ok done) old.canvas canvas)
+        (long : length info.motion ≡ 16) (f : MbInfo) (filter_told : IsFilterInfo mb info.motion s f) where
+      here : IsBuilt step_place (Ok done) old.canvas canvas
+      here = built step_place place_on
+
+      pictures : is_intra mb.syntax ≡ false → (k : ℕ) → k < 16 → is_picture (reference_of c s.number (slice_index_or info.motion k absent)) ≡ true
+      pictures e k h =
+          ap (λ xs. is_picture (reference_of c s.number (slice_index_or xs k absent))) (sym motion_is)
+          ∙ has_pictures step_place here.0 e k (omega (arith, h, long, ap length motion_is))
+
+      one : is_intra mb.syntax ≡ false → (k : ℕ) → k < 16 → IsFrom (quarter_reference mb.syntax (k / 4)) (slice_index_or info.motion k absent)
+      one e k h = grind (arith, IsFrom, quarter_reference, moved_is, one_reference)
+
+      intra_is : is_intra mb.syntax ≡ is_intra_info info
+      intra_is =
+          sym (seen c s.number info mb.syntax
+          (λ e. sym moved_is ∙ intra_motion c (motion_before c a) a mb.syntax e) (λ e. pictures e 0 (omega arith)))
+
+      neighbours_more : HasNeighbourInfo c (suc a) (old.row.info ++ info ∷ [])
+      neighbours_more =
+          let has = holds.neighbours in
+          let at : slice_get c.mbs (length old.row.info) ≡ Some m = ap (λ k. slice_get c.mbs k) has.count ∙ is in
+          record {
+            count = omega (arith, length-append old.row.info (info ∷ []), has.count);
+            slices = tells_more (λ x. x.slice) (λ x. x.slice) c.mbs old.row.info m info at (sym told.slice_is) has.slices;
+            total_coeffs = tells_more (λ x. total_coeffs_of x.mb.syntax) (λ x. x.total_coeffs) c.mbs old.row.info m info at (sym told.total_coeffs_is) has.total_coeffs;
+            intra = tells_more (λ x. is_intra x.mb.syntax) is_intra_info c.mbs old.row.info m info at intra_is has.intra;
+            motion = map-append (λ x. x.motion) old.row.info (info ∷ []) ∙ ap (λ xs. xs ++ info.motion ∷ []) has.motion
+                ∙ ap (λ x. motion_before c a ++ x ∷ []) (sym moved_is) ∙ sym (motion_more c a m is);
+            modes = map-append (λ x. x.modes) old.row.info (info ∷ []) ∙ ap (λ xs. xs ++ info.modes ∷ []) has.modes
+                ∙ ap (λ x. modes_before c a ++ x ∷ []) (sym modes_are) ∙ sym (modes_more c a m is);
+          }
+
+      below : a < length c.mbs
+      below = slice_get_within c.mbs a m is
+
+      -- It is built, and the row above is filtered where the macroblock ends its own.
+      pub decoded_more : a < old.canvas.width * old.canvas.height → (last : Planes)
+          → FiltersUpTo c (filtered_rows c.width a) (filtered_rows c.width (suc a)) canvas.planes last → (macroblock_fault c a ≡ None)
+          × HoldsFirst c names (record { canvas = record canvas { planes = last }; row = with_info old.row info; filter_info = old.filter_info ++ f ∷ []; next = suc a })
+      decoded_more room last filters =
+          let told_so_far : FilterInfo = record { width = c.width; info = old.filter_info } in
+          let of : AreInfoOf c names c.chroma_qp_index_offset told_so_far = record { width_is = refl; offset_is = refl; info_are = holds.filter } in
+          let in_picture : a < c.width * c.height = subst (λ h. a < c.width * h) holds.height (subst (λ w. a < w * old.canvas.height) holds.width room) in (
+            not_out ∙ here.0,
+            record {
+              within = omega (arith, below);
+              width = ap (λ x. x.width) here.1 ∙ holds.width;
+              height = ap (λ x. x.height) here.1 ∙ holds.height;
+              offset = ap (λ x. x.chroma_qp_index_offset) here.1 ∙ holds.offset;
+              constrained = ap (λ x. x.constrained_intra_pred) here.1 ∙ holds.constrained;
+              begun = holds.begun;
+              begun_sized = holds.begun_sized;
+              built = filters (first_built c holds.begun (suc a))
+                  (ap (λ x. x.planes) here.1
+                  ∙ late_more c names c.chroma_qp_index_offset told_so_far of a m is kept.filter_count step_is_wide in_picture holds.begun holds.begun_sized old.canvas.planes holds.built);
+              neighbours = neighbours_more;
+              filter = info_more c (motion_before c (length c.mbs)) names a old.filter_info f kept.filter_count holds.filter
+                  (has_info c names s slice a mb is info.motion long (quarter_reference mb.syntax) f filter_told (motion_before c (length c.mbs))
+                  (motion_stays c (suc a) (length c.mbs) a (omega arith) (omega (arith, below)) ∙ motion_is) pictures one);
+            },
+          )
+
+-- ---- one slice more of a picture
+
+-- ---- the frames' numbers
+
+pub same-place : (es : List ℕ) → IsStrictlyIncreasing es → (m n : ℕ) → m < length es → n < length es → slice_index es m ≡ slice_index es n → m ≡ n
+same-place es rising m n h k e = by_order (order m n)
+  where
+    order : (x y : ℕ) → (x < y) ⊎ ((y < x) ⊎ (x ≡ y))
+    order x y = grind arith
+
+    by_order : (m < n) ⊎ ((n < m) ⊎ (m ≡ n)) → m ≡ n
+    by_order (inl less) = absurd (omega (arith, e, AllPairs-from_increasing es rising m n 0 less k))
+    by_order (inr (inl more)) = absurd (omega (arith, e, AllPairs-from_increasing es rising n m 0 more h))
+    by_order (inr (inr same)) = same
+
+abbrev pub names-of : (es : List ℕ) → IsStrictlyIncreasing es → Names
+names-of es rising = record { count = length es; entry = λ n. slice_index es n; apart = same-place es rising }
+
+pub are-names : (es : List ℕ) (rising : IsStrictlyIncreasing es) → AreNames es (names-of es rising)
+are-names es rising = record { all = refl; each = λ n h. refl }
+
+-- ---- lists
+
+get-here : {A : Type 0} (front rest : List A) (x d : A) → slice_index_or (front ++ x ∷ rest) (length front) d ≡ x
+get-here [] rest x d = refl
+get-here (y ∷ front) rest x d = get-here front rest x d
+
+-- a picture begins with itself
+pub begins-itself : (c : Coded) → BeginsWith c c
+begins-itself c = record {
+  width = refl;
+  height = refl;
+  offset = refl;
+  constrained = refl;
+  later_mbs = [];
+  mbs = sym (append-nil c.mbs);
+  later_slices = [];
+  slices = sym (append-nil c.slices);
+}
+
+-- ---- the slices that macroblocks lie in
+
+-- the info of a slice with these macroblocks, where it has any
+abbrev info-in : SliceInfo → List Mb → List SliceInfo
+info-in info [] = []
+info-in info (mb ∷ mbs) = info ∷ []
+
+with-info-is : (slices : List SliceInfo) (info : SliceInfo) (mbs : List Mb) → slice_with_info slices info mbs ≡ slices ++ info-in info mbs
+with-info-is slices info [] = sym (append-nil slices)
+with-info-is slices info (mb ∷ mbs) = refl
+
+slice_numbered : (slices : List SliceInfo) (info : SliceInfo) (mbs : List Mb) (number read read' : ℕ) → length slices ≡ number → read' ≡ read + length mbs
+    → number_after number read read' ≡ length (slice_with_info slices info mbs)
+slice_numbered slices info [] number read read' e h = grind (arith, nat_tests)
+slice_numbered slices info (mb ∷ mbs) number read read' e h = grind (arith, nat_tests, length-append)
+
+few-after : (slices : List SliceInfo) (info : SliceInfo) (mbs : List Mb) (number read read' : ℕ) → length slices ≡ number → number ≤ read → read' ≡ read + length mbs
+    → length (slice_with_info slices info mbs) ≤ read'
+few-after slices info [] number read read' e few h = omega (arith, e, few, h)
+few-after slices info (mb ∷ mbs) number read read' e few h = grind (arith, nat_tests, length-append)
+
+-- ---- what refuses a slice
+
+tests-of : (x y : Bool) → (if x then Some MissingMacroblocks else (if y then Some ArbitrarySliceOrder else None)) ≡ None → (x ≡ false) × (y ≡ false)
+tests-of true y e = cc
+tests-of false true e = cc
+tests-of false false e = (refl, refl)
+
+module _ (p : PictureStart) (s : Slice) (g : Progress) (none : g.fault ≡ None) where
+  abbrev first : ℕ
+  first = (s.header).first_mb_in_slice
+
+  abbrev steps : Bool → Bool → Progress → Progress
+  steps less more read = if less then refused g s.unit MissingMacroblocks else if more then refused g s.unit ArbitrarySliceOrder else read
+
+  stepped : with_slice p s g ≡ steps (nat_lt (length g.mbs) first) (nat_lt first (length g.mbs)) (with_reference_list p s g (list_of p s.header))
+  stepped = grind (arith, nat_tests)
+
+  pub listed : address_fault (length g.mbs) first ≡ None → with_slice p s g ≡ with_reference_list p s g (list_of p s.header)
+  listed e = grind (arith, nat_tests, tests-of, stepped)
+
+-- ---- a slice whose data is read
+
+module _ {PAD : ℕ} (sps : Sps) (pps : Pps) (es : List ℕ) (fs : List (Frame PAD)) (s : Slice) (g : Progress) (number read : ℕ) (m : MbsState) (unread : SliceData)
+    (list : List (Option Reference)) (rising : IsStrictlyIncreasing es) where
+  abbrev p : PictureStart
+  p = picture_start sps pps es fs
+
+  abbrev start : SliceStart
+  start = start_of p s.header (length g.slices)
+
+  abbrev info : SliceInfo
+  info = info_of p s.header list
+
+  abbrev ms : SliceMbs
+  ms = slice_data start g.mbs (data_of s)
+
+  abbrev whole : Progress
+  whole = read_whole s g info ms
+
+  module _ (well : IsWellSoFar p es g number read m) (dat : IsDataOf start g.mbs (data_of s) unread) where
+    abbrev begins-before : (c : Coded) → BeginsWith c (coded_of p whole) → BeginsWith c (coded_of p g)
+    begins-before c b = record {
+      width = b.width;
+      height = b.height;
+      offset = b.offset;
+      constrained = b.constrained;
+      later_mbs = map (placed start) ms.mbs ++ b.later_mbs;
+      mbs = b.mbs ∙ append_assoc g.mbs (map (placed start) ms.mbs) b.later_mbs;
+      later_slices = info-in info ms.mbs ++ b.later_slices;
+      slices = b.slices ∙ ap (λ xs. xs ++ b.later_slices) (with-info-is g.slices info ms.mbs) ∙ append_assoc g.slices (info-in info ms.mbs) b.later_slices;
+    }
+
+    slice_taken : (c : Coded) → BeginsWith c (coded_of p whole) → take m.next c.mbs ≡ g.mbs
+    slice_taken c b = ap (take m.next) (begins-before c b).mbs ∙ take_at g.mbs (map (placed start) ms.mbs ++ b.later_mbs) m.next well.decoded.next
+
+    holds-before : (c : Coded) (names : Names) → BeginsWith c (coded_of p whole) → AreNames es names → HoldsFirst c names m
+    holds-before c names b are = well.decoded.holds c names (begins-before c b) are
+
+    -- what the first call for a macroblock says of any such picture
+    pub first-out : (c : Coded) (names : Names) → BeginsWith c (coded_of p whole) → AreNames es names → (out : Result (Option Mb) Fault) (d' : SliceData)
+        → ((c : Coded) (names : Names) (s : SliceStart) → HoldsFirst c names m → s.width ≡ c.width → s.slice ≡ number → Follows s (take m.next c.mbs) unread
+        → IsHandedOut s (take m.next c.mbs) out unread d')
+        → IsHandedOut start (take m.next c.mbs) out unread d'
+    first-out c names b are out d' next =
+        next c names start (holds-before c names b are) (sym b.width) well.decoded.count (subst (λ xs. Follows start xs unread) (sym (slice_taken c b)) dat.0)
+
+    -- where the data has no macroblock
+    pub none-first : (c : Coded) (names : Names) → BeginsWith c (coded_of p whole) → AreNames es names → (d' : SliceData) → IsHandedOut start (take m.next c.mbs) (Ok None) unread d'
+        → IsDataAnswer c names m.next (outcome_from c start m unread) (Ok tt) read m
+    none-first c names b are d' out =
+        let e : outcome_from c start m unread ≡ (0, None) = ap (λ ms. outcome c m.next ms) out.0 in
+        let none : (outcome_from c start m unread).0 ≡ 0 = ap (λ o. o.0) e in
+        (ap (λ o. o.1) e, omega (arith, none, well.reached), well.reached, holds-before c names b are)
+
+    -- where its first macroblock is refused
+    pub fault-first : (c : Coded) (names : Names) → BeginsWith c (coded_of p whole) → AreNames es names → (f : Fault) (d' : SliceData)
+        → IsHandedOut start (take m.next c.mbs) (Err f) unread d' → IsDataAnswer c names m.next (outcome_from c start m unread) (Err f) read m
+    fault-first c names b are f d' out = grind (arith, nat_tests)
+
+    module _ (context : SliceContext PAD) (num : context.number ≡ number) (made : IsContextOf p es s.header list context) (qp : start.qp ≤ 51) where
+      info-are : (c : Coded) (mb : Mb) (mbs : List Mb) → BeginsWith c (coded_of p whole) → ms.mbs ≡ mb ∷ mbs → slice_info c context.number ≡ info
+      info-are c mb mbs b some =
+          ap (λ n. slice_info c n) (num ∙ sym well.decoded.count)
+          ∙ ap (λ xs. slice_info (record c { slices = xs }) (length g.slices))
+          ((begins-before c b).slices ∙ ap (λ xs. g.slices ++ (info-in info xs ++ b.later_slices)) some)
+          ∙ get-here g.slices b.later_slices info _
+
+      pub slice-goes-on : (c : Coded) (names : Names) → BeginsWith c (coded_of p whole) → AreNames es names → GoesOn c names start m unread context
+      slice-goes-on c names b are = record {
+        holds = holds-before c names b are;
+        is_slice = λ mb mbs e. made c names are (info-are c mb mbs b (sym (ap (λ r. r.mbs) (ap (λ xs. rest_of start xs unread) (slice_taken c b) ∙ dat.1)) ∙ e));
+        width = sym b.width;
+        size = sym (ap (λ w. w * c.height) b.width ∙ ap (λ h. width_in_mbs sps * h) b.height);
+        number = well.decoded.count ∙ sym num;
+        quantiser = qp;
+        follows = subst (λ xs. Follows start xs unread) (sym (slice_taken c b)) dat.0;
+        later = b.later_mbs;
+        mbs =
+            (begins-before c b).mbs
+            ∙ sym (ap (λ xs. xs ++ (map (placed start) (rest_of start xs unread).mbs ++ b.later_mbs)) (slice_taken c b) ∙ ap (λ r. g.mbs ++ (map (placed start) r.mbs ++ b.later_mbs)) dat.1);
+      }
+
+    -- the first macroblock has been read
+    module _ (Knows : SliceContext PAD → Type 0) (knows : (context : SliceContext PAD) → Knows context → (context.number ≡ number) × IsContextOf p es s.header list context) (qp : start.qp ≤ 51)
+        (mb : Mb) (d' : SliceData)
+        (next : (c : Coded) (names : Names) (s : SliceStart) → HoldsFirst c names m → s.width ≡ c.width → s.slice ≡ number → Follows s (take m.next c.mbs) unread
+        → IsHandedOut s (take m.next c.mbs) (Ok (Some mb)) unread d') where
+      pub has-first : (c : Coded) (names : Names) → BeginsWith c (coded_of p whole) → AreNames es names → HasFirst Knows c names start unread m mb d'
+      has-first c names b are = record {
+        goes_on = λ context k. slice-goes-on context (knows context k).0 (knows context k).1 qp c names b are;
+        first = first-out c names b are (Ok (Some mb)) d' next;
+      }
+
+      pub can-have-first : CanHaveFirst Knows m mb d'
+      can-have-first = record {
+        coded = coded_of p whole;
+        names = names-of es rising;
+        start = start;
+        unread = unread;
+        has_first = has-first (coded_of p whole) (names-of es rising) (begins-itself (coded_of p whole)) (are-names es rising);
+      }
+
+    abbrev found : Option (ℕ × Fault)
+    found = first_mb_fault (coded_of p whole) (length g.mbs) (length ms.mbs)
+
+    expected : outcome_from (coded_of p whole) start m unread ≡ first_of found ms
+    expected =
+        let c = coded_of p whole in
+        let b = begins-itself c in
+        ap (λ xs. outcome c m.next (rest_of start xs unread)) (slice_taken c b) ∙ ap (λ r. outcome c m.next r) dat.1 ∙ ap (λ n. outcome c n ms) (sym well.decoded.next)
+
+    -- ---- after it
+
+    fault-after : (o : Option (ℕ × Fault)) → (with_first_fault s g whole o).fault ≡ with_unit s.unit (first_of o ms).1
+    fault-after None = refl
+    fault-after (Some f) = refl
+
+    read-after : (o : Option (ℕ × Fault)) → (with_first_fault s g whole o).read ≡ g.read + (first_of o ms).0
+    read-after None = refl
+    read-after (Some f) = refl
+
+    coded-after : (o : Option (ℕ × Fault)) → coded_of p (with_first_fault s g whole o) ≡ coded_of p whole
+    coded-after None = refl
+    coded-after (Some f) = refl
+
+    all-read : (o : Option (ℕ × Fault)) → (first_of o ms).1 ≡ None → (first_of o ms).0 ≡ length ms.mbs
+    all-read None e = refl
+    all-read (Some f) e = cc
+
+    module _ (address : address_fault (length g.mbs) (s.header).first_mb_in_slice ≡ None) (is : list_of p s.header ≡ Ok list)
+        (result : Result (Unit {0}) Fault) (read' : ℕ) (m' : MbsState)
+        (answer : (c : Coded) (names : Names) → BeginsWith c (coded_of p whole) → AreNames es names → IsDataAnswer c names m.next (outcome_from c start m unread) result read' m') where
+      sliced : with_slice p s g ≡ with_first_fault s g whole found
+      sliced = listed p s g well.none address ∙ ap (with_reference_list p s g) is
+
+      own : IsDataAnswer (coded_of p whole) (names-of es rising) m.next (outcome_from (coded_of p whole) start m unread) result read' m'
+      own = answer (coded_of p whole) (names-of es rising) (begins-itself (coded_of p whole)) (are-names es rising)
+
+      pub all-decoded : result ≡ Ok tt → IsWellSoFar p es (with_slice p s g) (number_after number read read') read' m'
+      all-decoded ok =
+          let mine = subst (λ r. IsDataAnswer (coded_of p whole) (names-of es rising) m.next (outcome_from (coded_of p whole) start m unread) r read' m') ok own in
+          let no : (first_of found ms).1 ≡ None = sym (ap (λ o. o.1) expected) ∙ mine.0 in
+          let count : (first_of found ms).0 ≡ length ms.mbs = all-read found no in
+          let same : (outcome_from (coded_of p whole) start m unread).0 ≡ (first_of found ms).0 = ap (λ o. o.0) expected in
+          let coded : coded_of p (with_slice p s g) ≡ coded_of p whole = ap (coded_of p) sliced ∙ coded-after found in
+          let mbs-length : length (with_slice p s g).mbs ≡ length g.mbs + length ms.mbs =
+          ap (λ c. length c.mbs) coded ∙ length-append g.mbs (map (placed start) ms.mbs) ∙ ap (λ n. length g.mbs + n) (length-map ms.mbs (placed start)) in
+          let slices-length : length (with_slice p s g).slices ≡ length (slice_with_info g.slices info ms.mbs) = ap (λ c. length c.slices) coded in
+          let reads : read' ≡ read + length ms.mbs = omega (arith, same, count, mine.1, well.reached) in
+          let number-is : number_after number read read' ≡ length (slice_with_info g.slices info ms.mbs) = slice_numbered g.slices info ms.mbs number read read' well.decoded.count reads in
+          let read-is : (with_slice p s g).read ≡ g.read + (first_of found ms).0 = ap (λ x. x.read) sliced ∙ read-after found in
+          record {
+            none = ap (λ x. x.fault) sliced ∙ fault-after found ∙ ap (with_unit s.unit) no;
+            read_is = omega (arith, read-is, well.read_is, well.reached, same, mine.1);
+            reached = mine.2;
+            few = subst (λ n. n ≤ read') (sym number-is) (few-after g.slices info ms.mbs number read read' well.decoded.count well.few reads);
+            decoded = record {
+              next = omega (arith, mbs-length, well.decoded.next, count, same, mine.1, mine.2);
+              count = slices-length ∙ sym number-is;
+              holds = λ c names b are.
+                  (subst (λ r. IsDataAnswer c names m.next (outcome_from c start m unread) r read' m') ok
+                  (answer c names (subst (BeginsWith c) coded b) are)).3;
+            };
+          }
+
+      pub faulty-slice : (f : Fault) → result ≡ Err f → IsStateOrFault p es (with_slice p s g) s.unit (number_after number read read') (Err f) read' m'
+      faulty-slice f err = grind (arith, nat_tests, own, expected, sliced, read-after, fault-after)
+
+      pub slice-decoded : IsStateOrFault p es (with_slice p s g) s.unit (number_after number read read') result read' m'
+      slice-decoded = by_result result refl
+        where
+          by_result : (r : Result (Unit {0}) Fault) → result ≡ r → IsStateOrFault p es (with_slice p s g) s.unit (number_after number read read') r read' m'
+          by_result (Ok done) e = all-decoded e
+          by_result (Err f) e = faulty-slice f e
+
+-- ---- what a picture decoder keeps from slice to slice
+
+-- ---- tests
+
+pub agrees : (a b : ℕ) → a ≡ b → (a == b) ≡ true
+agrees a b e = grind (arith, nat_tests)
+
+pub differs : (a b : ℕ) → (a ≡ b → ⊥) → (a == b) ≡ false
+differs a b apart = by_test (a == b) refl
+  where
+    by_test : (t : Bool) → (a == b) ≡ t → (a == b) ≡ false
+    by_test true e = let same : a ≡ b = grind (arith, nat_tests) in absurd (apart same)
+    by_test false e = e
+
+-- ---- frames can stand somewhere
+
+rises : (n : ℕ) → IsStrictlyIncreasing (range_with_len 0 n)
+rises n = λ k h. grind (arith, nat_tests, get_or-range_with_len, length-range_with_len)
+
+abbrev pub places-of : {PAD : ℕ} → List (Frame PAD) → List ℕ
+places-of fs = range_with_len 0 (length fs)
+
+pub stand-somewhere : {PAD : ℕ} (fs : List (Frame PAD)) → FramesStandAt (places-of fs) fs
+stand-somewhere fs = record { each = length-range_with_len 0 (length fs) ∙ sym (length-map fs marked_frame); rising = rises (length fs) }
+
+-- ---- a slice behind a fault
+
+faulted : (o : Option (ℕ × Fault)) (f : Fault) (g x : Progress) → option_map (λ found. found.1) o ≡ Some f → elim o [ Some h ↦ g | None ↦ x ] ≡ g
+faulted None f g x e = cc
+faulted (Some h) f g x e = refl
+
+stays : (p : PictureStart) (s : Slice) (g : Progress) (f : Fault) → option_map (λ found. found.1) g.fault ≡ Some f → with_slice p s g ≡ g
+stays p s g f e = faulted g.fault f g _ e
+
+module _ {PAD : ℕ} (sps : Sps) (pps : Pps) (fs : List (Frame PAD)) (slices more : List Slice) (s : Slice) (count read : ℕ) (m : MbsState) (newest : more ≡ s ∷ slices) where
+  abbrev old : Decoding PAD
+  old = record { sps = sps; pps = pps; frames = fs; slices = slices }
+
+  abbrev new : Decoding PAD
+  new = record { sps = sps; pps = pps; frames = fs; slices = more }
+
+  abbrev kept_start : List ℕ → PictureStart
+  kept_start es = picture_start sps pps es fs
+
+  module _ (f : Fault) (kept : IsDecoderState sps pps fs slices count read (Some f) m) where
+    same-progress : (es : List ℕ) → FramesStandAt es fs → progress (kept_start es) more ≡ progress (kept_start es) slices
+    same-progress es stand = ap (progress (kept_start es)) newest ∙ stays (kept_start es) s (progress (kept_start es) slices) f (kept.keeps es stand).0
+
+    pub refused-again : Refuses old s f new
+    refused-again = record {
+      fault = λ es stand. ap (λ g. option_map (λ found. found.1) g.fault) (same-progress es stand) ∙ (kept.keeps es stand).0;
+      unit = λ well es stand.
+          let wrong : None ≡ Some f = sym (ap (option_map (λ found. found.1)) (well es stand)) ∙ (kept.keeps es stand).0 in
+          cc;
+    }
+
+-- ---- what is kept without a fault
+
+module _ {PAD : ℕ} (sps : Sps) (pps : Pps) (fs : List (Frame PAD)) (slices : List Slice) (count read : ℕ) (m : MbsState) (kept : IsDecoderState sps pps fs slices count read None m) where
+  abbrev d : Decoding PAD
+  d = record { sps = sps; pps = pps; frames = fs; slices = slices }
+
+  abbrev begun : List ℕ → PictureStart
+  begun es = picture_start sps pps es fs
+
+  pub well-somewhere : IsWellSomewhere sps pps fs count read m
+  well-somewhere = record { entries = places-of fs; stand = stand-somewhere fs; so_far = progress (begun (places-of fs)) slices; well = kept.keeps (places-of fs) (stand-somewhere fs) }
+
+  counted : (es : List ℕ) → FramesStandAt es fs → length (progress (begun es) slices).mbs ≡ read
+  counted es stand = let well = kept.keeps es stand in well.decoded.next ∙ well.reached
+
+  kept-at-end : (es : List ℕ) → FramesStandAt es fs → (full : Bool) → (read == size_in_mbs sps) ≡ full → end_fault es d ≡ fault_at_end None full
+  kept-at-end es stand full e = grind (arith, nat_tests, counted)
+
+  pub missing-at-end : (read == size_in_mbs sps) ≡ false → (es : List ℕ) → FramesStandAt es fs → end_fault es d ≡ Some MissingMacroblocks
+  missing-at-end e es stand = kept-at-end es stand false e
+
+  pub none-at-end : (read == size_in_mbs sps) ≡ true → (es : List ℕ) → FramesStandAt es fs → end_fault es d ≡ None
+  none-at-end e es stand = kept-at-end es stand true e
+
+  -- a sample that the macroblocks so far have
+  pub sample-now : (value : ℕ) (k x y : ℕ)
+      → ((c : Coded) (names : Names) → HoldsFirst c names m → value ≡ samples_of (row_late c (empty_planes c.width c.height) m.next) k x y)
+      → (es : List ℕ) → FramesStandAt es fs → samples_of (planes_so_far es d) k x y ≡ value
+  sample-now value k x y answer es stand =
+      let well = kept.keeps es stand in
+      let c = coded_of (begun es) (progress (begun es) slices) in
+      let holds = well.decoded.holds c (names-of es stand.rising) (begins-itself c) (are-names es stand.rising) in
+      let empty = empty_planes c.width c.height in
+      sym (answer c (names-of es stand.rising) holds
+      ∙ ap (λ s. samples_of s k x y) (ap (row_late c empty) (sym well.decoded.next) ∙ ap (rows_filtered c (filtered_rows c.width (length c.mbs))) (all_built c empty)))
+
+  -- and it has those that are read
+  pub covered-now : (k x y : ℕ) → ((es : List ℕ) → FramesStandAt es fs → covering_address (width_in_mbs sps) k x y < (progress (begun es) slices).read)
+      → covering_address m.canvas.width k x y < m.next
+  covered-now k x y covered =
+      let es = places-of fs in
+      let well = kept.keeps es (stand-somewhere fs) in
+      subst (λ w. covering_address w k x y < m.next) (sym kept.width)
+      (omega (arith, covered es (stand-somewhere fs), well.read_is, well.reached))
+
+  module _ (full : read ≡ size_in_mbs sps) (planes : Planes)
+      (answer : (c : Coded) (names : Names) → HoldsFirst c names m → m.next ≡ length c.mbs → length c.mbs ≡ c.width * c.height → planes ≡ deblocked c) where
+    pub planes-at-end : (es : List ℕ) → FramesStandAt es fs → planes ≡ planes_after_slices (begun es) slices
+    planes-at-end es stand =
+        let well = kept.keeps es stand in
+        let c = coded_of (begun es) (progress (begun es) slices) in
+        answer c (names-of es stand.rising) (well.decoded.holds c (names-of es stand.rising) (begins-itself c) (are-names es stand.rising))
+        (sym well.decoded.next) (counted es stand ∙ full)
+
+    sized-at-end : IsSized (width_in_mbs sps) (height_in_mbs sps) planes
+    sized-at-end =
+        subst (IsSized (width_in_mbs sps) (height_in_mbs sps)) (sym (planes-at-end (places-of fs) (stand-somewhere fs))) (pictures_sized (begun (places-of fs)) slices)
+
+    pub are-sized : AreSized (width_in_mbs sps) (height_in_mbs sps) planes
+    are-sized = grind (arith, nat_tests, sized-at-end)
+
+-- where the slices have no fault, none is kept
+pub none-kept : {PAD : ℕ} (sps : Sps) (pps : Pps) (fs : List (Frame PAD)) (slices : List Slice) (count read : ℕ) (fault : Option Fault) (m : MbsState)
+    → IsDecoderState sps pps fs slices count read fault m → HasNoFault (record { sps = sps; pps = pps; frames = fs; slices = slices }) → fault ≡ None
+none-kept sps pps fs slices count read None m kept none = refl
+none-kept sps pps fs slices count read (Some f) m kept none =
+    let es = places-of fs in
+    let e : None ≡ Some f = sym (ap (option_map (λ found. found.1)) (none es (stand-somewhere fs))) ∙ (kept.keeps es (stand-somewhere fs)).0 in
+    absurd (cc)
+
+-- ---- the fault at the end
+
+pub first-at-end : (o : Option (ℕ × Fault)) (full : Bool) (f : Fault) → option_map (λ found. found.1) o ≡ Some f → fault_at_end o full ≡ Some f
+first-at-end None full f e = cc
+first-at-end (Some found) full f e = e
+
+-- ---- the beginning
+
+pub kept-first : {PAD : ℕ} (sps : Sps) (pps : Pps) (fs : List (Frame PAD)) (slices : List Slice) (m : MbsState) → slices ≡ [] → IsSps sps → IsPps pps → AreFramesOf sps fs
+    → ((c : Coded) (names : Names) → HasSets sps pps c → HoldsFirst c names m) → m.next ≡ 0 → m.canvas.width ≡ width_in_mbs sps → m.canvas.height ≡ height_in_mbs sps
+    → IsDecoderState sps pps fs slices 0 0 None m
+kept-first sps pps fs slices m none is_sps is_pps are holds next width height = record {
+  of_sps = is_sps;
+  of_pps = is_pps;
+  of_frames = are;
+  width = width;
+  height = height;
+  within = omega arith;
+  keeps = λ es stand. subst (λ g. IsWellSoFar (picture_start sps pps es fs) es g 0 0 m) (sym (ap (progress (picture_start sps pps es fs)) none)) (record {
+    none = refl;
+    read_is = refl;
+    reached = next;
+    few = omega arith;
+    decoded = record {
+      next = sym next;
+      count = refl;
+      holds = λ c names b are. holds c names (record { width = b.width; height = b.height; offset = b.offset; constrained = b.constrained });
+    };
+  });
+}
+
+-- ---- worked pictures, computed
+
+abbrev only_luma_dc : List ℤ → Residual
+only_luma_dc levels = record {
+  luma_pattern = 0;
+  chroma_pattern = 0;
+  mb_qp_delta = pos 0;
+  luma_dc = levels;
+  luma = [];
+  cb_dc = [];
+  cr_dc = [];
+  cb_ac = [];
+  cr_ac = [];
+}
+
+abbrev mb_at_26 : MbSyntax → PicMb
+mb_at_26 syntax = record { slice = 0; mb = record { syntax = syntax; qp = 26 } }
+
+-- a picture of one slice
+abbrev picture : ℕ → ℕ → FilteredEdges → List (Option WorkedFrame) → List MbSyntax → Coded
+picture width height edges references mbs = record {
+  width = width;
+  height = height;
+  chroma_qp_index_offset = pos 0;
+  constrained_intra_pred = false;
+  slices = record { is_p = false; references = references; weights = []; disable_deblocking_filter_idc = edges; filter_offset_a = pos 0; filter_offset_b = pos 0 } ∷ [];
+  mbs = mbs_at_26 mbs;
+} where
+  mbs_at_26 : List MbSyntax → List PicMb
+  mbs_at_26 [] = []
+  mbs_at_26 (s ∷ ss) = mb_at_26 s ∷ mbs_at_26 ss
+
+abbrev rows_row : ℕ → List ℕ → List ℕ
+rows_row n row = flat_map (λ _. row) (range_with_len 0 n)
+
+-- one Intra 16x16 macroblock by DC without levels
+pub grey : (built (picture 1 1 NoEdges [] (i_16x16 2 0 (only_luma_dc []) ∷ []))).luma.samples ≡ replicate 256 128
+grey = refl
+
+-- a DC level of 1
+pub one_above_grey : (built (picture 1 1 NoEdges [] (i_16x16 2 0 (only_luma_dc (pos 1 ∷ [])) ∷ []))).luma.samples ≡ replicate 256 129
+one_above_grey = refl
+
+abbrev two_tone : FilteredEdges → Coded
+two_tone edges = picture 2 1 edges [] (i_16x16 2 0 (only_luma_dc []) ∷ i_16x16 2 0 (only_luma_dc (pos 10 ∷ [])) ∷ [])
+
+-- a DC level of 10 in the right one of two macroblocks
+pub two_tones : (built (two_tone NoEdges)).luma.samples ≡ rows_row 16 (replicate 16 128 ++ replicate 16 136)
+two_tones = refl
+
+-- and the filter
+pub two_tones_filtered : (deblocked_planes (two_tone All) (built (two_tone All))).luma.samples ≡ rows_row 16 (replicate 15 128 ++ 130 ∷ 134 ∷ replicate 15 136)
+two_tones_filtered = refl
+
+pub two_tones_chroma : (deblocked_planes (two_tone All) (built (two_tone All))).cr.samples ≡ replicate 128 128
+two_tones_chroma = refl
+
+-- a picture of 128 above 136, filtered
+abbrev two_rows : Coded
+two_rows = picture 1 2 All [] (i_16x16 2 0 (only_luma_dc []) ∷ i_16x16 2 0 (only_luma_dc (pos 10 ∷ [])) ∷ [])
+
+pub two_rows_filtered : (deblocked_planes two_rows (built two_rows)).luma.samples ≡ rows_row 15 (replicate 16 128) ++ replicate 16 130 ++ replicate 16 134 ++ rows_row 15 (replicate 16 136)
+two_rows_filtered = refl
+
+-- decoded so far: after the first macroblock nothing is filtered, after the second its row alone
+pub no_row_yet : filtered_rows 1 1 ≡ 0
+no_row_yet = refl
+
+pub one_row : filtered_rows 1 2 ≡ 1
+one_row = refl
+
+pub upper_row_filtered : (row_late two_rows (empty_planes 1 2) 2).luma.samples ≡ rows_row 16 (replicate 16 128) ++ rows_row 16 (replicate 16 136)
+unfolding row_lines
+upper_row_filtered = refl
+
+-- ---- a P picture: half a sample to the left in the left macroblock, the right one skipped
+
+abbrev no_levels : Residual
+no_levels = only_luma_dc []
+
+abbrev half_left : List MbSyntax
+half_left = p_inter P16x16 (0 ∷ []) (record { x = pos 2; y = pos 0 } ∷ []) no_levels ∷ p_skip ∷ []
+
+abbrev frame_of : Samples → Option WorkedFrame
+frame_of s = Some (record { entry = 0; existing = true; samples = s })
+
+abbrev stripes : List ℕ → Samples
+stripes row c x y = slice_index row x
+
+-- over the unfiltered picture
+abbrev moved_row : Coded
+moved_row = picture 2 1 NoEdges (frame_of (stripes (replicate 16 128 ++ replicate 16 136)) ∷ []) half_left
+
+pub moved_half : (built moved_row).luma.samples ≡ rows_row 16 (replicate 14 128 ++ 127 ∷ 132 ∷ replicate 16 136)
+unfolding with_part
+moved_half = refl
+
+-- over the filtered picture, and filtered again
+abbrev moved_filtered : Coded
+moved_filtered = picture 2 1 All (frame_of (samples_of (deblocked_planes (two_tone All) (built (two_tone All)))) ∷ []) half_left
+
+pub moved_half_filtered : (deblocked_planes moved_filtered (built moved_filtered)).luma.samples ≡ rows_row 16 (replicate 14 128 ++ 129 ∷ 132 ∷ 134 ∷ replicate 15 136)
+unfolding with_part
+moved_half_filtered = refl
+
+-- ---- where the buffer holds no frame, the one entry of a P slice's list is empty
+
+-- the first fault of a picture that has this slice alone
+abbrev fault_without_frames : Option Sps → Option Pps → Result Header Fault → List ℕ → Option (ℕ × Fault)
+fault_without_frames (Some sps) (Some pps) (Ok h) rbsp =
+    (progress (record { sps = sps; pps = pps; frames = [] }) (record { unit = 3; header = h; rbsp = rbsp } ∷ [])).fault
+fault_without_frames _ _ _ rbsp = None
+
+abbrev fault_under : Sets → List ℕ → Option (ℕ × Fault)
+fault_under sets rbsp = fault_without_frames (sets.sps 0) (sets.pps 0) (header_in_rbsp 0x41 sets rbsp) rbsp
+
+-- 16x16 luma samples; the macroblock is skipped
+abbrev small : Sets
+small = sets_after (OfSps (0x42 ∷ 0xC0 ∷ 0x0A ∷ 0xDA ∷ 0x71 ∷ []) ∷ OfPps (0xCE ∷ 0x38 ∷ 0x80 ∷ []) ∷ [])
+
+pub skipped_without_frames : fault_under small (0x9A ∷ 0x22 ∷ 0xA0 ∷ []) ≡ Some (3, RefMissing)
+skipped_without_frames = refl
+
+-- 32x16, with deblocking fields; the slice of the P picture above
+abbrev wide_row : Sets
+wide_row = sets_after (OfSps (0x42 ∷ 0xC0 ∷ 0x0A ∷ 0xDA ∷ 0x2C ∷ 0x40 ∷ []) ∷ OfPps (0xCE ∷ 0x3C ∷ 0x80 ∷ []) ∷ [])
+
+pub moved_without_frames : fault_under wide_row (0x9A ∷ 0x22 ∷ 0xB2 ∷ 0x6A ∷ []) ≡ Some (3, RefMissing)
+unfolding with_part blocks
+moved_without_frames = refl

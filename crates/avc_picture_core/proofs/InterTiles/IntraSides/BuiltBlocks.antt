@@ -1,0 +1,443 @@
+-- Blocks of a plane: predicted, laid into it, and residuals that are added in place.
+pub mod Common
+unfoldable pub use Common.*
+
+-- ---- blocks predicted and laid into a plane
+
+-- a block set to the same samples is the same
+pub with_block_same : (s : Plane) (left top w h : ℕ) (f g : ℕ → ℕ → ℕ) → ((x y : ℕ) → x < w → y < h → f x y ≡ g x y)
+    → with_block s left top w h f ≡ with_block s left top w h g
+with_block_same s left top w h f g same =
+    plane_of_same s.width s.height (λ x y. if is_inside left top w h x y then f (x - left) (y - top) else sample s x y)
+    (λ x y. if is_inside left top w h x y then g (x - left) (y - top) else sample s x y)
+    (λ x y column row. by_place
+    (λ t. (if t then f (x - left) (y - top) else sample s x y) ≡ (if t then g (x - left) (y - top) else sample s x y)) left top w h x y
+    (λ a b c d. same (x - left) (y - top) (omega arith) (omega arith))
+    (λ none. refl))
+
+-- a prediction that is to be had
+pub predicted : (can : Bool) (v : ℕ) → can ≡ true → unwrap_or (if can then Some v else None) 0 ≡ v
+predicted can v there = ap (λ t. unwrap_or (if t then Some v else None) 0) there
+
+pub sample4x4 : (f : ℕ → ℕ → ℕ) (x y : ℕ) → x < 4 → y < 4 → slice_index (block4x4 f) (4 * y + x) ≡ f x y
+sample4x4 f x y column row = ap (slice_index (block4x4 f)) (omega arith) ∙ sample-plane_of 4 4 f x y column row
+
+-- a place outside a rectangle
+pub outside : (left top width height x y : ℕ) → (left ≤ x → x < left + width → top ≤ y → y < top + height → ⊥) → is_inside left top width height x y ≡ false
+outside left top width height x y none = grind (arith, by_place)
+
+-- a residual of 0 changes nothing
+pub unchanged : (v : ℕ) (z : ℤ) → v ≤ 255 → z ≡ pos 0 → sum_of v z ≡ v
+unchanged v z small none = rw none (grind (arith, ints, nat_tests))
+
+-- ---- residuals added to a plane in place, 4x4 block by block
+
+-- a block set to the samples that it has
+pub block_of_its_own : (s : Plane) (left top w h : ℕ) (f : ℕ → ℕ → ℕ) → length s.samples ≡ s.width * s.height
+    → ((x y : ℕ) → x < w → y < h → left + x < s.width → top + y < s.height → f x y ≡ sample s (left + x) (top + y))
+    → s ≡ with_block s left top w h f
+block_of_its_own s left top w h f long same =
+    no_line s left top w f long
+    ∙ plane_of_same s.width s.height (λ x y. if is_inside left top w 0 x y then f (x - left) (y - top) else sample s x y)
+    (λ x y. if is_inside left top w h x y then f (x - left) (y - top) else sample s x y)
+    (λ x y column row.
+    ap (λ t. if t then f (x - left) (y - top) else sample s x y) (outside left top w 0 x y (λ a b c d. omega arith))
+    ∙ by_place (λ t. sample s x y ≡ (if t then f (x - left) (y - top) else sample s x y)) left top w h x y
+    (λ a b c d.
+    sym (same (x - left) (y - top) (omega arith) (omega arith) (omega arith) (omega arith)
+    ∙ ap (λ u. sample s u (top + (y - top))) (omega arith)
+    ∙ ap (λ v. sample s x v) (omega arith)))
+    (λ none. refl))
+
+-- a residual of 0 changes nothing
+pub no_residual_added : (s : Plane) (left top w h : ℕ) (f : ℕ → ℕ → ℤ) → length s.samples ≡ s.width * s.height
+    → ((x y : ℕ) → x < s.width → y < s.height → sample s x y ≤ 255) → ((x y : ℕ) → x < w → y < h → f x y ≡ pos 0)
+    → s ≡ with_residual s left top w h f
+no_residual_added s left top w h f long small none =
+    block_of_its_own s left top w h (λ x y. sum_of (sample s (left + x) (top + y)) (f x y)) long
+    (λ x y column row within below. unchanged (sample s (left + x) (top + y)) (f x y) (small (left + x) (top + y) within below) (none x y column row))
+
+-- the same residual under other words
+pub residual_same : (s : Plane) (left top w h : ℕ) (f g : ℕ → ℕ → ℤ) → ((x y : ℕ) → x < w → y < h → f x y ≡ g x y)
+    → with_residual s left top w h f ≡ with_residual s left top w h g
+residual_same s left top w h f g same = grind (arith, nat_tests, with_block_same)
+
+-- a residual added to a block that was predicted
+module _ (s : Plane) (left top w h : ℕ) (p : ℕ → ℕ → ℕ) (f : ℕ → ℕ → ℤ) (columns : left + w ≤ s.width) (rows : top + h ≤ s.height) where
+  abbrev with_prediction : Plane
+  with_prediction = with_block s left top w h p
+
+  abbrev given : ℕ → ℕ → Bool → ℕ
+  given u v t = if t then p (u - left) (v - top) else sample s u v
+
+  abbrev is_sum : ℕ → ℕ → Bool → Type 0
+  is_sum u v t =
+      (if t then sum_of (sample with_prediction (left + (u - left)) (top + (v - top))) (f (u - left) (v - top)) else sample with_prediction u v)
+      ≡ (if t then sum_of (p (u - left) (v - top)) (f (u - left) (v - top)) else sample s u v)
+
+  each_sum : (u v : ℕ) → u < s.width → v < s.height → is_sum u v (is_inside left top w h u v)
+  each_sum u v column row =
+      by_place (is_sum u v) left top w h u v
+      (λ a b c d.
+      ap (λ i. sum_of (sample with_prediction i (top + (v - top))) (f (u - left) (v - top))) (omega arith)
+      ∙ ap (λ j. sum_of (sample with_prediction u j) (f (u - left) (v - top))) (omega arith)
+      ∙ ap (λ n. sum_of n (f (u - left) (v - top))) (sample-with_block s left top w h p u v column row ∙ ap (given u v) (inside left top w h u v a b c d)))
+      (λ none. sample-with_block s left top w h p u v column row ∙ ap (given u v) (outside left top w h u v none))
+
+  pub residual_over : with_residual with_prediction left top w h f ≡ with_block s left top w h (λ x y. sum_of (p x y) (f x y))
+  residual_over = grind (arith, nat_tests, plane_of_same, each_sum)
+
+-- ---- blocks that tile a square
+
+-- The samples that b numbers k are those of the 4x4 block at (l, t) of a square.
+pub record IsTile (size : ℕ) (b : ℕ → ℕ → ℕ) (k l t : ℕ) : Type 0 where
+  pub across : l + 4 ≤ size
+  pub down : t + 4 ≤ size
+  pub column : l ≡ 4 * (l / 4)
+  pub row : t ≡ 4 * (t / 4)
+  pub number : (i j : ℕ) → i < 4 → j < 4 → b (l + i) (t + j) ≡ k
+  pub place : (x y : ℕ) → x < size → y < size → b x y ≡ k → (l ≤ x) × (x < l + 4) × (t ≤ y) × (y < t + 4)
+
+-- a residual by the column, the row and the number of a sample's block, and by its place in the block
+abbrev pub by_tile : (ℕ → ℕ → ℕ) → (ℕ → ℕ → ℕ → ℕ → ℕ → ℤ) → ℕ → ℕ → ℤ
+by_tile b f x y = f (x / 4) (y / 4) (b x y) (x % 4) (y % 4)
+
+pub in_tile : (size : ℕ) (b : ℕ → ℕ → ℕ) (f : ℕ → ℕ → ℕ → ℕ → ℕ → ℤ) (k l t : ℕ) → IsTile size b k l t → (i j : ℕ) → i < 4 → j < 4
+    → by_tile b f (l + i) (t + j) ≡ f (l / 4) (t / 4) k i j
+in_tile size b f k l t tile i j column row =
+    let u : (l + i) / 4 ≡ l / 4 = omega (arith, tile.column) in
+    let v : (t + j) / 4 ≡ t / 4 = omega (arith, tile.row) in
+    let x : (l + i) % 4 ≡ i = omega (arith, tile.column) in
+    let y : (t + j) % 4 ≡ j = omega (arith, tile.row) in
+    rw (u, v, x, y, tile.number i j column row) refl
+
+module _ (s : Plane) (left top size : ℕ) (b : ℕ → ℕ → ℕ) (f : ℕ → ℕ → ℕ → ℕ → ℕ → ℤ) where
+  abbrev chosen : ℕ → ℕ → Bool → ℕ
+  chosen x y t = if t then sum_of (sample s (left + x) (top + y)) (by_tile b f x y) else sample s (left + x) (top + y)
+
+  -- the blocks before the one that b numbers k have their residual f, and the others are as they were
+  abbrev with_blocks_before : ℕ → Plane
+  with_blocks_before k = with_block s left top size size (λ x y. chosen x y (nat_lt (b x y) k))
+
+  none_before : length s.samples ≡ s.width * s.height → s ≡ with_blocks_before 0
+  none_before long =
+      block_of_its_own s left top size size (λ x y. chosen x y (nat_lt (b x y) 0)) long
+      (λ x y column row within below. let no : nat_lt (b x y) 0 ≡ false = grind (arith, nat_tests) in ap (chosen x y) no)
+
+  all_before : (k : ℕ) → ((x y : ℕ) → x < size → y < size → b x y < k) → with_blocks_before k ≡ with_residual s left top size size (by_tile b f)
+  all_before k few = grind (arith, nat_tests, with_block_same, nat_lt)
+
+  module _ (k l t : ℕ) (g : ℕ → ℕ → ℤ) (columns : left + size ≤ s.width) (rows : top + size ≤ s.height) (tile : IsTile size b k l t)
+      (value : (i j : ℕ) → g i j ≡ f (l / 4) (t / 4) k i j) where
+    abbrev cur : Plane
+    cur = with_blocks_before k
+
+    abbrev put : ℕ → ℕ → ℕ → Bool → ℕ
+    put n u v q = if q then chosen (u - left) (v - top) (nat_lt (b (u - left) (v - top)) n) else sample s u v
+
+    abbrev added : ℕ → ℕ → Bool → ℕ
+    added u v q =
+        if q then sum_of (sample cur (left + l + (u - (left + l))) (top + t + (v - (top + t)))) (g (u - (left + l)) (v - (top + t))) else sample cur u v
+
+    here : (x y : ℕ) → l ≤ x → x < l + 4 → t ≤ y → y < t + 4 → (b x y ≡ k) × (g (x - l) (y - t) ≡ by_tile b f x y)
+    here x y p q r w =
+        let across : l + (x - l) ≡ x = omega arith in
+        let down : t + (y - t) ≡ y = omega arith in
+        let same = value (x - l) (y - t) ∙ sym (in_tile size b f k l t tile (x - l) (y - t) (omega arith) (omega arith)) in (
+          ap (λ u. b u y) (sym across) ∙ ap (b (l + (x - l))) (sym down) ∙ tile.number (x - l) (y - t) (omega arith) (omega arith),
+          same ∙ ap (λ u. by_tile b f u (t + (y - t))) across ∙ ap (by_tile b f x) down,
+        )
+
+    within : (u v : ℕ) → u < s.width → v < s.height → left + l ≤ u → u < left + l + 4 → top + t ≤ v → v < top + t + 4
+        → added u v true ≡ put (k + 1) u v (is_inside left top size size u v)
+    within u v column row p q r w =
+        let x = u - left in
+        let y = v - top in
+        let h = here x y (omega arith) (omega arith) (omega arith) (omega arith) in
+        let number = h.0 in
+        let no : nat_lt (b x y) k ≡ false = grind (arith, nat_tests) in
+        let yes : nat_lt (b x y) (k + 1) ≡ true = grind (arith, nat_tests) in
+        let it = inside left top size size u v (omega arith) (omega (arith, tile.across)) (omega arith) (omega (arith, tile.down)) in
+        let before : sample cur u v ≡ sample s (left + x) (top + y) =
+        sample-with_block s left top size size (λ i j. chosen i j (nat_lt (b i j) k)) u v column row ∙ ap (put k u v) it ∙ ap (chosen x y) no in
+        let value = sample s (left + x) (top + y) in
+        ap (λ i. sum_of (sample cur i (top + t + (v - (top + t)))) (g (u - (left + l)) (v - (top + t)))) (omega arith)
+        ∙ ap (λ j. sum_of (sample cur u j) (g (u - (left + l)) (v - (top + t)))) (omega arith)
+        ∙ ap (λ n. sum_of n (g (u - (left + l)) (v - (top + t)))) before
+        ∙ ap (λ i. sum_of value (g i (v - (top + t)))) (omega arith)
+        ∙ ap (λ j. sum_of value (g (x - l) j)) (omega arith)
+        ∙ ap (sum_of value) h.1
+        ∙ sym (ap (put (k + 1) u v) it ∙ ap (chosen x y) yes)
+
+    -- a sample that is not of block k is of a block before it, or behind it
+    same_test : (x y : ℕ) → b x y ≢ k → nat_lt (b x y) k ≡ nat_lt (b x y) (k + 1)
+    same_test x y other = elim (cases_lt (b x y) k) [
+      | inl less ↦ let a : nat_lt (b x y) k ≡ true = grind (arith, nat_tests) in let c : nat_lt (b x y) (k + 1) ≡ true = grind (arith, nat_tests) in a ∙ sym c
+      | inr from ↦
+          let past : k < b x y = omega (arith, other, from) in
+          let a : nat_lt (b x y) k ≡ false = grind (arith, nat_tests) in let c : nat_lt (b x y) (k + 1) ≡ false = grind (arith, nat_tests) in a ∙ sym c
+    ]
+
+    without : (u v : ℕ) → u < s.width → v < s.height → (left + l ≤ u → u < left + l + 4 → top + t ≤ v → v < top + t + 4 → ⊥)
+        → added u v false ≡ put (k + 1) u v (is_inside left top size size u v)
+    without u v column row none = grind (arith, nat_tests, sample-with_block, nat_lt, by_place, same_test)
+
+    one_more : with_residual cur (left + l) (top + t) 4 4 g ≡ with_blocks_before (k + 1)
+    one_more = grind (arith, nat_tests, plane_of_same, by_place, within, without)
+
+-- ---- block by block
+
+-- The residual of the blocks before block k is added to s in the square of the macroblock in this column and row, which begins at (left, top).
+pub record AddedBefore (s cur : Plane) (size column row left top : ℕ) (b : ℕ → ℕ → ℕ) (f : ℕ → ℕ → ℕ → ℕ → ℕ → ℤ) (k : ℕ) : Type 0 where
+  pub wide : cur.width ≡ s.width
+  pub high : cur.height ≡ s.height
+  pub left_is : left ≡ size * column
+  pub top_is : top ≡ size * row
+  pub done : cur ≡ with_blocks_before s (size * column) (size * row) size b f k
+
+module _ (s : Plane) (size column row left top : ℕ) (b : ℕ → ℕ → ℕ) (f : ℕ → ℕ → ℕ → ℕ → ℕ → ℤ) where
+  pub added_none : length s.samples ≡ s.width * s.height → left ≡ size * column → top ≡ size * row → AddedBefore s s size column row left top b f 0
+  added_none long across down =
+      record { wide = refl; high = refl; left_is = across; top_is = down; done = none_before s (size * column) (size * row) size b f long }
+
+  pub added_more : size * column + size ≤ s.width → size * row + size ≤ s.height → (cur new : Plane) (k l t : ℕ) (g : ℕ → ℕ → ℤ)
+      → AddedBefore s cur size column row left top b f k → IsTile size b k l t → ((i j : ℕ) → g i j ≡ f (l / 4) (t / 4) k i j)
+      → new ≡ with_residual cur (left + l) (top + t) 4 4 g → AddedBefore s new size column row left top b f (k + 1)
+  added_more columns rows cur new k l t g before tile value added = record {
+    wide = ap (λ (p : Plane). p.width) added ∙ before.wide;
+    high = ap (λ (p : Plane). p.height) added ∙ before.high;
+    left_is = before.left_is;
+    top_is = before.top_is;
+    done = rw (before.left_is, before.top_is, before.done) at added ∙ one_more s (size * column) (size * row) size b f k l t g columns rows tile value;
+  }
+
+  pub added_all : (cur : Plane) (k : ℕ) → AddedBefore s cur size column row left top b f k → ((x y : ℕ) → x < size → y < size → b x y < k)
+      → cur ≡ with_residual s (size * column) (size * row) size size (by_tile b f)
+  added_all cur k before few = before.done ∙ all_before s (size * column) (size * row) size b f k few
+
+-- ---- the 4x4 blocks of a macroblock, and what their residuals add
+
+-- ---- the blocks of a macroblock
+
+luma_number : (k x y : ℕ) → k < 16 → block_x k ≤ x → x < block_x k + 4 → block_y k ≤ y → y < block_y k + 4 → block_at x y ≡ k
+luma_number k x y few p q r s = grind (arith, ints, nat_tests)
+
+luma_block_place : (x y : ℕ) → x < 16 → y < 16 → (block_x (block_at x y) ≡ 4 * (x / 4)) × (block_y (block_at x y) ≡ 4 * (y / 4))
+luma_block_place x y column row =
+    parts (y / 8) (x / 8) ((y / 4) % 2) ((x / 4) % 2) (omega arith) (omega arith) (omega arith) (omega arith) x y (omega arith) (omega arith) where
+      parts : (p q r s : ℕ) → p < 2 → q < 2 → r < 2 → s < 2 → (x y : ℕ) → 4 * (x / 4) ≡ 8 * q + 4 * s → 4 * (y / 4) ≡ 8 * p + 4 * r
+          → (block_x (8 * p + 4 * q + 2 * r + s) ≡ 4 * (x / 4)) × (block_y (8 * p + 4 * q + 2 * r + s) ≡ 4 * (y / 4))
+      parts p q r s a b c d x y across down =
+          let half : (8 * p + 4 * q + 2 * r + s) / 4 ≡ 2 * p + q = omega arith in
+          let low : ((8 * p + 4 * q + 2 * r + s) / 4) % 2 ≡ q = omega (arith, half) in
+          let two : (8 * p + 4 * q + 2 * r + s) / 2 ≡ 4 * p + 2 * q + r = omega arith in
+          let middle : ((8 * p + 4 * q + 2 * r + s) / 2) % 2 ≡ r = omega (arith, two) in
+          let odd : (8 * p + 4 * q + 2 * r + s) % 2 ≡ s = omega arith in
+          let eighth : (8 * p + 4 * q + 2 * r + s) / 8 ≡ p = omega arith in
+          (omega (arith, low, odd, across), omega (arith, middle, eighth, down))
+
+luma_within : (k x y : ℕ) → x < 16 → y < 16 → block_at x y ≡ k → (block_x k ≤ x) × (x < block_x k + 4) × (block_y k ≤ y) × (y < block_y k + 4)
+luma_within k x y column row is = grind (arith, ints, nat_tests, luma_block_place)
+
+pub luma_tile : (k l t : ℕ) → k < 16 → l ≡ block_x k → t ≡ block_y k → IsTile 16 block_at k l t
+luma_tile k l t few across down = record {
+  across = omega (arith, across);
+  down = omega (arith, down);
+  column = omega (arith, across);
+  row = omega (arith, down);
+  number = λ i j near low. luma_number k (l + i) (t + j) few (omega (arith, across)) (omega (arith, across)) (omega (arith, down)) (omega (arith, down));
+  place = λ x y column row is.
+      let w = luma_within k x y column row is in
+      (omega (arith, across, w.0), omega (arith, across, w.1), omega (arith, down, w.2), omega (arith, down, w.3));
+}
+
+abbrev pub chroma_number : ℕ → ℕ → ℕ
+chroma_number x y = 2 * (y / 4) + x / 4
+
+pub chroma_tile : (k : ℕ) → k < 4 → IsTile 8 chroma_number k (4 * (k % 2)) (4 * (k / 2))
+chroma_tile k few = record {
+  across = omega arith;
+  down = omega arith;
+  column = omega arith;
+  row = omega arith;
+  number = λ i j near low. omega arith;
+  place = λ x y column row is. (omega arith, omega arith, omega arith, omega arith);
+}
+
+-- ---- their residuals
+
+-- by sixteen levels a block
+abbrev pub residual_by_levels : ℕ → List (List ℤ) → (u v k x y : ℕ) → ℤ
+residual_by_levels qp blocks u v k x y = residual4x4 qp (slice_index_or blocks k []) x y
+
+-- by fifteen, and a DC value for the block in column u and row v
+abbrev pub residual_by_dc : ℕ → (ℕ → ℕ → ℤ) → List (List ℤ) → (u v k x y : ℕ) → ℤ
+residual_by_dc qp dc blocks u v k x y = residual4x4_with_dc qp (dc u v) (slice_index_or blocks k []) x y
+
+-- ---- blocks whose levels are all 0
+
+abbrev weight : ℤ → ℕ
+weight l = cond (not (nat_abs l == 0)) 1 0
+
+some_weight : (n : ℕ) → ◌≡◌ {A = ℕ} (cond (not (suc n == 0)) 1 0) 0 → ⊥
+some_weight n e =
+    let some : (suc n == 0) ≡ false = grind (arith, nat_tests) in
+    let one : ◌≡◌ {A = ℕ} (cond (not (suc n == 0)) 1 0) 1 = ap (λ t. cond (not t) 1 0) some in
+    omega (arith, one, e)
+
+zero_level : (l : ℤ) → weight l ≡ 0 → l ≡ pos 0
+zero_level (pos zero) e = refl
+zero_level (pos (suc n)) e = absurd (some_weight n e)
+zero_level (negsuc n) e = absurd (some_weight n e)
+
+-- where none of the levels counts, each of them is 0
+pub no_level : (levels : List ℤ) → total_coeff levels ≡ 0 → (i : ℕ) → level levels i ≡ pos 0
+no_level [] e i = refl
+no_level (l ∷ ls) e zero =
+    let both : sum_by weight (l ∷ ls) ≡ (0 + weight l) + sum_by weight ls = sum_by-append weight (l ∷ []) ls in
+    zero_level l (omega (arith, both, e))
+no_level (l ∷ ls) e (suc i) =
+    let both : sum_by weight (l ∷ ls) ≡ (0 + weight l) + sum_by weight ls = sum_by-append weight (l ∷ []) ls in
+    no_level ls (omega (arith, both, e)) i
+
+-- ---- a chroma component whose levels are all 0
+
+nothing_times : (a b l : ℤ) → l ≡ pos 0 → a *ℤ l *ℤ b ≡ pos 0
+nothing_times a b l none = rw (none, *ℤ-zero, zero-*ℤ) refl
+
+nothing_in_all : (a b c d : ℤ) → a ≡ pos 0 → b ≡ pos 0 → c ≡ pos 0 → d ≡ pos 0
+    → ◌≡◌ {A = ℤ} (pos 0 +ℤ (pos 0 +ℤ a +ℤ b) +ℤ (pos 0 +ℤ c +ℤ d)) (pos 0)
+nothing_in_all a b c d ea eb ec ed = rw (ea, eb, ec, ed) refl
+
+no_chroma_product : (dc : List ℤ) (x y : ℕ) → ((i : ℕ) → level dc i ≡ pos 0) → chroma_dc_product dc x y ≡ pos 0
+no_chroma_product dc x y none =
+    let term = λ (u v : ℕ). nothing_times (hadamard2 v y) (hadamard2 x u) (level dc (2 * v + u)) (none (2 * v + u)) in
+    nothing_in_all _ _ _ _ (term 0 0) (term 1 0) (term 0 1) (term 1 1)
+
+no_chroma_dc : (qp : ℕ) (dc : List ℤ) (x y : ℕ) → ((i : ℕ) → level dc i ≡ pos 0) → chroma_dc qp dc x y ≡ pos 0
+no_chroma_dc qp dc x y none =
+    ap (chroma_dc_scaled qp) (no_chroma_product dc x y none)
+    ∙ ap (λ (z : ℤ). (z *ℤ pos (2 ^ (qp / 6))) >>ℤ 5) (zero-*ℤ (pos (16 * even_scale (qp % 6))))
+    ∙ ap (λ (z : ℤ). z >>ℤ 5) (zero-*ℤ (pos (2 ^ (qp / 6))))
+
+-- it has no residual
+pub no_chroma : (qp : ℕ) (dc : List ℤ) (ac : List (List ℤ)) (x y : ℕ) → total_coeff dc ≡ 0
+    → ((k : ℕ) → k < 4 → total_coeff (slice_index_or ac k []) ≡ 0) → x < 8 → y < 8 → chroma_residual qp dc ac x y ≡ pos 0
+no_chroma qp dc ac x y no_dc no_ac column row =
+    let k = 2 * (y / 4) + x / 4 in
+    residual_of_dc qp (chroma_dc qp dc (x / 4) (y / 4)) (slice_index_or ac k []) (x % 4) (y % 4)
+    (no_level (slice_index_or ac k []) (no_ac k (omega arith)))
+    ∙ ap (λ (z : ℤ). (z +ℤ pos 32) >>ℤ 6) (no_chroma_dc qp dc (x / 4) (y / 4) (no_level dc no_dc))
+
+-- ---- what is asked of each of sixteen blocks
+
+abbrev sixteen : List ℕ
+sixteen = range_with_len 0 16
+
+pub all_sixteen : (p : ℕ → Bool) → ((k : ℕ) → k < 16 → p k ≡ true) → list_all p (range_with_len 0 16) ≡ true
+all_sixteen p f =
+    list_all-from_AllPass p sixteen (All-from_get_or (λ x. p x ≡ true) sixteen 0 (λ k low. subst (λ n. p n ≡ true) (sym (get_or-range_with_len 0 16 k 0 low ∙ zero-add k)) (f k low)))
+
+pub each_sixteen : (p : ℕ → Bool) → list_all p (range_with_len 0 16) ≡ true → (k : ℕ) → k < 16 → p k ≡ true
+each_sixteen p all k low =
+    subst (λ n. p n ≡ true) (get_or-range_with_len 0 16 k 0 low ∙ zero-add k) (All-get_or (λ x. p x ≡ true) sixteen k 0 low (AllPass-from_list_all p sixteen all))
+
+pub one_false : (p : ℕ → Bool) (k : ℕ) → k < 16 → p k ≡ false → list_all p (range_with_len 0 16) ≡ false
+one_false p k low not = list_all_at p sixteen k 0 low (subst (λ n. p n ≡ false) (sym (get_or-range_with_len 0 16 k 0 low ∙ zero-add k)) not)
+
+pub same_sixteen : (p q : ℕ → Bool) → ((k : ℕ) → k < 16 → p k ≡ q k) → list_all p (range_with_len 0 16) ≡ list_all q (range_with_len 0 16)
+same_sixteen p q same = elim (cases_Bool (list_all p (range_with_len 0 16))) [
+  | inl each ↦ each ∙ sym (all_sixteen q (λ k low. sym (same k low) ∙ each_sixteen p each k low))
+  | inr some ↦ elim (cases_Bool (list_all q (range_with_len 0 16))) [
+    | inl all ↦ all_sixteen p (λ k low. same k low ∙ each_sixteen q all k low) ∙ sym all
+    | inr none ↦ some ∙ sym none
+  ]
+]
+
+-- ---- predictions laid into a plane, weighted where there are weights
+
+pub length_block : (w h : ℕ) (f : ℕ → ℕ → ℕ) → length (block_of w h f) ≡ w * h
+length_block w h f = length-map-range_with_len (λ n. f (n % w) (n / w)) 0 (w * h)
+
+block_sample : (w h i j : ℕ) (f : ℕ → ℕ → ℕ) → i < w → j < h → slice_index (block_of w h f) (j * w + i) ≡ f i j
+block_sample w h i j f column row =
+    get_or-map-range_with_len (λ n. f (n % w) (n / w)) 0 (w * h) (j * w + i) (j * w + i) 0 (mul-add-lt j w i h row column) (omega arith)
+    ∙ ap (λ u. f u ((j * w + i) / w)) (mod-mul-add j w i column)
+    ∙ ap (λ v. f i v) (div-mul-add j w i column)
+
+-- a block of samples, each changed
+pub block_changed : (w h : ℕ) (k : ℕ → ℕ) (block out : List ℕ) (s : Plane) (x y : ℕ) → length block ≡ w * h → out ≡ map k block
+    → with_block s x y w h (λ i j. slice_index out (w * j + i)) ≡ with_block s x y w h (λ i j. k (slice_index block (w * j + i)))
+block_changed w h k block out s x y long is =
+    with_block_same s x y w h (λ i j. slice_index out (w * j + i)) (λ i j. k (slice_index block (w * j + i)))
+    (λ i j column row. ap (λ xs. slice_index xs (w * j + i)) is ∙ get_or-map k block (w * j + i) 0 0 (omega (arith, long, mul-add-lt j w i h row column, mul_comm w j)))
+
+module _ (s : Plane) (left top x y w h : ℕ) (p : ℕ → ℕ → ℕ) (by : Option Weight) where
+  abbrev wanted_at : Option Weight → ℕ → ℕ → ℕ
+  wanted_at o i j = weighted_by o (p (left + (x + i)) (top + (y + j)))
+
+  moved : (i j : ℕ) → p (left + x + i) (top + y + j) ≡ p (left + (x + i)) (top + (y + j))
+  moved i j = ap (λ u. p u (top + y + j)) (omega arith) ∙ ap (p (left + (x + i))) (omega arith)
+
+  -- without a weight
+  pub laid_by : by ≡ None → with_block s (left + x) (top + y) w h (λ i j. p (left + x + i) (top + y + j)) ≡ with_block s (left + x) (top + y) w h (wanted_at by)
+  laid_by e = grind (arith, with_block_same, moved)
+
+  -- with one
+  pub laid_weighted : (o : Weight) → by ≡ Some o → (block : List ℕ) → block ≡ block_of w h (λ i j. p (left + x + i) (top + y + j))
+      → with_block s (left + x) (top + y) w h (λ i j. weighted_by (Some o) (slice_index block (w * j + i))) ≡ with_block s (left + x) (top + y) w h (wanted_at by)
+  laid_weighted o e block is = grind (arith, with_block_same, mul_comm, block_sample, moved)
+
+-- ---- the samples around a block of a plane, in the rows that the plane lends
+
+module _ (pad left upper size first stride : ℕ) (s : Plane) (sides : Sides) (rows : List ℕ) (have : HaveSamples pad s rows)
+    (columns : left + size ≤ s.width) (lines : upper + size ≤ s.height) (inside : AreInside left upper s.width sides)
+    (is_first : first ≡ stored_place pad s.width left upper) (is_stride : stride ≡ s.width + 2 * pad) where
+  -- from a row to the one above
+  row_above : 0 < upper → (upper + pad) * (s.width + 2 * pad) ≡ (upper - 1 + pad) * (s.width + 2 * pad) + (s.width + 2 * pad)
+  row_above some = ap (λ n. n * (s.width + 2 * pad)) (omega arith) ∙ add-mul (upper - 1 + pad) 1 (s.width + 2 * pad) ∙ omega arith
+
+  up : 0 < upper → nat_abs (pos upper +ℤ negsuc 0) ≡ upper - 1
+  up some = omega (arith, ints)
+
+  back : 0 < left → nat_abs (pos left +ℤ negsuc 0) ≡ left - 1
+  back some = omega (arith, ints)
+
+  is_below : 0 < upper → stride ≤ first
+  is_below some = omega (arith, is_first, is_stride, row_above some)
+
+  above_at : (i : ℕ) → 0 < upper → left + i < s.width → 0 < s.height → seen_from s left upper (pos i) (negsuc 0) ≡ slice_index rows (first - stride + i)
+  above_at i some column row = grind (arith, ints, up, row_above)
+
+  left_at : (i : ℕ) → 0 < left → i < size → seen_from s left upper (negsuc 0) (pos i) ≡ slice_index rows (first + i * stride - 1)
+  left_at i some row = grind (arith, ints, back, add-mul)
+
+  corner_at : 0 < left → 0 < upper → 0 < size → (stride < first) × (seen_from s left upper (negsuc 0) (negsuc 0) ≡ slice_index rows (first - stride - 1))
+  corner_at some_left some_upper some = (
+    omega (arith, is_first, is_stride, row_above some_upper),
+    ap (λ u. sample s u (nat_abs (pos upper +ℤ negsuc 0))) (back some_left)
+        ∙ ap (λ v. sample s (left - 1) v) (up some_upper)
+        ∙ sym (have.at (left - 1) (upper - 1) (omega arith) (omega arith))
+        ∙ ap (slice_index rows) (omega (arith, is_first, is_stride, row_above some_upper)),
+  )
+
+  pub seen : 0 < size → IsSeen (seen_from s left upper) sides size first stride rows
+  seen some = record {
+    tops = λ there. (is_below (inside.above there), λ i low. above_at i (inside.above there) (omega (arith, columns)) (omega (arith, lines)));
+    lefts = λ there. (omega (arith, is_first, inside.before there), omega (arith, is_stride, columns, inside.before there), λ i low. left_at i (inside.before there) low);
+    at_corner = λ there. corner_at (inside.corner there).0 (inside.corner there).1 some;
+  }
+
+  pub seen4x4 : size ≡ 4 → IsSeen4x4 (seen_from s left upper) sides first stride rows
+  seen4x4 four = record {
+    beside = subst (λ n. IsSeen (seen_from s left upper) sides n first stride rows) four (seen (omega arith));
+    tops_right = λ there. (is_below (inside.above_right there).0, λ i from low. above_at i (inside.above_right there).0 (omega (arith, (inside.above_right there).1)) (omega (arith, lines)));
+  }
+
+  -- what is laid from there is the prediction
+  pub laid : 0 < size → (can : Bool) (of : ℕ → ℕ → ℕ) (new : List ℕ) → can ≡ true
+      → (IsSeen (seen_from s left upper) sides size first stride rows → IsStridedSet size size first stride of rows new)
+      → with_rows pad s new ≡ with_block s left upper size size (λ x y. unwrap_or (if can then Some (of x y) else None) 0)
+  laid some can of new there set =
+      block_lent pad s left upper size size first stride rows have columns lines is_first is_stride of new (set (seen some))
+      ∙ with_block_same s left upper size size of (λ x y. unwrap_or (if can then Some (of x y) else None) 0) (λ x y column row. sym (predicted can (of x y) there))

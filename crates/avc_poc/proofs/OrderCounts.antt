@@ -1,0 +1,488 @@
+-- Order counts of each type, after any history and after gaps, and worked examples.
+pub mod Common
+unfoldable pub use Common.*
+use Rattle.avc_params.specs.declared.sps.OrderCount.TheVariants as orders
+
+-- ---- picOrderCntMsb in each case of its choice
+
+pub lt_yes : (a b : ℤ) → a <ℤ b → int_lt a b ≡ true
+lt_yes a b h = grind (arith, ints)
+
+pub lt_no : (a b : ℤ) → b ≤ℤ a → int_lt a b ≡ false
+lt_no a b h = grind (arith, ints)
+
+pub le_yes : (a b : ℤ) → a ≤ℤ b → int_le a b ≡ true
+le_yes a b h = grind (arith, ints)
+
+pub le_no : (a b : ℤ) → b <ℤ a → int_le a b ≡ false
+le_no a b h = grind (arith, ints)
+
+pub msb_up : (max : ℤ) (p : Previous) (lsb : ℤ) → lsb <ℤ p.lsb → max ≤ℤ (pos 2 *ℤ (p.lsb -ℤ lsb)) → msb_of max p lsb ≡ p.msb +ℤ max
+msb_up max p lsb h k = rw (lt_yes lsb p.lsb h, le_yes max (pos 2 *ℤ (p.lsb -ℤ lsb)) k)
+
+pub msb_below : (max : ℤ) (p : Previous) (lsb : ℤ) → lsb <ℤ p.lsb → (pos 2 *ℤ (p.lsb -ℤ lsb)) <ℤ max → msb_of max p lsb ≡ p.msb
+msb_below max p lsb h k = rw (lt_yes lsb p.lsb h, le_no max (pos 2 *ℤ (p.lsb -ℤ lsb)) k, lt_no p.lsb lsb (omega (arith, ints)))
+
+pub msb_down : (max : ℤ) (p : Previous) (lsb : ℤ) → p.lsb <ℤ lsb → max <ℤ (pos 2 *ℤ (lsb -ℤ p.lsb)) → msb_of max p lsb ≡ p.msb -ℤ max
+msb_down max p lsb h k = rw (lt_no lsb p.lsb (omega (arith, ints)), lt_yes p.lsb lsb h, lt_yes max (pos 2 *ℤ (lsb -ℤ p.lsb)) k)
+
+pub msb_above : (max : ℤ) (p : Previous) (lsb : ℤ) → p.lsb <ℤ lsb → (pos 2 *ℤ (lsb -ℤ p.lsb)) ≤ℤ max → msb_of max p lsb ≡ p.msb
+msb_above max p lsb h k = rw (lt_no lsb p.lsb (omega (arith, ints)), lt_yes p.lsb lsb h, lt_no max (pos 2 *ℤ (lsb -ℤ p.lsb)) k)
+
+pub msb_same : (max : ℤ) (p : Previous) (lsb : ℤ) → p.lsb ≤ℤ lsb → lsb ≤ℤ p.lsb → msb_of max p lsb ≡ p.msb
+msb_same max p lsb h k = rw (lt_no lsb p.lsb h, lt_no p.lsb lsb k)
+
+-- from what the function says, its arguments cast
+pub msb_told : (r m l max lsb : ℤ) (p : Previous) → r ≡ msb_of (to_z w64 (of_z w64 m)) p (to_z w64 (of_z w64 l)) → IsNear 17 m → IsNear 33 l → m ≡ max → l ≡ lsb
+    → r ≡ msb_of max p lsb
+msb_told r m l max lsb p e small few f g =
+    let first : to_z w64 (of_z w64 m) ≡ m = omega (arith, ints) in
+    let second : to_z w64 (of_z w64 l) ≡ l = omega (arith, ints) in
+    e ∙ ap (λ (x : ℤ). msb_of x p (to_z w64 (of_z w64 l))) (first ∙ f) ∙ ap (λ (x : ℤ). msb_of max p x) (second ∙ g)
+
+pub lowered_told : (r d delta top : ℤ) → IsNear 33 d → IsNear 33 r → d ≡ delta → ((t : ℤ) → r ≡ t -ℤ int_min t (t +ℤ to_z w64 (of_z w64 d)))
+    → to_z w64 (of_z w64 r) ≡ top -ℤ int_min top (top +ℤ delta)
+lowered_told r d delta top few small e told =
+    let first : to_z w64 (of_z w64 r) ≡ r = omega (arith, ints) in
+    let second : to_z w64 (of_z w64 d) ≡ d = omega (arith, ints) in
+    first ∙ told top ∙ ap (λ (x : ℤ). top -ℤ int_min top (top +ℤ x)) (second ∙ e)
+
+pub previous_cast : (m l : ℤ) → IsNear 34 m → IsNear 33 l → IsPrevious (record { msb = to_z w64 (of_z w64 m); lsb = to_z w64 (of_z w64 l) })
+previous_cast m l a b = record {
+  msb = record { low = omega (arith, ints); high = omega (arith, ints) };
+  lsb = record { low = omega (arith, ints); high = omega (arith, ints) };
+}
+
+-- ---- sums of offsets
+
+pub sum_more : (xs : List ℤ) (i : ℕ) (d : ℤ) → i < length xs → sum_ℤ (drop i xs) ≡ get_or xs i d +ℤ sum_ℤ (drop (i + 1) xs)
+sum_more xs i d h = ap sum_ℤ (drop_more xs i d h)
+
+pub sum_parts : (xs ys : List ℤ) → sum_ℤ (xs ++ ys) ≡ sum_ℤ xs +ℤ sum_ℤ ys
+sum_parts [] ys = omega (arith, ints)
+sum_parts (x ∷ xs) ys = ap (λ (s : ℤ). x +ℤ s) (sum_parts xs ys) ∙ omega (arith, ints)
+
+pub sum_whole : (cycle : List ℤ) (k : ℕ) (first rest : ℤ) → k ≤ length cycle → first ≡ sum_ℤ (take k cycle) → rest ≡ sum_ℤ (take (length cycle - k) (drop k cycle))
+    → first +ℤ rest ≡ sum_ℤ cycle
+sum_whole cycle k first rest h e f =
+    let all : take (length cycle - k) (drop k cycle) ≡ drop k cycle = grind (arith, take_all, length-drop) in
+    ap (λ (x : ℤ). x +ℤ rest) e ∙ ap (λ (y : ℤ). sum_ℤ (take k cycle) +ℤ y) (f ∙ ap sum_ℤ all)
+    ∙ sym (sum_parts (take k cycle) (drop k cycle)) ∙ ap sum_ℤ (take-append-drop k cycle)
+
+pub expected_is : (abs : ℕ) (cycle : List ℤ) → (abs ≡ 0 → ⊥) → (length cycle == 0) ≡ false
+    → expected_order_count abs cycle ≡ pos ((abs - 1) / length cycle) *ℤ sum_ℤ cycle +ℤ sum_ℤ (take ((abs - 1) % length cycle + 1) cycle)
+expected_is zero cycle some more = absurd (some refl)
+expected_is (suc n) [] some more = absurd (grind (arith, nat_tests))
+expected_is (suc n) (x ∷ xs) some more =
+    let less : n ≡ suc n - 1 = omega arith in
+    ap (λ (k : ℕ). pos (k / length (x ∷ xs)) *ℤ sum_ℤ (x ∷ xs) +ℤ sum_ℤ (take (k % length (x ∷ xs) + 1) (x ∷ xs))) less
+
+near_abs : (z : ℤ) → IsNear 40 z → unsigned_abs z ≤ 2 ^ 40
+near_abs (pos a) h = omega (arith, ints)
+near_abs (negsuc a) h = omega (arith, ints)
+
+abs_near : (z : ℤ) → unsigned_abs z ≤ 2 ^ 31 * 2 ^ 40 → IsNear 71 z
+abs_near (pos a) h = record { low = omega (arith, ints); high = omega (arith, ints) }
+abs_near (negsuc a) h = record { low = omega (arith, ints); high = omega (arith, ints) }
+
+pub times_near : (n : ℕ) (z : ℤ) → n < 2 ^ 31 → IsNear 40 z → IsNear 71 (pos n *ℤ z)
+times_near n z h near = abs_near (pos n *ℤ z) (rw (unsigned_abs-mul (pos n) z) (mul-le n (unsigned_abs z) (2 ^ 31) (2 ^ 40) (omega arith) (near_abs z near)))
+
+-- the product, its factors cast
+pub product_told : (n : ℕ) (z a b : ℤ) → n < 2 ^ 31 → IsNear 40 z → a ≡ pos n → b ≡ to_z w64 (of_z w64 z)
+    → to_z w128 (of_z w128 a) *ℤ to_z w128 (of_z w128 b) ≡ pos n *ℤ z
+product_told n z a b h near e f =
+    let first : to_z w128 (of_z w128 a) ≡ pos n = omega (arith, ints) in
+    let second : to_z w128 (of_z w128 b) ≡ z = omega (arith, ints) in
+    ap (λ (x : ℤ). x *ℤ to_z w128 (of_z w128 b)) first ∙ ap (λ (y : ℤ). pos n *ℤ y) second
+
+-- ---- what an answer says of the counts behind it
+
+abbrev IsValue : Result (ℤ × ℤ) Fault → Type 0
+IsValue (Ok p) = Unit {0}
+IsValue (Err f) = ⊥
+
+abbrev value : Result (ℤ × ℤ) Fault → ℤ × ℤ
+value (Ok p) = p
+value (Err f) = (pos 0, pos 0)
+
+pub ok_is : (b : Bool) (p q : ℤ × ℤ) → ◌≡◌ {A = Result (ℤ × ℤ) Fault} (Ok q) (if b then Ok p else Err PocRange) → (b ≡ true) × (q ≡ p)
+ok_is true p q e = (refl, ap value e)
+ok_is false p q e = absurd (subst IsValue e tt)
+
+pub counted : (r : Result Counts Fault) (p : ℤ × ℤ) → ◌≡◌ {A = Result (ℤ × ℤ) Fault} (Ok p) (count_pair r) → is_ok r ≡ true
+counted (Ok c) p e = refl
+counted (Err f) p e = absurd (subst IsValue e tt)
+
+answer_tested : (b : Bool) (c : Counts) → ◌≡◌ {A = Result (ℤ × ℤ) Fault} (if b then Ok (pair c) else Err PocRange) (count_pair (if b then Ok c else Err PocRange))
+answer_tested true c = refl
+answer_tested false c = refl
+
+pub in_range_lowered : (h : Header) (c : Counts) → has_operation_5 h ≡ true → both_in_32_bits c ≡ true
+    → ◌≡◌ {A = Result (ℤ × ℤ) Fault} (if both_in_32_bits (lowered_by_operation_5 c) then Ok (pair (lowered_by_operation_5 c)) else Err PocRange) (count_pair (in_range h c))
+in_range_lowered h c five fit = rw (five, fit) (answer_tested (both_in_32_bits (lowered_by_operation_5 c)) (lowered_by_operation_5 c))
+
+fits_is : (z : ℤ) → in_32_bits z ≡ true → IsNear 31 z
+fits_is z e =
+    let parts = and_parts (int_le (neg_ℤ (pos (2 ^ 31))) z) (int_lt z (pos (2 ^ 31))) e in
+    let low : int_le (neg_ℤ (pos (2 ^ 31))) z ≡ true = parts.0 in
+    let high : int_lt z (pos (2 ^ 31)) ≡ true = parts.1 in
+    record { low = omega (arith, ints); high = omega (arith, ints) }
+
+tested : (b : Bool) (c : Counts) → is_ok (if b then Ok c else Err PocRange) ≡ true → b ≡ true
+tested true c e = refl
+tested false c e = e
+
+unmoved : (a b : Bool) (m : ℤ) → (if a then m +ℤ pos 0 else (if b then m -ℤ pos 0 else m)) ≡ m
+unmoved true b m = omega (arith, ints)
+unmoved false true m = omega (arith, ints)
+unmoved false false m = refl
+
+msb_unmoved : (max : ℤ) (p : Previous) (lsb : ℤ) → max ≡ pos 0 → IsPrevious p → IsNear 34 (msb_of max p lsb)
+msb_unmoved max p lsb e near =
+    let same : msb_of (pos 0) p lsb ≡ p.msb =
+    unmoved (int_lt lsb p.lsb && int_le (pos 0) (pos 2 *ℤ (p.lsb -ℤ lsb))) (int_lt p.lsb lsb && int_lt (pos 0) (pos 2 *ℤ (lsb -ℤ p.lsb))) p.msb in
+    subst (IsNear 34) (sym (ap (λ (m : ℤ). msb_of m p lsb) e ∙ same)) near.msb
+
+-- A picture that has counts leaves an msb that is small enough.
+kept : (o : OrderCount) (sps : Sps) (h : Header) (p : Previous) (n : ℕ) → max_lsb sps.order_count ≡ max_lsb o → IsPrevious p → IsNear 33 (lsb_of h.order)
+    → is_ok (if number_in_range o n then in_range h (counts_by o sps h p n) else Err PocRange) ≡ true
+    → IsNear 34 (msb_of (max_lsb sps.order_count) p (lsb_of h.order))
+kept (orders.Type0 log2) sps h p n e near low ok =
+    let c : Counts = counts_0 sps h p in
+    let top : IsNear 31 (msb_of (max_lsb sps.order_count) p (lsb_of h.order) +ℤ lsb_of h.order) =
+    fits_is _ (and_parts (in_32_bits c.top) (in_32_bits c.bottom) (and_parts (both_in_32_bits c) (both_in_32_bits (final_counts h c)) (tested (both_in_32_bits c && both_in_32_bits (final_counts h c)) (final_counts h c) ok)).0).0 in
+    near_part _ _ top low
+  where
+    near_part : (m l : ℤ) → IsNear 31 (m +ℤ l) → IsNear 33 l → IsNear 34 m
+    near_part m l a b = record { low = omega (arith, ints); high = omega (arith, ints) }
+kept (orders.Type1 z a b cycle) sps h p n e near low ok = msb_unmoved (max_lsb sps.order_count) p (lsb_of h.order) e near
+kept orders.Type2 sps h p n e near low ok = msb_unmoved (max_lsb sps.order_count) p (lsb_of h.order) e near
+
+pub msb_kept : (sps : Sps) (h : Header) (p : Previous) (n : ℕ) → IsPrevious p → IsNear 33 (lsb_of h.order) → is_ok (counts_from sps h p n) ≡ true
+    → IsNear 34 (msb_of (max_lsb sps.order_count) p (lsb_of h.order))
+msb_kept sps h p n near low ok = kept sps.order_count sps h p n refl near low ok
+
+pub both_are : (a b c d : ℤ) → a ≡ c → b ≡ d → ◌≡◌ {A = ℤ × ℤ} (a, b) (c, d)
+both_are a b c d e f = ap (λ (x : ℤ). (x, b)) e ∙ ap (λ (y : ℤ). (c, y)) f
+
+-- ---- what is left by a history is all that the next order counts ask of it
+
+none_below : (n : ℕ) → nat_lt n 0 ≡ false
+none_below n = grind (arith, nat_tests)
+
+pub held_more : (b : Bool) (o m : ℕ) → (if b then saturated (saturated o + m) else saturated o) ≡ saturated (if b then o + m else o)
+held_more true o m = omega arith
+held_more false o m = refl
+
+held_step : (idr reset : Bool) (o before n m : ℕ)
+    → elim idr as (λ x. ℕ) [ true ↦ 0 | false ↦ next_offset (if reset then 0 else saturated o) (if reset then 0 else before) n m ]
+    ≡ saturated (elim idr as (λ x. ℕ) [ true ↦ 0 | false ↦ (if reset then 0 else (if nat_lt n before then o + m else o)) ])
+held_step true reset o before n m = refl
+held_step false true o before n m = rw (none_below n)
+held_step false false o before n m = held_more (nat_lt n before) o m
+
+pub offset_law : (sps : Sps) (h : Header) (older : List Past) → picture_offset sps h (order_count_state older) ≡ saturated (frame_num_offset (picture sps h ∷ older))
+offset_law sps h [] = held_step (is_idr h) true 0 0 h.frame_num (max_frame_num sps) ∙ at_first (is_idr h)
+  where
+    at_first : (b : Bool) → saturated (elim b as (λ x. ℕ) [ true ↦ 0 | false ↦ 0 ]) ≡ 0
+    at_first true = refl
+    at_first false = refl
+offset_law sps h (x ∷ others) = held_step (is_idr h) (resets_order_counts x) (frame_num_offset (x ∷ others)) (past_number x) h.frame_num (max_frame_num sps)
+
+pub missing_offset : (sps : Sps) (n : ℕ) (older : List Past)
+    → next_offset (order_count_state older).offset (order_count_state older).frame_num n (max_frame_num sps) ≡ saturated (frame_num_offset (missing sps n ∷ older))
+missing_offset sps n [] = rw (none_below n) refl
+missing_offset sps n (x ∷ others) = held_step false (resets_order_counts x) (frame_num_offset (x ∷ others)) (past_number x) n (max_frame_num sps)
+
+-- FrameNumOffset may be held at 2^31, since no count is answered from there on
+in_range_alike : {A : Type 0} (f : ℕ → A) (z : A) (x n : ℕ) (b : Bool) → nat_lt x (2 ^ 31) ≡ b
+    → (if nat_lt (saturated x + n) (2 ^ 31) then f (saturated x + n) else z) ≡ (if nat_lt (x + n) (2 ^ 31) then f (x + n) else z)
+in_range_alike f z x n true e =
+    let below : saturated x ≡ x = grind (arith, nat_tests) in
+    ap (λ k. if nat_lt (k + n) (2 ^ 31) then f (k + n) else z) below
+in_range_alike f z x n false e =
+    let first : nat_lt (saturated x + n) (2 ^ 31) ≡ false = grind (arith, nat_tests) in
+    let second : nat_lt (x + n) (2 ^ 31) ≡ false = grind (arith, nat_tests) in
+    rw (first, second)
+
+held_counts : (o : OrderCount) (sps : Sps) (h : Header) (p : Previous) (x n : ℕ)
+    → ◌≡◌ {A = Result _ Fault} (if number_in_range o (saturated x + n) then in_range h (counts_by o sps h p (saturated x + n)) else Err PocRange)
+    (if number_in_range o (x + n) then in_range h (counts_by o sps h p (x + n)) else Err PocRange)
+held_counts (orders.Type0 log2) sps h p x n = refl
+held_counts (orders.Type1 z a b cycle) sps h p x n =
+    in_range_alike (λ k. in_range h (counts_by (orders.Type1 z a b cycle) sps h p k)) (Err PocRange) x n (nat_lt x (2 ^ 31)) refl
+held_counts orders.Type2 sps h p x n = in_range_alike (λ k. in_range h (counts_by orders.Type2 sps h p k)) (Err PocRange) x n (nat_lt x (2 ^ 31)) refl
+
+pub previous_law : (older : List Past) → (order_count_state older).previous ≡ previous_of older
+previous_law [] = refl
+previous_law (x ∷ others) = refl
+
+pub counts_law : (sps : Sps) (h : Header) (older : List Past) → counts_after sps h (order_count_state older) ≡ order_counts sps h older
+counts_law sps h older =
+    ap (λ p. counts_from sps h (previous_for h p) (picture_offset sps h (order_count_state older) + h.frame_num)) (previous_law older)
+    ∙ ap (λ (k : ℕ). counts_from sps h (previous_for h (previous_of older)) (k + h.frame_num)) (offset_law sps h older)
+    ∙ held_counts sps.order_count sps h (previous_for h (previous_of older)) (frame_num_offset (picture sps h ∷ older)) h.frame_num
+
+previous_after_law : (sps : Sps) (h : Header) (older : List Past) → previous_after sps h (order_count_state older).previous ≡ previous_of (picture sps h ∷ older)
+previous_after_law sps h older = ap (previous_after sps h) (previous_law older) ∙ same (is_reference h) (is_idr h)
+  where
+    same : (reference idr : Bool)
+        → elim reference as (λ x. Previous) [ false ↦ previous_of older | true ↦ previous_from sps h (elim idr as (λ x. Previous) [ true ↦ no_previous | false ↦ previous_of older ]) ]
+        ≡ elim reference as (λ x. Previous) [ false ↦ previous_of older | true ↦ elim idr as (λ x. Previous) [ true ↦ previous_from sps h no_previous | false ↦ previous_from sps h (previous_of older) ] ]
+    same false idr = refl
+    same true true = refl
+    same true false = refl
+
+after_is : (sps : Sps) (h : Header) (s : OrderCountState) (p : Previous) (k : ℕ) → previous_after sps h s.previous ≡ p → picture_offset sps h s ≡ k
+    → after_picture sps h s ≡ record { previous = p; offset = if has_operation_5 h then 0 else k; frame_num = if has_operation_5 h then 0 else h.frame_num }
+after_is sps h s p k e f =
+    ap (λ (x : Previous). after x (picture_offset sps h s)) e ∙ ap (λ (x : ℕ). after p x) f
+  where
+    after : Previous → ℕ → OrderCountState
+    after x y = record { previous = x; offset = if has_operation_5 h then 0 else y; frame_num = if has_operation_5 h then 0 else h.frame_num }
+
+pub after_law : (sps : Sps) (h : Header) (older : List Past) → after_picture sps h (order_count_state older) ≡ order_count_state (picture sps h ∷ older)
+after_law sps h older = after_is sps h (order_count_state older) _ _ (previous_after_law sps h older) (offset_law sps h older)
+
+-- ---- the order counts after a gap in frame_num
+
+-- one number more, after the number r of round q
+next_by : (c : Bool) (b q r m j : ℕ) → nat_lt (r + 1) m ≡ c → r < m → 1 < m → j ≡ q * m + r
+    → next_offset (saturated (b + q * m)) r ((j + 1) % m) m ≡ saturated (b + (j + 1) / m * m)
+next_by true b q r m j c below some is =
+    let more : r + 1 < m = grind (arith, nat_tests) in
+    let next : j + 1 ≡ q * m + (r + 1) = omega (arith, is) in
+    let number : (j + 1) % m ≡ r + 1 = ap (λ x. x % m) next ∙ mod-mul-add q m (r + 1) more in
+    let round : (j + 1) / m ≡ q = ap (λ x. x / m) next ∙ div-mul-add q m (r + 1) more in
+    let on : nat_lt (r + 1) r ≡ false = grind (arith, nat_tests) in
+    rw (number, round, on) refl
+next_by false b q r m j c below some is =
+    let full : r + 1 ≡ m = grind (arith, nat_tests) in
+    let none : 0 < m = omega arith in
+    let next : j + 1 ≡ (q + 1) * m + 0 = omega (arith, is, add-mul q 1 m) in
+    let number : (j + 1) % m ≡ 0 = ap (λ x. x % m) next ∙ mod-mul-add (q + 1) m 0 none in
+    let round : (j + 1) / m ≡ q + 1 = ap (λ x. x / m) next ∙ div-mul-add (q + 1) m 0 none in
+    let anew : nat_lt 0 r ≡ true = grind (arith, nat_tests) in
+    let sum : b + q * m + m ≡ b + (q + 1) * m = omega (arith, add-mul q 1 m) in
+    rw (number, round, anew) (held_more true (b + q * m) m ∙ ap saturated sum)
+
+next_round : (b m j : ℕ) → 1 < m → next_offset (saturated (b + j / m * m)) (j % m) ((j + 1) % m) m ≡ saturated (b + (j + 1) / m * m)
+next_round b m j some =
+    let below : j % m < m = mod-lt j (omega arith) in
+    next_by (nat_lt (j % m + 1) m) b (j / m) (j % m) m j refl below some (sym (div-add-mod' j m))
+
+abbrev state : OrderCountState → (b m j : ℕ) → OrderCountState
+state s b m j = record { previous = s.previous; offset = saturated (b + j / m * m); frame_num = j % m }
+
+is_state : (s : OrderCountState) (b m j : ℕ) → s.offset ≡ saturated (b + j / m * m) → s.frame_num ≡ j % m → s ≡ state s b m j
+is_state s b m j e f = rw (sym e, sym f) refl
+
+-- a missing number leaves prevPicOrderCntMsb and prevPicOrderCntLsb
+same_previous : (sps : Sps) (k b m j : ℕ) (older : List Past) → state (order_count_state (missing sps k ∷ older)) b m j ≡ state (order_count_state older) b m j
+same_previous sps k b m j older =
+    ap (λ (p : Previous). of_previous p) (sym (previous_law older))
+  where
+    of_previous : Previous → OrderCountState
+    of_previous p = record { previous = p; offset = saturated (b + j / m * m); frame_num = j % m }
+
+-- n numbers more
+numbers_on : (n : ℕ) (sps : Sps) (b j : ℕ) (older : List Past) → 1 < max_frame_num sps
+    → (order_count_state older).offset ≡ saturated (b + j / max_frame_num sps * max_frame_num sps) → (order_count_state older).frame_num ≡ j % max_frame_num sps
+    → order_count_state (with_missing_from sps (j + 1) n older) ≡ state (order_count_state older) b (max_frame_num sps) (j + n)
+numbers_on zero sps b j older some offset number =
+    let none : j ≡ j + 0 = omega arith in
+    is_state (order_count_state older) b (max_frame_num sps) j offset number
+    ∙ ap (λ (k : ℕ). state (order_count_state older) b (max_frame_num sps) k) none
+numbers_on (suc n) sps b j older some offset number =
+    let m = max_frame_num sps in
+    let next : List Past = missing sps ((j + 1) % m) ∷ older in
+    let on : saturated (frame_num_offset next) ≡ saturated (b + (j + 1) / m * m) =
+    sym (missing_offset sps ((j + 1) % m) older)
+    ∙ ap (λ (o : ℕ). next_offset o (order_count_state older).frame_num ((j + 1) % m) m) offset
+    ∙ ap (λ (k : ℕ). next_offset (saturated (b + j / m * m)) k ((j + 1) % m) m) number
+    ∙ next_round b m j some in
+    let same : j + 1 + n ≡ j + suc n = omega arith in
+    numbers_on n sps b (j + 1) next some on refl
+    ∙ ap (λ (k : ℕ). state (order_count_state next) b m k) same
+    ∙ same_previous sps ((j + 1) % m) b m (j + suc n) older
+
+held_again : (x b t : ℕ) → b ≡ saturated x → t ≡ 0 → saturated x ≡ saturated (b + t)
+held_again x b t is none = omega (arith, is, none)
+
+pub gaps_count_at_once_so : GapsCountAtOnce
+gaps_count_at_once_so sps first n older below some =
+    let m = max_frame_num sps in
+    let s : OrderCountState = order_count_state older in
+    let b : ℕ = next_offset s.offset s.frame_num first m in
+    let next : List Past = missing sps (first % m) ∷ older in
+    let held : b ≡ saturated (frame_num_offset next) =
+    ap (λ (k : ℕ). next_offset s.offset s.frame_num k m) (sym (mod-eq_of_lt below)) ∙ missing_offset sps (first % m) older in
+    let none : first / m * m ≡ 0 = ap (λ k. k * m) (div-eq_of_lt below) ∙ zero-mul m in
+    numbers_on n sps b first next some (held_again (frame_num_offset next) b (first / m * m) held none) refl
+    ∙ same_previous sps (first % m) b m (first + n) older
+
+-- MaxFrameNum is at least 16
+pub some_numbers : (k : ℕ) → 1 < 2 ^ (k + 4)
+some_numbers k = omega (arith, pow-add 2 k 4, pow_pos k)
+
+pub counted_from : (sps : Sps) (first count last offset reached max : ℕ) (before : OrderCountState) (older : List Past) → GapsCountAtOnce
+    → first < max_frame_num sps → 1 < max_frame_num sps → before ≡ order_count_state older → (count ≡ 0 → ⊥)
+    → max ≡ max_frame_num sps → last ≡ first + (count - 1) → offset ≡ next_offset before.offset before.frame_num first max → reached ≡ saturated (offset + last / max * max)
+    → record { previous = before.previous; offset = reached; frame_num = last % max } ≡ order_count_state (with_missing_from sps first count older)
+counted_from sps first zero last offset reached max before older law below some at more max_is last_is offset_is reached_is = absurd (more refl)
+counted_from sps first (suc n) last offset reached max before older law below some at more max_is last_is offset_is reached_is =
+    let end : last ≡ first + n = omega (arith, last_is) in
+    rw (reached_is, offset_is, max_is, end) (ap (after_missing_from (max_frame_num sps) first n) at ∙ sym (law sps first n older below some))
+
+-- ---- worked examples of order counts
+
+abbrev sps_of : OrderCount → Sps
+sps_of order = record {
+  profile_idc = 66;
+  constraint_flags = record {
+    constraint_set0_flag = true;
+    constraint_set1_flag = true;
+    constraint_set2_flag = false;
+    constraint_set3_flag = false;
+    constraint_set4_flag = false;
+    constraint_set5_flag = false;
+  };
+  reserved_zero_2bits = 0;
+  level_idc = 10;
+  seq_parameter_set_id = 0;
+  log2_max_frame_num_minus4 = 0;
+  order_count = order;
+  max_num_ref_frames = 1;
+  gaps_in_frame_num_value_allowed_flag = false;
+  pic_width_in_mbs_minus1 = 0;
+  pic_height_in_map_units_minus1 = 0;
+  direct_8x8_inference_flag = false;
+  frame_cropping = None;
+  vui = None;
+}
+
+abbrev idr : Header
+idr = record {
+  nal_ref_idc = 3;
+  first_mb_in_slice = 0;
+  slice_type = AllI;
+  pic_parameter_set_id = 0;
+  frame_num = 0;
+  idr_pic_id = Some 0;
+  order = Type0 0 (pos 0);
+  redundant_pic_cnt = None;
+  active_override = None;
+  num_ref_idx_active = 0;
+  modifications = None;
+  pred_weight_table = None;
+  marking = Some (Idr false false);
+  slice_qp_delta = pos 0;
+  deblocking = None;
+  position = 0;
+}
+
+abbrev p_at : (nal_ref_idc frame_num lsb : ℕ) → Header
+p_at nal_ref_idc frame_num lsb =
+    record idr { nal_ref_idc = nal_ref_idc; slice_type = AllP; frame_num = frame_num; idr_pic_id = None; order = Type0 lsb (pos 0); marking = Some SlidingWindow }
+
+abbrev type0 : Sps
+type0 = sps_of (orders.Type0 0)
+
+abbrev both : ℤ → Counts
+both z = record { top = z; bottom = z }
+
+of_idr_alone : order_counts type0 idr [] ≡ Ok (both (pos 0))
+of_idr_alone = refl
+
+second : order_counts type0 (p_at 2 1 4) (picture type0 idr ∷ []) ≡ Ok (both (pos 4))
+second = refl
+
+third : order_counts type0 (p_at 0 2 2) (picture type0 (p_at 2 1 4) ∷ picture type0 idr ∷ []) ≡ Ok (both (pos 2))
+third = refl
+
+-- 15 after 4 is -1, and 4 after 15 is 20
+below : order_counts type0 (p_at 2 1 15) (picture type0 idr ∷ []) ≡ Ok (both (negsuc 0))
+below = refl
+
+above : order_counts type0 (p_at 2 3 4) (picture type0 (p_at 2 2 12) ∷ picture type0 (p_at 2 1 7) ∷ picture type0 idr ∷ []) ≡ Ok (both (pos 20))
+above = refl
+
+-- type 2: twice the number, less one for a picture that is no reference
+abbrev type2 : Sps
+type2 = sps_of orders.Type2
+
+twice : order_counts type2 (p_at 0 1 0) (picture type2 idr ∷ []) ≡ Ok (both (pos 1))
+twice = refl
+
+-- frame_num has come round
+round : order_counts type2 (p_at 2 0 0) (picture type2 (p_at 2 15 0) ∷ picture type2 idr ∷ []) ≡ Ok (both (pos 32))
+round = refl
+
+-- type 1 with the cycle 2, 4
+abbrev type1 : Sps
+type1 = sps_of (orders.Type1 false (negsuc 0) (pos 1) (pos 2 ∷ pos 4 ∷ []))
+
+in_cycle : order_counts type1 (record (p_at 2 3 0) { order = Type1 (pos 0) (pos 0) }) (missing type1 2 ∷ missing type1 1 ∷ picture type1 idr ∷ []) ≡ Ok (record { top = pos 8; bottom = pos 9 })
+in_cycle = refl
+
+-- operation 5: answered from 0 on, and the next picture counts from there
+abbrev resetting : Header
+resetting = record (p_at 2 3 6) { order = Type0 6 (pos 1); marking = Some (Adaptive (UnmarkAll ∷ [])) }
+
+reset_counts : order_counts type0 resetting (picture type0 idr ∷ []) ≡ Ok (record { top = pos 0; bottom = pos 1 })
+reset_counts = refl
+
+after_reset : order_counts type0 (p_at 2 1 2) (picture type0 resetting ∷ picture type0 idr ∷ []) ≡ Ok (both (pos 2))
+after_reset = refl
+
+-- in the cycle, a picture that is no reference: one number less, and its offset
+not_in_cycle : order_counts type1 (record (p_at 0 3 0) { order = Type1 (pos 0) (pos 0) }) (missing type1 2 ∷ missing type1 1 ∷ picture type1 idr ∷ []) ≡ Ok (record { top = pos 5; bottom = pos 6 })
+not_in_cycle = refl
+
+-- a difference of exactly half of MaxPicOrderCntLsb: up from 12 to 4 (see `above`), but not down from 4 to 12
+half : order_counts type0 (p_at 2 2 12) (picture type0 (p_at 2 1 4) ∷ picture type0 idr ∷ []) ≡ Ok (both (pos 12))
+half = refl
+
+-- the greatest bottom count, and one more
+greatest : order_counts type0 (record (p_at 2 1 1) { order = Type0 1 (pos 2147483646) }) (picture type0 idr ∷ []) ≡ Ok (record { top = pos 1; bottom = pos 2147483647 })
+greatest = refl
+
+too_great : order_counts type0 (record (p_at 2 1 1) { order = Type0 1 (pos 2147483647) }) (picture type0 idr ∷ []) ≡ Err PocRange
+too_great = refl
+
+-- in range before it is lowered, and not after
+too_great_lowered : order_counts type0 (record resetting { order = Type0 0 (negsuc 2147483647) }) (picture type0 idr ∷ []) ≡ Err PocRange
+too_great_lowered = refl
+
+-- type 2 after operation 5: the count is lowered from 6 to 0, and frame_num counts from 0
+abbrev resetting2 : Header
+resetting2 = record (p_at 2 3 0) { marking = Some (Adaptive (UnmarkAll ∷ [])) }
+
+reset2 : order_counts type2 resetting2 (picture type2 idr ∷ []) ≡ Ok (both (pos 0))
+reset2 = refl
+
+after_reset2 : order_counts type2 (p_at 0 1 0) (picture type2 resetting2 ∷ picture type2 idr ∷ []) ≡ Ok (both (pos 1))
+after_reset2 = refl
+
+-- frame number 0 is missing after 15
+missing_round : order_counts type2 (p_at 2 1 0) (missing type2 0 ∷ picture type2 (p_at 2 15 0) ∷ picture type2 idr ∷ []) ≡ Ok (both (pos 34))
+missing_round = refl
+
+-- type 1 without a cycle: the coded differences alone
+abbrev bare : Sps
+bare = sps_of (orders.Type1 false (negsuc 1) (pos 1) [])
+
+no_cycle : order_counts bare (record (p_at 2 3 0) { order = Type1 (pos 5) (negsuc 1) }) (picture bare idr ∷ []) ≡ Ok (record { top = pos 5; bottom = pos 4 })
+no_cycle = refl
+
+no_cycle_not_reference : order_counts bare (record (p_at 0 3 0) { order = Type1 (pos 5) (negsuc 1) }) (picture bare idr ∷ []) ≡ Ok (record { top = pos 3; bottom = pos 2 })
+no_cycle_not_reference = refl
+
+-- eight whole cycles of 6 and the first offset: frame number 17
+cycle_round : order_counts type1 (record (p_at 2 1 0) { order = Type1 (pos 0) (pos 0) }) (picture type1 (p_at 2 15 0) ∷ picture type1 idr ∷ []) ≡ Ok (record { top = pos 50; bottom = pos 51 })
+cycle_round = refl
+
+-- seven whole cycles and both offsets, less one for a picture that is no reference
+cycle_round_not_reference : order_counts type1 (record (p_at 0 1 0) { order = Type1 (pos 0) (pos 0) }) (picture type1 (p_at 2 15 0) ∷ picture type1 idr ∷ []) ≡ Ok (record { top = pos 47; bottom = pos 48 })
+cycle_round_not_reference = refl
