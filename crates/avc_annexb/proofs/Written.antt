@@ -6,29 +6,22 @@ unfoldable pub use Scanning.*
 
 pub numbered-append : (max index : ℕ) (done more : List PlacedUnit) → numbered max index (done ++ more) ≡ numbered max index done ++ numbered max (index + length done) more
 numbered-append max index [] more = ap (λ n. numbered max n more) (omega arith)
-numbered-append max index (unit ∷ done) more =
-    ap (λ us. unit_of max index unit ∷ us) (numbered-append max (index + 1) done more ∙ ap (λ n. numbered max (index + 1) done ++ numbered max n more) (omega arith))
-
-one_closed_at : (offset : ℕ) (bytes : List ℕ) → (length bytes ≡ 0 → ⊥) → unit_at offset (Some bytes) ≡ record { offset = offset; bytes = bytes } ∷ []
-one_closed_at offset [] some = absurd (some refl)
-one_closed_at offset (b ∷ bytes) some = refl
+numbered-append max index (unit ∷ done) more = grind (arith, numbered-append max (index + 1) done more)
 
 -- a unit with bytes is added
-pub closed_some : (unit : PlacedUnit) → (length unit.bytes ≡ 0 → ⊥) → closed_unit (Some unit) ≡ unit ∷ []
-closed_some unit some = one_closed_at unit.offset unit.bytes some
+pub closed_some : (offset : ℕ) (bytes : List ℕ) → 0 < length bytes → unit_at offset (Some bytes) ≡ record { offset = offset; bytes = bytes } ∷ []
+closed_some offset [] some = absurd (omega arith)
+closed_some offset (b ∷ bytes) some = refl
 
 pub keeps-append : (max : ℕ) (o : OpenUnit max) (unit : PlacedUnit) (a b : List ℕ) → IsOpenUnit max o (with_bytes (with_bytes unit a) b) → IsOpenUnit max o (with_bytes unit (a ++ b))
 keeps-append max o unit a b k = rw append_assoc at k
 
 pub units_pushed : (max : ℕ) (given : List Unit) (done : List PlacedUnit) (unit : PlacedUnit) (old : List Unit) (u : Unit) → given ++ old ≡ numbered max 0 done → u ≡ unit_of max (length done) unit →
     given ++ (old ++ u ∷ []) ≡ numbered max 0 (done ++ unit ∷ [])
-units_pushed max given done unit old u is made =
-    sym (append_assoc given old (u ∷ [])) ∙ ap (λ us. us ++ u ∷ []) is ∙ ap (λ v. numbered max 0 done ++ v ∷ []) made
-    ∙ ap (λ n. numbered max 0 done ++ unit_of max n unit ∷ []) (omega arith) ∙ sym (numbered-append max 0 done (unit ∷ []))
+units_pushed max given done unit old u is made = grind (arith, numbered-append, append_assoc)
 
 pub first_and_rest : (bytes : List ℕ) → 1 ≤ length bytes → get_or bytes 0 0 ∷ take (length bytes - 1) (drop 1 bytes) ≡ bytes
-first_and_rest [] some = absurd (omega arith)
-first_and_rest (b ∷ bytes) some = ap (λ t. b ∷ t) (take_all (suc (length bytes) - 1) bytes (omega arith))
+first_and_rest bytes some = rw (take_rest bytes 1) (sym (drop_more bytes 0 0 some))
 
 -- what comes next is what is ready first
 pub next_in : (p : SplitterPhase) (max : ℕ) (s : Scanner max) (bytes : List ℕ) (unit : Option Unit) → IsSplitterStateIn p max s bytes → (p ≡ Running) ⊎ (p ≡ Ended) →
@@ -51,10 +44,7 @@ there_is false us taken unit is = slice_get_within us taken unit (sym is)
 
 pub fewer_wait : (max : ℕ) (s new : SplitterState) (unit : Option Unit) → unit ≡ next_unit_of max s → new ≡ after_next_unit s unit → IfSome unit (λ _. units_waiting max new < units_waiting max s)
 fewer_wait max s new None is after = tt
-fewer_wait max s new (Some unit) is after =
-    let within : s.taken < length (units max s.bytes s.ended) = there_is s.failed (units max s.bytes s.ended) s.taken unit is in
-    let fewer : units_waiting max (after_next_unit s (Some unit)) < units_waiting max s = omega arith in
-    rw after fewer
+fewer_wait max s new (Some unit) is after = grind (arith, there_is)
 
 -- ---- the units that are over stay, and a unit's bytes have no boundary in them
 
@@ -99,24 +89,18 @@ reached_run bytes done current count b s have other no_start =
 
 reached_byte : (b : ℕ) (bytes : List ℕ) (done : List PlacedUnit) (current : Option PlacedUnit) (count : ℕ) →
     ScannedBytes bytes done current count → All HasUnitBytes done → Reached (bytes ++ b ∷ [])
-reached_byte zero bytes done current zero s h =
-    record { done = _; current = _; count = _; scanned = scanned_zero bytes done current 0 s (omega arith); have = h }
-reached_byte zero bytes done current (suc zero) s h =
-    record { done = _; current = _; count = _; scanned = scanned_zero bytes done current 1 s (omega arith); have = h }
 reached_byte zero bytes done current (suc (suc zero)) s h =
-    record { done = _; current = _; count = _; scanned = scanned_third bytes done current s; have = have_more bytes done current 2 s h }
+    record { done = _; current = _; count = _; scanned = scanned_many 1 bytes done current 2 s (omega arith); have = have_more bytes done current 2 s h }
+reached_byte zero bytes done current count s h =
+    record { done = _; current = _; count = _; scanned = scanned_few 1 bytes done current count s (omega (arith, s.few)); have = h }
 reached_byte (suc zero) bytes done current (suc (suc zero)) s h =
     record { done = _; current = _; count = _; scanned = scanned_start bytes done current s; have = have_more bytes done current 2 s h }
-reached_byte (suc zero) bytes done current zero s h = reached_run bytes done current 0 1 s h (omega arith) (λ two. omega arith)
-reached_byte (suc zero) bytes done current (suc zero) s h = reached_run bytes done current 1 1 s h (omega arith) (λ two. omega arith)
-reached_byte (suc (suc b)) bytes done current count s h = reached_run bytes done current count (suc (suc b)) s h (omega arith) (λ _. omega arith)
-reached_byte _ bytes done current (suc (suc (suc _))) s h = absurd (omega (arith, s.few))
+reached_byte b bytes done current count s h = reached_run bytes done current count b s h (omega arith) (λ two. omega (arith, s.few))
 
 reached-append : (bytes more : List ℕ) → Reached bytes → Reached (bytes ++ more)
 reached-append bytes [] r = subst Reached (sym (append-nil bytes)) r
 reached-append bytes (b ∷ more) r =
-    subst Reached (append_assoc bytes (b ∷ []) more)
-    (reached-append (bytes ++ b ∷ []) more (reached_byte b bytes r.done r.current r.count r.scanned r.have))
+    grind (arith, append_assoc, reached_byte, reached-append (bytes ++ b ∷ []) more (reached_byte b bytes r.done r.current r.count r.scanned r.have))
 
 reached : (bytes : List ℕ) → Reached bytes
 reached bytes = reached-append [] bytes (record { done = []; current = None; count = 0; scanned = scanned_first; have = All-nil HasUnitBytes })
@@ -131,14 +115,11 @@ units_stay_first max bytes more ended =
     )
 
 -- Each unit's bytes are some, and no unit ends or begins in them.
-pub units_have_bytes : (ended : Bool) (bytes : List ℕ) → All HasUnitBytes (placed_units 0 ended bytes)
-units_have_bytes true bytes =
+pub units_have_bytes : (bytes : List ℕ) → All HasUnitBytes (placed_units 0 true bytes)
+units_have_bytes bytes =
     let r = reached bytes in
     All-same HasUnitBytes (placed_units 0 true bytes) (r.done ++ closed_unit r.current)
-    (scanned_end bytes r.done r.current r.count r.scanned) (have_more bytes r.done r.current r.count r.scanned r.have)
-units_have_bytes false bytes =
-    let r = reached bytes in
-    All-same HasUnitBytes (placed_units 0 false bytes) r.done (scanned_so_far bytes r.done r.current r.count r.scanned) r.have
+    (scanned_end bytes r.done r.current r.count true r.scanned) (have_more bytes r.done r.current r.count r.scanned r.have)
 
 -- ---- the units of a stream that is written of units
 
@@ -151,11 +132,8 @@ record IsNumbered (max index : ℕ) (us : List PlacedUnit) (n : ℕ) (u : Unit) 
 numbered_get : (max index : ℕ) (us : List PlacedUnit) (n : ℕ) (u : Unit) →
     slice_get (numbered max index us) n ≡ Some u → IsNumbered max index us n u
 numbered_get max index [] n u is = (cc)
-numbered_get max index (x ∷ us) zero u is =
-    record { unit = x; is_there = refl; is = sym (same_Some (unit_of max index x) u is) ∙ ap (λ i. unit_of max i x) (omega arith) }
-numbered_get max index (x ∷ us) (suc n) u is =
-    let r = numbered_get max (index + 1) us n u is in
-    record { unit = r.unit; is_there = r.is_there; is = r.is ∙ ap (λ i. unit_of max i r.unit) (omega arith) }
+numbered_get max index (x ∷ us) zero u is = grind (arith, same_Some)
+numbered_get max index (x ∷ us) (suc n) u is = grind (arith, numbered_get max (index + 1) us n u is)
 
 pub units_are_numbered_so : UnitsAreNumbered
 units_are_numbered_so max bytes ended n u is =
@@ -167,30 +145,20 @@ length-numbered : (max index : ℕ) (us : List PlacedUnit) → length (numbered 
 length-numbered max index [] = refl
 length-numbered max index (x ∷ us) = ap suc (length-numbered max (index + 1) us)
 
-one_at_most : (place : ℕ) (o : Option (List ℕ)) → length (unit_at place o) ≤ 1
-one_at_most place None = omega arith
-one_at_most place (Some []) = omega arith
-one_at_most place (Some (b ∷ bytes)) = omega arith
-
 -- the unit that begins here, if a start code stands here
 abbrev here : Bool → ℕ → Option (List ℕ) → List PlacedUnit
 here test place o = elim test [ true ↦ unit_at place o | false ↦ [] ]
 
 one_here_at_most : (test : Bool) (place : ℕ) (o : Option (List ℕ)) → length (here test place o) ≤ 1
-one_here_at_most true place o = one_at_most place o
-one_here_at_most false place o = omega arith
+one_here_at_most true place (Some (b ∷ bytes)) = omega arith
+one_here_at_most test place o = omega arith
 
 few_placed : (place : ℕ) (ended : Bool) (bytes : List ℕ) → length (placed_units place ended bytes) ≤ length bytes
 few_placed place ended [] = omega arith
-few_placed place ended (b ∷ bytes) =
-    let o = unit_bytes ended (drop 3 (b ∷ bytes)) in
-    let one = one_here_at_most (is_start (b ∷ bytes)) (place + 3) o in
-    let sum = length-append (here (is_start (b ∷ bytes)) (place + 3) o) (placed_units (place + 1) ended bytes) in
-    omega (arith, one, sum, few_placed (place + 1) ended bytes)
+few_placed place ended (b ∷ bytes) = grind (arith, one_here_at_most, length-append, few_placed (place + 1) ended bytes)
 
 pub units_are_few_so : UnitsAreFew
-units_are_few_so max bytes ended =
-    omega (arith, length-numbered max 0 (placed_units 0 ended bytes), few_placed 0 ended bytes)
+units_are_few_so max bytes ended = grind (arith, length-numbered, few_placed)
 
 -- what the units say, wherever they stand
 abbrev said : ℕ → List PlacedUnit → List (ℕ × Option (List ℕ))
@@ -208,101 +176,52 @@ said-drop max index (suc k) (x ∷ us) = said-drop max (index + 1) k us
 said-append : (max : ℕ) (us vs : List PlacedUnit) → said max (us ++ vs) ≡ said max us ++ said max vs
 said-append max us vs = map-append (λ unit. contents (unit_of max 0 unit)) us vs
 
-said-at : (max p q : ℕ) (o : Option (List ℕ)) → said max (unit_at p o) ≡ said max (unit_at q o)
-said-at max p q None = refl
-said-at max p q (Some []) = refl
-said-at max p q (Some (b ∷ bytes)) = refl
-
 said-here : (max p q : ℕ) (test : Bool) (o : Option (List ℕ)) → said max (here test p o) ≡ said max (here test q o)
-said-here max p q true o = said-at max p q o
-said-here max p q false o = refl
-
-said-sum : (max : ℕ) (us vs us' vs' : List PlacedUnit) →
-    said max us ≡ said max us' → said max vs ≡ said max vs' → said max (us ++ vs) ≡ said max (us' ++ vs')
-said-sum max us vs us' vs' e f =
-    said-append max us vs ∙ ap (λ t. t ++ said max vs) e ∙ ap (λ t. said max us' ++ t) f ∙ sym (said-append max us' vs')
+said-here max p q true (Some (b ∷ bytes)) = refl
+said-here max p q test o = refl
 
 said-placed : (max p q : ℕ) (ended : Bool) (bytes : List ℕ) → said max (placed_units p ended bytes) ≡ said max (placed_units q ended bytes)
 said-placed max p q ended [] = refl
 said-placed max p q ended (b ∷ bytes) =
-    let o = unit_bytes ended (drop 3 (b ∷ bytes)) in
-    let test = is_start (b ∷ bytes) in
-    said-sum max (here test (p + 3) o) (placed_units (p + 1) ended bytes) (here test (q + 3) o) (placed_units (q + 1) ended bytes)
-    (said-here max (p + 3) (q + 3) test o) (said-placed max (p + 1) (q + 1) ended bytes)
-
--- the unit that begins here, behind its start code, and the units after it
-abbrev units_from : ℕ → Bool → List ℕ → List PlacedUnit
-units_from place ended bytes = unit_at place (unit_bytes ended bytes) ++ placed_units place ended bytes
+    simp (said-append max, said-here max (p + 3) (q + 3) (is_start (b ∷ bytes)) (unit_bytes ended (drop 3 (b ∷ bytes))), said-placed max (p + 1) (q + 1) ended bytes)
 
 said-moved : (max p q : ℕ) (ended : Bool) (bytes : List ℕ) → said max (units_from p ended bytes) ≡ said max (units_from q ended bytes)
-said-moved max p q ended bytes =
-    let o = unit_bytes ended bytes in
-    said-sum max (unit_at p o) (placed_units p ended bytes) (unit_at q o) (placed_units q ended bytes)
-    (said-at max p q o) (said-placed max p q ended bytes)
+said-moved max p q ended bytes = simp (said-append max, said-here max p q true (unit_bytes ended bytes), said-placed max p q ended bytes)
 
--- From a unit on, the units are those that begin at its place.
-record GoesOn (ended : Bool) (place : ℕ) (bytes : List ℕ) (k : ℕ) (unit : PlacedUnit) : Type 0 where
+-- From a unit on, these are the units that begin at its place.
+record GoesOn (ended : Bool) (place : ℕ) (bytes : List ℕ) (us : List PlacedUnit) (k : ℕ) (unit : PlacedUnit) : Type 0 where
   skipped : ℕ
   offset : unit.offset ≡ place + skipped
-  rest : drop k (placed_units place ended bytes) ≡ units_from unit.offset ended (drop skipped bytes)
-
-goes_on_later : (ended : Bool) (place b : ℕ) (bytes : List ℕ) (k k' : ℕ) (unit : PlacedUnit) →
-    drop k' (placed_units place ended (b ∷ bytes)) ≡ drop k (placed_units (place + 1) ended bytes) →
-    GoesOn ended (place + 1) bytes k unit → GoesOn ended place (b ∷ bytes) k' unit
-goes_on_later ended place b bytes k k' unit same g =
-    record { skipped = suc g.skipped; offset = omega (arith, g.offset); rest = same ∙ g.rest }
+  rest : drop k us ≡ units_from unit.offset ended (drop skipped bytes)
 
 start_is : (bytes : List ℕ) → is_start bytes ≡ true → bytes ≡ 0 ∷ 0 ∷ 1 ∷ drop 3 bytes
 start_is bytes is = (starts_is Decides-eqb bytes (0 ∷ 0 ∷ 1 ∷ []) (is_start bytes) refl).0 is
 
--- the unit at a start code, and the units behind it
-start_of : (ended : Bool) (place b : ℕ) (bytes : List ℕ) → is_start (b ∷ bytes) ≡ true →
-    placed_units place ended (b ∷ bytes) ≡ unit_at (place + 3) (unit_bytes ended (drop 3 (b ∷ bytes))) ++ placed_units (place + 1) ended bytes
-start_of ended place b bytes is = rw (is, placed_units) refl
-
-goes_on_here : (ended : Bool) (place b : ℕ) (bytes : List ℕ) (unit : PlacedUnit) →
-    is_start (b ∷ bytes) ≡ true → unit.offset ≡ place + 3 → GoesOn ended place (b ∷ bytes) 0 unit
-goes_on_here ended place b bytes unit is at =
-    let is_that = start_is (b ∷ bytes) is in
-    let rest = drop 3 (b ∷ bytes) in
-    record {
-      skipped = 3;
-      offset = at;
-      rest = ap (placed_units place ended) is_that ∙ found_start place ended rest ∙ ap (λ p. units_from p ended rest) (sym at);
-    }
-
-goes_on_start : (ended : Bool) (place b : ℕ) (bytes : List ℕ) (k : ℕ) (unit : PlacedUnit) (o : Option (List ℕ)) →
-    ((k : ℕ) → slice_get (placed_units (place + 1) ended bytes) k ≡ Some unit → GoesOn ended (place + 1) bytes k unit) →
-    is_start (b ∷ bytes) ≡ true → placed_units place ended (b ∷ bytes) ≡ unit_at (place + 3) o ++ placed_units (place + 1) ended bytes →
-    slice_get (unit_at (place + 3) o ++ placed_units (place + 1) ended bytes) k ≡ Some unit → GoesOn ended place (b ∷ bytes) k unit
-goes_on_start ended place b bytes k unit None later start all is = goes_on_later ended place b bytes k k unit (ap (drop k) all) (later k is)
-goes_on_start ended place b bytes k unit (Some []) later start all is = goes_on_later ended place b bytes k k unit (ap (drop k) all) (later k is)
-goes_on_start ended place b bytes zero unit (Some (c ∷ front)) later start all is =
-    goes_on_here ended place b bytes unit start (ap (λ v. v.offset) (sym (same_Some (record { offset = place + 3; bytes = c ∷ front }) unit is)))
-goes_on_start ended place b bytes (suc k) unit (Some (c ∷ front)) later start all is =
-    goes_on_later ended place b bytes k (suc k) unit (ap (drop (suc k)) all) (later k is)
-
-goes_on_by : (test : Bool) (ended : Bool) (place b : ℕ) (bytes : List ℕ) (k : ℕ) (unit : PlacedUnit) →
-    ((k : ℕ) → slice_get (placed_units (place + 1) ended bytes) k ≡ Some unit → GoesOn ended (place + 1) bytes k unit) →
-    is_start (b ∷ bytes) ≡ test → slice_get (placed_units place ended (b ∷ bytes)) k ≡ Some unit → GoesOn ended place (b ∷ bytes) k unit
-goes_on_by true ended place b bytes k unit later start is =
-    let all = start_of ended place b bytes start in
-    goes_on_start ended place b bytes k unit (unit_bytes ended (drop 3 (b ∷ bytes))) later start all (ap (λ us. slice_get us k) (sym all) ∙ is)
-goes_on_by false ended place b bytes k unit later start is =
-    let all = placed_units-more place ended b bytes start in
-    goes_on_later ended place b bytes k k unit (ap (drop k) all) (later k (ap (λ us. slice_get us k) (sym all) ∙ is))
-
 goes_on : (ended : Bool) (place : ℕ) (bytes : List ℕ) (k : ℕ) (unit : PlacedUnit) →
-    slice_get (placed_units place ended bytes) k ≡ Some unit → GoesOn ended place bytes k unit
+    slice_get (placed_units place ended bytes) k ≡ Some unit → GoesOn ended place bytes (placed_units place ended bytes) k unit
 goes_on ended place [] k unit is = (cc)
 goes_on ended place (b ∷ bytes) k unit is =
-    goes_on_by (is_start (b ∷ bytes)) ended place b bytes k unit (λ k at. goes_on ended (place + 1) bytes k unit at) refl is
+    goes_on_by (is_start (b ∷ bytes)) (unit_bytes ended (drop 3 (b ∷ bytes))) k (λ k at. goes_on ended (place + 1) bytes k unit at) refl refl is
+  where
+    goes_on_by : (test : Bool) (o : Option (List ℕ)) (k : ℕ) →
+        ((k : ℕ) → slice_get (placed_units (place + 1) ended bytes) k ≡ Some unit → GoesOn ended (place + 1) bytes (placed_units (place + 1) ended bytes) k unit) →
+        is_start (b ∷ bytes) ≡ test → unit_bytes ended (drop 3 (b ∷ bytes)) ≡ o →
+        slice_get (here test (place + 3) o ++ placed_units (place + 1) ended bytes) k ≡ Some unit →
+        GoesOn ended place (b ∷ bytes) (here test (place + 3) o ++ placed_units (place + 1) ended bytes) k unit
+    goes_on_by true (Some (c ∷ front)) zero later start found is =
+        let at : unit.offset ≡ place + 3 = ap (λ v. v.offset) (sym (same_Some (record { offset = place + 3; bytes = c ∷ front }) unit is)) in
+        let all : placed_units place ended (b ∷ bytes) ≡ here true (place + 3) (Some (c ∷ front)) ++ placed_units (place + 1) ended bytes = rw (start, placed_units, found) refl in
+        let rest = drop 3 (b ∷ bytes) in
+        record { skipped = 3; offset = at; rest = sym all ∙ ap (placed_units place ended) (start_is (b ∷ bytes) start) ∙ found_start place ended rest ∙ ap (λ p. units_from p ended rest) (sym at) }
+    goes_on_by true (Some (c ∷ front)) (suc k) later start found is =
+        let g = later k is in record { skipped = suc g.skipped; offset = omega (arith, g.offset); rest = g.rest }
+    goes_on_by test o k later start found is =
+        let g = later k is in record { skipped = suc g.skipped; offset = omega (arith, g.offset); rest = g.rest }
 
 -- The units behind a start code, in the stream from a unit on, are those from that unit on.
 said_behind : (max place : ℕ) (ended : Bool) (bytes : List ℕ) →
     said max (placed_units place ended (start_code ++ bytes)) ≡ said max (units_from (place + 4) ended bytes)
-said_behind max place ended bytes =
-    ap (said max) (found_start (place + 1) ended bytes ∙ ap (λ p. units_from p ended bytes) (omega arith))
+said_behind max place ended bytes = grind (arith, found_start)
 
 said_from : (max : ℕ) (ended : Bool) (bytes : List ℕ) (k : ℕ) (unit : PlacedUnit) →
     saturated unit.offset < 2 ^ 64 - 1 → slice_get (placed_units 0 ended bytes) k ≡ Some unit → (place : ℕ) →
@@ -328,12 +247,8 @@ body_is : (test : Bool) (body : List ℕ) (o : Option (List ℕ)) →
 body_is true body o is some = is
 body_is false body o is some = (cc)
 
-written_body : (u : Unit) (body : List ℕ) → u.body ≡ Some body → written u ≡ start_code ++ u.header ∷ body
-written_body u body is = rw is refl
-
-first_and_others : (bytes : List ℕ) → 0 < length bytes → slice_index bytes 0 ∷ drop 1 bytes ≡ bytes
-first_and_others [] some = absurd (omega arith)
-first_and_others (b ∷ bytes) some = refl
+written_is : (u : Unit) (front : List ℕ) → 0 < length front → u.header ≡ slice_index front 0 → u.body ≡ Some (drop 1 front) → written u ≡ start_code ++ front
+written_is u front some header body = rw (body, header) (ap (λ t. start_code ++ t) (sym (drop_more front 0 0 some)))
 
 is_written : (max : ℕ) (bytes : List ℕ) (u : Unit) → IsUnitOf max bytes u → IsWritten max u
 is_written max bytes u i =
@@ -342,51 +257,52 @@ is_written max bytes u i =
     let front = r.unit.bytes in
     let within = slice_get_within us i.place r.unit r.is_there in
     let same = get_or_from_slice_get us i.place r.unit r.unit r.is_there in
-    let have : IsUnitBytes front = subst HasUnitBytes same (units_have_bytes true bytes i.place r.unit within) in
+    let have : IsUnitBytes front = subst HasUnitBytes same (units_have_bytes bytes i.place r.unit within) in
     let body = body_is (nat_le (length front) max) (drop 1 front) u.body (ap (λ v. v.body) r.is) i.short in
+    let header : u.header ≡ slice_index front 0 = ap (λ v. v.header) r.is in
     record {
       front = front;
       is = have;
-      stands =
-          written_body u (drop 1 front) body ∙ ap (λ h. start_code ++ h ∷ drop 1 front) (ap (λ v. v.header) r.is)
-          ∙ ap (λ t. start_code ++ t) (first_and_others front have.some);
-      header = ap (λ v. v.header) r.is;
+      stands = written_is u front have.some header body;
+      header = header;
       body = body;
       says = ap contents r.is;
     }
 
--- the first of the units that are written, and then the stream goes on with another start code
-placed_written : (place : ℕ) (ended : Bool) (front rest : List ℕ) → IsUnitBytes front → before_end rest ≡ Some [] →
+-- What follows the bytes of a unit that is written ends them.
+abbrev Closes : Bool → List ℕ → Type 0
+Closes ended rest = (place : ℕ) (front : List ℕ) → IsUnitBytes front →
     placed_units place ended (start_code ++ (front ++ rest))
     ≡ record { offset = place + 1 + 3; bytes = front } ∷ placed_units (place + 1 + 3 + length front) ended rest
-placed_written place ended front rest is stop =
-    found_start (place + 1) ended (front ++ rest) ∙ closes (place + 1 + 3) front rest ended is.passes stop
-    ∙ ap (λ us. us ++ placed_units (place + 1 + 3 + length front) ended rest)
-    (closed_some (record { offset = place + 1 + 3; bytes = front }) (λ e. omega (arith, e, is.some)))
 
-ends_at_once : (us : List Unit) (rest : List ℕ) → before_end (flat_map written us ++ (start_code ++ rest)) ≡ Some []
-ends_at_once [] rest = refl
-ends_at_once (u ∷ us) rest = written_ends u.body u.header (flat_map written us) (start_code ++ rest)
+-- as another start code does, and the end of the stream
+closes_start : (ended : Bool) (rest : List ℕ) → before_end rest ≡ Some [] → Closes ended rest
+closes_start ended rest stop place front is = grind (arith, found_start, closes, closed_some)
+
+closes_last : Closes true []
+closes_last place front is =
+    found_start (place + 1) true (front ++ []) ∙ last_found true (Some (record { offset = place + 1 + 3; bytes = front })) (place + 1 + 3 + length front) 0 (omega arith) (omega arith, is.passes)
+    ∙ closed_some (place + 1 + 3) front is.some
+
+closes_units : (ended : Bool) (us : List Unit) (rest : List ℕ) → Closes ended rest → Closes ended (flat_map written us ++ rest)
+closes_units ended [] rest stop = stop
+closes_units ended (u ∷ us) rest stop = closes_start ended ((written u ++ flat_map written us) ++ rest) (written_ends u.body u.header (flat_map written us))
   where
-    written_ends : (o : Option (List ℕ)) (header : ℕ) (more rest : List ℕ) →
+    written_ends : (o : Option (List ℕ)) (header : ℕ) (more : List ℕ) →
         before_end ((elim o [ Some body ↦ start_code ++ header ∷ body | None ↦ start_code ++ header ∷ [] ] ++ more) ++ rest) ≡ Some []
-    written_ends (Some body) header more rest = refl
-    written_ends None header more rest = refl
+    written_ends (Some body) header more = refl
+    written_ends None header more = refl
 
-said_written : (max : ℕ) (bytes : List ℕ) (ended : Bool) (us : List Unit) (rest : List ℕ) (all : List (ℕ × Option (List ℕ))) →
-    All (IsUnitOf max bytes) us →
-    ((place : ℕ) → said max (placed_units place ended (start_code ++ rest)) ≡ all) →
-    (place : ℕ) → said max (placed_units place ended (flat_map written us ++ (start_code ++ rest))) ≡ map contents us ++ all
-said_written max bytes ended [] rest all there last place = last place
-said_written max bytes ended (u ∷ us) rest all there last place =
-    let w = is_written max bytes u (All-head (IsUnitOf max bytes) u us there) in
-    let others = All-tail (IsUnitOf max bytes) u us there in
-    let more = flat_map written us ++ (start_code ++ rest) in
-    ap (λ t. said max (placed_units place ended ((t ++ flat_map written us) ++ (start_code ++ rest)))) w.stands
-    ∙ ap (λ t. said max (placed_units place ended (start_code ++ t))) (append_assoc w.front (flat_map written us) (start_code ++ rest))
-    ∙ ap (said max) (placed_written place ended w.front more w.is (ends_at_once us rest))
-    ∙ ap (λ c. c ∷ said max (placed_units (place + 1 + 3 + length w.front) ended more)) (sym w.says)
-    ∙ ap (λ t. contents u ∷ t) (said_written max bytes ended us rest all others last (place + 1 + 3 + length w.front))
+-- the units that are written, one after the other, and then others; f: what is said of one
+said_written : (limit max : ℕ) (bytes : List ℕ) (ended : Bool) (rest : List ℕ) (all : List (ℕ × Option (List ℕ))) (f : Unit → ℕ × Option (List ℕ)) →
+    ((u : Unit) (w : IsWritten limit u) → f u ≡ contents (unit_of max 0 (record { offset = 0; bytes = w.front }))) → Closes ended rest →
+    ((place : ℕ) → said max (placed_units place ended rest) ≡ all) → (us : List Unit) → All (IsUnitOf limit bytes) us →
+    (place : ℕ) → said max (placed_units place ended (flat_map written us ++ rest)) ≡ map f us ++ all
+said_written limit max bytes ended rest all f says stop last [] there place = last place
+said_written limit max bytes ended rest all f says stop last (u ∷ us) there place =
+    let w = is_written limit bytes u (All-head (IsUnitOf limit bytes) u us there) in
+    let others = said_written limit max bytes ended rest all f says stop last us (All-tail (IsUnitOf limit bytes) u us there) in
+    rw (w.stands, append_assoc w.front (flat_map written us) rest, closes_units ended us rest stop place w.front w.is, says u w, others (place + 1 + 3 + length w.front)) refl
 
 pub written_units_stand_so : WrittenUnitsStand
 written_units_stand_so max bytes ended us k u there is fits =
@@ -396,55 +312,24 @@ written_units_stand_so max bytes ended us k u there is fits =
     ap (λ n. map contents (units max (flat_map written us ++ start_code ++ drop n bytes) ended)) (ap (λ v. v.offset) r.is)
     ∙ ap (λ t. map contents (units max t ended)) (append_assoc (flat_map written us) start_code (drop from bytes))
     ∙ said-numbered max 0 (placed_units 0 ended (flat_map written us ++ (start_code ++ drop from bytes)))
-    ∙ said_written max bytes ended us (drop from bytes) (said max (drop k (placed_units 0 ended bytes))) there units_behind 0
+    ∙ said_written max max bytes ended (start_code ++ drop from bytes) (said max (drop k (placed_units 0 ended bytes))) contents (λ u w. w.says)
+    (closes_start ended (start_code ++ drop from bytes) refl) units_behind us there 0
     ∙ ap (λ t. map contents us ++ t) (sym (said-drop max 0 k (placed_units 0 ended bytes)))
 
 -- what a unit of some bytes says, where a unit has so many bytes at most
 said_within : (max : ℕ) (front : List ℕ) → 0 < length front →
     (slice_index front 0, body_within max (Some (drop 1 front))) ≡ contents (unit_of max 0 (record { offset = 0; bytes = front }))
 said_within max [] some = absurd (omega arith)
-said_within max (b ∷ front) some =
-    ap (λ n. (b, elim (nat_le n max) [ true ↦ Some front | false ↦ None ])) (omega arith)
+said_within max (b ∷ front) some = grind (arith, nat_le)
 
 says_within : (max limit : ℕ) (u : Unit) (w : IsWritten limit u) → contents_within max u ≡ contents (unit_of max 0 (record { offset = 0; bytes = w.front }))
-says_within max limit u w =
-    ap (λ h. (h, body_within max u.body)) w.header ∙ ap (λ o. (slice_index w.front 0, body_within max o)) w.body ∙ said_within max w.front w.is.some
-
--- the last of the units that are written
-placed_last : (place : ℕ) (front : List ℕ) → IsUnitBytes front →
-    placed_units place true (start_code ++ (front ++ [])) ≡ record { offset = place + 1 + 3; bytes = front } ∷ placed_units (place + 1 + 3 + length front) true []
-placed_last place front is =
-    found_start (place + 1) true (front ++ []) ∙ ends (place + 1 + 3) front is.passes
-    ∙ closed_some (record { offset = place + 1 + 3; bytes = front }) (λ e. omega (arith, e, is.some))
-
-starts_at_once : (o : Option (List ℕ)) (header : ℕ) (more : List ℕ) →
-    before_end (elim o [ Some body ↦ start_code ++ header ∷ body | None ↦ start_code ++ header ∷ [] ] ++ more) ≡ Some []
-starts_at_once (Some body) header more = refl
-starts_at_once None header more = refl
-
--- the first of the units that are written, up to the end
-placed_first : (place : ℕ) (front : List ℕ) (us : List Unit) → IsUnitBytes front →
-    placed_units place true (start_code ++ (front ++ flat_map written us))
-    ≡ record { offset = place + 1 + 3; bytes = front } ∷ placed_units (place + 1 + 3 + length front) true (flat_map written us)
-placed_first place front [] is = placed_last place front is
-placed_first place front (v ∷ vs) is = placed_written place true front (flat_map written (v ∷ vs)) is (starts_at_once v.body v.header (flat_map written vs))
-
--- one after the other, to the end of the stream
-said_alone : (limit max : ℕ) (bytes : List ℕ) (us : List Unit) → All (IsUnitOf limit bytes) us →
-    (place : ℕ) → said max (placed_units place true (flat_map written us)) ≡ map (contents_within max) us
-said_alone limit max bytes [] there place = refl
-said_alone limit max bytes (u ∷ us) there place =
-    let w = is_written limit bytes u (All-head (IsUnitOf limit bytes) u us there) in
-    let others = All-tail (IsUnitOf limit bytes) u us there in
-    let more = flat_map written us in
-    ap (λ t. said max (placed_units place true (t ++ more))) w.stands
-    ∙ ap (said max) (placed_first place w.front us w.is)
-    ∙ ap (λ c. c ∷ said max (placed_units (place + 1 + 3 + length w.front) true more)) (sym (says_within max limit u w))
-    ∙ ap (λ t. contents_within max u ∷ t) (said_alone limit max bytes us others (place + 1 + 3 + length w.front))
+says_within max limit u w = grind (arith, said_within)
 
 pub written_units_stand_alone_so : WrittenUnitsStandAlone
 written_units_stand_alone_so limit max bytes us there =
-    said-numbered max 0 (placed_units 0 true (flat_map written us)) ∙ said_alone limit max bytes us there 0
+    said-numbered max 0 (placed_units 0 true (flat_map written us))
+    ∙ rw (append-nil (flat_map written us), append-nil (map (contents_within max) us)) at
+    (said_written limit max bytes true [] [] (contents_within max) (λ u w. says_within max limit u w) closes_last (λ place. refl) us there 0)
 
 -- ---- worked examples of splitting
 

@@ -4,9 +4,7 @@ unfoldable pub use Numbers.*
 use lib.Count.{count_leading_zeros}
 use Rattle.avc_types.specs.declared.fault.Fault.TheVariants as faults
 
--- ---- reading the bits that stand ahead
-
--- ---- so many bits
+-- ---- reading the bits that stand ahead: so many bits
 
 pub split_short : (n : ℕ) (bits : List Bool) → length bits < n → split n bits ≡ None
 split_short zero bits short = absurd (omega arith)
@@ -64,10 +62,7 @@ before_short limit fault b few none = rw (zeros_short limit fault 0 b.ahead (ome
 
 pub before_found : (limit : ℕ) (fault : Fault) (b : Bits) → leading b.ahead ≤ limit → leading b.ahead < length b.ahead →
     zeros_before_one limit fault b ≡ Ok (leading b.ahead, passed b (leading b.ahead + 1))
-before_found limit fault b few some =
-    let zero_more : 0 + leading b.ahead ≡ leading b.ahead = omega arith in
-    let place : b.position + leading b.ahead + 1 ≡ b.position + (leading b.ahead + 1) = omega arith in
-    rw (zeros_found limit fault 0 b.ahead (omega arith) some, zero_more, place) refl
+before_found limit fault b few some = search (rules, zeros_found)
 
 pub before_from : (limit : ℕ) (fault : Fault) (b after : Bits) (count : ℕ) → count ≡ leading b.ahead → count ≤ limit → count < length b.ahead → after ≡ passed b (count + 1) →
     zeros_before_one limit fault b ≡ Ok (count, after)
@@ -88,11 +83,7 @@ ue_short b few short = elim (cases_lt (leading b.ahead) (length b.ahead)) [
 
 pub ue_long : (b : Bits) → leading b.ahead ≤ 31 → 2 * leading b.ahead + 1 ≤ length b.ahead →
     ue b ≡ Ok (2 ^ leading b.ahead - 1 + number_of (take (leading b.ahead) (drop (leading b.ahead + 1) b.ahead)), passed b (2 * leading b.ahead + 1))
-ue_long b few long =
-    let n = leading b.ahead in
-    let place : b.position + (n + 1) + n ≡ b.position + (2 * n + 1) = omega arith in
-    let rest : drop n (drop (n + 1) b.ahead) ≡ drop (2 * n + 1) b.ahead = drop-drop n (n + 1) b.ahead ∙ ap (λ k. drop k b.ahead) (omega arith) in
-    rw (before_found 31 CodeTooLong b few (omega arith), u_long n (passed b (n + 1)) (omega (arith, length-drop (n + 1) b.ahead)), place, rest) refl
+ue_long b few long = search (rules, drop-drop, before_found, u_long, length-drop)
 
 -- ---- what the reader has
 
@@ -101,17 +92,11 @@ number-take_lt n bits = pow_lt_trans (number_of (take n bits)) (length (take n b
 
 -- what is left before the stop bit
 pub left_is : (r : BitReader) → left_of r ≡ length (bits_before_stop r.bytes.now) - position_of r
-left_is r = elim (cases_lt 0 r.beyond) [
-  | inl some ↦ omega (arith, r.stop, r.past some)
-  | inr none ↦ omega (arith, r.stop)
-]
+left_is r = grind (arith, r.stop, r.past)
 
 -- where some are left none were passed beyond the stop bit
 pub none_beyond : (r : BitReader) → 0 < left_of r → r.beyond ≡ 0
-none_beyond r some = elim (cases_lt 0 r.beyond) [
-  | inl more ↦ absurd (omega (arith, r.past more))
-  | inr none ↦ omega arith
-]
+none_beyond r some = grind (arith, r.past)
 
 -- those that are left are bits of the bytes
 pub within_bytes : (r : BitReader) (count : ℕ) → 0 < count → count ≤ left_of r → position_of r + count ≤ 8 * length r.bytes.now
@@ -125,11 +110,7 @@ take_drop : {X : Type 0} (first count : ℕ) (xs : List X) → take count (drop 
 take_drop first count xs = sym (drop-take first count xs)
 
 pub some_left : (b : Bits) (left : ℕ) → length b.ahead ≡ left → nat_lt 0 left ≡ more_data b
-some_left b left len = rw (← len) (some b.ahead)
-  where
-    some : (bits : List Bool) → nat_lt 0 (length bits) ≡ more_data (record { position = b.position; ahead = bits })
-    some [] = refl
-    some (x ∷ bits) = lt-ltb 0 (suc (length bits)) (omega arith)
+some_left b left len = search (rules)
 
 -- the next bits are those of the bytes
 pub take-ahead : (r : BitReader) (count : ℕ) → count ≤ left_of r → take count (reader_bits r).ahead ≡ take count (drop (position_of r) (byte_bits r.bytes.now))
@@ -148,12 +129,9 @@ take_later r first (suc count) there =
     ∙ ap (take (suc count)) (drop-drop first (position_of r) (byte_bits r.bytes.now))
 
 -- what u reads
-pub u_from : (r : BitReader) (after : Bits) (count value : ℕ) → count ≤ left_of r → value ≡ number_of (take count (drop (position_of r) (byte_bits r.bytes.now))) → after ≡ passed (reader_bits r) count →
-    u count (reader_bits r) ≡ Ok (value, after)
-u_from r after count value there is is_after =
-    u_long count (reader_bits r) (omega (arith, length-ahead r))
-    ∙ ap (λ v. Ok (v, passed (reader_bits r) count)) (ap number_of (take-ahead r count there) ∙ sym is)
-    ∙ ap (λ b. Ok (value, b)) (sym is_after)
+pub u_from : (r : BitReader) (count : ℕ) → count ≤ left_of r →
+    u count (reader_bits r) ≡ Ok (number_of (take count (drop (position_of r) (byte_bits r.bytes.now))), passed (reader_bits r) count)
+u_from r count there = rw (← take-ahead r count there) (u_long count (reader_bits r) (omega (arith, length-ahead r)))
 
 -- ---- zeros that come next
 
@@ -205,12 +183,7 @@ pub ue_from : (r : BitReader) (after : Bits) (zeros place tail : ℕ) → zeros 
     place ≡ position_of r + (zeros + 1) → tail ≡ number_of (take zeros (drop place (byte_bits r.bytes.now))) → after ≡ passed (reader_bits r) (2 * zeros + 1) →
     ue (reader_bits r) ≡ Ok (2 ^ zeros - 1 + tail, after)
 ue_from r after zeros place tail is few there is_place is_tail is_after =
-    let b = reader_bits r in
-    let front : take zeros (drop (zeros + 1) b.ahead) ≡ take zeros (drop place (byte_bits r.bytes.now)) = take_later r (zeros + 1) zeros (omega arith) ∙ ap (λ k. take zeros (drop k (byte_bits r.bytes.now))) (sym is_place) in
-    ue_long b (omega arith) (omega (arith, length-ahead r))
-    ∙ ap (λ k. Ok (2 ^ k - 1 + number_of (take k (drop (k + 1) b.ahead)), passed b (2 * k + 1))) (sym is)
-    ∙ ap (λ v. Ok (2 ^ zeros - 1 + v, passed b (2 * zeros + 1))) (ap number_of front ∙ sym is_tail)
-    ∙ ap (λ t. Ok (2 ^ zeros - 1 + tail, t)) (sym is_after)
+    rw (is_after, is_tail, is_place, ← take_later r (zeros + 1) zeros (omega arith), is) (ue_long (reader_bits r) (omega arith) (omega (arith, length-ahead r)))
 
 -- a short codeword of ue as a number
 number-word : (m : ℕ) (bits : List Bool) → leading bits + 1 + m ≤ length bits → number_of (take (leading bits + 1 + m) bits) ≡ 2 ^ m + number_of (take m (drop (leading bits + 1) bits))
@@ -235,11 +208,10 @@ short_ue_from b after count next zeros shift is_count is_next is_zeros short is_
     let all : 2 * n + 1 ≡ n + 1 + n = omega arith in
     let word : next / 2 ^ shift ≡ 2 ^ n + number_of (take n (drop (n + 1) b.ahead)) =
     ap (λ v. v / 2 ^ shift) is_next ∙ ap (λ k. number_of (take count b.ahead) / 2 ^ k) (omega (arith, long))
-    ∙ number-take (2 * n + 1) (take count b.ahead) (omega (arith, long))
+    ∙ number-take (2 * n + 1) (take count b.ahead)
     ∙ ap number_of (take-take (2 * n + 1) count b.ahead (omega arith)) ∙ ap (λ k. number_of (take k b.ahead)) all ∙ number-word n b.ahead (omega arith) in (
       omega (arith, word, pow_pos n),
-      ue_long b (omega arith) (omega arith) ∙ ap (λ v. Ok (v, passed b (2 * n + 1))) (omega (arith, word, pow_pos n)) ∙ ap (λ k. Ok (next / 2 ^ shift - 1, passed b (2 * k + 1))) (sym same)
-          ∙ ap (λ t. Ok (next / 2 ^ shift - 1, t)) (sym is_after),
+      rw (is_after, same) (ue_long b (omega arith) (omega arith) ∙ ap (λ v. Ok (v, passed b (2 * n + 1))) (omega (arith, word, pow_pos n))),
     )
 
 -- what peek shows
@@ -277,26 +249,27 @@ peek_from bits count there value is_there is =
 -- bits of which enough stand ahead
 pub peek_window : (r : BitReader) (count value : ℕ) → count ≤ left_of r → count ≤ 32 → value ≡ number_of (take count (drop (position_of r) (byte_bits r.bytes.now))) →
     bits_of count value ≡ take count ((reader_bits r).ahead ++ replicate count false)
-peek_window r count value there few is =
-    let long : count ≤ length (reader_bits r).ahead = omega (arith, length-ahead r) in
-    let ahead : value ≡ number_of (take count (reader_bits r).ahead) = is ∙ ap number_of (sym (take-ahead r count there)) in
-    ap (bits_of count) ahead
-    ∙ bits_of-number count (take count (reader_bits r).ahead) (length-take-le count (reader_bits r).ahead long)
-    ∙ sym (take-append-le count (reader_bits r).ahead (replicate count false) long)
+peek_window r count value there few is = search (rules, length-ahead, take-ahead, bits_of-number, length-take-le, take-append-le)
 
 -- ---- zeros and a number behind the 1 after them, by one look
 
-pub zeros_value : (ahead : List Bool) (bits zeros count : ℕ) → 32 ≤ length ahead → bits ≡ number_of (take 32 ahead) → zeros ≡ count_leading_zeros 32 bits → zeros ≤ 15 → count ≤ 16 →
-    (zeros ≡ leading ahead) × (bits * 2 ^ (33 + zeros) % 2 ^ 64 / 2 / 2 ^ (63 - count) ≡ number_of (take count (drop (zeros + 1) ahead)))
-zeros_value ahead bits zeros count long is is_zeros few narrow =
-    let low : 64 - (33 + zeros) - count ≡ 32 - (zeros + 1) - count = omega arith in (
-      omega (arith, (leading_from ahead 32 bits (omega arith) is).1),
-      field64_is bits (33 + zeros) count (omega arith) (omega arith)
-          ∙ ap (λ k. bits / 2 ^ k % 2 ^ count) low
-          ∙ ap (λ v. v / 2 ^ (32 - (zeros + 1) - count) % 2 ^ count) is
-          ∙ number-part (zeros + 1) count 32 (take 32 ahead) (length-take-le 32 ahead long) (omega arith)
-          ∙ ap number_of (take_front ahead (zeros + 1) count 32 (omega arith)),
-    )
+pub zeros_value : (r : BitReader) (bits zeros count : ℕ) → 64 ≤ left_of r → bits ≡ number_of (take 32 (drop (position_of r) (byte_bits r.bytes.now))) →
+    zeros ≡ count_leading_zeros 32 bits → zeros ≤ 15 → count ≤ 16 →
+    let field = bits * 2 ^ (33 + zeros) % 2 ^ 64 / 2 / 2 ^ (63 - count) in
+    (zeros ≡ leading (reader_bits r).ahead) × (field ≡ number_of (take count (drop (zeros + 1) (reader_bits r).ahead))) × (field < 2 ^ count) × (field < 2 ^ 32)
+zeros_value r bits zeros count there is is_zeros few narrow =
+    let ahead = (reader_bits r).ahead in
+    let long : 32 ≤ length ahead = omega (arith, length-ahead r) in
+    let front : bits ≡ number_of (take 32 ahead) = is ∙ ap number_of (sym (take-ahead r 32 (omega arith))) in
+    let low : 64 - (33 + zeros) - count ≡ 32 - (zeros + 1) - count = omega arith in
+    let field : bits * 2 ^ (33 + zeros) % 2 ^ 64 / 2 / 2 ^ (63 - count) ≡ number_of (take count (drop (zeros + 1) ahead)) =
+    field64_is bits (33 + zeros) count (omega arith) (omega arith)
+    ∙ ap (λ k. bits / 2 ^ k % 2 ^ count) low
+    ∙ ap (λ v. v / 2 ^ (32 - (zeros + 1) - count) % 2 ^ count) front
+    ∙ number-part (zeros + 1) count 32 (take 32 ahead) (length-take-le 32 ahead long) (omega arith)
+    ∙ ap number_of (take_front ahead (zeros + 1) count 32 (omega arith)) in
+    let below = number-take_lt count (drop (zeros + 1) ahead) in
+    (omega (arith, (leading_from ahead 32 bits (omega arith) front).1), field, omega (arith, field, below), omega (arith, field, pow_lt_trans _ count 32 below (omega arith)))
 
 -- what u reads after some bits
 pub u_after : (b after : Bits) (first count value : ℕ) → first + count ≤ length b.ahead → value ≡ number_of (take count (drop first b.ahead)) → after ≡ passed b (first + count) →
@@ -306,9 +279,7 @@ u_after b after first count value there is is_after =
     let rest : drop count (drop first b.ahead) ≡ drop (first + count) b.ahead = drop-drop count first b.ahead in
     rw (u_long count (passed b first) (omega (arith, length-drop first b.ahead)), place, rest, is_after, is) refl
 
--- ---- the functions that read a code, against its codewords
-
--- ---- u
+-- ---- the functions that read a code, against its codewords: u
 
 word_u : (n : ℕ) (word : List Bool) → length word ≡ n → IsU n word (number_of word)
 word_u n word len = (below_width n word len, sym (bits_of-number n word len))
@@ -324,20 +295,10 @@ u_cut n b short =
     }
 
 u_takes : (n : ℕ) (b : Bits) → n ≤ length b.ahead → Takes (IsU n) b (number_of (take n b.ahead)) (passed b n)
-u_takes n b long =
-    let len : length (take n b.ahead) ≡ n = length-take-le n b.ahead long in
-    record {
-      word = take n b.ahead;
-      is_word = word_u n (take n b.ahead) len;
-      ahead = sym (take-append-drop n b.ahead);
-      position = ap (λ k. b.position + k) (sym len);
-    }
+u_takes n b long = search (rules, length-take-le, word_u, take-append-drop)
 
 pub u_reads : (n : ℕ) (otherwise : Fault) (b : Bits) → IsReadBy (IsU n) otherwise b (u n b)
-u_reads n otherwise b = elim (cases_lt (length b.ahead) n) [
-  | inl short ↦ rw (u_short n b short) (u_cut n b short)
-  | inr long ↦ rw (u_long n b long) (u_takes n b long)
-]
+u_reads n otherwise b = search (rules, cases_lt, u_short, u_cut, u_long, u_takes)
 
 no_more : (word more : List Bool) → length (word ++ more) ≡ length word → more ≡ []
 no_more word [] same = refl
@@ -375,13 +336,7 @@ all_zeros (false ∷ bits) none = ap (λ t. false ∷ t) (all_zeros bits (omega 
 
 -- a codeword of ue has as many bits as its zeros say
 ue_shape : (word rest : List Bool) (value : ℕ) → IsUe word value → (leading (word ++ rest) ≤ 31) × (length word ≡ 2 * leading (word ++ rest) + 1)
-ue_shape word rest value is =
-    let n = is.0 in
-    let tail = bits_of n is.1 in
-    let len : length tail ≡ n = length-bits_of n is.1 in
-    let zeros : leading (word ++ rest) ≡ n = ap (λ w. leading (w ++ rest)) is.4 ∙ ap leading (append_assoc (replicate n false) (true ∷ tail) rest) ∙ leading_one n (tail ++ rest) in
-    let all : length word ≡ 2 * n + 1 = ap length is.4 ∙ length-append (replicate n false) (true ∷ tail) ∙ omega (arith, len, length-replicate n false) in
-    (omega (arith, zeros, is.2), omega (arith, zeros, all))
+ue_shape word rest value is = search (rules, length-bits_of, append_assoc, leading_one, length-append, length-replicate)
 
 -- n zeros, a 1 and n bits
 word_ue : (n : ℕ) (tail : List Bool) → n ≤ 31 → length tail ≡ n → IsUe (replicate n false ++ true ∷ tail) (2 ^ n - 1 + number_of tail)
@@ -450,26 +405,17 @@ ue_free word more value other first second =
 
 -- ---- se
 
-se_takes : (b left : Bits) (k : ℕ) → Takes IsUe b k left → Takes IsSe b (signed_value k) left
-se_takes b left k taken = record { word = taken.word; is_word = (k, taken.is_word, refl); ahead = taken.ahead; position = taken.position }
-
-se_cut : (b : Bits) → IsCutShort IsUe b → IsCutShort IsSe b
-se_cut b cut = record { value = signed_value cut.value; next = cut.next; others = cut.others; is_word = (cut.value, cut.is_word, refl) }
-
-ue_cut_of_se : (b : Bits) → IsCutShort IsSe b → IsCutShort IsUe b
-ue_cut_of_se b cut = record { value = (cut.is_word).0; next = cut.next; others = cut.others; is_word = (cut.is_word).1 }
-
-ue_taken_of_se : (b left : Bits) (value : ℤ) → (taken : Takes IsSe b value left) → Takes IsUe b (taken.is_word).0 left
-ue_taken_of_se b left value taken = record { word = taken.word; is_word = (taken.is_word).1; ahead = taken.ahead; position = taken.position }
+se_of_ue : (b : Bits) (r : Result (ℕ × Bits) Fault) → IsReadBy IsUe CodeTooLong b r → IsReadBy IsSe CodeTooLong b (elim r [ Ok k ↦ Ok (signed_value k.0, k.1) | Err f ↦ Err f ])
+se_of_ue b (Ok k) taken = record { word = taken.word; is_word = (k.0, taken.is_word, refl); ahead = taken.ahead; position = taken.position }
+se_of_ue b (Err faults.Truncated) cut = record { value = signed_value cut.value; next = cut.next; others = cut.others; is_word = (cut.value, cut.is_word, refl) }
+se_of_ue b (Err f) never = (
+  never.0,
+  (λ cut. never.1 (record { value = (cut.is_word).0; next = cut.next; others = cut.others; is_word = (cut.is_word).1 })),
+  (λ value left taken. never.2 (taken.is_word).0 left (record { word = taken.word; is_word = (taken.is_word).1; ahead = taken.ahead; position = taken.position })),
+)
 
 pub se_reads : (b : Bits) → IsReadBy IsSe CodeTooLong b (se b)
-se_reads b = elim (cases_lt 31 (leading b.ahead)) [
-  | inl long ↦ rw (ue_too_long b long) (refl, λ cut. ue_never_cut b long (ue_cut_of_se b cut), λ value left taken. ue_never_taken b long (taken.is_word).0 left (ue_taken_of_se b left value taken))
-  | inr few ↦ elim (cases_lt (length b.ahead) (2 * leading b.ahead + 1)) [
-    | inl short ↦ rw (ue_short b few short) (se_cut b (ue_cut b few short))
-    | inr enough ↦ rw (ue_long b few enough) (se_takes b _ _ (ue_takes b few enough))
-  ]
-]
+se_reads b = se_of_ue b (ue b) (ue_reads b)
 
 pub se_free : IsPrefixFree IsSe
 se_free word more value other first second = ue_free word more first.0 second.0 first.1 second.1
@@ -496,9 +442,7 @@ te_free zero word more value other first second = absurd first
 te_free (suc zero) word more value other first second = no_more word more (ap length second.1 ∙ sym (ap length first.1))
 te_free (suc (suc range)) word more value other first second = ue_free word more value other first second
 
--- ---- what holds of each value that a part of the syntax gives, and that nothing is passed but what stood ahead
-
--- ---- parts in turn
+-- ---- what holds of each value that a part of the syntax gives, and that nothing is passed but what stood ahead: parts in turn
 
 -- of an answer that is no fault the value, and the bits that are left
 abbrev pub value : {A : Type 0} → A → Result (A × Bits) Fault → A
@@ -566,16 +510,10 @@ gives-each P (suc n) part g =
     gives-give (All P) (x ∷ xs) (All-cons P x xs p ps)))
 
 pub gives-ue_to : (top : ℕ) → Gives (λ v. v ≤ top) (ue_to top)
-gives-ue_to top =
-    gives-bind (λ _. Unit {0}) (λ v. v ≤ top) ue _ (gives-any ue) (λ v _.
-    gives-check (λ w. w ≤ top) (nat_le v top) _ _ (λ h.
-    gives-give (λ w. w ≤ top) v (grind (arith, nat_tests))))
+gives-ue_to top = search (rules, gives-bind, gives-any, gives-check, nat_le, gives-give)
 
 pub gives-u_to : (n top : ℕ) → Gives (λ v. v ≤ top) (u_to n top)
-gives-u_to n top =
-    gives-bind (λ _. Unit {0}) (λ v. v ≤ top) (u n) _ (gives-any (u n)) (λ v _.
-    gives-check (λ w. w ≤ top) (nat_le v top) _ _ (λ h.
-    gives-give (λ w. w ≤ top) v (grind (arith, nat_tests))))
+gives-u_to n top = search (rules, gives-bind, gives-any, gives-check, nat_le, gives-give)
 
 -- from `low` to `high`, both included
 pub record IsFrom (low high v : ℤ) : Type 0 where
@@ -601,11 +539,7 @@ fault_later part n b mid x f first others = rw (first, others) refl
 -- one turn more
 pub times_more : {A : Type 0} (part : Read A) (n : ℕ) (b mid after : Bits) (xs : List A) (x : A) →
     times n part b ≡ Ok (xs, mid) → part mid ≡ Ok (x, after) → times (n + 1) part b ≡ Ok (xs ++ x ∷ [], after)
-times_more part zero b mid after xs x so_far here =
-    let none : xs ≡ [] = sym (ap (value []) so_far) in
-    let same : mid ≡ b = sym (ap (left b) so_far) in
-    let here' : part b ≡ Ok (x, after) = ap part (sym same) ∙ here in
-    rw (none, here') refl
+times_more part zero b mid after xs x so_far here = rw (← ap (value []) so_far, ap (left b) so_far, here) refl
 times_more part (suc n) b mid after xs x so_far here =
     let one : suc n + 1 ≡ suc (n + 1) = omega arith in
     let first = bind-ok part (λ y. times n part >>= λ ys. give (y ∷ ys)) b mid xs so_far in
@@ -619,10 +553,7 @@ times_more part (suc n) b mid after xs x so_far here =
 pub times_fault : {A : Type 0} (part : Read A) (total n : ℕ) (b mid : Bits) (xs : List A) (f : Fault) →
     n < total → times n part b ≡ Ok (xs, mid) → part mid ≡ Err f → times total part b ≡ Err f
 times_fault part zero n b mid xs f less so_far here = absurd (omega arith)
-times_fault part (suc total) zero b mid xs f less so_far here =
-    let same : mid ≡ b = sym (ap (left b) so_far) in
-    let here' : part b ≡ Err f = ap part (sym same) ∙ here in
-    rw here' refl
+times_fault part (suc total) zero b mid xs f less so_far here = rw (ap (left b) so_far, here) refl
 times_fault part (suc total) (suc n) b mid xs f less so_far here =
     let first = bind-ok part (λ y. times n part >>= λ ys. give (y ∷ ys)) b mid xs so_far in
     let rest = bind-ok (times n part) (λ ys. give (first.0 ∷ ys)) first.1 mid xs first.3 in
@@ -644,15 +575,7 @@ times_short (suc n) b short = elim (cases_lt (length b.ahead) 8) [
 -- one byte in front
 one_byte : (x position : ℕ) (rest : List Bool) → x < 256 →
     u 8 (record { position = position; ahead = bits_of 8 x ++ rest }) ≡ Ok (x, record { position = position + 8; ahead = rest })
-one_byte x position rest small =
-    let b : Bits = record { position = position; ahead = bits_of 8 x ++ rest } in
-    let len : length (bits_of 8 x) ≡ 8 = length-bits_of 8 x in
-    let front : take 8 (bits_of 8 x ++ rest) ≡ bits_of 8 x = take_at (bits_of 8 x) rest 8 len in
-    let behind : drop 8 (bits_of 8 x ++ rest) ≡ rest = drop_at (bits_of 8 x) rest 8 len in
-    let value : number_of (take 8 (bits_of 8 x ++ rest)) ≡ x = ap number_of front ∙ number-bits_of 8 x ∙ mod-eq_of_lt small in
-    u_long 8 b (omega (arith, len, length-append (bits_of 8 x) rest))
-    ∙ ap (λ v. Ok (v, passed b 8)) value
-    ∙ ap (λ (bits : List Bool). Ok (x, record { position = position + 8; ahead = bits })) behind
+one_byte x position rest small = ap (λ v. Ok (v, record { position = position + 8; ahead = rest })) (number-bits_of 8 x ∙ mod-eq_of_lt small)
 
 -- bytes in front
 pub times_bytes : (xs : List ℕ) (position next : ℕ) (rest : List Bool) → ((k : ℕ) → get_or xs k 0 < 256) → next ≡ position + 8 * length xs →
@@ -677,31 +600,22 @@ bytes_from r count xs after aligned some there part len small is =
     let ahead = (reader_bits r).ahead in
     let place : position_of r ≡ 8 * first = whole_position r aligned (omega arith) in
     let front : take (8 * count) ahead ≡ byte_bits xs =
-    take-ahead r (8 * count) there ∙ ap (λ n. take (8 * count) (drop n (byte_bits bytes))) place
-    ∙ ap (take (8 * count)) (drop_bytes first bytes) ∙ take_bytes count (drop first bytes) ∙ ap byte_bits (sym part) in
+    take-ahead r (8 * count) there ∙ ap (λ n. take (8 * count) (drop n (byte_bits bytes))) place ∙ part_bits bytes first count (omega (arith, r.inside)) ∙ ap byte_bits (sym part) in
     let parts : ahead ≡ byte_bits xs ++ drop (8 * count) ahead = sym (take-append-drop (8 * count) ahead) ∙ ap (λ bits. bits ++ drop (8 * count) ahead) front in
     ap (λ n. times n (u 8) (reader_bits r)) (sym len)
     ∙ ap (λ (bits : List Bool). times (length xs) (u 8) (record { position = (reader_bits r).position; ahead = bits })) parts
     ∙ times_bytes xs (reader_bits r).position ((reader_bits r).position + 8 * count) (drop (8 * count) ahead) small (omega (arith, len))
     ∙ ap (λ b. Ok (xs, b)) (sym is)
 
-abbrev position_after : Result (Unit {0} × Bits) Fault → ℕ
-position_after (Ok r) = (r.1).position
-position_after (Err f) = 0
-
 pub skipped_to : (n : ℕ) (b after : Bits) → skip n b ≡ Ok (tt, after) → after.position ≡ b.position + n
-skipped_to n b after is = elim (cases_lt (length b.ahead) n) [
-  | inl less ↦
-      let e : Err Truncated ≡ Ok (tt, after) = sym (skip_short n b less) ∙ is in
-      absurd (cc e)
-  | inr more ↦
-      let e : Ok (tt, passed b n) ≡ Ok (tt, after) = sym (skip_long n b more) ∙ is in
-      sym (ap position_after e)
-]
+skipped_to n b after is = search (rules, cases_lt, skip_short, skip_long)
 
 pub aligned_after : (r : Result (Unit {0}) Fault) (n : ℕ) (old new : BitReader) → n ≡ (8 - (reader_bits old).position % 8) % 8 → Reads r (skip n) old new → IfOk r (λ _. (reader_bits new).position % 8 ≡ 0)
 aligned_after (Ok done) n old new is read = let there = skipped_to n (reader_bits old) (reader_bits new) read.0 in omega arith
 aligned_after (Err f) n old new is read = tt
+
+-- what the functions of the reader say of their fault, and of the bits that are left
+pub ruleset reading = (length-ahead, skip_short, skip_long, u_short, u_from, before_many, before_short, times_short, ue_too_long, ue_short)
 
 -- ---- worked examples of the codes
 

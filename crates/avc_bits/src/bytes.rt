@@ -51,6 +51,7 @@ pub(crate) fn bytes_at(bytes: &[u8], first: usize, count: usize) -> &[u8]
 }
 
 // bits of 64, counted from the most significant one
+#[tactic(auto, using(crate::proofs::Reading::field64_is, crate::proofs::Reading::field_fits))]
 #[inline(always)]
 pub(crate) fn field_of_eight(eight: u64, first: u32, count: u32) -> u32
     requires near { first ≤ 7 }

@@ -89,6 +89,7 @@ impl<'a> BitReader<'a> {
 
     /// Whether surely 256 bits or more stand ahead. Where they do, a caller that asks first has each look and skip without a
     /// test of its own.
+    #[tactic(auto, using(crate::proofs::Reading::reading))]
     #[inline(always)]
     pub fn has_many(&self) -> bool
         ensures { IsTrue result → 256 ≤ length (reader_bits self.now).ahead }
@@ -98,6 +99,7 @@ impl<'a> BitReader<'a> {
 
     /// Whether surely so many bytes stand ahead. A caller that asks once for several elements has them without a test of
     /// each.
+    #[tactic(auto, using(crate::proofs::Reading::reading))]
     #[inline(always)]
     pub fn has_bytes(&self, count: usize) -> bool
         ensures { IsTrue result → 8 * count ≤ length (reader_bits self.now).ahead }
@@ -133,6 +135,7 @@ impl<'a> BitReader<'a> {
     }
 
     /// Passes this many bits, or `Truncated`.
+    #[tactic(auto, using(crate::proofs::Reading::reading))]
     #[inline(always)]
     pub fn skip(&mut self, count: u32) -> Result<(), Fault>
         ensures read { Reads result (skip count) self.old self.new }
@@ -146,6 +149,7 @@ impl<'a> BitReader<'a> {
     }
 
     /// Passes this many bits where they stand ahead, which is not tested.
+    #[tactic(auto, using(crate::proofs::Reading::reading))]
     #[inline(always)]
     pub fn skip_ahead(&mut self, count: u32)
         requires { count ≤ length (reader_bits self.old).ahead }
@@ -156,6 +160,7 @@ impl<'a> BitReader<'a> {
     }
 
     /// u(n): the next `count` bits, at most 32, as a number, or `Truncated`.
+    #[tactic(auto, using(crate::proofs::Reading::reading))]
     #[inline]
     pub fn u(&mut self, count: u32) -> Result<u32, Fault>
         requires { count ≤ 32 }
@@ -197,6 +202,7 @@ impl<'a> BitReader<'a> {
     }
 
     /// How many zeros stand before the next 1, which is passed too: at most `limit`, else `fault`.
+    #[tactic(auto, using(crate::proofs::Reading::reading))]
     #[inline]
     pub fn zeros_before_one(&mut self, limit: u32, fault: Fault) -> Result<u32, Fault>
         requires { limit ≤ 31 }
@@ -217,6 +223,7 @@ impl<'a> BitReader<'a> {
 
     /// How many zeros stand before the next 1, at most `most`, and u(count) behind that 1, both passed; `None` where they
     /// are more, or where the stop bit may be near. Nothing is then passed.
+    #[tactic(auto, using(crate::proofs::Reading::reading))]
     #[inline]
     pub fn zeros_and_bits(&mut self, most: u32, count: u32) -> Option<(u32, u32)>
         requires few { most ≤ 15 }
@@ -230,6 +237,7 @@ impl<'a> BitReader<'a> {
     }
 
     /// The same where 64 bits stand ahead, which is not tested: `None` where the zeros are more.
+    #[tactic(auto, using(crate::proofs::Reading::reading))]
     #[inline(always)]
     pub fn zeros_and_bits_ahead(&mut self, most: u32, count: u32) -> Option<(u32, u32)>
         requires few { most ≤ 15 }
@@ -283,6 +291,7 @@ impl<'a> BitReader<'a> {
     }
 
     // the same, of any length and anywhere
+    #[tactic(auto, using(crate::proofs::Reading::reading))]
     #[cold]
     #[inline(never)]
     fn any_ue(&mut self) -> Result<u32, Fault>
@@ -300,6 +309,7 @@ impl<'a> BitReader<'a> {
     }
 
     // the same, where so many zeros stand in front
+    #[tactic(auto, using(crate::proofs::Reading::reading))]
     fn ue_after(&mut self, zeros: u32) -> Result<u32, Fault>
         requires { zeros ≡ min (leading (reader_bits self.old).ahead) 32 }
         ensures read { Reads result ue self.old self.new }
@@ -433,6 +443,7 @@ impl<'a> BitReader<'a> {
     }
 
     /// The next `count` bytes, at least one, from the start of a byte on: u(8) so many times, or `Truncated`.
+    #[tactic(auto, using(crate::proofs::Reading::reading))]
     #[inline]
     pub fn take_bytes(&mut self, count: usize) -> Result<&'a [u8], Fault>
         requires some { 0 < count }

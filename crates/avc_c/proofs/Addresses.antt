@@ -1,8 +1,7 @@
 -- The machine values of a decoder's address. Assumes `Logic`.
-use Rattle.avc_c.proofs.Common.{◌≡◌, ℕ, List, [], ◌∷◌, ◌++◌, refl, subst, lit<, Ura, impl, tnil, dnil, bare, T, true, ◌&&◌, Val, vptr}
-use Rattle.avc_c.proofs.Common.{vnull, vstruct, of_list, has_ty, WT, never, fst∗, Logic, sem, RattleType, Valss, RawPtr, lone, Ptr}
-use Rattle.avc_c.proofs.Common.{block_ptr, null_ptr, ptr_val, in_a_block, nothing, layout, within, shape, to, Option, Some, None, IsOpen}
-use Rattle.avc_c.proofs.Common.{box_owns, ghosts, Al, handle_tells, Good, and_tt, OpenDecoder}
+use Rattle.avc_c.proofs.Common.{◌≡◌, ℕ, List, [], ◌∷◌, ◌++◌, refl, subst, lit<, Ura, impl, tnil, dnil, bare, T, true, ◌&&◌, Val, vptr, vnull, vstruct, of_list}
+use Rattle.avc_c.proofs.Common.{has_ty, WT, never, fst∗, Logic, sem, RattleType, Valss, RawPtr, lone, Ptr, block_ptr, null_ptr, ptr_val, in_a_block, nothing}
+use Rattle.avc_c.proofs.Common.{layout, within, shape, to, Option, Some, None, IsOpen, box_owns, ghosts, Al, handle_tells, Good, and_tt, OpenDecoder}
 use types.Kit.{Item, Goal, Seq, Step, step, ‵, ◌$◌, move, drop, fsplit, fjoin, fpick, fpack, rewrite, feq_i, feq_l}
 use Rattle.std.specs.contracts.alloc.Global as global
 use Rattle.std.proofs.alloc.Global.TheLaws as global_laws

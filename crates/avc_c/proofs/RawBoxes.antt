@@ -1,8 +1,7 @@
 -- The machine values of a box that is taken apart: a struct of an address and an allocator's handle. Assumes `Logic`.
-use Rattle.avc_c.proofs.Common.{◌≡◌, ℕ, List, [], ◌∷◌, ◌++◌, refl, subst, true, ◌&&◌, T, Ura, impl, tnil, dnil, bare, Val, vptr, vstruct}
-use Rattle.avc_c.proofs.Common.{vcons, vnil, of_list, has_ty, WT, never, fst∗, Logic, sem, RattleType, Valss, RawPtr, lone, Ptr, block_ptr}
-use Rattle.avc_c.proofs.Common.{null_ptr, ptr_val, in_a_block, nothing, layout, Laws, within, shape, Al, handle_tells, Good, box_owns}
-use Rattle.avc_c.proofs.Common.{and_tt}
+use Rattle.avc_c.proofs.Common.{◌≡◌, ℕ, List, [], ◌∷◌, ◌++◌, refl, subst, true, ◌&&◌, T, Ura, impl, tnil, dnil, bare, Val, vptr, vstruct, vcons, vnil, of_list}
+use Rattle.avc_c.proofs.Common.{has_ty, WT, never, fst∗, Logic, sem, RattleType, Valss, RawPtr, lone, Ptr, block_ptr, null_ptr, ptr_val, in_a_block, nothing}
+use Rattle.avc_c.proofs.Common.{layout, Laws, within, shape, Al, handle_tells, Good, box_owns, and_tt}
 use types.Kit.{Item, Goal, Seq, Step, step, ‵, ◌$◌, move, drop, fsplit, fjoin, fpick, fpack, feq_i, feq_l}
 use Rattle.core.specs.declared.alloc.Allocator.{Ghosts}
 use Rattle.avc_c.specs.contracts.raw_box.RawBox as raw_box

@@ -14,9 +14,7 @@ longest zero suffix above_one few small first = grind arith
 longest (suc sl) suffix true few small first =
     let power : 2 ^ suc sl ≤ 2 ^ 1 = pow-le-pow_right two (first (search rules)) in
     grind (arith, nat_tests, power)
-longest (suc sl) suffix false few small first =
-    let power : 2 ^ suc sl ≤ 2 ^ 6 = pow-le-pow_right two few in
-    grind (arith, nat_tests, power)
+longest (suc sl) suffix false few small first = grind (arith, pow-le-pow_right, two)
 
 short : (a b : Bool) (sl : ℕ) → b ≡ false → sl ≤ 6 → (if a then 4 else if b then 12 else sl) ≤ 6
 short a b sl e few = grind arith
@@ -65,22 +63,6 @@ pub record AreRead (values : List ℤ) (total k sl : ℕ) (above_one : Bool) (b 
   pub read : all ≡ levels_after (take k values) (total - k) sl above_one b
   pub size : All IsLevel (take k values)
 
--- one level more
-pub level_read : (values : List ℤ) (total k sl next : ℕ) (above_one : Bool) (b mid : Bits) (all : Result (List ℤ × Bits) Fault) (l : ℤ) → AreRead values total k sl above_one b all → k < total → total ≤ 16
-    → level sl above_one b ≡ Ok (l, mid) → IsLevel l → next ≡ next_suffix_length sl l → AreRead (set values k l) total (k + 1) next false mid all
-level_read values total k sl next above_one b mid all l are some few is_level size is_next =
-    let n = total - (k + 1) in
-    let left : total - k ≡ suc n = omega arith in
-    let within : k < length values = omega (arith, are.long) in
-    let more = take_more_set values k l within in
-    let step : levels_after (take k values) (total - k) sl above_one b ≡ levels_after (take k values ++ l ∷ []) n (next_suffix_length sl l) false mid =
-    rw (left, is_level) (after_level (levels n (next_suffix_length sl l) false mid) (take k values) l mid) in
-    record {
-      long = length-set values k l ∙ are.long;
-      read = are.read ∙ step ∙ rw (is_next, more) refl;
-      size = all_more IsLevel values k l within are.size size;
-    }
-
 -- ---- a level with a short prefix
 
 pub short_suffix : (prefix sl : ℕ) → prefix ≤ 13 → suffix_size prefix sl ≡ sl
@@ -88,36 +70,44 @@ short_suffix prefix sl few = grind (arith, nat_tests)
 
 -- ---- suffixLength
 
-pub raised_first : (sl least size : ℕ) (l : ℤ) → least ≡ max sl 1 → size ≡ nat_abs l → raised least size ≡ next_suffix_length sl l
-raised_first sl least size l is same = grind (arith, nat_tests)
+raised_next : (sl least size : ℕ) (l : ℤ) → least ≡ max sl 1 → size ≡ nat_abs l → raised least size ≡ next_suffix_length sl l
+raised_next sl least size l is same = grind (arith, nat_tests)
 
-pub raised_next : (sl size : ℕ) (l : ℤ) → 1 ≤ sl → size ≡ nat_abs l → raised sl size ≡ next_suffix_length sl l
-raised_next sl size l some same = raised_first sl sl size l (omega arith) same
+-- one level more, by its levelCode
+pub level_read : (values : List ℤ) (total k sl next least size code : ℕ) (above_one : Bool) (b mid : Bits) (all : Result (List ℤ × Bits) Fault) (l : ℤ) → AreRead values total k sl above_one b all → k < total → total ≤ 16 →
+    level sl above_one b ≡ Ok (level_of_code code, mid) → l ≡ level_of_code code → IsLevel l → least ≡ max sl 1 → size ≡ nat_abs (level_of_code code) → next ≡ raised least size →
+    AreRead (set values k (to_z w16 (of_z w16 l))) total (k + 1) next false mid all
+level_read values total k sl next least size code above_one b mid all l are some few is_level value is_small is_least is_size is =
+    let n = total - (k + 1) in
+    let left : total - k ≡ suc n = omega arith in
+    let within : k < length values = omega (arith, are.long) in
+    let back : to_z w16 (of_z w16 l) ≡ l = omega (arith, ints, is_small.most) in
+    let is_next : next ≡ next_suffix_length sl l = is ∙ raised_next sl least size l is_least (rw value is_size) in
+    let step : levels_after (take k values) (total - k) sl above_one b ≡ levels_after (take k values ++ l ∷ []) n (next_suffix_length sl l) false mid =
+    rw (left, is_level, ← value) (after_level (levels n (next_suffix_length sl l) false mid) (take k values) l mid) in
+    rw back (record {
+      long = length-set values k l ∙ are.long;
+      read = are.read ∙ step ∙ rw (is_next, take_more_set values k l within) refl;
+      size = all_more IsLevel values k l within are.size is_small;
+    })
 
 -- ---- how many bits a level has
-
--- what is read where zeros stand before a 1
-pub record IsFound (limit n : ℕ) (b after : Bits) : Type 0 where
-  pub zeros : leading b.ahead ≡ n
-  pub few : n ≤ limit
-  pub some : n < length b.ahead
-  pub left : after ≡ passed b (n + 1)
-
-pub prefix_found : (limit : ℕ) (fault : Fault) (b after : Bits) (n : ℕ) → zeros_before_one limit fault b ≡ Ok (n, after) → IsFound limit n b after
-prefix_found limit fault b after n is = elim (cases_lt limit (leading b.ahead)) [
-  | inl many ↦ let over = before_many limit fault b many in cc
-  | inr few ↦ elim (cases_lt (leading b.ahead) (length b.ahead)) [
-    | inl some ↦
-        let both = ok_parts (sym (before_found limit fault b few some) ∙ is) in
-        record { zeros = both.0; few = omega (arith, both.0); some = omega (arith, both.0); left = sym both.1 ∙ ap (λ k. passed b (k + 1)) both.0 }
-    | inr none ↦ let cut = before_short limit fault b few none in cc
-  ]
-]
 
 -- so many bits were passed
 record IsPassed (b after : Bits) (n : ℕ) : Type 0 where
   same : after ≡ passed b n
   within : n ≤ length b.ahead
+
+prefix_passed : (limit : ℕ) (fault : Fault) (b after : Bits) (n : ℕ) → zeros_before_one limit fault b ≡ Ok (n, after) → IsPassed b after (n + 1)
+prefix_passed limit fault b after n is = elim (cases_lt limit (leading b.ahead)) [
+  | inl many ↦ let over = before_many limit fault b many in cc
+  | inr few ↦ elim (cases_lt (leading b.ahead) (length b.ahead)) [
+    | inl some ↦
+        let both = ok_parts (sym (before_found limit fault b few some) ∙ is) in
+        record { same = sym both.1 ∙ ap (λ k. passed b (k + 1)) both.0; within = omega (arith, both.0) }
+    | inr none ↦ let cut = before_short limit fault b few none in cc
+  ]
+]
 
 two_passed : (b mid after : Bits) (m n : ℕ) → IsPassed b mid m → IsPassed mid after n → IsPassed b after (m + n)
 two_passed b mid after m n first second =
@@ -145,9 +135,7 @@ pub record IsLong (sl : ℕ) (above_one : Bool) (prefix suffix : ℕ) (b : Bits)
 pub level_long : (sl : ℕ) (above_one : Bool) (prefix suffix : ℕ) (b mid after : Bits) → zeros_before_one 15 BadCode b ≡ Ok (prefix, mid) → u (suffix_size prefix sl) mid ≡ Ok (suffix, after) →
     IsLong sl above_one prefix suffix b
 level_long sl above_one prefix suffix b mid after is_prefix is_suffix =
-    let found = prefix_found 15 BadCode b mid prefix is_prefix in
-    let first : IsPassed b mid (prefix + 1) = record { same = found.left; within = omega (arith, found.some) } in
-    let all = two_passed b mid after (prefix + 1) (suffix_size prefix sl) first (suffix_passed mid after (suffix_size prefix sl) suffix is_suffix) in
+    let all = two_passed b mid after (prefix + 1) (suffix_size prefix sl) (prefix_passed 15 BadCode b mid prefix is_prefix) (suffix_passed mid after (suffix_size prefix sl) suffix is_suffix) in
     let whole : level sl above_one b ≡ Ok (level_of_code (level_code prefix sl suffix above_one), after) = rw (is_prefix, is_suffix) refl in
     record { read = whole ∙ ap (λ left. Ok (level_of_code (level_code prefix sl suffix above_one), left)) all.same; within = all.within }
 
@@ -179,14 +167,10 @@ zeros_part max t = zeros_where (t.total == 0 || t.total == max) max t
 
 -- no zeros have a place
 pub no_zeros : (max : ℕ) (t : Token) (b : Bits) → t.total ≡ max → zeros_part max t b ≡ Ok (0, b)
-no_zeros max t b all =
-    let full : (t.total == 0 || t.total == max) ≡ true = or_right (t.total == 0) (t.total == max) (eq-eqb t.total max all) in
-    ap (λ none. zeros_where none max t b) full
+no_zeros max t b all = grind (arith, or_right, eq-eqb)
 
 pub some_zeros : (max : ℕ) (t : Token) (b : Bits) → t.total ≢ 0 → t.total ≢ max → zeros_part max t b ≡ total_zeros t.total (max == 4) b
-some_zeros max t b some room =
-    let test : (t.total == 0 || t.total == max) ≡ false = or_from (t.total == 0) (t.total == max) (ne_eqb t.total 0 some) (ne_eqb t.total max room) in
-    ap (λ none. zeros_where none max t b) test
+some_zeros max t b some room = grind (arith, or_from, ne_eqb)
 
 -- a block without a level
 pub no_levels : (max : ℕ) (nc : ℤ) (t : Token) (b after : Bits) → t.ones ≤ t.total → t.total ≡ 0 → coeff_token nc b ≡ Ok (t, after) → residual_block max nc b ≡ Ok (replicate max (pos 0), after)
@@ -198,8 +182,7 @@ no_levels max nc t b after few none is =
 pub some_levels : (max : ℕ) (nc : ℤ) (t : Token) (zeros : ℕ) (values block : List ℤ) (b first second third after : Bits) → t.total + zeros ≤ max →
     coeff_token nc b ≡ Ok (t, first) → token_levels t first ≡ Ok (values, second) → zeros_part max t second ≡ Ok (zeros, third) →
     placed_by_runs max values t.total zeros third ≡ Ok (block, after) → residual_block max nc b ≡ Ok (block, after)
-some_levels max nc t zeros values block b first second third after room is_token is_levels is_zeros is_placed =
-    rw (is_token, le-leb t.total max (omega arith), is_levels, is_zeros) (rw (le-leb (t.total + zeros) max room) is_placed)
+some_levels max nc t zeros values block b first second third after room is_token is_levels is_zeros is_placed = grind (arith, le-leb)
 
 -- ---- worked examples of residual blocks
 

@@ -90,9 +90,7 @@ row_lines_filtered c motion names row offset above info s are =
     row_part c motion names row offset above info s are (length info) (omega arith)
     ∙ ap (λ (k : ℕ). all_filtered c motion s (flat_map (mb_lines c) (range_with_len (row * c.width) k))) (sym are.width_is)
 
--- ---- the filter of a row of macroblocks reads and changes samples of a few rows alone
-
--- ---- changes of the three planes, each by itself
+-- ---- the filter of a row of macroblocks reads and changes samples of a few rows alone: changes of the three planes, each by itself
 
 pub record ActsApart (wl wb wr row : ℕ) (g : Planes → Planes) : Type 0 where
   pub luma : Plane → Plane
@@ -225,11 +223,7 @@ module _ (first end : ℕ) (g : Plane → Plane) (s : Plane) (a : IsLocal s.widt
     built = with_block s left top width height f
 
     built_size : IsSized s.width s.height (s.width * s.height) built
-    built_size = record {
-      width = refl;
-      height = refl;
-      long = length-plane_of s.width s.height (λ x y. if is_inside left top width height x y then f (x - left) (y - top) else sample s x y);
-    }
+    built_size = search (rules, length-plane_of, left, sample)
 
     commute_of : g built ≡ with_block (g s) left top width height f
     commute_of =

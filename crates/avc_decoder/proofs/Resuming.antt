@@ -5,25 +5,16 @@ use Rattle.avc_units.specs.Grouping.{slice, sps, pps, other}
 use Rattle.avc_decoder.specs.Events.{running}
 use Rattle.avc_types.specs.declared.fault.Fault.TheVariants as faults
 
--- ---- a stream that begins at one of its units decodes as it did there
+-- ---- a stream that begins at one of its units decodes as it did there: what a unit with another number does
 
--- ---- what a unit with another number does
-
--- It has the contents, and the other number.
-pub record IsAlike (r : ℕ → ℕ) (u u' : Piece) : Type 0 where
-  pub same_header : u'.header ≡ u.header
-  pub same_body : u'.body ≡ u.body
-  pub numbered : u'.index ≡ r u.index
-
--- with that number, elsewhere
+-- with the contents and the other number, elsewhere
 abbrev moved : (ℕ → ℕ) → (u u' : Piece) → Piece
 moved r u u' = record u' { index = r u.index; header = u.header; body = u.body }
 
-is_moved : (r : ℕ → ℕ) (u u' : Piece) → IsAlike r u u' → u' ≡ moved r u u'
-is_moved r u u' a =
-    ap (λ n. record u' { index = n }) a.numbered
-    ∙ ap (λ h. record u' { index = r u.index; header = h }) a.same_header
-    ∙ ap (λ b. record u' { index = r u.index; header = u.header; body = b }) a.same_body
+like : (r : ℕ → ℕ) (u u' : Piece) → contents u ≡ contents u' → u'.index ≡ r u.index → u' ≡ moved r u u'
+like r u u' e n =
+    ap (λ m. record u' { index = m }) n
+    ∙ ap (λ (c : ℕ × Option (List ℕ)). record u' { index = r u.index; header = c.0; body = c.1 }) (sym e)
 
 abbrev renumbered_read : (ℕ → ℕ) → Result Slice Fault → Result Slice Fault
 renumbered_read r (Ok s) = Ok (renumbered_slice r s)
@@ -86,14 +77,12 @@ step-same r sets runs o u u' =
 
 -- ---- streams of such units
 
-abbrev pub AreAlike : (ℕ → ℕ) → List Piece → List Piece → Type 0
-AreAlike r [] [] = Prim.Unit {0}
-AreAlike r (u ∷ us) (u' ∷ us') = IsAlike r u u' × AreAlike r us us'
-AreAlike r [] (u' ∷ us') = ⊥
-AreAlike r (u ∷ us) [] = ⊥
+-- Each has the number that r gives.
+abbrev AreRenumbered : (ℕ → ℕ) → List Piece → List Piece → Type 0
+AreRenumbered r us us' = (j : ℕ) (u u' : Piece) → slice_get us j ≡ Some u → slice_get us' j ≡ Some u' → u'.index ≡ r u.index
 
 after_unit-same : (r : ℕ → ℕ) (s s' : State) (u u' : Piece) → s'.output ≡ s.output → sets_after s'.sets ≡ sets_after s.sets
-    → s'.phase ≡ renumbered_phase r s.phase → IsAlike r u u'
+    → s'.phase ≡ renumbered_phase r s.phase → u' ≡ moved r u u'
     → after_unit s' u' ≡ renumbered_outcome r (after_unit s u)
 after_unit-same r s s' u u' m e f a =
     let sets = sets_after s.sets in
@@ -101,29 +90,31 @@ after_unit-same r s s' u u' m e f a =
       m,
       e,
       f,
-      is_moved r u u' a,
-      running-same r s.phase,
-      open_facts-same r s.phase,
+      a,
+      phase-same r is_running (λ h o. refl) s.phase,
+      phase-same r open_facts_in (λ h o. ap (λ f. Some f) (facts-same r o)) s.phase,
       step-same r sets (is_running s.phase) (open_facts_in s.phase) u u',
       in_phase-same s.output r sets u.index (step sets (is_running s.phase) (open_facts_in s.phase) u) s.phase,
     )
 
 -- The events are the same but for the numbers.
 pub events-same : SetsComeAlike → (r : ℕ → ℕ) (us us' : List Piece) (s s' : State) (ended : Bool)
-    → s'.output ≡ s.output → sets_after s'.sets ≡ sets_after s.sets → s'.phase ≡ renumbered_phase r s.phase → AreAlike r us us'
+    → s'.output ≡ s.output → sets_after s'.sets ≡ sets_after s.sets → s'.phase ≡ renumbered_phase r s.phase
+    → map contents us ≡ map contents us' → AreRenumbered r us us'
     → events_from s' us' ended ≡ map (renumbered_event r) (events_from s us ended)
-events-same come r [] [] s s' true o e f a = ap (λ m. at_end m s'.phase) o ∙ ap (at_end s.output) f ∙ at_end-same s.output r s.phase
-events-same come r [] [] s s' false o e f a = refl
-events-same come r (u ∷ us) (u' ∷ us') s s' ended o e f a =
+events-same come r [] [] s s' true o e f a n = ap (λ m. at_end m s'.phase) o ∙ ap (at_end s.output) f ∙ at_end-same s.output r s.phase
+events-same come r [] [] s s' false o e f a n = refl
+events-same come r (u ∷ us) (u' ∷ us') s s' ended o e f a n =
     let x = after_unit s u in
     let x' = renumbered_outcome r x in
-    let brought : set_units (u' ∷ []) ≡ set_units (u ∷ []) = ap (λ v. set_units (v ∷ [])) (is_moved r u u' a.0) in
+    let alike : u' ≡ moved r u u' = like r u u' (cc a) (n 0 u u' refl refl) in
+    let brought : set_units (u' ∷ []) ≡ set_units (u ∷ []) = ap (λ v. set_units (v ∷ [])) alike in
     let sets : sets_after (s'.sets ++ set_units (u' ∷ [])) ≡ sets_after (s.sets ++ set_units (u ∷ [])) =
     come s'.sets s.sets (set_units (u' ∷ [])) e ∙ ap (λ m. sets_after (s.sets ++ m)) brought in
-    ap (λ (y : Outcome). y.events ++ events_from (state_after s' u' y) us' ended) (after_unit-same r s s' u u' o e f a.0)
-    ∙ ap (λ es. x'.events ++ es) (events-same come r us us' (state_after s u x) (state_after s' u' x') ended o sets refl a.1)
+    ap (λ (y : Outcome). y.events ++ events_from (state_after s' u' y) us' ended) (after_unit-same r s s' u u' o e f alike)
+    ∙ ap (λ es. x'.events ++ es) (events-same come r us us' (state_after s u x) (state_after s' u' x') ended o sets refl (cc a) (λ j. n (suc j)))
     ∙ sym (map-append (renumbered_event r) x.events (events_from (state_after s u x) us ended))
-events-same come r _ _ s s' ended o e f a = absurd a
+events-same come r _ _ s s' ended o e f a n = cc a
 
 -- ---- the parameter sets in front
 
@@ -137,51 +128,27 @@ set_taken s u w n =
     ap (λ p. in_phase s.output sets u.index (step sets (is_running p) (open_facts_in p) u) p) w
     ∙ ap (λ what. in_phase s.output sets u.index what waiting) (n sets)
 
-abbrev waiting_with : Output → List SetUnit → State
-waiting_with output sets = record { output = output; sets = sets; phase = waiting }
-
 -- units that are taken without a fault give no event, and decoding still waits
 events_after_sets : (us more : List Piece) (s : State) (ended : Bool) → s.phase ≡ waiting → All NoFault us
-    → events_from s (us ++ more) ended ≡ events_from (waiting_with s.output (s.sets ++ set_units us)) more ended
+    → events_from s (us ++ more) ended ≡ events_from (state_of s.output (s.sets ++ set_units us) waiting) more ended
 events_after_sets [] more s ended w n =
-    ap (λ p. events_from (record s { phase = p }) more ended) w ∙ ap (λ ss. events_from (waiting_with s.output ss) more ended) (sym (append-nil s.sets))
+    ap (λ p. events_from (record s { phase = p }) more ended) w ∙ ap (λ ss. events_from (state_of s.output ss waiting) more ended) (sym (append-nil s.sets))
 events_after_sets (u ∷ us) more s ended w n =
     ap (λ (x : Outcome). x.events ++ events_from (state_after s u x) (us ++ more) ended) (set_taken s u w (All-head NoFault u us n))
-    ∙ events_after_sets us more (waiting_with s.output (s.sets ++ set_units (u ∷ []))) ended refl (All-tail NoFault u us n)
-    ∙ ap (λ ss. events_from (waiting_with s.output ss) more ended) (sets-append s.sets _ (set_units us))
+    ∙ events_after_sets us more (state_of s.output (s.sets ++ set_units (u ∷ [])) waiting) ended refl (All-tail NoFault u us n)
+    ∙ ap (λ ss. events_from (state_of s.output ss waiting) more ended) (sets-append s.sets _ (set_units us))
 
 -- ---- units with the same contents
-
-pub like : (r : ℕ → ℕ) (u u' : Piece) → contents u ≡ contents u' → u'.index ≡ r u.index → IsAlike r u u'
-like r u u' e n = record { same_header = sym (ap (λ c. c.0) e); same_body = sym (ap (λ c. c.1) e); numbered = n }
 
 -- numbered from n on
 abbrev Numbered : (n : ℕ) → List Piece → Type 0
 Numbered n us = (j : ℕ) (u : Piece) → slice_get us j ≡ Some u → u.index ≡ n + j
 
-later_numbered : (n : ℕ) (u : Piece) (us : List Piece) → Numbered n (u ∷ us) → Numbered (suc n) us
-later_numbered n u us a j v e = let same : n + suc j ≡ suc n + j = omega arith in a (suc j) v e ∙ same
-
-later_shifted : (r : ℕ → ℕ) (n n' : ℕ) → ((j : ℕ) → r (n + j) ≡ n' + j) → (j : ℕ) → r (suc n + j) ≡ suc n' + j
-later_shifted r n n' shifts j =
-    let here : suc n + j ≡ n + suc j = omega arith in
-    let there : n' + suc j ≡ suc n' + j = omega arith in
-    ap r here ∙ shifts (suc j) ∙ there
-
-alike : (r : ℕ → ℕ) (n n' : ℕ) (us us' : List Piece) → map contents us ≡ map contents us' → Numbered n us → Numbered n' us'
-    → ((j : ℕ) → r (n + j) ≡ n' + j) → AreAlike r us us'
-alike r n n' [] [] e a b shifts = tt
-alike r n n' (u ∷ us) (u' ∷ us') e a b shifts = (
-  like r u u' (cc e) (b 0 u' refl ∙ sym (shifts 0) ∙ ap r (sym (a 0 u refl))),
-  alike r (suc n) (suc n') us us' (cc e) (later_numbered n u us a) (later_numbered n' u' us' b) (later_shifted r n n' shifts),
-)
-alike r n n' _ _ e a b shifts = cc e
-
 -- They are taken alike, and bring the same sets.
 no_fault-like : (u u' : Piece) → contents u ≡ contents u' → NoFault u → NoFault u'
 no_fault-like u u' e n sets =
     let r : ℕ → ℕ = λ _. u'.index in
-    ap (step sets false None) (is_moved r u u' (like r u u' e refl)) ∙ step-same r sets false None u u' ∙ ap (renumbered_step r) (n sets)
+    ap (step sets false None) (like r u u' e refl) ∙ step-same r sets false None u u' ∙ ap (renumbered_step r) (n sets)
 
 no_faults-like : (us us' : List Piece) → map contents us ≡ map contents us' → All NoFault us → All NoFault us'
 no_faults-like [] [] e n = All-nil NoFault
@@ -190,7 +157,7 @@ no_faults-like (u ∷ us) (u' ∷ us') e n =
 no_faults-like _ _ e n = cc e
 
 set-like : (u u' : Piece) → contents u ≡ contents u' → set_unit u' ≡ set_unit u
-set-like u u' e = ap set_unit (is_moved (λ _. u'.index) u u' (like (λ _. u'.index) u u' e refl))
+set-like u u' e = ap set_unit (like (λ _. u'.index) u u' e refl)
 
 sets-like : (us us' : List Piece) → map contents us ≡ map contents us' → set_units us' ≡ set_units us
 sets-like [] [] e = refl
@@ -200,26 +167,17 @@ sets-like _ _ e = cc e
 -- ---- places
 
 -- what the first n of a list say, and what the others say
-record AreCut {A B : Type 0} (say : A → B) (n : ℕ) (xs : List A) (front back : List B) : Type 0 where
-  front_same : map say (take n xs) ≡ front
-  back_same : map say (drop n xs) ≡ back
-
 cut-map : {A B : Type 0} (say : A → B) (n : ℕ) (xs : List A) (front back : List B) → length front ≡ n → map say xs ≡ front ++ back
-    → AreCut say n xs front back
-cut-map say n xs front back counted same = record {
-  front_same = sym (take-map say n xs) ∙ ap (take n) same ∙ ap (λ m. take m (front ++ back)) (sym counted) ∙ take-append_seam front back;
-  back_same = sym (drop-map say n xs) ∙ ap (drop n) same ∙ ap (λ m. drop m (front ++ back)) (sym counted) ∙ drop-append_seam front back;
-}
+    → (map say (take n xs) ≡ front) × (map say (drop n xs) ≡ back)
+cut-map say n xs front back counted same = (
+  sym (take-map say n xs) ∙ ap (take n) same ∙ ap (λ m. take m (front ++ back)) (sym counted) ∙ take-append_seam front back,
+  sym (drop-map say n xs) ∙ ap (drop n) same ∙ ap (λ m. drop m (front ++ back)) (sym counted) ∙ drop-append_seam front back,
+)
 
 get-drop : {A : Type 0} (n : ℕ) (xs : List A) (j : ℕ) → slice_get (drop n xs) j ≡ slice_get xs (n + j)
 get-drop zero xs j = let same : j ≡ 0 + j = omega arith in ap (slice_get xs) same
 get-drop (suc n) [] j = refl
 get-drop (suc n) (x ∷ xs) j = let same : suc (n + j) ≡ suc n + j = omega arith in get-drop n xs j ∙ ap (slice_get (x ∷ xs)) same
-
-get-front : {A : Type 0} (xs ys : List A) (k : ℕ) (x : A) → slice_get xs k ≡ Some x → slice_get (xs ++ ys) k ≡ Some x
-get-front [] ys k x e = cc
-get-front (y ∷ xs) ys zero x e = e
-get-front (y ∷ xs) ys (suc k) x e = get-front xs ys k x e
 
 get-take : {A : Type 0} (n : ℕ) (xs : List A) (j : ℕ) (x : A) → slice_get (take n xs) j ≡ Some x → slice_get xs j ≡ Some x
 get-take n xs j x e = subst (λ l. slice_get l j ≡ Some x) (take-append-drop n xs) (get-front (take n xs) (drop n xs) j x e)
@@ -229,14 +187,11 @@ numbered_later n us a j u e = let same : 0 + (n + j) ≡ n + j = omega arith in 
 
 -- ---- from the first state on
 
-shifted : (m k j : ℕ) → m + j + k - m ≡ k + j
-shifted m k j = omega arith
-
 -- where decoding waits after these units
 abbrev waiting_after : Output → (before : List Piece) → State
 waiting_after output before =
     let s = state_through (first_state output) before in
-    waiting_with s.output s.sets
+    state_of s.output s.sets waiting
 
 -- Units that bring the sets in force after `before` again, and then others: the events of these are those that they have behind `before`.
 resumes : SetsAreInForceAgain → SetsInForceAreUnits → SetsComeAlike
@@ -252,33 +207,31 @@ resumes again are come output before others us k ended numbers later_numbers sam
     let front = take m us in
     let back = drop m us in
     let cut = cut-map contents m us (map contents sets) (map contents others) (length-map sets contents) same in
-    let front_same = sym cut.front_same in
+    let front_same = sym cut.0 in
     let taken = All-weaker (IsSetOf before) NoFault (λ u i. i.no_fault) sets (are before) in
-    let start : State = waiting_with output ([] ++ set_units front) in
+    let start : State = state_of output ([] ++ set_units front) waiting in
     let sets_same : sets_after (state_through (first_state output) before).sets ≡ sets_after start.sets =
     ap sets_after (sets_through (first_state output) before) ∙ sym (again before) ∙ ap sets_after (sym (sets-like sets front front_same)) in
-    let renamed = alike r m k back others cut.back_same (numbered_later m us numbers) later_numbers (shifted m k) in
+    let renumbers : AreRenumbered r back others = λ j u u' a b. omega (arith, numbered_later m us numbers j u a, later_numbers j u' b) in
     let behind = events_after_sets front back (first_state output) ended refl (no_faults-like sets front front_same taken) in
-    events-same come r back others start (waiting_after output before) ended (output_through (first_state output) before) sets_same refl renamed
+    events-same come r back others start (waiting_after output before) ended (output_through (first_state output) before) sets_same refl cut.1 renumbers
     ∙ ap (map (renumbered_event r)) (sym behind ∙ ap (λ ps. events_from (first_state output) ps ended) (take-append-drop m us))
 
 -- ---- of bytes
 
 -- Unit k and those before it are the same once the stream has ended.
-record StandsToo (max : ℕ) (bytes : List ℕ) (ended : Bool) (k : ℕ) (u : Piece) : Type 0 where
-  before_same : take k (units max bytes true) ≡ take k (units max bytes ended)
-  there_too : slice_get (units max bytes true) k ≡ Some u
+abbrev StandsToo : (max : ℕ) → List ℕ → (ended : Bool) → (k : ℕ) → Piece → Type 0
+StandsToo max bytes ended k u = (take k (units max bytes true) ≡ take k (units max bytes ended)) × (slice_get (units max bytes true) k ≡ Some u)
 
 stands_too : UnitsStay → (max : ℕ) (bytes : List ℕ) (ended : Bool) (k : ℕ) (u : Piece)
     → slice_get (units max bytes ended) k ≡ Some u → StandsToo max bytes ended k u
-stands_too stay max bytes true k u e = record { before_same = refl; there_too = e }
+stands_too stay max bytes true k u e = (refl, e)
 stands_too stay max bytes false k u e =
     let more = stay max bytes [] true in
-    let all : units max bytes true ≡ units max bytes false ++ more.0 = ap (λ b. units max b true) (sym (append-nil bytes)) ∙ more.1 in
-    record {
-      before_same = ap (take k) all ∙ take-append-le k (units max bytes false) more.0 (omega (arith, slice_get_within (units max bytes false) k u e));
-      there_too = ap (λ us. slice_get us k) all ∙ get-front (units max bytes false) more.0 k u e;
-    }
+    let all : units max bytes true ≡ units max bytes false ++ more.0 = ap (λ b. units max b true) (sym (append-nil bytes)) ∙ more.1 in (
+      ap (take k) all ∙ take-append-le k (units max bytes false) more.0 (omega (arith, slice_get_within (units max bytes false) k u e)),
+      ap (λ us. slice_get us k) all ∙ get-front (units max bytes false) more.0 k u e,
+    )
 
 abbrev from_unit : List ℕ → Option Piece → List ℕ
 from_unit bytes (Some u) = start_code ++ drop u.offset bytes
@@ -287,26 +240,23 @@ from_unit bytes None = []
 resumed_is : (max : ℕ) (bytes : List ℕ) (ended : Bool) (k : ℕ) (u : Piece) → StandsToo max bytes ended k u
     → resumed max bytes k ≡ flat_map written (sets_in_force (take k (units max bytes ended))) ++ start_code ++ drop u.offset bytes
 resumed_is max bytes ended k u s =
-    ap (λ before. flat_map written (sets_in_force before) ++ from_unit bytes (slice_get (units max bytes true) k)) s.before_same
-    ∙ ap (λ o. flat_map written (sets_in_force (take k (units max bytes ended))) ++ from_unit bytes o) s.there_too
+    ap (λ before. flat_map written (sets_in_force before) ++ from_unit bytes (slice_get (units max bytes true) k)) s.0
+    ∙ ap (λ o. flat_map written (sets_in_force (take k (units max bytes ended))) ++ from_unit bytes o) s.1
     ∙ sym (append_assoc (flat_map written (sets_in_force (take k (units max bytes ended)))) start_code (drop u.offset bytes))
 
 set_of_stream : (max : ℕ) (bytes : List ℕ) (ended : Bool) (k : ℕ) (u v : Piece) → StandsToo max bytes ended k u
     → IsSetOf (take k (units max bytes ended)) v → IsUnitOf max bytes v
 set_of_stream max bytes ended k u v s i = record {
   place = i.place;
-  is_there = get-take k (units max bytes true) i.place v (ap (λ us. slice_get us i.place) s.before_same ∙ i.is_there);
+  is_there = get-take k (units max bytes true) i.place v (ap (λ us. slice_get us i.place) s.0 ∙ i.is_there);
   short = i.short;
 }
-
-unsaturated : (i n : ℕ) → i ≡ saturated n → i < 2 ^ 64 - 1 → i ≡ n
-unsaturated i n e few = omega (arith, e, few)
 
 numbers_are : UnitsAreNumbered → (max : ℕ) (bytes : List ℕ) (ended : Bool) → HaveOwnNumbers (units max bytes ended) → (n : ℕ)
     → Numbered n (drop n (units max bytes ended))
 numbers_are numbered max bytes ended own n j u e =
     let there : slice_get (units max bytes ended) (n + j) ≡ Some u = sym (get-drop n (units max bytes ended) j) ∙ e in
-    unsaturated u.index (n + j) (numbered max bytes ended (n + j) u there) (own (n + j) u there)
+    omega (arith, numbered max bytes ended (n + j) u there, own (n + j) u there)
 
 -- ---- a stream of no more units
 
@@ -368,8 +318,8 @@ closing_first output sets unit what next closed rest closes waits even same = cc
 -- The events of the closing come first, and then those that come where decoding waits.
 starts_anew_in : (output : Output) (units : List SetUnit) (u : Piece) (us : List Piece) (ended : Bool) (p : Phase) → is_start u ≡ true
     → CanStart output (step (sets_after units) (is_running p) (open_facts_in p) u) p
-    → events_from (record { output = output; sets = units; phase = p }) (u ∷ us) ended
-    ≡ closing_events output p ++ events_from (waiting_with output units) (u ∷ us) ended
+    → events_from (state_of output units p) (u ∷ us) ended
+    ≡ closing_events output p ++ events_from (state_of output units waiting) (u ∷ us) ended
 starts_anew_in output units u us ended waiting e can = refl
 starts_anew_in output units u us ended (running h None) e can = absurd can
 starts_anew_in output units u us ended (running h (Some o)) e can =
@@ -378,7 +328,7 @@ starts_anew_in output units u us ended (running h (Some o)) e can =
     let here = step sets false None u in
     let closed = closed_picture output o in
     let y = after_next output sets u.index waiting here.next in
-    let rest : Outcome → List Event = λ x. events_from (record { output = output; sets = units ++ set_units (u ∷ []); phase = x.phase }) us ended in
+    let rest : Outcome → List Event = λ x. events_from (state_of output (units ++ set_units (u ∷ [])) x.phase) us ended in
     ap (λ (x : Outcome). x.events ++ rest x)
     (closing_first output sets u.index what here.next closed (after_next output sets u.index (running h (Some o)) what.next)
     can.0 can.1 can.2 (next_alike sets (open_picture_facts o) u e can.0 can.2))
@@ -417,10 +367,14 @@ zeroed u = record u { index = 0 }
 abbrev to_zero : ℕ → ℕ
 to_zero n = 0
 
-alike_zeroed : (us us' : List Piece) → map contents us ≡ map contents us' → AreAlike to_zero us' (map zeroed us)
-alike_zeroed [] [] e = tt
-alike_zeroed (u ∷ us) (u' ∷ us') e = (like to_zero u' (zeroed u) (cc e) refl, alike_zeroed us us' (cc e))
-alike_zeroed _ _ e = cc e
+zeroed_say : (us : List Piece) → map contents us ≡ map contents (map zeroed us)
+zeroed_say [] = refl
+zeroed_say (u ∷ us) = ap (λ cs. contents u ∷ cs) (zeroed_say us)
+
+zero_at : (us : List Piece) (j : ℕ) (v : Piece) → slice_get (map zeroed us) j ≡ Some v → v.index ≡ 0
+zero_at [] j v e = cc e
+zero_at (u ∷ us) zero v e = let same : zeroed u ≡ v = cc e in ap (λ (w : Piece). w.index) (sym same)
+zero_at (u ∷ us) (suc j) v e = zero_at us j v e
 
 kinds_kept : (es : List Event) → list_all is_picture (map (renumbered_event to_zero) es) ≡ list_all is_picture es
 kinds_kept [] = refl
@@ -439,7 +393,9 @@ same_pictures es es' h e =
 
 pub pictures_name_no_units_so : SetsComeAlike → PicturesNameNoUnits
 pictures_name_no_units_so come s s' us us' output w w' sets same h =
-    let these = events-same come to_zero us (map zeroed us) s s true refl refl (w ∙ ap (renumbered_phase to_zero) (sym w)) (alike_zeroed us us refl) in
+    let zeros = map zeroed us in
+    let these = events-same come to_zero us zeros s s true refl refl (w ∙ ap (renumbered_phase to_zero) (sym w)) (zeroed_say us) (λ j u u' a. zero_at us j u') in
     let those =
-    events-same come to_zero us' (map zeroed us) s' s true (sym output) (sym sets) (w ∙ ap (renumbered_phase to_zero) (sym w')) (alike_zeroed us us' same) in
+    events-same come to_zero us' zeros s' s true (sym output) (sym sets) (w ∙ ap (renumbered_phase to_zero) (sym w'))
+    (sym same ∙ zeroed_say us) (λ j u u' a. zero_at us j u') in
     same_pictures (events_from s us true) (events_from s' us' true) h (sym those ∙ these)

@@ -4,9 +4,7 @@ unfoldable pub use MissingNumbers.*
 use Rattle.avc_decoder_core.specs.History.{marking_entry}
 use Rattle.avc_decoder_core.specs.FrameBufferState.{Stores}
 
--- ---- an entry adds no reference frame but its own
-
--- ---- the marks of a history
+-- ---- an entry adds no reference frame but its own: the marks of a history
 
 -- it could be marked
 record AreMarked (h : History) : Type 0 where
@@ -117,9 +115,7 @@ missing_is_reference sps frame_num older ok =
     (ap (λ r. is_entry (or_no_references r) (length older)) b.is
     ∙ slid (marking_entry e) (length older) a.marks b.marks (marked_after e older a b))
 
--- ---- where the reordering of pictures stays within its limits, early output hands them out in the order of full output
-
--- ---- the limit of a sequence
+-- ---- where the reordering of pictures stays within its limits, early output hands them out in the order of full output: the limit of a sequence
 
 -- parameter sets with the same contents give the same limit
 same_limits : (a b : Sps) → same_sps a b ≡ true → reorder_limit a ≡ reorder_limit b
@@ -219,9 +215,7 @@ all_can_go_out_early law order (e ∷ older) come ok within = (
 pub early_output_keeps_histories : EarlyOutputKeepsTheOrder → AddsOwnFrameAlone → EarlyOutputKeepsHistories
 early_output_keeps_histories early law h come ok within = grind (arith, all_can_go_out_early)
 
--- ---- the state of a sequence as pictures are opened and closed
-
--- ---- with no open picture
+-- ---- the state of a sequence as pictures are opened and closed: with no open picture
 
 pub at_rest : (closed history : History) (o : Option OpenPicture) → option_map open_picture_of o ≡ None → StandsOnIf closed history o → closed ≡ history
 at_rest closed history o e s = grind (arith, none-some)

@@ -2,9 +2,7 @@
 pub mod Common
 unfoldable pub use Common.*
 
--- ---- units are taken one after the other, until decoding can start with one
-
--- ---- the first set
+-- ---- units are taken one after the other, until decoding can start with one: the first set
 
 first_of-assoc : {A : Type 0} (a b c : Option A) → first_of a (first_of b c) ≡ first_of (first_of a b) c
 first_of-assoc a b c = grind arith

@@ -53,7 +53,7 @@ fn pair(a: i16, b: i16) -> i16
     a + b
 }
 
-#[tactic(auto, using(crate::proofs::SixRows::low_4, crate::proofs::SixRows::high_4))]
+#[tactic(auto, using(crate::proofs::SixRows::by_4))]
 fn quarter(v: i16) -> i16
     ensures low { (pos 4 *ℤ result) ≤ℤ v }
     ensures high { v ≤ℤ (pos 4 *ℤ result +ℤ pos 3) }
@@ -61,7 +61,7 @@ fn quarter(v: i16) -> i16
     v >> 2
 }
 
-#[tactic(auto, using(crate::proofs::SixRows::low_64, crate::proofs::SixRows::high_64))]
+#[tactic(auto, using(crate::proofs::SixRows::by_64))]
 fn sixty_fourth(v: i16) -> i16
     ensures low { (pos 64 *ℤ result) ≤ℤ v }
     ensures high { v ≤ℤ (pos 64 *ℤ result +ℤ pos 63) }

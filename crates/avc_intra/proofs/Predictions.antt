@@ -6,29 +6,23 @@ unfoldable pub use Common.*
 
 -- one more term
 pub sum_below_ℤ_more : (f : ℕ → ℤ) (i : ℕ) (s r : ℤ) → s ≡ sum_below_ℤ i f → r ≡ f i → s +ℤ r ≡ sum_below_ℤ (i + 1) f
-sum_below_ℤ_more f i s r e g = ap (λ z. z +ℤ r) e ∙ ap (λ z. sum_below_ℤ i f +ℤ z) g ∙ ap (λ n. sum_below_ℤ n f) (sym (add-one i))
+sum_below_ℤ_more f i s r e g = rw (e, g, add-one)
 
 -- the same terms
 pub sum_below-same : (n : ℕ) (f g : ℕ → ℕ) → ((i : ℕ) → i < n → f i ≡ g i) → sum_below n f ≡ sum_below n g
-sum_below-same zero f g same = omega arith
-sum_below-same (suc n) f g same =
-    ap (λ s. s + f n) (sum_below-same n f g (λ i less. same i (omega arith))) ∙ ap (λ t. sum_below n g + t) (same n (omega arith))
+sum_below-same zero f g same = refl
+sum_below-same (suc n) f g same = rw (sum_below-same n f g (λ i less. same i (omega arith)), same n (omega arith))
 
 sum_below_ℤ-same : (n : ℕ) (f g : ℕ → ℤ) → ((i : ℕ) → i < n → f i ≡ g i) → sum_below_ℤ n f ≡ sum_below_ℤ n g
-sum_below_ℤ-same zero f g same = omega (arith, ints)
-sum_below_ℤ-same (suc n) f g same =
-    ap (λ s. s +ℤ f n) (sum_below_ℤ-same n f g (λ i less. same i (omega arith))) ∙ ap (λ t. sum_below_ℤ n g +ℤ t) (same n (omega arith))
+sum_below_ℤ-same zero f g same = refl
+sum_below_ℤ-same (suc n) f g same = rw (sum_below_ℤ-same n f g (λ i less. same i (omega arith)), same n (omega arith))
 
 -- two sides with the same samples and the same corner, before their middle
 same_before : (n i : ℕ) (f g : ℤ → ℕ) → i < n → ((i : ℕ) → i < 2 * n → f (pos i) ≡ g (pos i)) → f (negsuc 0) ≡ g (negsuc 0) → f (pos n -ℤ pos (i + 2)) ≡ g (pos n -ℤ pos (i + 2))
 same_before n i f g less same corner =
     elim (cases_lt (i + 1) n) as (λ _. f (pos n -ℤ pos (i + 2)) ≡ g (pos n -ℤ pos (i + 2))) [
-      | inl near ↦
-          let place : pos n -ℤ pos (i + 2) ≡ pos (n - (i + 2)) = omega (arith, ints) in
-          ap f place ∙ same (n - (i + 2)) (omega arith) ∙ sym (ap g place)
-      | inr far ↦
-          let place : pos n -ℤ pos (i + 2) ≡ negsuc 0 = omega (arith, ints) in
-          ap f place ∙ corner ∙ sym (ap g place)
+      | inl near ↦ let place : pos n -ℤ pos (i + 2) ≡ pos (n - (i + 2)) = omega (arith, ints) in rw place (same (n - (i + 2)) (omega arith))
+      | inr far ↦ let place : pos n -ℤ pos (i + 2) ≡ negsuc 0 = omega (arith, ints) in rw place corner
     ]
 
 -- and so the same slope
@@ -49,8 +43,7 @@ pub gradient_of_side : (m n : ℕ) (f : ℤ → ℕ) (side : List ℕ) (corner :
 gradient_of_side m n f side corner gradient found samples at_corner value small of_slope narrow =
     let whole : to_z w32 (of_z w32 gradient) ≡ gradient = omega (arith, ints) in
     let kept : to_z w32 (of_z w32 found) ≡ found = omega (arith, ints) in
-    let same : found ≡ slope n f = value ∙ sym (slope-same n f (side_of side corner) samples at_corner) in
-    whole ∙ of_slope ∙ ap (λ (z : ℤ). pos m *ℤ z +ℤ pos 32 >>ℤ 6) (kept ∙ same)
+    rw (whole, of_slope, kept, value, slope-same n f (side_of side corner) samples at_corner)
 
 pub same_plane : (m x y : ℕ) (h a d h' a' d' : ℤ) → h ≡ h' → a ≡ a' → d ≡ d'
     → clip1 (h +ℤ a *ℤ (pos x -ℤ pos m) +ℤ d *ℤ (pos y -ℤ pos m) +ℤ pos 16 >>ℤ 5) ≡ clip1 (h' +ℤ a' *ℤ (pos x -ℤ pos m) +ℤ d' *ℤ (pos y -ℤ pos m) +ℤ pos 16 >>ℤ 5)
@@ -75,17 +68,14 @@ near sides p x low =
     ap (λ t. if t && not sides.above_right then top p (pos 3) else top p (pos x)) not_past
 
 module _ (p : Around) (sides : Sides) (size first stride : ℕ) (rows : List ℕ) (seen : IsSeen p sides size first stride rows) where
-  pub above4 : (u : ℕ) → 4 * u + 4 ≤ size → sides.above ≡ true → sum_below 4 (λ i. slice_index rows (first - stride + (4 * u + i))) ≡ sum_above p u
-  above4 u within there = sum_below-same 4 _ _ (λ i low. sym ((seen.tops there).1 (4 * u + i) (omega arith)))
+  -- n of them by their places in the side
+  pub sum_above_seen : (n : ℕ) (k : ℕ → ℕ) → ((i : ℕ) → i < n → k i < size) → sides.above ≡ true
+      → sum_below n (λ i. slice_index rows (first - stride + k i)) ≡ sum_below n (λ i. top p (pos (k i)))
+  sum_above_seen n k within there = sum_below-same n _ _ (λ i low. sym ((seen.tops there).1 (k i) (within i low)))
 
-  pub left4 : (v : ℕ) → 4 * v + 4 ≤ size → sides.left ≡ true → sum_below 4 (λ i. slice_index rows (first + (4 * v + i) * stride - 1)) ≡ sum_left p v
-  left4 v within there = sum_below-same 4 _ _ (λ i low. sym ((seen.lefts there).2 (4 * v + i) (omega arith)))
-
-  pub above16 : size ≡ 16 → sides.above ≡ true → sum_below 16 (λ i. slice_index rows (first - stride + i)) ≡ sum_below 16 (λ i. top p (pos i))
-  above16 is there = sum_below-same 16 _ _ (λ i low. sym ((seen.tops there).1 i (omega arith)))
-
-  pub left16 : size ≡ 16 → sides.left ≡ true → sum_below 16 (λ i. slice_index rows (first + i * stride - 1)) ≡ sum_below 16 (λ i. left_of p (pos i))
-  left16 is there = sum_below-same 16 _ _ (λ i low. sym ((seen.lefts there).2 i (omega arith)))
+  pub sum_left_seen : (n : ℕ) (k : ℕ → ℕ) → ((i : ℕ) → i < n → k i < size) → sides.left ≡ true
+      → sum_below n (λ i. slice_index rows (first + k i * stride - 1)) ≡ sum_below n (λ i. left_of p (pos (k i)))
+  sum_left_seen n k within there = sum_below-same n _ _ (λ i low. sym ((seen.lefts there).2 (k i) (within i low)))
 
 -- ---- the rounded means do not depend on the direction in which they are read
 
@@ -104,8 +94,8 @@ mean_of_three-same a = omega arith
 -- ---- bounds of products with a sign
 
 IsWithin-abs : (n : ℕ) (z : ℤ) → unsigned_abs z ≤ n → IsWithin n z
-IsWithin-abs n (pos k) h = record { low = omega (arith, ints); high = omega (arith, ints) }
-IsWithin-abs n (negsuc k) h = record { low = omega (arith, ints); high = omega (arith, ints) }
+IsWithin-abs n (pos k) h = omega (arith, ints)
+IsWithin-abs n (negsuc k) h = omega (arith, ints)
 
 abs-within : (n : ℕ) (z : ℤ) → IsWithin n z → unsigned_abs z ≤ n
 abs-within n (pos k) h = omega (arith, ints)
@@ -119,14 +109,11 @@ IsWithin-mul m n a b first second =
 
 -- ---- the column left of a block that is laid line by line stays
 
-apart : (w first stride y v x : ℕ) → 0 < first → w < stride → v < y → x < w → first + y * stride - 1 ≡ first + v * stride + x → ⊥
-apart w first stride y v x some narrow low column e =
-    let more : (v + 1) * stride ≤ y * stride = mul-le-mul_right stride (omega arith) in
-    omega (arith, more)
-
 pub left_kept : (w first stride y : ℕ) (f : ℕ → ℕ → ℕ) (old new : List ℕ) → 0 < first → w < stride → IsStridedSet w y first stride f old new
     → slice_index new (first + y * stride - 1) ≡ slice_index old (first + y * stride - 1)
-left_kept w first stride y f old new some narrow set = set.outside (first + y * stride - 1) (λ x v column low e. apart w first stride y v x some narrow low column e)
+left_kept w first stride y f old new some narrow set =
+    set.outside (first + y * stride - 1)
+    (λ x v column low e. let more : (v + 1) * stride ≤ y * stride = mul-le-mul_right stride (omega arith) in omega (arith, more))
 
 -- ---- a sample of a block by its column and row
 
@@ -134,25 +121,12 @@ slice_index-block4x4 : (f : ℕ → ℕ → ℕ) (x y : ℕ) → x < 4 → y < 4
 slice_index-block4x4 f x y column row =
     let across : (4 * y + x) % 4 ≡ x = omega arith in
     let down : (4 * y + x) / 4 ≡ y = omega arith in
-    get_or-map-range_with_len (λ i. f (i % 4) (i / 4)) 0 16 (4 * y + x) (4 * y + x) 0 (omega arith) (zero-add (4 * y + x))
-    ∙ ap (λ u. f u ((4 * y + x) / 4)) across ∙ ap (λ v. f x v) down
+    get_or-map-range_with_len (λ i. f (i % 4) (i / 4)) 0 16 (4 * y + x) (4 * y + x) 0 (omega arith) (zero-add (4 * y + x)) ∙ rw (across, down)
 
 -- a block whose prediction is to be had, at one place
 pub block4x4_at : (can : Bool) (f : ℕ → ℕ → ℕ) (samples : List ℕ) → can ≡ true → samples ≡ block4x4 f → (x y : ℕ) → x < 4 → y < 4 → (if can then Some (f x y) else None) ≡ Some (slice_index samples (4 * y + x))
 block4x4_at can f samples available same x y column row =
     rw (available, same) (ap (λ s. Some s) (sym (slice_index-block4x4 f x y column row)))
-
--- A block with one more row: `new` is `old` with `row` written from row y on.
-pub rows_more : (w y : ℕ) (f : ℕ → ℕ → ℕ) (old new row : List ℕ)
-    → ((x k : ℕ) → x < w → k < y → slice_index old (w * k + x) ≡ f x k)
-    → ((k : ℕ) → k < w * y → slice_index new k ≡ slice_index old k)
-    → ((x : ℕ) → x < w → slice_index new (w * y + x) ≡ slice_index row x)
-    → ((x : ℕ) → x < w → slice_index row x ≡ f x y)
-    → (x k : ℕ) → x < w → k < y + 1 → slice_index new (w * k + x) ≡ f x k
-rows_more w y f old new row done before here value x k column less =
-    let earlier : (k : ℕ) → k < y → slice_index new (w * k + x) ≡ f x k =
-    λ k above. before (w * k + x) (omega (arith, mul_comm w k, mul-add-lt k w x y above column)) ∙ done x k column above in
-    below_more (λ k. slice_index new (w * k + x) ≡ f x k) y earlier (here x column ∙ value x column) k less
 
 -- eight samples of two kinds, four each
 pub row_of_two : (f : ℕ → ℕ) (a b : ℕ) → a ≡ f 0 → b ≡ f 1 → (x : ℕ) → x < 8 → slice_index (a ∷ a ∷ a ∷ a ∷ b ∷ b ∷ b ∷ b ∷ []) x ≡ f (x / 4)
@@ -164,18 +138,14 @@ pub laid4x4 : (first stride : ℕ) (f : Sides → ℕ → ℕ → ℕ) (found si
     → IsStridedSet 4 4 first stride (λ x y. slice_index samples (4 * y + x)) old new → IsStridedSet 4 4 first stride (f sides) old new
 laid4x4 first stride f found sides samples old new is same set =
     strided_same 4 4 first stride (λ x y. slice_index samples (4 * y + x)) (f sides) old new set
-    (λ x y column row. ap (λ l. slice_index l (4 * y + x)) same ∙ slice_index-block4x4 (f found) x y column row ∙ ap (λ t. f t x y) is)
+    (λ x y column row. rw (same, ← is) (slice_index-block4x4 (f found) x y column row))
 
 -- ---- a loop that fills a list from the front
 
 pub stored : {X : Type 0} (P : ℕ → X → Type 0) (xs : List X) (n : ℕ) (v d : X) → n < length xs → P n v → ((k : ℕ) → k < n → P k (get_or xs k d)) →
     (k : ℕ) → k < n + 1 → P k (get_or (slice_set xs n v) k d)
-stored P xs n v d room new old k h =
-    ⊎_elim (λ below. subst (P k) (sym (get_or-set_other xs n k v d (λ e. omega arith))) (old k below))
-    (λ above.
-    let e : n ≡ k = omega arith in
-    subst (λ i. P i (get_or (slice_set xs n v) i d)) e (subst (P n) (sym (get_or-set_same xs n v d room)) new))
-    (cases_lt k n)
+stored P xs n v d room new old =
+    below_more _ n (λ k below. rw (get_or-set_other xs n k v d (omega arith)) (old k below)) (rw (get_or-set_same xs n v d room) new)
 
 -- ---- worked values of intra prediction: each mode over one set of samples, beside the values of the modes written out sample by sample
 

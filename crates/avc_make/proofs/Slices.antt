@@ -27,9 +27,7 @@ ranges_of c syntax other is = grind arith
 -- read after so many bits, with its own QP
 mb_read : (c : Context) (position : ℕ) (rest : List Bool) (m : Mb) → HasRanges c m.syntax → m.qp ≡ qp_of c.qp m.syntax →
     macroblock c (record { position = position; ahead = mb_bits c position m.syntax ++ rest }) ≡ Ok (m, record { position = position + length (mb_bits c position m.syntax); ahead = rest })
-mb_read c position rest m is qp =
-    mb_is_read c position rest m.syntax is
-    ∙ ap (λ q. Ok (record { syntax = m.syntax; qp = q }, record { position = position + length (mb_bits c position m.syntax); ahead = rest })) (sym qp)
+mb_read c position rest m is qp = search (rules, mb_is_read)
 
 -- ---- I slices
 
@@ -47,10 +45,7 @@ i_read : (s : SliceStart) (m : Mb) (ms : List Mb) (left : ℕ) (before : List Pi
     i_data s left before qp (record { position = position; ahead = i_data_bits s before qp position (m ∷ ms) }) ≡ all_of (m ∷ ms)
 unfolding i_data_bits
 i_read s m ms zero before qp position same all few = absurd (omega (arith, few))
-i_read s m [] (suc left) before qp position same all few =
-    let c = context s before qp in
-    let read = mb_read c position [] m (ranges_of c m.syntax (i_stand s before qp m.syntax same all.0) all.0) all.1 in
-    rw (i_data, read) refl
+i_read s m [] (suc left) before qp position same all few = search (rules, mb_read, ranges_of, i_stand)
 i_read s m (m' ∷ ms) (suc left) before qp position same all few =
     let c = context s before qp in
     let next = position + length (mb_bits c position m.syntax) in
@@ -85,8 +80,7 @@ unfolding p_data_bits
 p_some s before qp position zero [] some = absurd (omega (arith, some))
 p_some s before qp position (suc run) [] some = word_some (suc run)
 p_some s before qp position run (m ∷ ms) some =
-    let others = p_some s (before ++ placed s m ∷ []) qp position (run + 1) ms (omega arith) in
-    grind (arith, word_some run, others, length-append {A = Bool})
+    search (rules, word_some, length-append, p_some s (before ++ placed s m ∷ []) qp position (run + 1) ms (omega arith))
 
 -- a run that fits, and what comes then
 abbrev turn : SliceStart → (turns : ℕ) → List PicMb → (qp : ℕ) → Bits → SliceMbs
@@ -361,18 +355,7 @@ pub record IsPut (c : CodedSlice) (old : Made) (i : ℕ) (row : PictureInfo) (qp
       ≡ old.bits ++ some_bits (own_start c) (earlier_mbs c) (length old.bits) c.macroblocks
 
 pub put_none : (c : CodedSlice) (old : Made) (row : PictureInfo) (qp : ℕ) → IsCodedSlice c → old.failed ≡ false → AreInfoOf (own_start c).width (earlier_mbs c) row → qp ≡ (own_start c).qp → IsPut c old 0 row qp 0 old
-put_none c old row qp is going told is_qp =
-    let s = own_start c in
-    let none : earlier_mbs c ≡ before_of c 0 = sym (append-nil (earlier_mbs c)) in
-    record {
-      going = going;
-      told = subst (λ b. AreInfoOf s.width b row) none told;
-      few = omega arith;
-      follow = subst (λ q. CanFollow s (before_of c 0) q c.macroblocks) (sym is_qp) (subst (λ b. CanFollow s b s.qp c.macroblocks) none is.follow);
-      sum =
-          ap (λ q. old.bits ++ rest_bits s.is_p s (before_of c 0) q (length old.bits) 0 c.macroblocks) is_qp
-          ∙ ap (λ b. old.bits ++ rest_bits s.is_p s b s.qp (length old.bits) 0 c.macroblocks) (sym none);
-    }
+put_none c old row qp is going told is_qp = search (rules, append-nil)
 
 -- the macroblock at place i, between those before it and those after it
 pub record IsAt (ms : List Mb) (i : ℕ) (m : Mb) : Type 0 where
@@ -389,9 +372,7 @@ before_more c i m here =
 -- its context, and that it can stand there
 pub stands_at : (c : CodedSlice) (old now : Made) (i : ℕ) (row : PictureInfo) (qp run : ℕ) (m : Mb) (k : Context) (syntax : MbSyntax) → IsPut c old i row qp run now → IsAt c.macroblocks i m
     → k ≡ context (own_start c) (before_of c i) qp → syntax ≡ m.syntax → CanStand k syntax
-stands_at c old now i row qp run m k syntax is here is_k is_syntax =
-    let all : CanFollow (own_start c) (before_of c i) qp (m ∷ drop (i + 1) c.macroblocks) = subst (λ l. CanFollow (own_start c) (before_of c i) qp l) here.first is.follow in
-    rw (is_syntax, is_k) (all.0)
+stands_at c old now i row qp run m k syntax is here is_k is_syntax = search rules
 
 pub put_next : (c : CodedSlice) (old now new : Made) (i : ℕ) (row row' : PictureInfo) (qp qp' run run' : ℕ) (m : Mb) (k : Context) (syntax : MbSyntax) → IsPut c old i row qp run now → IsAt c.macroblocks i m
     → k ≡ context (own_start c) (before_of c i) qp → syntax ≡ m.syntax → new ≡ with_bits now (own_bits k (length now.bits) run syntax)
@@ -419,9 +400,7 @@ put_next c old now new i row row' qp qp' run run' m k syntax is here is_k is_syn
 
 pub put_end : (c : CodedSlice) (old now new : Made) (i : ℕ) (row : PictureInfo) (qp run : ℕ) (p : Bool) → IsPut c old i row qp run now → drop i c.macroblocks ≡ [] → (own_start c).is_p ≡ p
     → new ≡ with_bits now (last_run_bits_where p run) → new ≡ with_bits old (some_bits (own_start c) (earlier_mbs c) (length old.bits) c.macroblocks)
-put_end c old now new i row qp run p is none same is_new =
-    let last = none_left (own_start c).is_p (own_start c) (before_of c i) qp (length now.bits) run in
-    is_new ∙ ap (λ t. record { bits = t; failed = false }) (rw (← same, ← last, ← none) is.sum)
+put_end c old now new i row qp run p is none same is_new = search (rules, none_left)
 
 -- ---- the unit
 

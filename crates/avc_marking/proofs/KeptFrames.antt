@@ -3,9 +3,7 @@ pub mod References
 unfoldable pub use References.*
 use Rattle.avc_types.specs.declared.fault.Fault.TheVariants as faults
 
--- ---- a part of reference frames in their order, where only marks may differ
-
--- ---- the relation
+-- ---- a part of reference frames in their order, where only marks may differ: the relation
 
 pub same-refl : (r : Reference) → IsSameFrame r r
 same-refl r = record { same_entry = refl; same_frame_num = refl; same_existing = refl }
@@ -59,11 +57,7 @@ pub part-map : (change : Reference → Reference) → ((r : Reference) → IsSam
 part-map change same [] = tt
 part-map change same (x ∷ xs) = inl (same x, part-map change same xs)
 
--- ---- what holds of a part: its entries
-
--- ---- which frames an entry leaves
-
--- ---- results
+-- ---- what holds of a part: its entries: which frames an entry leaves: results
 
 -- of a step that goes on only after another
 pub after : {A B : Type 0} {r : Result A Fault} {next : A → Result B Fault} {y : B} {P : Type 0} →
@@ -223,9 +217,7 @@ window-short s entry m m' h = grind (arith, after, last-short)
 pub slides_again : SlidesAgain
 slides_again s s' entry entry' m m' h = slides s' entry' m' (window-short s entry m m' h)
 
--- ---- how many reference frames there may be
-
--- ---- the frame that slides is one of them
+-- ---- how many reference frames there may be: the frame that slides is one of them
 
 abbrev is_there : Reference → List Reference → Bool
 is_there r references = list_any (λ s. s.entry == r.entry) references

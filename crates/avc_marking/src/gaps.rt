@@ -82,6 +82,7 @@ impl MissingFrameNums {
     }
 
     /// All but so many of the first.
+    #[tactic(auto, using(crate::proofs::KeptFrames::gap_numbers))]
     pub fn skip(&self, count: u32) -> MissingFrameNums
         requires { count ≤ length self.now }
         ensures { result ≡ drop count self.now }
@@ -112,6 +113,7 @@ impl MissingFrameNums {
 
 /// The frame numbers that are missing before a picture that is no IDR picture (7.4.3, 8.2.5.2), where `previous` is PrevRefFrameNum.
 /// FrameNumRepeated where a reference picture has PrevRefFrameNum itself, FrameNumGap where numbers are missing and may not be.
+#[tactic(auto, using(crate::proofs::KeptFrames::gap_numbers))]
 pub fn missing_frame_nums(
     previous: u32,
     gaps_allowed: bool,

@@ -48,6 +48,7 @@ fn mark_idr(frames: &mut ArrayVec<MarkedFrame, 17>, new: NewFrame, mark: Mark)
 }
 
 /// After the operations: the picture's frame, with its number from then on, is short-term where they have not marked it.
+#[tactic(auto, using(crate::proofs::KeptFrames::references_added))]
 fn mark_current(
     frames: &mut ArrayVec<MarkedFrame, 17>,
     new: NewFrame,

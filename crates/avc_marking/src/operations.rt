@@ -135,6 +135,7 @@ fn current_to_long_term(frames: &mut ArrayVec<MarkedFrame, 17>, new: NewFrame, i
 }
 
 /// One memory_management_control_operation (8.2.5.4), and whether the current picture has been marked then.
+#[tactic(auto, using(crate::proofs::KeptFrames::operating))]
 fn operate(
     frames: &mut ArrayVec<MarkedFrame, 17>,
     max_long_term_frame_idx: &mut Option<u32>,

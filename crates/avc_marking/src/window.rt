@@ -10,6 +10,7 @@ use arrayvec::ArrayVec;
 use avc_types::{Fault, Mark, MarkedFrame};
 
 /// How many frames are used for reference.
+#[tactic(auto, using(crate::proofs::KeptFrames::counting))]
 pub fn count(frames: &[MarkedFrame]) -> usize
     ensures few { result ≤ length frames.now }
     ensures references { CountsReferences frames.now result }

@@ -4,9 +4,7 @@ unfoldable pub use Macroblocks.*
 use Rattle.avc_mbsyntax.specs.SliceData.{placed}
 use Rattle.avc_types.specs.declared.fault.Fault.TheVariants as faults
 
--- ---- one step of reading a slice's data
-
--- ---- one macroblock
+-- ---- one step of reading a slice's data: one macroblock
 
 abbrev one_with : (full : Bool) → Result (Mb × Bits) Fault → (Mb × Bits → SliceMbs) → SliceMbs
 one_with full o k =
@@ -33,8 +31,7 @@ pub one_full : (s : SliceStart) (before : List PicMb) (qp : ℕ) (b : Bits) → 
 one_full s before qp b full = ap (λ t. one_with t (macroblock (context s before qp) b) (data_after s before)) full
 
 one_found : (s : SliceStart) (before : List PicMb) (qp : ℕ) (b : Bits) (o : Result (Mb × Bits) Fault) → (length before == s.size) ≡ false → macroblock (context s before qp) b ≡ o → one_more s before qp b ≡ one_with false o (data_after s before)
-one_found s before qp b o room read =
-    ap (λ t. one_with t (macroblock (context s before qp) b) (data_after s before)) room ∙ ap (λ x. one_with false x (data_after s before)) read
+one_found s before qp b o room read = grind (arith)
 
 next_stage : (more : Bool) (s : SliceStart) (before : List PicMb) (qp : ℕ) (b : Bits) → elim more [ true ↦ data_from s before qp b | false ↦ ended ] ≡ rest_at (stage_after more) s before qp b
 next_stage true s before qp b = refl
@@ -42,9 +39,7 @@ next_stage false s before qp b = refl
 
 pub one_read : (s : SliceStart) (before : List PicMb) (qp next : ℕ) (b mid : Bits) (mb : Mb) (stage : Stage) → (length before == s.size) ≡ false → macroblock (context s before qp) b ≡ Ok (mb, mid) →
     stage ≡ stage_after (more_data mid) → next ≡ mb.qp → one_more s before qp b ≡ after (mb ∷ []) (rest_at stage s (before ++ placed s mb ∷ []) next mid)
-one_read s before qp next b mid mb stage room read is is_next =
-    let found : one_more s before qp b ≡ after (mb ∷ []) (elim (more_data mid) [ true ↦ data_from s (before ++ placed s mb ∷ []) mb.qp mid | false ↦ ended ]) = one_found s before qp b (Ok (mb, mid)) room read in
-    rw (is, is_next) (found ∙ ap (after (mb ∷ [])) (next_stage (more_data mid) s (before ++ placed s mb ∷ []) mb.qp mid))
+one_read s before qp next b mid mb stage room read is is_next = grind (arith, more_data, one_found, next_stage)
 
 pub stage_is : (more : Bool) (s : SliceStart) (remaining : ℕ) → IsStage (stage_after more) s remaining
 stage_is true s remaining = tt
@@ -74,8 +69,7 @@ i_start_with (suc n) s before qp b intra room =
     ∙ ap (λ t. one_with t (macroblock (context s before qp) b) (λ r. data_from s (before ++ placed s r.0 ∷ []) (r.0).qp r.1)) (sym is)
 
 pub i_start : (s : SliceStart) (before : List PicMb) (qp r : ℕ) (b : Bits) → s.is_p ≡ false → s.size ≡ length before + r → data_from s before qp b ≡ one_more s before qp b
-i_start s before qp r b intra room =
-    intra_data s before qp b intra ∙ i_start_with (s.size - length before) s before qp b intra (omega (arith, room))
+i_start s before qp r b intra room = grind (arith, intra_data, i_start_with)
 
 -- ---- P slices
 
@@ -124,17 +118,14 @@ full_turn s n before qp b full = rw (p_data, where_room, full) refl
 
 -- so many turns or more are the same
 pub turns_same : (s : SliceStart) (m n : ℕ) (before : List PicMb) (qp : ℕ) (b : Bits) → s.size - length before ≤ m → s.size - length before ≤ n → length before ≤ s.size → p_data s m before qp b ≡ p_data s n before qp b
-turns_same s zero zero before qp b enough enough' within = refl
-turns_same s zero (suc n) before qp b enough enough' within =
-    sym (full_turn s n before qp b (is_full (length before) s.size (s.size - length before) (omega (arith, within)) (omega (arith, enough))))
-turns_same s (suc m) zero before qp b enough enough' within =
-    full_turn s m before qp b (is_full (length before) s.size (s.size - length before) (omega (arith, within)) (omega (arith, enough')))
 turns_same s (suc m) (suc n) before qp b enough enough' within =
     turn_same (length before == s.size) (ue b) (λ run. nat_lt (s.size - length before) run)
     (λ r. after (replicate r.0 (skipped qp)) (after_run s (passed_over s before qp r.0) qp r.1 (λ before' qp' b'. p_data s m before' qp' b')))
     (λ r. after (replicate r.0 (skipped qp)) (after_run s (passed_over s before qp r.0) qp r.1 (λ before' qp' b'. p_data s n before' qp' b')))
     (λ r few. run_same s before qp r.0 r.1 (λ before' qp' b'. p_data s m before' qp' b') (λ before' qp' b'. p_data s n before' qp' b') (ltb-false (s.size - length before) r.0 few) within
     (λ before' qp' b' longer inside. turns_same s m n before' qp' b' (omega (arith, enough, longer)) (omega (arith, enough', longer)) inside))
+turns_same s zero zero before qp b enough enough' within = refl
+turns_same s m n before qp b enough enough' within = grind (arith, full_turn, is_full)
 
 pub p_full : (s : SliceStart) (before : List PicMb) (qp r : ℕ) (b : Bits) → s.is_p ≡ true → s.size ≡ length before + r → r ≡ 0 → data_from s before qp b ≡ stopped faults.TooManyMacroblocks
 p_full s before qp r b inter room none = inter_data s before qp b inter ∙ ap (λ m. p_data s m before qp b) (let last : s.size - length before ≡ 0 = omega (arith, room, none) in last)
@@ -143,13 +134,10 @@ p_turn : (s : SliceStart) (before : List PicMb) (qp r : ℕ) (b : Bits) → s.is
 p_turn s before qp r b inter room some = inter_data s before qp b inter ∙ ap (λ m. p_data s m before qp b) (let same : s.size - length before ≡ suc (r - 1) = omega (arith, room, some) in same)
 
 pub p_fault : (s : SliceStart) (before : List PicMb) (qp r : ℕ) (b : Bits) (f : Fault) → s.is_p ≡ true → s.size ≡ length before + r → r ≢ 0 → ue b ≡ Err f → data_from s before qp b ≡ stopped f
-p_fault s before qp r b f inter room some read =
-    p_turn s before qp r b inter room some ∙ rw (p_data, where_room, is_open (length before) s.size r room some, read) refl
+p_fault s before qp r b f inter room some read = grind (arith, p_turn, is_open)
 
 pub p_over : (s : SliceStart) (before : List PicMb) (qp r run : ℕ) (b mid : Bits) → s.is_p ≡ true → s.size ≡ length before + r → r ≢ 0 → ue b ≡ Ok (run, mid) → r < run → data_from s before qp b ≡ stopped faults.TooManyMacroblocks
-p_over s before qp r run b mid inter room some read more =
-    let over : nat_lt (s.size - length before) run ≡ true = lt-ltb (s.size - length before) run (omega (arith, room, more)) in
-    p_turn s before qp r b inter room some ∙ rw (p_data, where_room, is_open (length before) s.size r room some, read, from_run, over) refl
+p_over s before qp r run b mid inter room some read more = grind (arith, lt-ltb, p_turn, is_open)
 
 pub p_run : (s : SliceStart) (before : List PicMb) (qp r run : ℕ) (b mid : Bits) → s.is_p ≡ true → s.size ≡ length before + r → r ≢ 0 → ue b ≡ Ok (run, mid) → run ≤ r → data_from s before qp b ≡ after_skipped s run before qp mid
 p_run s before qp r run b mid inter room some read few =
@@ -164,16 +152,10 @@ p_run s before qp r run b mid inter room some read few =
 
 pub skip_more : (s : SliceStart) (count n : ℕ) (before : List PicMb) (qp : ℕ) (b : Bits) → count ≡ suc n →
     after_skipped s count before qp b ≡ after (skipped qp ∷ []) (after_skipped s n (before ++ placed s (skipped qp) ∷ []) qp b)
-skip_more s count n before qp b is =
-    rw is (ap (λ l. after (skipped qp ∷ replicate n (skipped qp)) (after_run s l qp b (λ before' qp' b'. p_data s (s.size - length before') before' qp' b')))
-    (sym (append_assoc before (placed s (skipped qp) ∷ []) (replicate n (placed s (skipped qp))))))
+skip_more s count n before qp b is = grind (arith, append_assoc)
 
 pub skip_none : (s : SliceStart) (count : ℕ) (before : List PicMb) (qp : ℕ) (b : Bits) → s.is_p ≡ true → count ≡ 0 → after_skipped s count before qp b ≡ run_with (more_data b) (one_more s before qp b)
-skip_none s count before qp b inter is =
-    rw is (ap (λ l. after_run s l qp b (λ before' qp' b'. p_data s (s.size - length before') before' qp' b')) (append-nil before)
-    ∙ ap (run_with (more_data b)) (one_same (length before == s.size) (macroblock (context s before qp) b)
-    (λ r. p_data s (s.size - length (before ++ placed s r.0 ∷ [])) (before ++ placed s r.0 ∷ []) (r.0).qp r.1) (λ r. data_from s (before ++ placed s r.0 ∷ []) (r.0).qp r.1)
-    (λ r _. sym (inter_data s (before ++ placed s r.0 ∷ []) (r.0).qp r.1 inter))))
+skip_none s count before qp b inter is = grind (arith, append-nil, more_data, one_same, inter_data)
 
 pub run_ends : (s : SliceStart) (count : ℕ) (before : List PicMb) (qp : ℕ) (b : Bits) → s.is_p ≡ true → count ≡ 0 → more_data b ≡ false → after_skipped s count before qp b ≡ ended
 run_ends s count before qp b inter is none = skip_none s count before qp b inter is ∙ ap (λ m. run_with m (one_more s before qp b)) none

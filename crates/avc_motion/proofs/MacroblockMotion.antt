@@ -4,33 +4,16 @@ unfoldable pub use Partitions.*
 
 -- ---- the motion of a macroblock by its neighbours, and as found by sample coordinates
 
--- the four places
-asked_left : (x y : ℕ) → x < 16 → y < 16 → IsAsked (pos x -ℤ pos 1) (pos y)
-asked_left x y h k = record { left = omega (arith, ints); right = omega (arith, ints); top = omega (arith, ints); bottom = omega (arith, ints) }
-
-asked_above : (x y : ℕ) → x ≤ 16 → y < 16 → IsAsked (pos x) (pos y -ℤ pos 1)
-asked_above x y h k = record { left = omega (arith, ints); right = omega (arith, ints); top = omega (arith, ints); bottom = omega (arith, ints) }
-
-asked_corner : (x y : ℕ) → x < 16 → y < 16 → IsAsked (pos x -ℤ pos 1) (pos y -ℤ pos 1)
-asked_corner x y h k = record { left = omega (arith, ints); right = omega (arith, ints); top = omega (arith, ints); bottom = omega (arith, ints) }
-
-abbrev around : Motion → Motion → Motion → NeighbouringPartitions
-around a b c = record { a = a; b = b; c = c }
-
-same_around : (a a' b b' c c' d d' : Motion) → a ≡ a' → b ≡ b' → c ≡ c' → d ≡ d' → around a b (else_motion c d) ≡ around a' b' (else_motion c' d')
-same_around a a' b b' c c' d d' p q r s =
-    ap (λ z. around z b (else_motion c d)) p ∙ ap (λ z. around a' z (else_motion c d)) q
-    ∙ ap (λ z. around a' b' (else_motion z d)) r ∙ ap (λ z. around a' b' (else_motion c' z)) s
-
 module _ (near near' : Near) (same : (mine : List Motion) (x y : ℤ) → IsAsked x y → near mine x y ≡ near' mine x y) where
   pub neighbours_agree : (mine : List Motion) (x y width : ℕ) → x < 16 → y < 16 → x + width ≤ 16
       → neighbours_of near mine x y width ≡ neighbours_of near' mine x y width
   neighbours_agree mine x y width h k w =
-      same_around _ _ _ _ _ _ _ _
-      (same mine (pos x -ℤ pos 1) (pos y) (asked_left x y h k))
-      (same mine (pos x) (pos y -ℤ pos 1) (asked_above x y (omega arith) k))
-      (same mine (pos (x + width)) (pos y -ℤ pos 1) (asked_above (x + width) y w k))
-      (same mine (pos x -ℤ pos 1) (pos y -ℤ pos 1) (asked_corner x y h k))
+      cc (
+        same mine (pos x -ℤ pos 1) (pos y) (omega (arith, ints)),
+        same mine (pos x) (pos y -ℤ pos 1) (omega (arith, ints)),
+        same mine (pos (x + width)) (pos y -ℤ pos 1) (omega (arith, ints)),
+        same mine (pos x -ℤ pos 1) (pos y -ℤ pos 1) (omega (arith, ints)),
+      )
 
   module _ (shape : PMbType) (refs : List ℕ) (n : ℕ) where
     part_agrees : (mine : List Motion) (p : Part) (d : Mvd) → IsPlaced n p
@@ -42,19 +25,17 @@ module _ (near near' : Near) (same : (mine : List Motion) (x y : ℤ) → IsAske
 
     pub parts_agree : (mine : List Motion) (ps : List Part) (ms : List Mvd) → AllPlaced n ps
         → motion_of_parts near shape (take n refs) mine ps ms ≡ motion_of_parts near' shape refs mine ps ms
-    parts_agree mine [] ms placed = refl
-    parts_agree mine (p ∷ ps) [] placed = refl
     parts_agree mine (p ∷ ps) (d ∷ ms) placed =
         ap (λ m. motion_of_parts near shape (take n refs) (with_part mine p m) ps ms) (part_agrees mine p d placed.0)
         ∙ parts_agree (with_part mine p (motion_of_part near' shape (slice_index refs p.partition) mine p d)) ps ms placed.1
+    parts_agree mine _ ms placed = refl
 
 -- Differences behind those of the parts mean nothing.
 pub take_differences : (near : Near) (shape : PMbType) (refs : List ℕ) (mine : List Motion) (ps : List Part) (ms : List Mvd)
     → motion_of_parts near shape refs mine ps (take (length ps) ms) ≡ motion_of_parts near shape refs mine ps ms
-take_differences near shape refs mine [] ms = refl
-take_differences near shape refs mine (p ∷ ps) [] = refl
 take_differences near shape refs mine (p ∷ ps) (d ∷ ms) =
     take_differences near shape refs (with_part mine p (motion_of_part near shape (slice_index refs p.partition) mine p d)) ps ms
+take_differences near shape refs mine _ ms = refl
 
 -- ---- vectors that can be had, and parts up to the first that can't
 
@@ -71,13 +52,9 @@ not_all (x ∷ xs) (suc k) e = and_right (is_in_range x) (list_all is_in_range x
 abbrev InRange : List Motion → Type 0
 InRange mine = (k : ℕ) → k < 16 → is_in_range (slice_index_or mine k absent) ≡ true
 
-either_in_range : (b : Bool) (m v : Motion) → is_in_range m ≡ true → is_in_range v ≡ true → is_in_range (if b then m else v) ≡ true
-either_in_range true m v e f = e
-either_in_range false m v e f = f
-
 filled_in_range : (mine : List Motion) (p : Part) (m : Motion) → InRange mine → is_in_range m ≡ true → InRange (with_part mine p m)
 filled_in_range mine p m each e k h =
-    ap is_in_range (at-with_part mine p m k h) ∙ either_in_range (is_in_part p k) m (slice_index_or mine k absent) e (each k h)
+    rw (at-with_part mine p m k h) (cond_both (is_in_part p k) m (slice_index_or mine k absent) (λ v. is_in_range v ≡ true) (λ _. e) (λ _. each k h))
 
 none_is : (b : Bool) (x : Option (List Motion)) → b ≡ true → (if b then x else None) ≡ None → x ≡ None
 none_is true x t e = e
@@ -87,38 +64,24 @@ module _ (near : Near) (shape : PMbType) (refs : List ℕ) where
   abbrev moved : List Motion → Part → Mvd → Motion
   moved mine p d = motion_of_part near shape (slice_index refs p.partition) mine p d
 
-  pub decoded_is : (mine m : List Motion) (ps : List Part) (ms : List Mvd) → decoded near shape refs mine ps ms ≡ Some m
-      → motion_of_parts near shape refs mine ps ms ≡ m
-  decoded_is mine m [] ms e = same_Some mine m e
-  decoded_is mine m (p ∷ ps) [] e = same_Some mine m e
-  decoded_is mine m (p ∷ ps) (d ∷ ms) e =
-      let v = moved mine p d in
-      decoded_is (with_part mine p v) m ps ms (some_where (is_in_range v) (decoded near shape refs (with_part mine p v) ps ms) m e).1
-
-  pub decoded_in_range : (mine m : List Motion) (ps : List Part) (ms : List Mvd) → InRange mine → decoded near shape refs mine ps ms ≡ Some m → InRange m
-  decoded_in_range mine m [] ms each e = λ k h. ap (λ xs. is_in_range (slice_index_or xs k absent)) (sym (same_Some mine m e)) ∙ each k h
-  decoded_in_range mine m (p ∷ ps) [] each e = λ k h. ap (λ xs. is_in_range (slice_index_or xs k absent)) (sym (same_Some mine m e)) ∙ each k h
-  decoded_in_range mine m (p ∷ ps) (d ∷ ms) each e =
+  -- what is decoded are the parts' motions, and has what each step keeps
+  decoded_is : (P : List Motion → Type 0) → ((mine : List Motion) (p : Part) (v : Motion) → P mine → is_in_range v ≡ true → P (with_part mine p v))
+      → (mine m : List Motion) (ps : List Part) (ms : List Mvd) → P mine → decoded near shape refs mine ps ms ≡ Some m
+      → (motion_of_parts near shape refs mine ps ms ≡ m) × P m
+  decoded_is P step mine m (p ∷ ps) (d ∷ ms) each e =
       let v = moved mine p d in
       let is = some_where (is_in_range v) (decoded near shape refs (with_part mine p v) ps ms) m e in
-      decoded_in_range (with_part mine p v) m ps ms (filled_in_range mine p v each is.0) is.1
-
-  pub decoded_long : (mine m : List Motion) (ps : List Part) (ms : List Mvd) → length mine ≡ 16 → decoded near shape refs mine ps ms ≡ Some m → length m ≡ 16
-  decoded_long mine m [] ms long e = ap length (sym (same_Some mine m e)) ∙ long
-  decoded_long mine m (p ∷ ps) [] long e = ap length (sym (same_Some mine m e)) ∙ long
-  decoded_long mine m (p ∷ ps) (d ∷ ms) long e =
-      let v = moved mine p d in
-      decoded_long (with_part mine p v) m ps ms (length-with_part mine p v) (some_where (is_in_range v) (decoded near shape refs (with_part mine p v) ps ms) m e).1
+      decoded_is P step (with_part mine p v) m ps ms (step mine p v each is.0) is.1
+  decoded_is P step mine m _ ms each e = let is = same_Some mine m e in (is, subst P is each)
 
   -- a block in none of the parts stays as it is
   stays : (mine : List Motion) (ps : List Part) (ms : List Mvd) (k : ℕ) → k < 16 → is_off k ps ≡ true
       → slice_index_or (motion_of_parts near shape refs mine ps ms) k absent ≡ slice_index_or mine k absent
-  stays mine [] ms k h e = refl
-  stays mine (p ∷ ps) [] k h e = refl
   stays mine (p ∷ ps) (d ∷ ms) k h e =
       let v = moved mine p d in
       let both = and_parts (not (is_in_part p k)) (is_off k ps) e in
       stays (with_part mine p v) ps ms k h both.1 ∙ at-with_part mine p v k h ∙ cond-false _ _ _ (not-true _ both.0)
+  stays mine _ ms k h e = refl
 
   out_at : (mine : List Motion) (p : Part) (ps : List Part) (ms : List Mvd) (v : Motion) → HasOwn p ps → is_in_range v ≡ false
       → list_all is_in_range (motion_of_parts near shape refs (with_part mine p v) ps ms) ≡ false
@@ -132,24 +95,15 @@ module _ (near : Near) (shape : PMbType) (refs : List ℕ) where
 
   pub none_out : (mine : List Motion) (ps : List Part) (ms : List Mvd) → Apart ps → decoded near shape refs mine ps ms ≡ None
       → list_all is_in_range (motion_of_parts near shape refs mine ps ms) ≡ false
-  none_out mine [] ms apart e = cc
-  none_out mine (p ∷ ps) [] apart e = cc
   none_out mine (p ∷ ps) (d ∷ ms) apart e =
       let v = moved mine p d in
       elim (cases_Bool (is_in_range v)) [
         | inl t ↦ none_out (with_part mine p v) ps ms apart.1 (none_is (is_in_range v) (decoded near shape refs (with_part mine p v) ps ms) t e)
         | inr f ↦ out_at mine p ps ms v apart.0 f
       ]
+  none_out mine _ ms apart e = cc
 
 -- ---- the whole macroblock
-
-ok_of : (b : Bool) (m : List Motion) → b ≡ true → Ok m ≡ (if b then Ok m else Err VectorRange)
-ok_of true m e = refl
-ok_of false m e = cc
-
-err_of : (b : Bool) (m : List Motion) → b ≡ false → Err VectorRange ≡ (if b then Ok m else Err VectorRange)
-err_of true m e = cc
-err_of false m e = refl
 
 nothing_in_range : (k : ℕ) → k < 16 → is_in_range (slice_index_or no_motion k absent) ≡ true
 nothing_in_range k h = ap is_in_range (get_or-replicate 16 k absent absent h)
@@ -161,7 +115,7 @@ module _ (near near' : Near) (same : (mine : List Motion) (x y : ℤ) → IsAske
   skipped_is motion is within =
       let agree : motion_by near p_skip ≡ motion =
       ap (λ a. replicate 16 (inter 0 (skip_vector a))) (neighbours_agree near near' same no_motion 0 0 16 (omega arith) (omega arith) (omega arith)) ∙ sym is in
-      ok_of (list_all is_in_range motion) motion within ∙ ap motion_or_fault (sym agree)
+      sym (cond-true (list_all is_in_range motion) (Ok motion) (Err VectorRange) within) ∙ ap motion_or_fault (sym agree)
 
   module _ (shape : PMbType) (four : HasFourQuarters shape) (refs : List ℕ) (mvds : List Mvd) (residual : Residual) where
     abbrev coded : List Motion
@@ -174,14 +128,14 @@ module _ (near near' : Near) (same : (mine : List Motion) (x y : ℤ) → IsAske
 
     had : (d : Option (List Motion)) → decoded near' shape refs no_motion (parts_of shape) mvds ≡ d → blocks_or_fault d ≡ motion_or_fault coded
     had (Some m) e =
-        let is : coded ≡ m = plain ∙ decoded_is near' shape refs no_motion m (parts_of shape) mvds e in
-        let long : length m ≡ 16 = decoded_long near' shape refs no_motion m (parts_of shape) mvds refl e in
-        let within : list_all is_in_range m ≡ true =
-        all_in_range m (λ k h. decoded_in_range near' shape refs no_motion m (parts_of shape) mvds nothing_in_range e k (omega (arith, h, long))) in
-        ok_of (list_all is_in_range m) m within ∙ ap motion_or_fault (sym is)
+        let told = decoded_is near' shape refs (λ l. InRange l × (length l ≡ 16))
+        (λ mine p v each within. (filled_in_range mine p v each.0 within, length-with_part mine p v)) no_motion m (parts_of shape) mvds
+        (nothing_in_range, refl) e in
+        let within : list_all is_in_range m ≡ true = all_in_range m (λ k h. told.1.0 k (omega (arith, h, told.1.1))) in
+        sym (cond-true (list_all is_in_range m) (Ok m) (Err VectorRange) within) ∙ ap motion_or_fault (sym (plain ∙ told.0))
     had None e =
-        err_of (list_all is_in_range coded) coded
-        (ap (λ m. list_all is_in_range m) plain ∙ none_out near' shape refs no_motion (parts_of shape) mvds (parts_apart shape four) e)
+        sym (cond-false (list_all is_in_range coded) (Ok coded) (Err VectorRange)
+        (ap (λ m. list_all is_in_range m) plain ∙ none_out near' shape refs no_motion (parts_of shape) mvds (parts_apart shape four) e))
 
     pub inter_is : (result : Result (List Motion) Fault) → result ≡ blocks_or_fault (decoded near' shape refs no_motion (parts_of shape) mvds)
         → result ≡ motion_or_fault coded

@@ -9,6 +9,7 @@ const ABOVE: [u8; 16] = [10, 11, 0, 1, 14, 15, 4, 5, 2, 3, 8, 9, 6, 7, 12, 13];
 
 /// Luma block `k` is in the first column of its macroblock (6.4.3).
 #[inline]
+#[tactic(auto, using(crate::proofs::Found::leftmost))]
 pub fn is_leftmost(k: usize) -> bool
     requires { k < 16 }
     ensures { result ≡ (block_x k == 0) }
@@ -18,6 +19,7 @@ pub fn is_leftmost(k: usize) -> bool
 
 /// Luma block `k` is in the first row of its macroblock (6.4.3).
 #[inline]
+#[tactic(auto, using(crate::proofs::Found::topmost))]
 pub fn is_topmost(k: usize) -> bool
     requires { k < 16 }
     ensures { result ≡ (block_y k == 0) }

@@ -3,6 +3,7 @@
 ghost use Rattle.avc_neigh.specs.Laws.{AvailabilityIsFound, ModesAreFound, MotionIsFound, TotalCoeffsAreFound};
 
 /// The blocks beside a macroblock, as its neighbours by address have them, are those that are found by sample coordinates.
+#[tactic(auto, using(crate::proofs::Found::blocks_found))]
 pub fn blocks_are_found()
     ensures motion { MotionIsFound }
     ensures modes { ModesAreFound }
@@ -14,6 +15,7 @@ pub fn total_coeffs_are_found()
 {}
 
 /// Which samples beside a macroblock are there, by its neighbours by address, is what sample coordinates say.
+#[tactic(auto, using(crate::proofs::Found::availability_found))]
 pub fn availability_is_found()
     ensures { AvailabilityIsFound }
 {}

@@ -132,6 +132,7 @@ impl Row {
     }
 
     /// mbAddrA of the macroblock that comes next.
+    #[tactic(auto, using(crate::proofs::Found::left_is))]
     fn left(&self, slice: u32) -> Option<&NeighbourInfo>
         ensures { option_copied result ≡ mb_a self.now slice }
     {
@@ -145,6 +146,7 @@ impl Row {
     }
 
     /// mbAddrB of the macroblock that comes next.
+    #[tactic(auto, using(crate::proofs::Found::above_is))]
     fn above(&self, slice: u32) -> Option<&NeighbourInfo>
         ensures { option_copied result ≡ mb_b self.now slice }
     {
@@ -158,6 +160,7 @@ impl Row {
     }
 
     /// mbAddrC of the macroblock that comes next.
+    #[tactic(auto, using(crate::proofs::Found::above_right_is))]
     fn above_right(&self, slice: u32) -> Option<&NeighbourInfo>
         ensures { option_copied result ≡ mb_c self.now slice }
     {
@@ -174,6 +177,7 @@ impl Row {
     }
 
     /// mbAddrD of the macroblock that comes next.
+    #[tactic(auto, using(crate::proofs::Found::above_left_is))]
     fn above_left(&self, slice: u32) -> Option<&NeighbourInfo>
         ensures { option_copied result ≡ mb_d self.now slice }
     {

@@ -18,17 +18,12 @@ whole-by part id (Err fault) b x e f = let wrong = rw (e, whole) at f in cc
 pub whole-ok : {A : Type 0} (part : Read A) (id : Option ℕ) (b : Bits) (x : A) → whole part id b ≡ Ok x → (next : Bits) × (part b ≡ Ok (x, next))
 whole-ok part id b x f = whole-by part id (part b) b x refl f
 
-abbrev id_in : {A : Type 0} → SetFault → Result A SetFault → Option ℕ
-id_in why (Ok x) = why.id
-id_in why (Err f) = f.id
-
-whole-err-by : {A : Type 0} (part : Read A) (id : Option ℕ) (r : Result (A × Bits) Fault) (b : Bits) (why : SetFault) → part b ≡ r → whole part id b ≡ Err why → why.id ≡ id
-whole-err-by part id (Ok r) b why e f = let wrong = rw (e, whole) at f in cc
-whole-err-by part id (Err fault) b why e f = let g = rw (e, whole) at f in sym (ap (id_in why) g)
-
 -- a refused set has the id that was read
 pub whole-err : {A : Type 0} (part : Read A) (id : Option ℕ) (b : Bits) (why : SetFault) → whole part id b ≡ Err why → why.id ≡ id
-whole-err part id b why f = whole-err-by part id (part b) b why refl f
+whole-err part id b why f = grind arith
+
+-- of which a part is made; what it gives has to follow from the parts' ranges
+pub ruleset parts_give = (gives-check, gives-bind, gives-give, gives-ue_to, gives-u_to, gives-se_within, gives-times, gives-any)
 
 -- ---- an accepted picture parameter set keeps to the ranges of its fields, and has the id that was read
 
@@ -37,10 +32,7 @@ record IsCounts (c : DefaultCounts) : Type 0 where
   l1 : c.num_ref_idx_l1_default_active_minus1 ≤ 31
 
 gives-default_counts : Gives IsCounts default_counts
-gives-default_counts =
-    gives-bind (λ v. v ≤ 31) IsCounts (ue_to 31) _ (gives-ue_to 31) (λ first most_first.
-    gives-bind (λ v. v ≤ 31) IsCounts (ue_to 31) _ (gives-ue_to 31) (λ second most_second.
-    gives-give IsCounts _ (record { l0 = most_first; l1 = most_second })))
+gives-default_counts = search (parts_give, rules) depth 16
 
 record IsQuantisation (q : Quantisation) : Type 0 where
   weighted : q.weighted_bipred_idc ≤ 2
@@ -224,39 +216,25 @@ last_more [] x = refl
 last_more (y ∷ []) x = refl
 last_more (y ∷ z ∷ xs) x = last_more (z ∷ xs) x
 
-last_or : {A : Type 0} (xs : List A) (x : A) (b : Bool) → last (xs ++ (if b then x ∷ [] else [])) ≡ (if b then Some x else last xs)
-last_or xs x true = last_more xs x
-last_or xs x false = ap last (append-nil xs)
+-- what f makes of the last one that is taken, where one more may be
+last_taken : {A B : Type 0} (f : Option A → B) (p : A → Bool) (xs : List A) (x : A)
+    → f (last (filter p (xs ++ x ∷ []))) ≡ (if p x then f (Some x) else f (last (filter p xs)))
+last_taken f p xs x = grind (arith, filter-append, last_more, append-nil)
 
--- the last one that is taken, where one more may be
-last_taken : {A : Type 0} (p : A → Bool) (xs : List A) (x : A) → last (filter p (xs ++ x ∷ [])) ≡ (if p x then Some x else last (filter p xs))
-last_taken p xs x = ap last (filter-append p xs (x ∷ [])) ∙ last_or (filter p xs) x (p x)
-
-either : {A B : Type 0} (f : A → B) (b : Bool) (x y : A) → f (if b then x else y) ≡ (if b then f x else f y)
-either f true x y = refl
-either f false x y = refl
-
-pub sps_after_sps : (units : List SetUnit) (rbsp : List ℕ) (k : ℕ) → sps_in_force (units ++ OfSps rbsp ∷ []) k ≡ (if is_id k (sps_id rbsp) then accepted (sps_of rbsp) else sps_in_force units k)
-sps_after_sps units rbsp k = ap sps_record (last_taken (is_sps k) units (OfSps rbsp)) ∙ either sps_record (is_id k (sps_id rbsp)) _ _
-
-pub pps_after_sps : (units : List SetUnit) (rbsp : List ℕ) (k : ℕ) → pps_in_force (units ++ OfSps rbsp ∷ []) k ≡ pps_in_force units k
-pps_after_sps units rbsp k = ap pps_record (last_taken (is_pps k) units (OfSps rbsp))
-
-pub pps_after_pps : (units : List SetUnit) (rbsp : List ℕ) (k : ℕ) → pps_in_force (units ++ OfPps rbsp ∷ []) k ≡ (if is_id k (pps_id rbsp) then accepted (pps_of rbsp) else pps_in_force units k)
-pps_after_pps units rbsp k = ap pps_record (last_taken (is_pps k) units (OfPps rbsp)) ∙ either pps_record (is_id k (pps_id rbsp)) _ _
-
-pub sps_after_pps : (units : List SetUnit) (rbsp : List ℕ) (k : ℕ) → sps_in_force (units ++ OfPps rbsp ∷ []) k ≡ sps_in_force units k
-sps_after_pps units rbsp k = ap sps_record (last_taken (is_sps k) units (OfPps rbsp))
+-- What a table of one kind keeps, after one unit more that changes what is stored as the unit says.
+stored_more : {A : Type 0} (record_of : Option SetUnit → Option A) (test : ℕ → SetUnit → Bool) (units : List SetUnit) (unit : SetUnit) (old new : List (Option A))
+    → ((k : ℕ) → stored old k ≡ record_of (last (filter (test k) units))) → ((k : ℕ) → stored new k ≡ (if test k unit then record_of (Some unit) else stored old k))
+    → (k : ℕ) → stored new k ≡ record_of (last (filter (test k) (units ++ unit ∷ [])))
+stored_more record_of test units unit old new keeps put k = rw (last_taken record_of (test k) units unit, ← keeps k) (put k)
 
 chosen : {A : Type 0} (k : ℕ) (id read : Option ℕ) (x y kept : Option A) → id ≡ read → x ≡ y → (if is_id k id then x else kept) ≡ (if is_id k read then y else kept)
 chosen k id read x y kept same_id same = rw (same_id, same) refl
 
--- What a table keeps, after one unit more that changes what is stored as the unit says.
 keeps_sps : (units more : List SetUnit) (seen rbsp : List ℕ) (old new : List (Option Sps)) (other : List (Option Pps)) → Keeps units old other → seen ≡ rbsp → more ≡ units ++ OfSps seen ∷ []
     → ((k : ℕ) → stored new k ≡ (if is_id k (sps_id rbsp) then accepted (sps_of rbsp) else stored old k)) → Keeps more new other
 keeps_sps units more seen rbsp old new other keeps same is put = rw (is, same) (record {
-  sequence = λ k. put k ∙ ap (λ s. if is_id k (sps_id rbsp) then accepted (sps_of rbsp) else s) (keeps.sequence k) ∙ sym (sps_after_sps units rbsp k);
-  picture = λ k. keeps.picture k ∙ sym (pps_after_sps units rbsp k);
+  sequence = stored_more sps_record is_sps units (OfSps rbsp) old new keeps.sequence put;
+  picture = stored_more pps_record is_pps units (OfSps rbsp) other other keeps.picture (λ k. refl);
 })
 
 pub keeps_accepted_sps : (units more : List SetUnit) (seen rbsp : List ℕ) (old new : List (Option Sps)) (other : List (Option Pps)) (set : Sps) → Keeps units old other → seen ≡ rbsp → more ≡ units ++ OfSps seen ∷ []
@@ -272,8 +250,8 @@ keeps_refused_sps units more seen rbsp old new other why keeps same is read put 
 keeps_pps : (units more : List SetUnit) (seen rbsp : List ℕ) (old new : List (Option Pps)) (other : List (Option Sps)) → Keeps units other old → seen ≡ rbsp → more ≡ units ++ OfPps seen ∷ []
     → ((k : ℕ) → stored new k ≡ (if is_id k (pps_id rbsp) then accepted (pps_of rbsp) else stored old k)) → Keeps more other new
 keeps_pps units more seen rbsp old new other keeps same is put = rw (is, same) (record {
-  picture = λ k. put k ∙ ap (λ s. if is_id k (pps_id rbsp) then accepted (pps_of rbsp) else s) (keeps.picture k) ∙ sym (pps_after_pps units rbsp k);
-  sequence = λ k. keeps.sequence k ∙ sym (sps_after_pps units rbsp k);
+  sequence = stored_more sps_record is_sps units (OfPps rbsp) other other keeps.sequence (λ k. refl);
+  picture = stored_more pps_record is_pps units (OfPps rbsp) old new keeps.picture put;
 })
 
 pub keeps_accepted_pps : (units more : List SetUnit) (seen rbsp : List ℕ) (old new : List (Option Pps)) (other : List (Option Sps)) (set : Pps) → Keeps units other old → seen ≡ rbsp → more ≡ units ++ OfPps seen ∷ []
@@ -291,45 +269,32 @@ pub lent : {A : Type 0} (P : A → Type 0) (set : Option (Bor A)) (found : Optio
 lent P (Some x) found is kept = kept x.now (sym is)
 lent P None found is kept = tt
 
-is_id-same : (id : ℕ) (read : Option ℕ) → is_id id read ≡ true → read ≡ Some id
-is_id-same id None e = cc
-is_id-same id (Some v) e = ap Some (eqb-true v id e)
-
-accepted-ok : {A : Type 0} (r : Result A SetFault) (set : A) → accepted r ≡ Some set → r ≡ Ok set
-accepted-ok (Ok x) set e = cc
-accepted-ok (Err f) set e = cc
-
-kept-at : {A : Type 0} (p : A → Bool) (y : A) (zs : List A) (b : Bool) (x : A) → p y ≡ b → (last zs ≡ Some x → p x ≡ true) → last (if b then y ∷ zs else zs) ≡ Some x → p x ≡ true
-kept-at p y [] true x h later e = let same : y ≡ x = cc in rw same at h
-kept-at p y (z ∷ zs) true x h later e = later e
-kept-at p y zs false x h later e = later e
-
 -- the last one that is taken was taken
 last-kept : {A : Type 0} (p : A → Bool) (xs : List A) (x : A) → last (filter p xs) ≡ Some x → p x ≡ true
-last-kept p [] x e = cc
-last-kept p (y ∷ ys) x e = kept-at p y (filter p ys) (p y) x refl (last-kept p ys x) e
+last-kept {A = A} p xs x e = last-all (filter p xs) (filter_passes p xs) e
+  where
+    last-all : (ys : List A) → All (λ y. p y ≡ true) ys → last ys ≡ Some x → p x ≡ true
+    last-all [] all is = cc
+    last-all (y ∷ []) all is = let same : y ≡ x = cc in rw same at (All-head (λ z. p z ≡ true) y [] all)
+    last-all (y ∷ z ∷ ys) all is = last-all (z ∷ ys) (All-tail (λ z. p z ≡ true) y (z ∷ ys) all) is
 
 sps-of-unit : (id : ℕ) (unit : Option SetUnit) (s : Sps) → ((u : SetUnit) → unit ≡ Some u → is_sps id u ≡ true) → sps_record unit ≡ Some s → SpsIsInForce id s
 sps-of-unit id (Some (OfSps rbsp)) s taken e =
-    let accepted_set = sps_accepted rbsp s (accepted-ok (sps_of rbsp) s e) in
-    let read : sps_id rbsp ≡ Some id = is_id-same id (sps_id rbsp) (taken (OfSps rbsp) refl) in
-    record { within = accepted_set.within; id_is = cc (accepted_set.id, read) }
-sps-of-unit id (Some (OfPps rbsp)) s taken e = cc
-sps-of-unit id None s taken e = cc
+    let accepted_set = sps_accepted rbsp s (grind arith) in
+    record { within = accepted_set.within; id_is = grind (arith, nat_tests, taken (OfSps rbsp) refl, accepted_set.id) }
+sps-of-unit id _ s taken e = cc
 
 pub sps_in_force_is : (units : List SetUnit) (id : ℕ) (s : Sps) → sps_in_force units id ≡ Some s → SpsIsInForce id s
-sps_in_force_is units id s e = sps-of-unit id (last (filter (is_sps id) units)) s (λ u is. last-kept (is_sps id) units u is) e
+sps_in_force_is units id s e = sps-of-unit id (last (filter (is_sps id) units)) s (last-kept (is_sps id) units) e
 
 pps-of-unit : (id : ℕ) (unit : Option SetUnit) (s : Pps) → ((u : SetUnit) → unit ≡ Some u → is_pps id u ≡ true) → pps_record unit ≡ Some s → PpsIsInForce id s
 pps-of-unit id (Some (OfPps rbsp)) s taken e =
-    let accepted_set = pps_accepted rbsp s (accepted-ok (pps_of rbsp) s e) in
-    let read : pps_id rbsp ≡ Some id = is_id-same id (pps_id rbsp) (taken (OfPps rbsp) refl) in
-    record { within = accepted_set.within; id_is = cc (accepted_set.id, read) }
-pps-of-unit id (Some (OfSps rbsp)) s taken e = cc
-pps-of-unit id None s taken e = cc
+    let accepted_set = pps_accepted rbsp s (grind arith) in
+    record { within = accepted_set.within; id_is = grind (arith, nat_tests, taken (OfPps rbsp) refl, accepted_set.id) }
+pps-of-unit id _ s taken e = cc
 
 pub pps_in_force_is : (units : List SetUnit) (id : ℕ) (s : Pps) → pps_in_force units id ≡ Some s → PpsIsInForce id s
-pps_in_force_is units id s e = pps-of-unit id (last (filter (is_pps id) units)) s (λ u is. last-kept (is_pps id) units u is) e
+pps_in_force_is units id s e = pps-of-unit id (last (filter (is_pps id) units)) s (last-kept (is_pps id) units) e
 
 -- ---- worked examples of parameter sets
 

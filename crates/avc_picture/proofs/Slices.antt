@@ -11,35 +11,24 @@ use Rattle.avc_types.specs.declared.edges.FilteredEdges.TheVariants.{All}
 -- ---- one macroblock more of a picture
 
 -- whether a macroblock is intra, by its first block
-intra_seen : (f : NeighbourInfo) (motion : List Motion) → f.motion ≡ motion → motion ≡ replicate 16 intra → is_intra_info f ≡ true
-intra_seen f motion e is = ap (λ xs. is_intra_info (record f { motion = xs })) (e ∙ is)
-
 inter_seen : (c : Coded) (slice : ℕ) (f : NeighbourInfo) (m : Motion) → slice_index_or f.motion 0 absent ≡ m
     → is_picture (reference_of c slice m) ≡ true → is_intra_info f ≡ false
-inter_seen c slice f absent e there = cc
-inter_seen c slice f intra e there = cc
 inter_seen c slice f (inter r v) e there = rw e refl
+inter_seen c slice f m e there = cc
 
-seen : (c : Coded) (slice : ℕ) (f : NeighbourInfo) (s : MbSyntax)
-    → (is_intra s ≡ true → f.motion ≡ replicate 16 intra)
-    → (is_intra s ≡ false → is_picture (reference_of c slice (slice_index_or f.motion 0 absent)) ≡ true)
-    → is_intra_info f ≡ is_intra s
-seen c slice f p_skip e there = inter_seen c slice f _ refl (there refl)
-seen c slice f (p_inter shape refs mvds r) e there = inter_seen c slice f _ refl (there refl)
-seen c slice f (i_pcm luma cb cr) e there = intra_seen f _ refl (e refl)
-seen c slice f (i_nxn modes chroma r) e there = intra_seen f _ refl (e refl)
-seen c slice f (i_16x16 mode chroma r) e there = intra_seen f _ refl (e refl)
+seen : (c : Coded) (slice : ℕ) (f : NeighbourInfo) (b : Bool) → (b ≡ true → f.motion ≡ replicate 16 intra)
+    → (b ≡ false → is_picture (reference_of c slice (slice_index_or f.motion 0 absent)) ≡ true) → is_intra_info f ≡ b
+seen c slice f true e there = rw (e refl) refl
+seen c slice f false e there = inter_seen c slice f _ refl (there refl)
 
 intra_motion : (c : Coded) (known : List (List Motion)) (a : ℕ) (s : MbSyntax) → is_intra s ≡ true → motion_of c known a s ≡ replicate 16 intra
 intra_motion c known a p_skip e = cc
 intra_motion c known a (p_inter shape refs mvds r) e = cc
-intra_motion c known a (i_pcm luma cb cr) e = refl
-intra_motion c known a (i_nxn modes chroma r) e = refl
-intra_motion c known a (i_16x16 mode chroma r) e = refl
+intra_motion c known a s e = refl
 
-module _ {PAD : ℕ} (c : Coded) (names : Names) (old : MbsState) (holds : HoldsFirst c names old) (kept : PartsAgree old)
-    (s : SliceContext PAD) (slice : IsSlice c names s) (mb : Mb) (is : slice_get c.mbs old.next ≡ Some (record { slice = s.number; mb = mb }))
-    (n : Around) (n_is : n ≡ around old.row s.number) where
+module _ {PAD : ℕ} {c : Coded} {names : Names} {old : MbsState} (holds : HoldsFirst c names old) (kept : PartsAgree old)
+    {s : SliceContext PAD} (slice : IsSlice c names s) {mb : Mb} (is : slice_get c.mbs old.next ≡ Some (record { slice = s.number; mb = mb }))
+    {n : Around} (n_is : n ≡ around old.row s.number) where
   abbrev a : ℕ
   a = old.next
 
@@ -56,22 +45,21 @@ module _ {PAD : ℕ} (c : Coded) (names : Names) (old : MbsState) (holds : Holds
   step_row_width = kept.row_width ∙ holds.width
 
   step_is_wide : 0 < c.width
-  step_is_wide = subst (λ w. 0 < w) holds.width kept.wide
+  step_is_wide = rw holds.width at kept.wide
 
   motion_in : MotionIsAround n c.mbs c.width (motion_before c a) a
-  motion_in = subst (λ x. MotionIsAround x c.mbs c.width (motion_before c a) a) (sym n_is) (motion_around c a m is old.row step_row_width step_is_wide holds.neighbours)
+  motion_in = rw n_is (motion_around c a m is old.row step_row_width step_is_wide holds.neighbours)
 
   modes_in : ModesAreAround n c.mbs c.width (modes_before c a) a
-  modes_in = subst (λ x. ModesAreAround x c.mbs c.width (modes_before c a) a) (sym n_is) (modes_around c a m is old.row step_row_width step_is_wide holds.neighbours)
+  modes_in = rw n_is (modes_around c a m is old.row step_row_width step_is_wide holds.neighbours)
 
   -- Its vectors can't be had.
   pub vector_fault : (f : Fault) → HasMotion n mb.syntax (Err f) → macroblock_fault c a ≡ Some f
   vector_fault f has =
       macroblock_fault_is c a m is ∙ out_of_range step_place step_moved (motion_last c a m is) f (has c (motion_before c a) a motion_in)
 
-  module _ (info : NeighbourInfo) (has : HasMotion n mb.syntax (Ok info.motion)) (constrained : Bool)
-      (flag : constrained ≡ old.canvas.constrained_intra_pred) (told : IsNeighbourInfo s.number n constrained mb info)
-      (references : List (Option (ReferencePicture PAD))) (references_are : references ≡ s.references) where
+  module _ (info : NeighbourInfo) (has : HasMotion n mb.syntax (Ok info.motion)) (told : IsNeighbourInfo s.number n old.canvas.constrained_intra_pred mb info)
+      {references : List (Option (ReferencePicture PAD))} (references_are : references ≡ s.references) where
     motion_is : slice_index_or (motion_before c (suc a)) a [] ≡ info.motion
     motion_is = motion_found step_place step_moved (motion_last c a m is) info.motion (has c (motion_before c a) a motion_in)
 
@@ -79,7 +67,7 @@ module _ {PAD : ℕ} (c : Coded) (names : Names) (old : MbsState) (holds : Holds
     moved_is = sym (motion_last c a m is) ∙ motion_is
 
     modes_are : modes_of c (modes_before c a) a mb.syntax ≡ info.modes
-    modes_are = sym (told.modes_are c (modes_before c a) a (sym (flag ∙ holds.constrained)) modes_in)
+    modes_are = sym (told.modes_are c (modes_before c a) a (sym holds.constrained) modes_in)
 
     place_on : IsPlaceOn old.canvas a mb info n references step_place
     place_on = record {
@@ -90,11 +78,8 @@ module _ {PAD : ℕ} (c : Coded) (names : Names) (old : MbsState) (holds : Holds
       mb_is = refl;
       modes = modes_last c a m is ∙ modes_are;
       motion = motion_is;
-      sides = λ intra k h.
-          sides_are c a m is old.row step_row_width step_is_wide holds.neighbours intra k h
-          ∙ ap (λ b. sides_near b (around old.row s.number) k) (sym holds.constrained)
-          ∙ ap (λ x. sides_near old.canvas.constrained_intra_pred x k) (sym n_is);
-      references_are = subst (AreReferences c s.number) (sym references_are) slice.references;
+      sides = λ intra k h. rw (n_is, holds.constrained) (sides_are c a m is old.row step_row_width step_is_wide holds.neighbours intra k h);
+      references_are = rw references_are slice.references;
     }
 
     not_out : macroblock_fault c a ≡ refusal step_place
@@ -121,8 +106,7 @@ module _ {PAD : ℕ} (c : Coded) (names : Names) (old : MbsState) (holds : Holds
 
       intra_is : is_intra mb.syntax ≡ is_intra_info info
       intra_is =
-          sym (seen c s.number info mb.syntax
-          (λ e. sym moved_is ∙ intra_motion c (motion_before c a) a mb.syntax e) (λ e. pictures e 0 (omega arith)))
+          sym (seen c s.number info (is_intra mb.syntax) (λ e. sym moved_is ∙ intra_motion c (motion_before c a) a mb.syntax e) (λ e. pictures e 0 (omega arith)))
 
       neighbours_more : HasNeighbourInfo c (suc a) (old.row.info ++ info ∷ [])
       neighbours_more =
@@ -134,9 +118,9 @@ module _ {PAD : ℕ} (c : Coded) (names : Names) (old : MbsState) (holds : Holds
             total_coeffs = tells_more (λ x. total_coeffs_of x.mb.syntax) (λ x. x.total_coeffs) c.mbs old.row.info m info at (sym told.total_coeffs_is) has.total_coeffs;
             intra = tells_more (λ x. is_intra x.mb.syntax) is_intra_info c.mbs old.row.info m info at intra_is has.intra;
             motion = map-append (λ x. x.motion) old.row.info (info ∷ []) ∙ ap (λ xs. xs ++ info.motion ∷ []) has.motion
-                ∙ ap (λ x. motion_before c a ++ x ∷ []) (sym moved_is) ∙ sym (motion_more c a m is);
+                ∙ ap (λ x. motion_before c a ++ x ∷ []) (sym moved_is) ∙ rw is refl;
             modes = map-append (λ x. x.modes) old.row.info (info ∷ []) ∙ ap (λ xs. xs ++ info.modes ∷ []) has.modes
-                ∙ ap (λ x. modes_before c a ++ x ∷ []) (sym modes_are) ∙ sym (modes_more c a m is);
+                ∙ ap (λ x. modes_before c a ++ x ∷ []) (sym modes_are) ∙ rw is refl;
           }
 
       below : a < length c.mbs
@@ -149,7 +133,7 @@ module _ {PAD : ℕ} (c : Coded) (names : Names) (old : MbsState) (holds : Holds
       decoded_more room last filters =
           let told_so_far : FilterInfo = record { width = c.width; info = old.filter_info } in
           let of : AreInfoOf c names c.chroma_qp_index_offset told_so_far = record { width_is = refl; offset_is = refl; info_are = holds.filter } in
-          let in_picture : a < c.width * c.height = subst (λ h. a < c.width * h) holds.height (subst (λ w. a < w * old.canvas.height) holds.width room) in (
+          let in_picture : a < c.width * c.height = rw (holds.width, holds.height) at room in (
             not_out ∙ here.0,
             record {
               within = omega (arith, below);
@@ -165,24 +149,17 @@ module _ {PAD : ℕ} (c : Coded) (names : Names) (old : MbsState) (holds : Holds
               neighbours = neighbours_more;
               filter = info_more c (motion_before c (length c.mbs)) names a old.filter_info f kept.filter_count holds.filter
                   (has_info c names s slice a mb is info.motion long (quarter_reference mb.syntax) f filter_told (motion_before c (length c.mbs))
-                  (motion_stays c (suc a) (length c.mbs) a (omega arith) (omega (arith, below)) ∙ motion_is) pictures one);
+                  (grown_entry (motion_before c) _ refl (λ j. refl) (suc a) (length c.mbs) a [] (omega arith) (omega (arith, below)) ∙ motion_is) pictures one);
             },
           )
 
--- ---- one slice more of a picture
-
--- ---- the frames' numbers
+-- ---- one slice more of a picture: the frames' numbers
 
 pub same-place : (es : List ℕ) → IsStrictlyIncreasing es → (m n : ℕ) → m < length es → n < length es → slice_index es m ≡ slice_index es n → m ≡ n
-same-place es rising m n h k e = by_order (order m n)
-  where
-    order : (x y : ℕ) → (x < y) ⊎ ((y < x) ⊎ (x ≡ y))
-    order x y = grind arith
-
-    by_order : (m < n) ⊎ ((n < m) ⊎ (m ≡ n)) → m ≡ n
-    by_order (inl less) = absurd (omega (arith, e, AllPairs-from_increasing es rising m n 0 less k))
-    by_order (inr (inl more)) = absurd (omega (arith, e, AllPairs-from_increasing es rising n m 0 more h))
-    by_order (inr (inr same)) = same
+same-place es rising m n h k e =
+    let less : m < n → ⊥ = λ (low : m < n). omega (arith, AllPairs-from_increasing es rising m n 0 low k) in
+    let more : n < m → ⊥ = λ (low : n < m). omega (arith, AllPairs-from_increasing es rising n m 0 low h) in
+    omega arith
 
 abbrev pub names-of : (es : List ℕ) → IsStrictlyIncreasing es → Names
 names-of es rising = record { count = length es; entry = λ n. slice_index es n; apart = same-place es rising }
@@ -191,10 +168,6 @@ pub are-names : (es : List ℕ) (rising : IsStrictlyIncreasing es) → AreNames 
 are-names es rising = record { all = refl; each = λ n h. refl }
 
 -- ---- lists
-
-get-here : {A : Type 0} (front rest : List A) (x d : A) → slice_index_or (front ++ x ∷ rest) (length front) d ≡ x
-get-here [] rest x d = refl
-get-here (y ∷ front) rest x d = get-here front rest x d
 
 -- a picture begins with itself
 pub begins-itself : (c : Coded) → BeginsWith c c
@@ -220,40 +193,32 @@ with-info-is : (slices : List SliceInfo) (info : SliceInfo) (mbs : List Mb) → 
 with-info-is slices info [] = sym (append-nil slices)
 with-info-is slices info (mb ∷ mbs) = refl
 
+few-after : (number read read' : ℕ) → number ≤ read → read ≤ read' → number_after number read read' ≤ read'
+few-after number read read' few more = grind (arith, nat_tests)
+
 slice_numbered : (slices : List SliceInfo) (info : SliceInfo) (mbs : List Mb) (number read read' : ℕ) → length slices ≡ number → read' ≡ read + length mbs
     → number_after number read read' ≡ length (slice_with_info slices info mbs)
 slice_numbered slices info [] number read read' e h = grind (arith, nat_tests)
 slice_numbered slices info (mb ∷ mbs) number read read' e h = grind (arith, nat_tests, length-append)
 
-few-after : (slices : List SliceInfo) (info : SliceInfo) (mbs : List Mb) (number read read' : ℕ) → length slices ≡ number → number ≤ read → read' ≡ read + length mbs
-    → length (slice_with_info slices info mbs) ≤ read'
-few-after slices info [] number read read' e few h = omega (arith, e, few, h)
-few-after slices info (mb ∷ mbs) number read read' e few h = grind (arith, nat_tests, length-append)
-
 -- ---- what refuses a slice
 
-tests-of : (x y : Bool) → (if x then Some MissingMacroblocks else (if y then Some ArbitrarySliceOrder else None)) ≡ None → (x ≡ false) × (y ≡ false)
-tests-of true y e = cc
-tests-of false true e = cc
-tests-of false false e = (refl, refl)
+tests-passed : {A : Type 0} (x y : Bool) (a b c : A) → (if x then Some MissingMacroblocks else (if y then Some ArbitrarySliceOrder else None)) ≡ None
+    → (if x then a else if y then b else c) ≡ c
+tests-passed false false a b c e = refl
+tests-passed x y a b c e = cc
 
-module _ (p : PictureStart) (s : Slice) (g : Progress) (none : g.fault ≡ None) where
-  abbrev first : ℕ
-  first = (s.header).first_mb_in_slice
-
-  abbrev steps : Bool → Bool → Progress → Progress
-  steps less more read = if less then refused g s.unit MissingMacroblocks else if more then refused g s.unit ArbitrarySliceOrder else read
-
-  stepped : with_slice p s g ≡ steps (nat_lt (length g.mbs) first) (nat_lt first (length g.mbs)) (with_reference_list p s g (list_of p s.header))
-  stepped = grind (arith, nat_tests)
-
-  pub listed : address_fault (length g.mbs) first ≡ None → with_slice p s g ≡ with_reference_list p s g (list_of p s.header)
-  listed e = grind (arith, nat_tests, tests-of, stepped)
+listed : (p : PictureStart) (s : Slice) (g : Progress) → g.fault ≡ None → address_fault (length g.mbs) (s.header).first_mb_in_slice ≡ None
+    → with_slice p s g ≡ with_reference_list p s g (list_of p s.header)
+listed p s g none e = rw none (tests-passed (nat_lt (length g.mbs) (s.header).first_mb_in_slice) _ _ _ _ e)
 
 -- ---- a slice whose data is read
 
-module _ {PAD : ℕ} (sps : Sps) (pps : Pps) (es : List ℕ) (fs : List (Frame PAD)) (s : Slice) (g : Progress) (number read : ℕ) (m : MbsState) (unread : SliceData)
-    (list : List (Option Reference)) (rising : IsStrictlyIncreasing es) where
+module _ {PAD : ℕ} (sps : Sps) (pps : Pps) (fs : List (Frame PAD)) (s : Slice) (number read : ℕ) (m : MbsState) (unread : SliceData) (places : List (Option ℕ))
+    (reads : (frames : List StoredFrame) (n : ℕ) (before : List PicMb) → length before ≡ read
+    → IsDataOf (start_of (record { sps = sps; pps = pps; frames = frames }) s.header n) before (data_of s) unread)
+    (made : HasList sps fs s.header (Ok places)) (address : address_fault read (s.header).first_mb_in_slice ≡ None)
+    (es : List ℕ) (g : Progress) (stand : FramesStandAt es fs) (well : IsWellSoFar (picture_start sps pps es fs) es g number read m) where
   abbrev p : PictureStart
   p = picture_start sps pps es fs
 
@@ -261,7 +226,7 @@ module _ {PAD : ℕ} (sps : Sps) (pps : Pps) (es : List ℕ) (fs : List (Frame P
   start = start_of p s.header (length g.slices)
 
   abbrev info : SliceInfo
-  info = info_of p s.header list
+  info = info_of p s.header (made pps es stand).0
 
   abbrev ms : SliceMbs
   ms = slice_data start g.mbs (data_of s)
@@ -269,177 +234,151 @@ module _ {PAD : ℕ} (sps : Sps) (pps : Pps) (es : List ℕ) (fs : List (Frame P
   abbrev whole : Progress
   whole = read_whole s g info ms
 
-  module _ (well : IsWellSoFar p es g number read m) (dat : IsDataOf start g.mbs (data_of s) unread) where
-    abbrev begins-before : (c : Coded) → BeginsWith c (coded_of p whole) → BeginsWith c (coded_of p g)
-    begins-before c b = record {
-      width = b.width;
-      height = b.height;
-      offset = b.offset;
-      constrained = b.constrained;
-      later_mbs = map (placed start) ms.mbs ++ b.later_mbs;
-      mbs = b.mbs ∙ append_assoc g.mbs (map (placed start) ms.mbs) b.later_mbs;
-      later_slices = info-in info ms.mbs ++ b.later_slices;
-      slices = b.slices ∙ ap (λ xs. xs ++ b.later_slices) (with-info-is g.slices info ms.mbs) ∙ append_assoc g.slices (info-in info ms.mbs) b.later_slices;
+  long-so-far : length g.mbs ≡ read
+  long-so-far = well.decoded.next ∙ well.reached
+
+  dat : IsDataOf start g.mbs (data_of s) unread
+  dat = reads (stored_at es fs) (length g.slices) g.mbs long-so-far
+
+  abbrev begins-before : (c : Coded) → BeginsWith c (coded_of p whole) → BeginsWith c (coded_of p g)
+  begins-before c b = record {
+    width = b.width;
+    height = b.height;
+    offset = b.offset;
+    constrained = b.constrained;
+    later_mbs = map (placed start) ms.mbs ++ b.later_mbs;
+    mbs = b.mbs ∙ append_assoc g.mbs (map (placed start) ms.mbs) b.later_mbs;
+    later_slices = info-in info ms.mbs ++ b.later_slices;
+    slices = b.slices ∙ ap (λ xs. xs ++ b.later_slices) (with-info-is g.slices info ms.mbs) ∙ append_assoc g.slices (info-in info ms.mbs) b.later_slices;
+  }
+
+  -- what the data answers in any such picture
+  abbrev Answers : Result (Unit {0}) Fault → ℕ → MbsState → Type 0
+  Answers result read' m' =
+      (c : Coded) (names : Names) → BeginsWith c (coded_of p whole) → AreNames es names → IsDataAnswer c names m.next (outcome_from c start m unread) result read' m'
+
+  slice_taken : (c : Coded) → BeginsWith c (coded_of p whole) → take m.next c.mbs ≡ g.mbs
+  slice_taken c b = ap (take m.next) (begins-before c b).mbs ∙ take_at g.mbs (map (placed start) ms.mbs ++ b.later_mbs) m.next well.decoded.next
+
+  -- what the first call for a macroblock says
+  first-out : (c : Coded) (names : Names) → BeginsWith c (coded_of p whole) → AreNames es names → (out : Result (Option Mb) Fault) (d' : SliceData)
+      → Hands m number out unread d' → IsHandedOut start (take m.next c.mbs) out unread d'
+  first-out c names b are out d' next =
+      next c names start (well.decoded.holds c names (begins-before c b) are) (sym b.width) well.decoded.count (rw (slice_taken c b) dat.0)
+
+  abbrev found : Option (ℕ × Fault)
+  found = first_mb_fault (coded_of p whole) (length g.mbs) (length ms.mbs)
+
+  expected : outcome_from (coded_of p whole) start m unread ≡ first_of found ms
+  expected =
+      let c = coded_of p whole in
+      ap (λ xs. outcome c m.next (rest_of start xs unread)) (slice_taken c (begins-itself c)) ∙ ap (λ r. outcome c m.next r) dat.1
+      ∙ ap (λ n. outcome c n ms) (sym well.decoded.next)
+
+  own : (result : Result (Unit {0}) Fault) (read' : ℕ) (m' : MbsState) → Answers result read' m'
+      → IsDataAnswer (coded_of p whole) (names-of es stand.rising) m.next (first_of found ms) result read' m'
+  own result read' m' answer =
+      subst (λ o. IsDataAnswer (coded_of p whole) (names-of es stand.rising) m.next o result read' m') expected
+      (answer (coded_of p whole) (names-of es stand.rising) (begins-itself (coded_of p whole)) (are-names es stand.rising))
+
+  sliced : with_slice p s g ≡ with_first_fault s g whole found
+  sliced = listed p s g well.none (ap (λ n. address_fault n (s.header).first_mb_in_slice) long-so-far ∙ address) ∙ ap (with_reference_list p s g) (made pps es stand).1
+
+  after-found : (o : Option (ℕ × Fault)) → ((with_first_fault s g whole o).fault ≡ with_unit s.unit (first_of o ms).1) × ((with_first_fault s g whole o).read ≡ g.read + (first_of o ms).0)
+  after-found None = (refl, refl)
+  after-found (Some f) = (refl, refl)
+
+  none-found : (o : Option (ℕ × Fault)) → (first_of o ms).1 ≡ None → o ≡ None
+  none-found None e = refl
+  none-found (Some f) e = cc
+
+  all-decoded : (read' : ℕ) (m' : MbsState) → Answers (Ok tt) read' m' → IsWellSoFar p es (with_slice p s g) (number_after number read read') read' m'
+  all-decoded read' m' answer =
+      let mine = own (Ok tt) read' m' answer in
+      let none = none-found found mine.0 in
+      let fault : ms.fault ≡ None = subst (λ o. (first_of o ms).1 ≡ None) none mine.0 in
+      let count : m.next + length ms.mbs ≡ read' = subst (λ o. m.next + (first_of o ms).0 ≡ read') none mine.1 in
+      let more : read' ≡ read + length ms.mbs = omega (arith, well.reached) in
+      let number-is = slice_numbered g.slices info ms.mbs number read read' well.decoded.count more in
+      let mbs-length : length (g.mbs ++ map (placed start) ms.mbs) ≡ m'.next =
+      length-append g.mbs (map (placed start) ms.mbs) ∙ omega (arith, length-map ms.mbs (placed start), well.decoded.next, mine.2) in
+      subst (λ x. IsWellSoFar p es x (number_after number read read') read' m') (sym (sliced ∙ ap (with_first_fault s g whole) none)) (record {
+        none = ap (with_unit s.unit) fault;
+        read_is = omega (arith, well.read_is);
+        reached = mine.2;
+        few = few-after number read read' well.few (omega arith);
+        decoded = record { next = mbs-length; count = sym number-is; holds = λ c names b are. (answer c names b are).3 };
+      })
+
+  slice-decoded : (result : Result (Unit {0}) Fault) (read' : ℕ) (m' : MbsState) → Answers result read' m'
+      → IsStateOrFault p es (with_slice p s g) s.unit (number_after number read read') result read' m'
+  slice-decoded (Ok done) read' m' answer = all-decoded read' m' answer
+  slice-decoded (Err f) read' m' answer =
+      let mine = own (Err f) read' m' answer in (
+        ap (λ (x : Progress). x.fault) sliced ∙ (after-found found).0 ∙ ap (with_unit s.unit) mine.0,
+        omega (arith, ap (λ (x : Progress). x.read) sliced, (after-found found).1, mine.1, well.read_is, well.reached),
+      )
+
+  none-left : (c : Coded) (o : Option Fault) → outcome_from c start m unread ≡ (0, o) → ((outcome_from c start m unread).1 ≡ o) × (m.next + (outcome_from c start m unread).0 ≡ read)
+  none-left c o e = (ap (λ q. q.1) e, omega (arith, ap (λ q. q.0) e, well.reached))
+
+  -- where its first macroblock is refused
+  pub slice-refused : (f : Fault) (d' : SliceData) → Hands m number (Err f) unread d' → IsStateOrFault p es (with_slice p s g) s.unit (number_after number read read) (Err f) read m
+  slice-refused f d' next = slice-decoded (Err f) read m (λ c names b are. none-left c (Some f) (ap (outcome c m.next) (first-out c names b are (Err f) d' next).0))
+
+  -- where the data has no macroblock
+  pub slice-empty : (d' : SliceData) → Hands m number (Ok None) unread d' → IsStateOrFault p es (with_slice p s g) s.unit (number_after number read read) (Ok tt) read m
+  slice-empty d' next = all-decoded read m (λ c names b are.
+      let none = none-left c None (ap (outcome c m.next) (first-out c names b are (Ok None) d' next).0) in
+      (none.0, none.1, well.reached, well.decoded.holds c names (begins-before c b) are))
+
+  -- the first macroblock has been read
+  module _ (long : length places ≡ 16) (within : ArePlacesIn fs places) (qp : start.qp ≤ 51) (mb : Mb) (d' : SliceData) (next : Hands m number (Ok (Some mb)) unread d') where
+    slice-goes-on : (context : SliceContext PAD) → IsContextAt number fs s.header places context → (c : Coded) (names : Names) → BeginsWith c (coded_of p whole) → AreNames es names
+        → GoesOn c names start m unread context
+    slice-goes-on context at c names b are =
+        let before = begins-before c b in
+        let list = made pps es stand in
+        let rest-is : (rest_of start (take m.next c.mbs) unread) ≡ ms = ap (λ xs. rest_of start xs unread) (slice_taken c b) ∙ dat.1 in
+        record {
+          holds = well.decoded.holds c names before are;
+          is_slice = λ mb mbs e.
+              let some : ms.mbs ≡ mb ∷ mbs = rw rest-is at e in
+              is-slice sps pps es fs s.header stand number places context long within at list.0 list.1 list.2 c names are
+              (ap (λ n. slice_info c n) (at.number_is ∙ sym well.decoded.count) ∙ ap (λ xs. slice_info (record c { slices = xs }) (length g.slices))
+              (before.slices ∙ ap (λ xs. g.slices ++ (info-in info xs ++ b.later_slices)) some) ∙ get_or-append_seam g.slices info b.later_slices _);
+          width = sym b.width;
+          size = rw (b.width, b.height) refl;
+          number = well.decoded.count ∙ sym at.number_is;
+          quantiser = qp;
+          follows = rw (slice_taken c b) dat.0;
+          later = b.later_mbs;
+          mbs = before.mbs ∙ sym (ap (λ xs. xs ++ (map (placed start) (rest_of start (take m.next c.mbs) unread).mbs ++ b.later_mbs)) (slice_taken c b)
+              ∙ ap (λ r. g.mbs ++ (map (placed start) r.mbs ++ b.later_mbs)) rest-is);
+        }
+
+    has-first : (c : Coded) (names : Names) → BeginsWith c (coded_of p whole) → AreNames es names → HasFirst (IsContextAt number fs s.header places) c names start unread m mb d'
+    has-first c names b are = record {
+      goes_on = λ context at. slice-goes-on context at c names b are;
+      first = first-out c names b are (Ok (Some mb)) d' next;
     }
 
-    slice_taken : (c : Coded) → BeginsWith c (coded_of p whole) → take m.next c.mbs ≡ g.mbs
-    slice_taken c b = ap (take m.next) (begins-before c b).mbs ∙ take_at g.mbs (map (placed start) ms.mbs ++ b.later_mbs) m.next well.decoded.next
+    pub can-have-first : CanHaveFirst (IsContextAt number fs s.header places) m mb d'
+    can-have-first = record {
+      coded = coded_of p whole;
+      names = names-of es stand.rising;
+      start = start;
+      unread = unread;
+      has_first = has-first (coded_of p whole) (names-of es stand.rising) (begins-itself (coded_of p whole)) (are-names es stand.rising);
+    }
 
-    holds-before : (c : Coded) (names : Names) → BeginsWith c (coded_of p whole) → AreNames es names → HoldsFirst c names m
-    holds-before c names b are = well.decoded.holds c names (begins-before c b) are
+    pub slice-through : (result : Result (Unit {0}) Fault) (read' : ℕ) (m' : MbsState)
+        → ((c : Coded) (names : Names) (s' : SliceStart) (d : SliceData) → HasFirst (IsContextAt number fs s.header places) c names s' d m mb d'
+        → IsDataAnswer c names m.next (outcome_from c s' m d) result read' m')
+        → IsStateOrFault p es (with_slice p s g) s.unit (number_after number read read') result read' m'
+    slice-through result read' m' answer = slice-decoded result read' m' (λ c names b are. answer c names start unread (has-first c names b are))
 
-    -- what the first call for a macroblock says of any such picture
-    pub first-out : (c : Coded) (names : Names) → BeginsWith c (coded_of p whole) → AreNames es names → (out : Result (Option Mb) Fault) (d' : SliceData)
-        → ((c : Coded) (names : Names) (s : SliceStart) → HoldsFirst c names m → s.width ≡ c.width → s.slice ≡ number → Follows s (take m.next c.mbs) unread
-        → IsHandedOut s (take m.next c.mbs) out unread d')
-        → IsHandedOut start (take m.next c.mbs) out unread d'
-    first-out c names b are out d' next =
-        next c names start (holds-before c names b are) (sym b.width) well.decoded.count (subst (λ xs. Follows start xs unread) (sym (slice_taken c b)) dat.0)
-
-    -- where the data has no macroblock
-    pub none-first : (c : Coded) (names : Names) → BeginsWith c (coded_of p whole) → AreNames es names → (d' : SliceData) → IsHandedOut start (take m.next c.mbs) (Ok None) unread d'
-        → IsDataAnswer c names m.next (outcome_from c start m unread) (Ok tt) read m
-    none-first c names b are d' out =
-        let e : outcome_from c start m unread ≡ (0, None) = ap (λ ms. outcome c m.next ms) out.0 in
-        let none : (outcome_from c start m unread).0 ≡ 0 = ap (λ o. o.0) e in
-        (ap (λ o. o.1) e, omega (arith, none, well.reached), well.reached, holds-before c names b are)
-
-    -- where its first macroblock is refused
-    pub fault-first : (c : Coded) (names : Names) → BeginsWith c (coded_of p whole) → AreNames es names → (f : Fault) (d' : SliceData)
-        → IsHandedOut start (take m.next c.mbs) (Err f) unread d' → IsDataAnswer c names m.next (outcome_from c start m unread) (Err f) read m
-    fault-first c names b are f d' out = grind (arith, nat_tests)
-
-    module _ (context : SliceContext PAD) (num : context.number ≡ number) (made : IsContextOf p es s.header list context) (qp : start.qp ≤ 51) where
-      info-are : (c : Coded) (mb : Mb) (mbs : List Mb) → BeginsWith c (coded_of p whole) → ms.mbs ≡ mb ∷ mbs → slice_info c context.number ≡ info
-      info-are c mb mbs b some =
-          ap (λ n. slice_info c n) (num ∙ sym well.decoded.count)
-          ∙ ap (λ xs. slice_info (record c { slices = xs }) (length g.slices))
-          ((begins-before c b).slices ∙ ap (λ xs. g.slices ++ (info-in info xs ++ b.later_slices)) some)
-          ∙ get-here g.slices b.later_slices info _
-
-      pub slice-goes-on : (c : Coded) (names : Names) → BeginsWith c (coded_of p whole) → AreNames es names → GoesOn c names start m unread context
-      slice-goes-on c names b are = record {
-        holds = holds-before c names b are;
-        is_slice = λ mb mbs e. made c names are (info-are c mb mbs b (sym (ap (λ r. r.mbs) (ap (λ xs. rest_of start xs unread) (slice_taken c b) ∙ dat.1)) ∙ e));
-        width = sym b.width;
-        size = sym (ap (λ w. w * c.height) b.width ∙ ap (λ h. width_in_mbs sps * h) b.height);
-        number = well.decoded.count ∙ sym num;
-        quantiser = qp;
-        follows = subst (λ xs. Follows start xs unread) (sym (slice_taken c b)) dat.0;
-        later = b.later_mbs;
-        mbs =
-            (begins-before c b).mbs
-            ∙ sym (ap (λ xs. xs ++ (map (placed start) (rest_of start xs unread).mbs ++ b.later_mbs)) (slice_taken c b) ∙ ap (λ r. g.mbs ++ (map (placed start) r.mbs ++ b.later_mbs)) dat.1);
-      }
-
-    -- the first macroblock has been read
-    module _ (Knows : SliceContext PAD → Type 0) (knows : (context : SliceContext PAD) → Knows context → (context.number ≡ number) × IsContextOf p es s.header list context) (qp : start.qp ≤ 51)
-        (mb : Mb) (d' : SliceData)
-        (next : (c : Coded) (names : Names) (s : SliceStart) → HoldsFirst c names m → s.width ≡ c.width → s.slice ≡ number → Follows s (take m.next c.mbs) unread
-        → IsHandedOut s (take m.next c.mbs) (Ok (Some mb)) unread d') where
-      pub has-first : (c : Coded) (names : Names) → BeginsWith c (coded_of p whole) → AreNames es names → HasFirst Knows c names start unread m mb d'
-      has-first c names b are = record {
-        goes_on = λ context k. slice-goes-on context (knows context k).0 (knows context k).1 qp c names b are;
-        first = first-out c names b are (Ok (Some mb)) d' next;
-      }
-
-      pub can-have-first : CanHaveFirst Knows m mb d'
-      can-have-first = record {
-        coded = coded_of p whole;
-        names = names-of es rising;
-        start = start;
-        unread = unread;
-        has_first = has-first (coded_of p whole) (names-of es rising) (begins-itself (coded_of p whole)) (are-names es rising);
-      }
-
-    abbrev found : Option (ℕ × Fault)
-    found = first_mb_fault (coded_of p whole) (length g.mbs) (length ms.mbs)
-
-    expected : outcome_from (coded_of p whole) start m unread ≡ first_of found ms
-    expected =
-        let c = coded_of p whole in
-        let b = begins-itself c in
-        ap (λ xs. outcome c m.next (rest_of start xs unread)) (slice_taken c b) ∙ ap (λ r. outcome c m.next r) dat.1 ∙ ap (λ n. outcome c n ms) (sym well.decoded.next)
-
-    -- ---- after it
-
-    fault-after : (o : Option (ℕ × Fault)) → (with_first_fault s g whole o).fault ≡ with_unit s.unit (first_of o ms).1
-    fault-after None = refl
-    fault-after (Some f) = refl
-
-    read-after : (o : Option (ℕ × Fault)) → (with_first_fault s g whole o).read ≡ g.read + (first_of o ms).0
-    read-after None = refl
-    read-after (Some f) = refl
-
-    coded-after : (o : Option (ℕ × Fault)) → coded_of p (with_first_fault s g whole o) ≡ coded_of p whole
-    coded-after None = refl
-    coded-after (Some f) = refl
-
-    all-read : (o : Option (ℕ × Fault)) → (first_of o ms).1 ≡ None → (first_of o ms).0 ≡ length ms.mbs
-    all-read None e = refl
-    all-read (Some f) e = cc
-
-    module _ (address : address_fault (length g.mbs) (s.header).first_mb_in_slice ≡ None) (is : list_of p s.header ≡ Ok list)
-        (result : Result (Unit {0}) Fault) (read' : ℕ) (m' : MbsState)
-        (answer : (c : Coded) (names : Names) → BeginsWith c (coded_of p whole) → AreNames es names → IsDataAnswer c names m.next (outcome_from c start m unread) result read' m') where
-      sliced : with_slice p s g ≡ with_first_fault s g whole found
-      sliced = listed p s g well.none address ∙ ap (with_reference_list p s g) is
-
-      own : IsDataAnswer (coded_of p whole) (names-of es rising) m.next (outcome_from (coded_of p whole) start m unread) result read' m'
-      own = answer (coded_of p whole) (names-of es rising) (begins-itself (coded_of p whole)) (are-names es rising)
-
-      pub all-decoded : result ≡ Ok tt → IsWellSoFar p es (with_slice p s g) (number_after number read read') read' m'
-      all-decoded ok =
-          let mine = subst (λ r. IsDataAnswer (coded_of p whole) (names-of es rising) m.next (outcome_from (coded_of p whole) start m unread) r read' m') ok own in
-          let no : (first_of found ms).1 ≡ None = sym (ap (λ o. o.1) expected) ∙ mine.0 in
-          let count : (first_of found ms).0 ≡ length ms.mbs = all-read found no in
-          let same : (outcome_from (coded_of p whole) start m unread).0 ≡ (first_of found ms).0 = ap (λ o. o.0) expected in
-          let coded : coded_of p (with_slice p s g) ≡ coded_of p whole = ap (coded_of p) sliced ∙ coded-after found in
-          let mbs-length : length (with_slice p s g).mbs ≡ length g.mbs + length ms.mbs =
-          ap (λ c. length c.mbs) coded ∙ length-append g.mbs (map (placed start) ms.mbs) ∙ ap (λ n. length g.mbs + n) (length-map ms.mbs (placed start)) in
-          let slices-length : length (with_slice p s g).slices ≡ length (slice_with_info g.slices info ms.mbs) = ap (λ c. length c.slices) coded in
-          let reads : read' ≡ read + length ms.mbs = omega (arith, same, count, mine.1, well.reached) in
-          let number-is : number_after number read read' ≡ length (slice_with_info g.slices info ms.mbs) = slice_numbered g.slices info ms.mbs number read read' well.decoded.count reads in
-          let read-is : (with_slice p s g).read ≡ g.read + (first_of found ms).0 = ap (λ x. x.read) sliced ∙ read-after found in
-          record {
-            none = ap (λ x. x.fault) sliced ∙ fault-after found ∙ ap (with_unit s.unit) no;
-            read_is = omega (arith, read-is, well.read_is, well.reached, same, mine.1);
-            reached = mine.2;
-            few = subst (λ n. n ≤ read') (sym number-is) (few-after g.slices info ms.mbs number read read' well.decoded.count well.few reads);
-            decoded = record {
-              next = omega (arith, mbs-length, well.decoded.next, count, same, mine.1, mine.2);
-              count = slices-length ∙ sym number-is;
-              holds = λ c names b are.
-                  (subst (λ r. IsDataAnswer c names m.next (outcome_from c start m unread) r read' m') ok
-                  (answer c names (subst (BeginsWith c) coded b) are)).3;
-            };
-          }
-
-      pub faulty-slice : (f : Fault) → result ≡ Err f → IsStateOrFault p es (with_slice p s g) s.unit (number_after number read read') (Err f) read' m'
-      faulty-slice f err = grind (arith, nat_tests, own, expected, sliced, read-after, fault-after)
-
-      pub slice-decoded : IsStateOrFault p es (with_slice p s g) s.unit (number_after number read read') result read' m'
-      slice-decoded = by_result result refl
-        where
-          by_result : (r : Result (Unit {0}) Fault) → result ≡ r → IsStateOrFault p es (with_slice p s g) s.unit (number_after number read read') r read' m'
-          by_result (Ok done) e = all-decoded e
-          by_result (Err f) e = faulty-slice f e
-
--- ---- what a picture decoder keeps from slice to slice
-
--- ---- tests
-
-pub agrees : (a b : ℕ) → a ≡ b → (a == b) ≡ true
-agrees a b e = grind (arith, nat_tests)
-
-pub differs : (a b : ℕ) → (a ≡ b → ⊥) → (a == b) ≡ false
-differs a b apart = by_test (a == b) refl
-  where
-    by_test : (t : Bool) → (a == b) ≡ t → (a == b) ≡ false
-    by_test true e = let same : a ≡ b = grind (arith, nat_tests) in absurd (apart same)
-    by_test false e = e
-
--- ---- frames can stand somewhere
+-- ---- what a picture decoder keeps from slice to slice: frames can stand somewhere
 
 rises : (n : ℕ) → IsStrictlyIncreasing (range_with_len 0 n)
 rises n = λ k h. grind (arith, nat_tests, get_or-range_with_len, length-range_with_len)
@@ -447,7 +386,7 @@ rises n = λ k h. grind (arith, nat_tests, get_or-range_with_len, length-range_w
 abbrev pub places-of : {PAD : ℕ} → List (Frame PAD) → List ℕ
 places-of fs = range_with_len 0 (length fs)
 
-pub stand-somewhere : {PAD : ℕ} (fs : List (Frame PAD)) → FramesStandAt (places-of fs) fs
+stand-somewhere : {PAD : ℕ} (fs : List (Frame PAD)) → FramesStandAt (places-of fs) fs
 stand-somewhere fs = record { each = length-range_with_len 0 (length fs) ∙ sym (length-map fs marked_frame); rising = rises (length fs) }
 
 -- ---- a slice behind a fault
@@ -459,94 +398,83 @@ faulted (Some h) f g x e = refl
 stays : (p : PictureStart) (s : Slice) (g : Progress) (f : Fault) → option_map (λ found. found.1) g.fault ≡ Some f → with_slice p s g ≡ g
 stays p s g f e = faulted g.fault f g _ e
 
-module _ {PAD : ℕ} (sps : Sps) (pps : Pps) (fs : List (Frame PAD)) (slices more : List Slice) (s : Slice) (count read : ℕ) (m : MbsState) (newest : more ≡ s ∷ slices) where
-  abbrev old : Decoding PAD
-  old = record { sps = sps; pps = pps; frames = fs; slices = slices }
-
-  abbrev new : Decoding PAD
-  new = record { sps = sps; pps = pps; frames = fs; slices = more }
-
-  abbrev kept_start : List ℕ → PictureStart
-  kept_start es = picture_start sps pps es fs
-
-  module _ (f : Fault) (kept : IsDecoderState sps pps fs slices count read (Some f) m) where
-    same-progress : (es : List ℕ) → FramesStandAt es fs → progress (kept_start es) more ≡ progress (kept_start es) slices
-    same-progress es stand = ap (progress (kept_start es)) newest ∙ stays (kept_start es) s (progress (kept_start es) slices) f (kept.keeps es stand).0
-
-    pub refused-again : Refuses old s f new
-    refused-again = record {
-      fault = λ es stand. ap (λ g. option_map (λ found. found.1) g.fault) (same-progress es stand) ∙ (kept.keeps es stand).0;
-      unit = λ well es stand.
-          let wrong : None ≡ Some f = sym (ap (option_map (λ found. found.1)) (well es stand)) ∙ (kept.keeps es stand).0 in
-          cc;
-    }
+pub refused-again : {PAD : ℕ} {sps : Sps} {pps : Pps} {fs : List (Frame PAD)} {slices : List Slice} {count read : ℕ} {f : Fault} {m : MbsState} (s : Slice)
+    → IsDecoderState sps pps fs slices count read (Some f) m
+    → Refuses (record { sps = sps; pps = pps; frames = fs; slices = slices }) s f (record { sps = sps; pps = pps; frames = fs; slices = s ∷ slices })
+refused-again {sps = sps} {pps = pps} {fs = fs} {slices = slices} {f = f} s kept = record {
+  fault = λ es stand.
+      let g = progress (picture_start sps pps es fs) slices in
+      ap (λ x. option_map (λ found. found.1) x.fault) (stays (picture_start sps pps es fs) s g f (kept.keeps es stand).0) ∙ (kept.keeps es stand).0;
+  unit = λ well es stand.
+      let wrong : None ≡ Some f = sym (ap (option_map (λ found. found.1)) (well es stand)) ∙ (kept.keeps es stand).0 in
+      cc;
+}
 
 -- ---- what is kept without a fault
 
-module _ {PAD : ℕ} (sps : Sps) (pps : Pps) (fs : List (Frame PAD)) (slices : List Slice) (count read : ℕ) (m : MbsState) (kept : IsDecoderState sps pps fs slices count read None m) where
+module _ {PAD : ℕ} {sps : Sps} {pps : Pps} {fs : List (Frame PAD)} {slices : List Slice} {count read : ℕ} {fault : Option Fault} {m : MbsState} (none : fault ≡ None)
+    (state : IsDecoderState sps pps fs slices count read fault m) where
   abbrev d : Decoding PAD
   d = record { sps = sps; pps = pps; frames = fs; slices = slices }
 
   abbrev begun : List ℕ → PictureStart
   begun es = picture_start sps pps es fs
 
+  kept : (es : List ℕ) → FramesStandAt es fs → IsWellSoFar (begun es) es (progress (begun es) slices) count read m
+  kept es stand = rw none at (state.keeps es stand)
+
+  held : (es : List ℕ) (stand : FramesStandAt es fs) → HoldsFirst (coded_of (begun es) (progress (begun es) slices)) (names-of es stand.rising) m
+  held es stand = (kept es stand).decoded.holds _ _ (begins-itself (coded_of (begun es) (progress (begun es) slices))) (are-names es stand.rising)
+
   pub well-somewhere : IsWellSomewhere sps pps fs count read m
-  well-somewhere = record { entries = places-of fs; stand = stand-somewhere fs; so_far = progress (begun (places-of fs)) slices; well = kept.keeps (places-of fs) (stand-somewhere fs) }
+  well-somewhere = record { entries = places-of fs; stand = stand-somewhere fs; so_far = progress (begun (places-of fs)) slices; well = kept (places-of fs) (stand-somewhere fs) }
 
   counted : (es : List ℕ) → FramesStandAt es fs → length (progress (begun es) slices).mbs ≡ read
-  counted es stand = let well = kept.keeps es stand in well.decoded.next ∙ well.reached
+  counted es stand = let well = kept es stand in well.decoded.next ∙ well.reached
 
   kept-at-end : (es : List ℕ) → FramesStandAt es fs → (full : Bool) → (read == size_in_mbs sps) ≡ full → end_fault es d ≡ fault_at_end None full
-  kept-at-end es stand full e = grind (arith, nat_tests, counted)
+  kept-at-end es stand full e = let well = kept es stand in grind (arith, nat_tests, counted)
 
-  pub missing-at-end : (read == size_in_mbs sps) ≡ false → (es : List ℕ) → FramesStandAt es fs → end_fault es d ≡ Some MissingMacroblocks
-  missing-at-end e es stand = kept-at-end es stand false e
-
-  pub none-at-end : (read == size_in_mbs sps) ≡ true → (es : List ℕ) → FramesStandAt es fs → end_fault es d ≡ None
-  none-at-end e es stand = kept-at-end es stand true e
+  pub missing-at-end : (read ≡ size_in_mbs sps → ⊥) → (es : List ℕ) → FramesStandAt es fs → end_fault es d ≡ Some MissingMacroblocks
+  missing-at-end apart es stand = kept-at-end es stand false (ne_eqb read (size_in_mbs sps) apart)
 
   -- a sample that the macroblocks so far have
   pub sample-now : (value : ℕ) (k x y : ℕ)
       → ((c : Coded) (names : Names) → HoldsFirst c names m → value ≡ samples_of (row_late c (empty_planes c.width c.height) m.next) k x y)
       → (es : List ℕ) → FramesStandAt es fs → samples_of (planes_so_far es d) k x y ≡ value
   sample-now value k x y answer es stand =
-      let well = kept.keeps es stand in
       let c = coded_of (begun es) (progress (begun es) slices) in
-      let holds = well.decoded.holds c (names-of es stand.rising) (begins-itself c) (are-names es stand.rising) in
       let empty = empty_planes c.width c.height in
-      sym (answer c (names-of es stand.rising) holds
-      ∙ ap (λ s. samples_of s k x y) (ap (row_late c empty) (sym well.decoded.next) ∙ ap (rows_filtered c (filtered_rows c.width (length c.mbs))) (all_built c empty)))
+      sym (answer c (names-of es stand.rising) (held es stand) ∙ ap (λ s. samples_of s k x y)
+      (ap (row_late c empty) (sym (kept es stand).decoded.next) ∙ ap (rows_filtered c (filtered_rows c.width (length c.mbs))) (all_built c empty)))
 
   -- and it has those that are read
   pub covered-now : (k x y : ℕ) → ((es : List ℕ) → FramesStandAt es fs → covering_address (width_in_mbs sps) k x y < (progress (begun es) slices).read)
       → covering_address m.canvas.width k x y < m.next
   covered-now k x y covered =
       let es = places-of fs in
-      let well = kept.keeps es (stand-somewhere fs) in
-      subst (λ w. covering_address w k x y < m.next) (sym kept.width)
-      (omega (arith, covered es (stand-somewhere fs), well.read_is, well.reached))
+      let well = kept es (stand-somewhere fs) in
+      rw state.width (omega (arith, covered es (stand-somewhere fs), well.read_is, well.reached))
 
-  module _ (full : read ≡ size_in_mbs sps) (planes : Planes)
-      (answer : (c : Coded) (names : Names) → HoldsFirst c names m → m.next ≡ length c.mbs → length c.mbs ≡ c.width * c.height → planes ≡ deblocked c) where
-    pub planes-at-end : (es : List ℕ) → FramesStandAt es fs → planes ≡ planes_after_slices (begun es) slices
-    planes-at-end es stand =
-        let well = kept.keeps es stand in
-        let c = coded_of (begun es) (progress (begun es) slices) in
-        answer c (names-of es stand.rising) (well.decoded.holds c (names-of es stand.rising) (begins-itself c) (are-names es stand.rising))
-        (sym well.decoded.next) (counted es stand ∙ full)
+  module _ (full : read ≡ size_in_mbs sps) where
+    pub none-at-end : (es : List ℕ) → FramesStandAt es fs → end_fault es d ≡ None
+    none-at-end es stand = kept-at-end es stand true (grind (arith, nat_tests))
 
-    sized-at-end : IsSized (width_in_mbs sps) (height_in_mbs sps) planes
-    sized-at-end =
-        subst (IsSized (width_in_mbs sps) (height_in_mbs sps)) (sym (planes-at-end (places-of fs) (stand-somewhere fs))) (pictures_sized (begun (places-of fs)) slices)
+    module _ {planes : Planes} (answer : (c : Coded) (names : Names) → HoldsFirst c names m → m.next ≡ length c.mbs → length c.mbs ≡ c.width * c.height → planes ≡ deblocked c) where
+      pub planes-at-end : (es : List ℕ) → FramesStandAt es fs → planes ≡ planes_after_slices (begun es) slices
+      planes-at-end es stand = answer _ _ (held es stand) (sym (kept es stand).decoded.next) (counted es stand ∙ full)
 
-    pub are-sized : AreSized (width_in_mbs sps) (height_in_mbs sps) planes
-    are-sized = grind (arith, nat_tests, sized-at-end)
+      sized-at-end : IsSized (width_in_mbs sps) (height_in_mbs sps) planes
+      sized-at-end = rw (planes-at-end (places-of fs) (stand-somewhere fs)) (pictures_sized (begun (places-of fs)) slices)
+
+      pub are-sized : AreSized (width_in_mbs sps) (height_in_mbs sps) planes
+      are-sized = grind (arith, nat_tests, sized-at-end)
 
 -- where the slices have no fault, none is kept
-pub none-kept : {PAD : ℕ} (sps : Sps) (pps : Pps) (fs : List (Frame PAD)) (slices : List Slice) (count read : ℕ) (fault : Option Fault) (m : MbsState)
+pub none-kept : {PAD : ℕ} {sps : Sps} {pps : Pps} {fs : List (Frame PAD)} {slices : List Slice} {count read : ℕ} {m : MbsState} (fault : Option Fault)
     → IsDecoderState sps pps fs slices count read fault m → HasNoFault (record { sps = sps; pps = pps; frames = fs; slices = slices }) → fault ≡ None
-none-kept sps pps fs slices count read None m kept none = refl
-none-kept sps pps fs slices count read (Some f) m kept none =
+none-kept None kept none = refl
+none-kept {fs = fs} (Some f) kept none =
     let es = places-of fs in
     let e : None ≡ Some f = sym (ap (option_map (λ found. found.1)) (none es (stand-somewhere fs))) ∙ (kept.keeps es (stand-somewhere fs)).0 in
     absurd (cc)
@@ -555,21 +483,21 @@ none-kept sps pps fs slices count read (Some f) m kept none =
 
 pub first-at-end : (o : Option (ℕ × Fault)) (full : Bool) (f : Fault) → option_map (λ found. found.1) o ≡ Some f → fault_at_end o full ≡ Some f
 first-at-end None full f e = cc
-first-at-end (Some found) full f e = e
+first-at-end (Some _) full f e = e
 
 -- ---- the beginning
 
-pub kept-first : {PAD : ℕ} (sps : Sps) (pps : Pps) (fs : List (Frame PAD)) (slices : List Slice) (m : MbsState) → slices ≡ [] → IsSps sps → IsPps pps → AreFramesOf sps fs
+pub kept-first : {PAD : ℕ} (sps : Sps) (pps : Pps) (fs : List (Frame PAD)) (m : MbsState) → IsSps sps → IsPps pps → AreFramesOf sps fs
     → ((c : Coded) (names : Names) → HasSets sps pps c → HoldsFirst c names m) → m.next ≡ 0 → m.canvas.width ≡ width_in_mbs sps → m.canvas.height ≡ height_in_mbs sps
-    → IsDecoderState sps pps fs slices 0 0 None m
-kept-first sps pps fs slices m none is_sps is_pps are holds next width height = record {
+    → IsDecoderState sps pps fs [] 0 0 None m
+kept-first sps pps fs m is_sps is_pps are holds next width height = record {
   of_sps = is_sps;
   of_pps = is_pps;
   of_frames = are;
   width = width;
   height = height;
   within = omega arith;
-  keeps = λ es stand. subst (λ g. IsWellSoFar (picture_start sps pps es fs) es g 0 0 m) (sym (ap (progress (picture_start sps pps es fs)) none)) (record {
+  keeps = λ es stand. record {
     none = refl;
     read_is = refl;
     reached = next;
@@ -579,7 +507,7 @@ kept-first sps pps fs slices m none is_sps is_pps are holds next width height = 
       count = refl;
       holds = λ c names b are. holds c names (record { width = b.width; height = b.height; offset = b.offset; constrained = b.constrained });
     };
-  });
+  };
 }
 
 -- ---- worked pictures, computed

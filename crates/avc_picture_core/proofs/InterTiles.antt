@@ -16,11 +16,7 @@ pub predicted_elsewhere : (P : Sides → Around → ℕ → ℕ → Option ℕ) 
     → a ≡ column → b ≡ row → there ≡ here → ((x y : ℕ) → other x y ≡ residual x y)
     → with_block s (size * column) (size * row) size size (λ x y. sum_of (unwrap_or (P here (seen_from s (size * column) (size * row)) x y) 0) (residual x y))
     ≡ with_block s (size * a) (size * b) size size (λ x y. sum_of (unwrap_or (P there (seen_from s (size * a) (size * b)) x y) 0) (other x y))
-predicted_elsewhere P s size a b column row here there residual other across down sides same =
-    rw (← across, ← down, ← sides)
-    (with_block_same s (size * a) (size * b) size size (λ x y. sum_of (unwrap_or (P there (seen_from s (size * a) (size * b)) x y) 0) (residual x y))
-    (λ x y. sum_of (unwrap_or (P there (seen_from s (size * a) (size * b)) x y) 0) (other x y))
-    (λ x y left top. ap (sum_of (unwrap_or (P there (seen_from s (size * a) (size * b)) x y) 0)) (sym (same x y))))
+predicted_elsewhere P s size a b column row here there residual other across down sides same = simp (across, down, sides, same)
 
 -- planes with the same components
 pub planes_same : (a b : Planes) → a.luma ≡ b.luma → a.cb ≡ b.cb → a.cr ≡ b.cr → a ≡ b
@@ -69,12 +65,7 @@ planes_pcm p column row qp qp_of_chroma luma cb cr at s new l b r = grind (arith
 -- ---- sides of the macroblock as those of its first block
 
 pub inside_luma : (left top width : ℕ) (sides : Sides) → AreInside (left + 0) (top + 0) width sides → AreInside left top width sides
-inside_luma left top width sides i = record {
-  above = λ h. let q = i.above h in omega (arith, q);
-  above_right = λ h. let q = i.above_right h in (omega (arith, q.0), omega (arith, q.1));
-  before = λ h. let q = i.before h in omega (arith, q);
-  corner = λ h. let q = i.corner h in (omega (arith, q.0), omega (arith, q.1));
-}
+inside_luma left top width sides i = rw (add-zero left, add-zero top) at i
 
 pub inside_chroma : (column row width wide : ℕ) (sides : Sides) → 8 * column + 8 ≤ wide → AreInside (16 * column + 0) (16 * row + 0) width sides → AreInside (8 * column) (8 * row) wide sides
 inside_chroma column row width wide sides room i = record {
@@ -128,8 +119,7 @@ nxn_block p k cur left top sides mode f across down mine of same =
 pub nxn_residual : (qp k : ℕ) (r : Residual) (levels : List ℤ) → k < 16 → slice_index_or r.luma k [] ≡ levels → (x y : ℕ) → x < 4 → y < 4
     → residual4x4 qp levels x y ≡ luma_residual qp r (block_x k + x) (block_y k + y)
 nxn_residual qp k r levels few mine x y column row =
-    ap (λ l. residual4x4 qp l x y) (sym mine)
-    ∙ sym (in_tile 16 block_at (residual_by_levels qp r.luma) k (block_x k) (block_y k) (luma_tile k (block_x k) (block_y k) few refl refl) x y column row)
+    cc (in_tile 16 block_at (residual_by_levels qp r.luma) k (block_x k) (block_y k) (luma_tile k (block_x k) (block_y k) few refl refl) x y column row)
 
 -- ---- I_NxN
 
@@ -137,16 +127,15 @@ nxn_residual qp k r levels few mine x y column row =
 pub has_nxn : (p : Place) (coded : List (Option ℕ)) (chroma : ℕ) (r : Residual) (readable : ReadableNeighbours) (modes : List NearMode) (mode : ModeChroma)
     → ((k : ℕ) → k < 16 → sides_of p.coded p.address k ≡ readable_sides readable k) → p.modes ≡ modes → mode ≡ mode_chroma_of chroma
     → has_sides p (i_nxn coded chroma r)
-    ≡ (list_all (λ k. can_predict4x4 (readable_sides readable k) (mode4x4_of (mode_number (slice_index_or modes k absent)))) (range_with_len 0 16) && can_predict_chroma (readable_sides readable 0) mode)
+    ≡ (list_all (can_nxn readable modes) (range_with_len 0 16) && can_predict_chroma (readable_sides readable 0) mode)
 has_nxn p coded chroma r readable modes mode sides are of =
     let P = λ (k : ℕ). can_predict4x4 (sides_of p.coded p.address k) (mode4x4_of (mode_number (slice_index_or p.modes k absent))) in
-    let Q = λ (k : ℕ). can_predict4x4 (readable_sides readable k) (mode4x4_of (mode_number (slice_index_or modes k absent))) in
     ap (λ b. b && can_predict_chroma (sides_of p.coded p.address 0) (mode_chroma_of chroma))
-    (same_sixteen P Q
+    (same_sixteen P (can_nxn readable modes)
     (λ k low. ap (λ s. can_predict4x4 s (mode4x4_of (mode_number (slice_index_or p.modes k absent)))) (sides k low)
     ∙ ap (λ l. can_predict4x4 (readable_sides readable k) (mode4x4_of (mode_number (slice_index_or l k absent)))) are))
-    ∙ ap (λ s. list_all Q (range_with_len 0 16) && can_predict_chroma s (mode_chroma_of chroma)) (sides 0 (omega arith))
-    ∙ ap (λ m. list_all Q (range_with_len 0 16) && can_predict_chroma (readable_sides readable 0) m) (sym of)
+    ∙ ap (λ s. list_all (can_nxn readable modes) (range_with_len 0 16) && can_predict_chroma s (mode_chroma_of chroma)) (sides 0 (omega arith))
+    ∙ ap (λ m. list_all (can_nxn readable modes) (range_with_len 0 16) && can_predict_chroma (readable_sides readable 0) m) (sym of)
 
 pub nxn_at : (p : Place) (column row width chroma qp qp_of_chroma : ℕ) (coded : List (Option ℕ)) (r : Residual) (readable : ReadableNeighbours) (modes : List NearMode)
     → IsAt column row (i_nxn coded chroma r) qp qp_of_chroma p → MayRead column row width readable p → p.modes ≡ modes → IsNxnAt column row width readable modes qp r p
@@ -173,81 +162,51 @@ pub planes_inter : (p : Place) (column row : ℕ) (syntax : MbSyntax) (has : Boo
 planes_inter p column row syntax has across down is references sides s new of_luma of_cb of_cr f same l b r =
     grind (arith, refused_by, planes_same, laid_elsewhere)
 
--- ---- rectangles of a macroblock's components, laid into the planes
+-- ---- rectangles of a macroblock's components, laid into the planes: two blocks that are one
 
--- ---- two blocks that are one
+-- of two rectangles of one size the second is below the first, or beside it, and both together are the third
+abbrev AreHalves : (l t w h l2 t2 all_w all_h : ℕ) → Type 0
+AreHalves l t w h l2 t2 all_w all_h =
+    ((l2 ≡ l) × (t2 ≡ t + h) × (all_w ≡ w) × (all_h ≡ h + h)) ⊎ ((l2 ≡ l + w) × (t2 ≡ t) × (all_w ≡ w + w) × (all_h ≡ h))
 
-module _ (p : Plane) (l1 t1 w1 h1 l2 t2 w2 h2 l t w h : ℕ) (f1 f2 f : ℕ → ℕ → ℕ)
-    (first : (x y : ℕ) → l1 ≤ x → x < l1 + w1 → t1 ≤ y → y < t1 + h1 → (is_inside l t w h x y ≡ true) × (f1 (x - l1) (y - t1) ≡ f (x - l) (y - t)))
-    (second : (x y : ℕ) → l2 ≤ x → x < l2 + w2 → t2 ≤ y → y < t2 + h2 → (is_inside l t w h x y ≡ true) × (f2 (x - l2) (y - t2) ≡ f (x - l) (y - t)))
-    (cover : (x y : ℕ) → l ≤ x → x < l + w → t ≤ y → y < t + h → (l1 ≤ x → x < l1 + w1 → t1 ≤ y → y < t1 + h1 → ⊥) → (l2 ≤ x → x < l2 + w2 → t2 ≤ y → y < t2 + h2 → ⊥) → ⊥) where
-  abbrev on_tile : ℕ → ℕ → Bool → ℕ
-  on_tile x y b = if b then f (x - l) (y - t) else sample p x y
+-- blocks of a component in the macroblock whose upper left sample is (u, v)
+module _ (p : Plane) (u v l t w h l2 t2 all_w all_h : ℕ) (f : ℕ → ℕ → ℕ) (halves : AreHalves l t w h l2 t2 all_w all_h) where
+  abbrev with_first : Plane
+  with_first = with_block p (u + l) (v + t) w h (λ x y. f (l + x) (t + y))
 
-  abbrev upper : ℕ → ℕ → Bool → ℕ
-  upper x y b = if b then f1 (x - l1) (y - t1) else sample p x y
+  abbrev by_second : ℕ → ℕ → ℕ
+  by_second x y = if is_inside (u + l2) (v + t2) w h x y then f (l2 + (x - (u + l2))) (t2 + (y - (v + t2))) else sample with_first x y
 
-  abbrev lower : ℕ → ℕ → Bool → ℕ
-  lower x y b = if b then f2 (x - l2) (y - t2) else sample (with_block p l1 t1 w1 h1 f1) x y
+  abbrev by_both : ℕ → ℕ → ℕ
+  by_both x y = if is_inside (u + l) (v + t) all_w all_h x y then f (l + (x - (u + l))) (t + (y - (v + t))) else sample p x y
 
-  each : (x y : ℕ) → x < p.width → y < p.height → lower x y (is_inside l2 t2 w2 h2 x y) ≡ on_tile x y (is_inside l t w h x y)
-  each x y column row =
-      by_place (λ b. lower x y b ≡ on_tile x y (is_inside l t w h x y)) l2 t2 w2 h2 x y
-      (λ a b c d. let s = second x y a b c d in s.1 ∙ sym (ap (on_tile x y) s.0))
-      (λ none2.
-      sample-with_block p l1 t1 w1 h1 f1 x y column row
-      ∙ by_place (λ b. upper x y b ≡ on_tile x y (is_inside l t w h x y)) l1 t1 w1 h1 x y
-      (λ a b c d. let s = first x y a b c d in s.1 ∙ sym (ap (on_tile x y) s.0))
-      (λ none1. sym (ap (on_tile x y) (outside l t w h x y (λ a b c d. cover x y a b c d none1 none2)))))
+  each : (x y : ℕ) → x < p.width → y < p.height → by_second x y ≡ by_both x y
+  each x y column row = grind (arith, nat_tests, sample-with_block)
 
-  tiles : with_block (with_block p l1 t1 w1 h1 f1) l2 t2 w2 h2 f2 ≡ with_block p l t w h f
-  tiles = plane_of_same p.width p.height (λ x y. lower x y (is_inside l2 t2 w2 h2 x y)) (λ x y. on_tile x y (is_inside l t w h x y)) each
-
--- two blocks of a component in the macroblock whose upper left sample is (u, v), one below the other, or beside it
-blocks_below : (p : Plane) (u v l t t2 w h all : ℕ) (f : ℕ → ℕ → ℕ) → t2 ≡ t + h → all ≡ h + h
-    → with_block (with_block p (u + l) (v + t) w h (λ x y. f (l + x) (t + y))) (u + l) (v + t2) w h (λ x y. f (l + x) (t2 + y))
-    ≡ with_block p (u + l) (v + t) w all (λ x y. f (l + x) (t + y))
-blocks_below p u v l t t2 w h all f at sum =
-    tiles p (u + l) (v + t) w h (u + l) (v + t2) w h (u + l) (v + t) w all (λ x y. f (l + x) (t + y)) (λ x y. f (l + x) (t2 + y)) (λ x y. f (l + x) (t + y))
-    (λ x y a b c d. (inside (u + l) (v + t) w all x y a b c (omega (arith, sum)), refl))
-    (λ x y a b c d. (inside (u + l) (v + t) w all x y a b (omega (arith, at)) (omega (arith, at, sum)), ap (f (l + (x - (u + l)))) (omega (arith, at))))
-    (λ x y a b c d none1 none2. elim (cases_lt y (v + t2)) [
-      | inl less ↦ none1 a b c (omega (arith, at))
-      | inr from ↦ none2 a b from (omega (arith, at, sum))
-    ])
-
-blocks_beside : (p : Plane) (u v l l2 t w h all : ℕ) (f : ℕ → ℕ → ℕ) → l2 ≡ l + w → all ≡ w + w
-    → with_block (with_block p (u + l) (v + t) w h (λ x y. f (l + x) (t + y))) (u + l2) (v + t) w h (λ x y. f (l2 + x) (t + y))
-    ≡ with_block p (u + l) (v + t) all h (λ x y. f (l + x) (t + y))
-blocks_beside p u v l l2 t w h all f at sum =
-    tiles p (u + l) (v + t) w h (u + l2) (v + t) w h (u + l) (v + t) all h (λ x y. f (l + x) (t + y)) (λ x y. f (l2 + x) (t + y)) (λ x y. f (l + x) (t + y))
-    (λ x y a b c d. (inside (u + l) (v + t) all h x y a (omega (arith, sum)) c d, refl))
-    (λ x y a b c d. (inside (u + l) (v + t) all h x y (omega (arith, at)) (omega (arith, at, sum)) c d, ap (λ n. f n (t + (y - (v + t)))) (omega (arith, at))))
-    (λ x y a b c d none1 none2. elim (cases_lt x (u + l2)) [
-      | inl less ↦ none1 a (omega (arith, at)) c d
-      | inr from ↦ none2 from (omega (arith, at, sum)) c d
-    ])
+  blocks_joined : with_block with_first (u + l2) (v + t2) w h (λ x y. f (l2 + x) (t2 + y)) ≡ with_block p (u + l) (v + t) all_w all_h (λ x y. f (l + x) (t + y))
+  blocks_joined = plane_of_same p.width p.height by_second by_both each
 
 -- ---- two rectangles of a macroblock
 
-module _ (column row : ℕ) (f : ℕ → ℕ → ℕ → ℕ) (s : Planes) where
-  parts_below : (left top w h all : ℕ) → top % 2 ≡ 0 → h % 2 ≡ 0 → h + h ≡ all
-      → with_part column row left (top + h) w h f (with_part column row left top w h f s) ≡ with_part column row left top w all f s
-  parts_below left top w h all even even_height sum =
-      let half : (top + h) / 2 ≡ top / 2 + h / 2 = omega (arith, even, even_height) in
-      let halves : all / 2 ≡ h / 2 + h / 2 = omega (arith, even_height, sum) in
-      let chroma = λ (p : Plane) (k : ℕ). blocks_below p (8 * column) (8 * row) (left / 2) (top / 2) ((top + h) / 2) (w / 2) (h / 2) (all / 2) (f k) half halves in
-      planes_same (with_part column row left (top + h) w h f (with_part column row left top w h f s)) (with_part column row left top w all f s)
-      (blocks_below s.luma (16 * column) (16 * row) left top (top + h) w h all (f 0) refl (sym sum)) (chroma s.cb 1) (chroma s.cr 2)
+two_parts : (column row left top w h l2 t2 all_w all_h : ℕ) (f : ℕ → ℕ → ℕ → ℕ) (s0 s1 s2 : Planes) → AreHalves left top w h l2 t2 all_w all_h
+    → AreHalves (left / 2) (top / 2) (w / 2) (h / 2) (l2 / 2) (t2 / 2) (all_w / 2) (all_h / 2)
+    → s1 ≡ with_part column row left top w h f s0 → s2 ≡ with_part column row l2 t2 w h f s1 → s2 ≡ with_part column row left top all_w all_h f s0
+two_parts column row left top w h l2 t2 all_w all_h f s0 s1 s2 luma halves e1 e2 =
+    let chroma = λ (p : Plane) (k : ℕ).
+    blocks_joined p (8 * column) (8 * row) (left / 2) (top / 2) (w / 2) (h / 2) (l2 / 2) (t2 / 2) (all_w / 2) (all_h / 2) (f k) halves in
+    rw (e2, e1) (planes_same (with_part column row l2 t2 w h f (with_part column row left top w h f s0)) (with_part column row left top all_w all_h f s0)
+    (blocks_joined s0.luma (16 * column) (16 * row) left top w h l2 t2 all_w all_h (f 0) luma) (chroma s0.cb 1) (chroma s0.cr 2))
 
-  parts_beside : (left top w h all : ℕ) → left % 2 ≡ 0 → w % 2 ≡ 0 → w + w ≡ all
-      → with_part column row (left + w) top w h f (with_part column row left top w h f s) ≡ with_part column row left top all h f s
-  parts_beside left top w h all even even_width sum =
-      let half : (left + w) / 2 ≡ left / 2 + w / 2 = omega (arith, even, even_width) in
-      let halves : all / 2 ≡ w / 2 + w / 2 = omega (arith, even_width, sum) in
-      let chroma = λ (p : Plane) (k : ℕ). blocks_beside p (8 * column) (8 * row) (left / 2) ((left + w) / 2) (top / 2) (w / 2) (h / 2) (all / 2) (f k) half halves in
-      planes_same (with_part column row (left + w) top w h f (with_part column row left top w h f s)) (with_part column row left top all h f s)
-      (blocks_beside s.luma (16 * column) (16 * row) left (left + w) top w h all (f 0) refl (sym sum)) (chroma s.cb 1) (chroma s.cr 2)
+-- one below the other, or beside it
+pub two_below : (column row left top w h all : ℕ) (f : ℕ → ℕ → ℕ → ℕ) (s0 s1 s2 : Planes) → top % 2 ≡ 0 → h % 2 ≡ 0 → h + h ≡ all
+    → s1 ≡ with_part column row left top w h f s0 → s2 ≡ with_part column row left (top + h) w h f s1 → s2 ≡ with_part column row left top w all f s0
+two_below column row left top w h all f s0 s1 s2 top_even even sum =
+    two_parts column row left top w h left (top + h) w all f s0 s1 s2 (inl (refl, refl, refl, sym sum)) (inl (refl, omega arith, refl, omega arith))
+
+pub two_beside : (column row left top w h all : ℕ) (f : ℕ → ℕ → ℕ → ℕ) (s0 s1 s2 : Planes) → left % 2 ≡ 0 → w % 2 ≡ 0 → w + w ≡ all
+    → s1 ≡ with_part column row left top w h f s0 → s2 ≡ with_part column row (left + w) top w h f s1 → s2 ≡ with_part column row left top all h f s0
+two_beside column row left top w h all f s0 s1 s2 left_even even sum =
+    two_parts column row left top w h (left + w) top all h f s0 s1 s2 (inr (refl, refl, sym sum, refl)) (inr (omega arith, refl, omega arith, refl))
 
 -- the four quarters of a square
 pub four_parts : (column row left top half all : ℕ) (f : ℕ → ℕ → ℕ → ℕ) (s0 s1 s2 s3 s4 : Planes) → left % 2 ≡ 0 → top % 2 ≡ 0 → half % 2 ≡ 0 → half + half ≡ all
@@ -255,22 +214,8 @@ pub four_parts : (column row left top half all : ℕ) (f : ℕ → ℕ → ℕ �
     → s3 ≡ with_part column row left (top + half) half half f s2 → s4 ≡ with_part column row (left + half) (top + half) half half f s3
     → s4 ≡ with_part column row left top all all f s0
 four_parts column row left top half all f s0 s1 s2 s3 s4 left_even top_even even sum e1 e2 e3 e4 =
-    let upper : s2 ≡ with_part column row left top all half f s0 =
-    e2 ∙ ap (with_part column row (left + half) top half half f) e1 ∙ parts_beside column row f s0 left top half half all left_even even sum in
-    let lower : s4 ≡ with_part column row left (top + half) all half f s2 =
-    e4 ∙ ap (with_part column row (left + half) (top + half) half half f) e3 ∙ parts_beside column row f s2 left (top + half) half half all left_even even sum in
-    lower ∙ ap (with_part column row left (top + half) all half f) upper ∙ parts_below column row f s0 left top all half all top_even even sum
-
--- two rectangles, one below the other, or beside it
-pub two_below : (column row left top w h all : ℕ) (f : ℕ → ℕ → ℕ → ℕ) (s0 s1 s2 : Planes) → top % 2 ≡ 0 → h % 2 ≡ 0 → h + h ≡ all
-    → s1 ≡ with_part column row left top w h f s0 → s2 ≡ with_part column row left (top + h) w h f s1 → s2 ≡ with_part column row left top w all f s0
-two_below column row left top w h all f s0 s1 s2 top_even even sum e1 e2 =
-    e2 ∙ ap (with_part column row left (top + h) w h f) e1 ∙ parts_below column row f s0 left top w h all top_even even sum
-
-pub two_beside : (column row left top w h all : ℕ) (f : ℕ → ℕ → ℕ → ℕ) (s0 s1 s2 : Planes) → left % 2 ≡ 0 → w % 2 ≡ 0 → w + w ≡ all
-    → s1 ≡ with_part column row left top w h f s0 → s2 ≡ with_part column row (left + w) top w h f s1 → s2 ≡ with_part column row left top all h f s0
-two_beside column row left top w h all f s0 s1 s2 left_even even sum e1 e2 =
-    e2 ∙ ap (with_part column row (left + w) top w h f) e1 ∙ parts_beside column row f s0 left top w h all left_even even sum
+    two_below column row left top all half all f s0 s2 s4 top_even even sum (two_beside column row left top half half all f s0 s1 s2 left_even even sum e1 e2)
+    (two_beside column row left (top + half) half half all f s2 s3 s4 left_even even sum e3 e4)
 
 -- ---- the same samples under other words
 
@@ -289,10 +234,7 @@ with_square column row f s = record {
 }
 
 pub whole_part : (column row : ℕ) (f : ℕ → ℕ → ℕ → ℕ) (s : Planes) → with_part column row 0 0 16 16 f s ≡ with_square column row f s
-whole_part column row f s = planes_same _ _ (on_tile s.luma 0 (16 * column) (16 * row) 16) (on_tile s.cb 1 (8 * column) (8 * row) 8) (on_tile s.cr 2 (8 * column) (8 * row) 8)
-  where
-    on_tile : (p : Plane) (k left top size : ℕ) → with_block p (left + 0) (top + 0) size size (λ x y. f k (0 + x) (0 + y)) ≡ with_block p left top size size (f k)
-    on_tile p k left top size = grind (arith, with_block_same)
+whole_part column row f s = grind (arith, planes_same, with_block_same)
 
 -- ---- a rectangle that is predicted from one picture
 
@@ -363,16 +305,7 @@ module _ (p : Place) (column row : ℕ) (motion : List Motion) (across : p.addre
 -- a sample that was laid is one of the plane
 laid_small : (s new : Plane) (left top size : ℕ) (f : ℕ → ℕ → ℕ) → new ≡ with_block s left top size size f → left + size ≤ s.width → top + size ≤ s.height
     → ((x y : ℕ) → x < new.width → y < new.height → sample new x y ≤ 255) → (x y : ℕ) → x < size → y < size → f x y ≤ 255
-laid_small s new left top size f e columns rows small x y column row =
-    let wide : new.width ≡ s.width = ap (λ (t : Plane). t.width) e in
-    let high : new.height ≡ s.height = ap (λ (t : Plane). t.height) e in
-    let is : sample new (left + x) (top + y) ≡ f x y =
-    ap (λ (t : Plane). sample t (left + x) (top + y)) e
-    ∙ sample-with_block s left top size size f (left + x) (top + y) (omega (arith, columns, column)) (omega (arith, rows, row))
-    ∙ ap (λ b. if b then f (left + x - left) (top + y - top) else sample s (left + x) (top + y))
-    (inside left top size size (left + x) (top + y) (omega arith) (omega (arith, column)) (omega arith) (omega (arith, row)))
-    ∙ ap (λ u. f u (top + y - top)) (omega arith) ∙ ap (f x) (omega arith) in
-    omega (arith, is, small (left + x) (top + y) (omega (arith, wide, columns, column)) (omega (arith, high, rows, row)))
+laid_small s new left top size f e columns rows small x y column row = grind (arith, nat_tests, sample-with_block, inside, small (left + x) (top + y))
 
 module _ (p : Place) (column row qp qp_of_chroma : ℕ) (motion : List Motion) (s new : Planes) (at : IsAt column row p_skip qp qp_of_chroma p) (mine : p.motion ≡ motion) (room : CoverMacroblock column row s)
     (are : (have_all p motion ≡ true) × (new ≡ with_part column row 0 0 16 16 (predicted_at p.coded p.slice column row motion) s))
@@ -410,23 +343,12 @@ module _ (p : Place) (column row qp qp_of_chroma : ℕ) (mb_type : PMbType) (ref
   abbrev summed : (k x y : ℕ) → ℕ
   summed k x y = sum_of (first k x y) (residual_at p k x y)
 
-  is_luma : (x y : ℕ) → luma_residual qp r x y ≡ residual_at p 0 x y
-  is_luma x y = sym (ap (λ t. residual_of p.coded.chroma_qp_index_offset p.mb.qp t 0 x y) at.syntax_is ∙ ap (λ q. luma_residual q r x y) at.qp_is)
-
-  is_cb : (x y : ℕ) → chroma_residual qp_of_chroma r.cb_dc r.cb_ac x y ≡ residual_at p 1 x y
-  is_cb x y = sym (ap (λ t. residual_of p.coded.chroma_qp_index_offset p.mb.qp t 1 x y) at.syntax_is ∙ ap (λ q. chroma_residual q r.cb_dc r.cb_ac x y) at.chroma_is)
-
-  is_cr : (x y : ℕ) → chroma_residual qp_of_chroma r.cr_dc r.cr_ac x y ≡ residual_at p 2 x y
-  is_cr x y = sym (ap (λ t. residual_of p.coded.chroma_qp_index_offset p.mb.qp t 2 x y) at.syntax_is ∙ ap (λ q. chroma_residual q r.cr_dc r.cr_ac x y) at.chroma_is)
-
   -- a residual over the prediction of a component
   over : (t u v : Plane) (k left top size : ℕ) (g : ℕ → ℕ → ℤ) → left + size ≤ t.width → top + size ≤ t.height → u ≡ with_block t left top size size (first k)
       → v ≡ with_residual u left top size size g → ((x y : ℕ) → g x y ≡ residual_at p k x y) → v ≡ with_block t left top size size (summed k)
   over t u v k left top size g columns rows laid added same =
-      added
-      ∙ ap (λ (q : Plane). with_residual q left top size size g) laid
-      ∙ residual_over t left top size size (first k) g columns rows
-      ∙ with_block_same t left top size size (λ x y. sum_of (first k x y) (g x y)) (summed k) (λ x y across down. ap (sum_of (first k x y)) (same x y))
+      rw (added, laid, residual_over t left top size size (first k) g columns rows)
+      (with_block_same t left top size size (λ x y. sum_of (first k x y) (g x y)) (summed k) (λ x y across down. ap (sum_of (first k x y)) (same x y)))
 
   pub planes_parted : new.luma ≡ with_residual mid.luma (16 * column) (16 * row) 16 16 (luma_residual qp r)
       → new.cb ≡ with_residual mid.cb (8 * column) (8 * row) 8 8 (chroma_residual qp_of_chroma r.cb_dc r.cb_ac)
@@ -436,9 +358,12 @@ module _ (p : Place) (column row qp qp_of_chroma : ℕ) (mb_type : PMbType) (ref
       let laid : mid ≡ with_square column row first s = are.1 ∙ whole_part column row first s in
       planes_inter p column row (p_inter mb_type ref_idx mvd r) true at.column_is at.row_is at.syntax_is (ap (have_all p) mine ∙ are.0) refl s new refl refl refl summed
       (λ k x y few left top. predicted_there p column row motion at.column_is at.row_is mine k x y)
-      (over s.luma mid.luma new.luma 0 (16 * column) (16 * row) 16 (luma_residual qp r) room.luma_columns room.luma_rows (ap (λ (t : Planes). t.luma) laid) l is_luma)
-      (over s.cb mid.cb new.cb 1 (8 * column) (8 * row) 8 (chroma_residual qp_of_chroma r.cb_dc r.cb_ac) room.cb_columns room.cb_rows (ap (λ (t : Planes). t.cb) laid) b is_cb)
-      (over s.cr mid.cr new.cr 2 (8 * column) (8 * row) 8 (chroma_residual qp_of_chroma r.cr_dc r.cr_ac) room.cr_columns room.cr_rows (ap (λ (t : Planes). t.cr) laid) c is_cr)
+      (over s.luma mid.luma new.luma 0 (16 * column) (16 * row) 16 (luma_residual qp r) room.luma_columns room.luma_rows (ap (λ (t : Planes). t.luma) laid) l
+      (λ x y. rw (at.syntax_is, at.qp_is) refl))
+      (over s.cb mid.cb new.cb 1 (8 * column) (8 * row) 8 (chroma_residual qp_of_chroma r.cb_dc r.cb_ac) room.cb_columns room.cb_rows
+      (ap (λ (t : Planes). t.cb) laid) b (λ x y. rw (at.syntax_is, at.chroma_is) refl))
+      (over s.cr mid.cr new.cr 2 (8 * column) (8 * row) 8 (chroma_residual qp_of_chroma r.cr_dc r.cr_ac) room.cr_columns room.cr_rows
+      (ap (λ (t : Planes). t.cr) laid) c (λ x y. rw (at.syntax_is, at.chroma_is) refl))
 
 -- ---- blocks that are predicted together have one motion
 
@@ -463,16 +388,7 @@ have_one motion quarter_left quarter_top w h first corner all = record {
 module _ (P : ℕ → Type 0) (q x y : ℕ) (few : q < 4) (x_low : 8 * (q % 2) ≤ x) (x_high : x < 8 * (q % 2) + 8) (y_low : 8 * (q / 2) ≤ y) (y_high : y < 8 * (q / 2) + 8) where
   by_block : (x < 8 * (q % 2) + 4 → y < 8 * (q / 2) + 4 → P (4 * q)) → (8 * (q % 2) + 4 ≤ x → y < 8 * (q / 2) + 4 → P (4 * q + 1))
       → (x < 8 * (q % 2) + 4 → 8 * (q / 2) + 4 ≤ y → P (4 * q + 2)) → (8 * (q % 2) + 4 ≤ x → 8 * (q / 2) + 4 ≤ y → P (4 * q + 3)) → P (block_at x y)
-  by_block a b c d = elim (cases_lt x (8 * (q % 2) + 4)) [
-    | inl quarter_left ↦ elim (cases_lt y (8 * (q / 2) + 4)) [
-      | inl upper ↦ subst P (omega arith) (a quarter_left upper)
-      | inr lower ↦ subst P (omega arith) (c quarter_left lower)
-    ]
-    | inr right ↦ elim (cases_lt y (8 * (q / 2) + 4)) [
-      | inl upper ↦ subst P (omega arith) (b right upper)
-      | inr lower ↦ subst P (omega arith) (d right lower)
-    ]
-  ]
+  by_block a b c d = grind (arith, cases_lt)
 
 module _ (motion : List Motion) (q : ℕ) (few : q < 4) where
   abbrev quarter_left : ℕ
@@ -503,16 +419,7 @@ pub ruleset quarter_parts = (whole_quarter, upper_of_quarter, lower_of_quarter, 
 
 -- a number is one of four
 one_of_four : (P : ℕ → Type 0) (first k : ℕ) → first ≤ k → k < first + 4 → P first → P (first + 1) → P (first + 2) → P (first + 3) → P k
-one_of_four P first k low high a b c d = elim (cases_lt k (first + 2)) [
-  | inl less ↦ elim (cases_lt k (first + 1)) [
-    | inl below ↦ subst P (omega arith) a
-    | inr past ↦ subst P (omega arith) b
-  ]
-  | inr past ↦ elim (cases_lt k (first + 3)) [
-    | inl below ↦ subst P (omega arith) c
-    | inr above ↦ subst P (omega arith) d
-  ]
-]
+one_of_four P first k low high a b c d = grind (arith, cases_lt)
 
 module _ (motion : List Motion) (whole : HasWholeQuarters motion) where
   -- a block has the motion of the first block of its quarter
@@ -560,24 +467,12 @@ one_shape motion one =
 
 -- ---- which reference pictures there are
 
-some_map : {X : Type 0} (P Q : X → Type 0) (o : Option X) → ((x : X) → P x → Q x) → IfSome o P → IfSome o Q
-some_map P Q None f p = p
-some_map P Q (Some x) f p = f x p
-
 usable_on : {PAD : ℕ} (w h column row : ℕ) (p : ReferencePicture PAD) → column < w → row < h → IsUsable w h p → IsUsableAt column row p
 usable_on w h column row p a b u = grind arith
 
 -- what holds of each entry that is there
 pub some_at : {X : Type 0} (P : X → Type 0) (xs : List (Option X)) (r : ℕ) → All (λ o. IfSome o P) xs → IfSome (slice_index_or xs r None) P
-some_at P xs r all = elim (cases_lt r (length xs)) [
-  | inl less ↦ All-get_or (λ o. IfSome o P) xs r None less all
-  | inr past ↦ subst (λ o. IfSome o P) (sym (get_or_past xs r None past)) tt
-]
-
-pub usable_each : {PAD : ℕ} (w h column row : ℕ) (references : List (Option (ReferencePicture PAD))) → AreUsable w h references → column < w → row < h → AreUsableAt column row references
-usable_each w h column row references all a b = record {
-  each = λ r. some_map (IsUsable w h) (IsUsableAt column row) (slice_index_or references r None) (λ p u. usable_on w h column row p a b u) (some_at (IsUsable w h) references r all);
-}
+some_at P xs r all = grind (arith, cases_lt r (length xs), all, get_or_past)
 
 -- ---- pictures of a coded picture and of the list
 
@@ -587,13 +482,12 @@ picture_shown c slice r (Some p) s = ap is_picture s.frame
 
 is_shown : {PAD : ℕ} (c : Coded) (slice : ℕ) (references : List (Option (ReferencePicture PAD))) → AreReferences c slice references
     → (m : Motion) → is_picture (reference_of c slice m) ≡ is_some (picture_in references m)
-is_shown c slice references are motions.Absent = refl
-is_shown c slice references are motions.Intra = refl
 is_shown c slice references are (motions.Inter r v) = picture_shown c slice r (slice_index_or references r None) (are.each r)
+is_shown c slice references are m = refl
 
 same_all : {X : Type 0} (p q : X → Bool) → ((x : X) → p x ≡ q x) → (xs : List X) → list_all p xs ≡ list_all q xs
 same_all p q e [] = refl
-same_all p q e (x ∷ xs) = ap (λ b. b && list_all p xs) (e x) ∙ ap (λ b. q x && b) (same_all p q e xs)
+same_all p q e (x ∷ xs) = rw (e x, same_all p q e xs) refl
 
 pub pictures_shown : {PAD : ℕ} (c : Coded) (slice : ℕ) (references : List (Option (ReferencePicture PAD))) (motion : List Motion) → AreReferences c slice references
     → list_all (λ m. is_picture (reference_of c slice m)) motion ≡ have_pictures references motion
@@ -622,9 +516,8 @@ by_entry c slice r w h v k x y wide high (Some p) references e shows usable ther
 
 predicted_is : {PAD : ℕ} (c : Coded) (slice w h : ℕ) (references : List (Option (ReferencePicture PAD))) (k x y : ℕ) → c.width ≡ w → c.height ≡ h → AreReferences c slice references → AreUsable w h references
     → (m : Motion) → is_some (picture_in references m) ≡ true → predicted_in references m k x y ≡ inter_predicted c slice m k x y
-predicted_is c slice w h references k x y wide high are all motions.Absent there = absurd (false≢true there)
-predicted_is c slice w h references k x y wide high are all motions.Intra there = absurd (false≢true there)
 predicted_is c slice w h references k x y wide high are all (motions.Inter r v) there = grind (arith, by_entry, some_at (IsUsable w h) references r all, there)
+predicted_is c slice w h references k x y wide high are all m there = absurd (false≢true there)
 
 -- a block has a picture where all have
 there : {PAD : ℕ} (references : List (Option (ReferencePicture PAD))) (motion : List Motion) (i : ℕ) → length motion ≡ 16 → i < 16 → have_pictures references motion ≡ true
@@ -670,15 +563,11 @@ pub all_as_first : {PAD : ℕ} (references : List (Option (ReferencePicture PAD)
 all_as_first references motion long shape = grind (arith, as_first)
 
 -- the picture of a block can be predicted from
-usable_named : {PAD : ℕ} (column row : ℕ) (references : List (Option (ReferencePicture PAD))) (p : ReferencePicture PAD) → AreUsableAt column row references
-    → (m : Motion) → picture_in references m ≡ Some p → IsUsableAt column row p
-usable_named column row references p all motions.Absent e = cc
-usable_named column row references p all motions.Intra e = cc
-usable_named column row references p all (motions.Inter r v) e = subst (λ o. IfSome o (IsUsableAt column row)) e (all.each r)
-
 pub usable_in : {PAD : ℕ} (w h column row : ℕ) (references : List (Option (ReferencePicture PAD))) (m : Motion) (p : ReferencePicture PAD) → AreUsable w h references → column < w → row < h
     → picture_in references m ≡ Some p → IsUsableAt column row p
-usable_in w h column row references m p all a b e = usable_named column row references p (usable_each w h column row references all a b) m e
+usable_in w h column row references (motions.Inter r v) p all a b e =
+    usable_on w h column row p a b (subst (λ o. IfSome o (IsUsable w h)) e (some_at (IsUsable w h) references r all))
+usable_in w h column row references m p all a b e = cc
 
 -- a macroblock that is predicted at once, by the picture and the vector of its first block
 pub whole_is : {PAD : ℕ} (references : List (Option (ReferencePicture PAD))) (column row : ℕ) (motion : List Motion) (p : ReferencePicture PAD) (v : Mv) (old new : Planes)

@@ -8,8 +8,7 @@ unfoldable pub use Common.*
 pub sample-plane_of : (width height : ℕ) (f : ℕ → ℕ → ℕ) (x y : ℕ) → x < width → y < height → sample (plane_of width height f) x y ≡ f x y
 sample-plane_of width height f x y column row =
     get_or-map-range_with_len (λ i. f (i % width) (i / width)) 0 (width * height) (y * width + x) (y * width + x) 0 (mul-add-lt y width x height row column) (zero-add (y * width + x))
-    ∙ ap (λ u. f u ((y * width + x) / width)) (mod-mul-add y width x column)
-    ∙ ap (λ v. f x v) (div-mul-add y width x column)
+    ∙ rw (mod-mul-add y width x column, div-mul-add y width x column)
 
 -- and as many as it has places
 pub length-plane_of : (width height : ℕ) (f : ℕ → ℕ → ℕ) → length (plane_of width height f).samples ≡ width * height
@@ -21,14 +20,28 @@ pub sample-with_block : (p : Plane) (left top width height : ℕ) (f : ℕ → �
 sample-with_block p left top width height f x y column row =
     sample-plane_of p.width p.height (λ x y. if is_inside left top width height x y then f (x - left) (y - top) else sample p x y) x y column row
 
+-- a plane is that of its samples
+plane_is : (p : Plane) (f : ℕ → ℕ → ℕ) → length p.samples ≡ p.width * p.height → ((x y : ℕ) → x < p.width → y < p.height → sample p x y ≡ f x y)
+    → p ≡ plane_of p.width p.height f
+plane_is p f long same =
+    ap (λ (s : List ℕ). record { width = p.width; height = p.height; samples = s })
+    (fill_by_all (λ i. f (i % p.width) (i / p.width)) p.samples (p.width * p.height) 0 long
+    (λ k below. ap (λ i. get_or p.samples i 0) (omega (arith, mul_comm p.width (k / p.width), some_column p.width p.height k below))
+    ∙ same (k % p.width) (k / p.width) (column p.width p.height k below) (row p.width p.height k below)))
+
+pub plane_of_same : (width height : ℕ) (f g : ℕ → ℕ → ℕ) → ((x y : ℕ) → x < width → y < height → f x y ≡ g x y) → plane_of width height f ≡ plane_of width height g
+plane_of_same width height f g same =
+    plane_is (plane_of width height f) g (length-plane_of width height f)
+    (λ x y column row. sample-plane_of width height f x y column row ∙ same x y column row)
+
 -- ---- the padded rows of a plane, and the map of its samples
 
 module _ (pad width height : ℕ) (stored : List ℕ) (long : length stored ≡ (height + 2 * pad) * (width + 2 * pad)) where
   abbrev at : ℕ → ℕ → ℕ
   at x y = get_or stored (stored_place pad width x y) 0
 
-  abbrev pub samples : List ℕ
-  samples = map (λ i. at (i % width) (i / width)) (range_with_len 0 (width * height))
+  abbrev samples : List ℕ
+  samples = (plane_of width height at).samples
 
   pub fits : (x y : ℕ) → x < width → y < height → stored_place pad width x y < length stored
   fits x y column row =
@@ -38,230 +51,75 @@ module _ (pad width height : ℕ) (stored : List ℕ) (long : length stored ≡ 
   pub stored_sample : (x y : ℕ) → x < width → y < height → at x y ≡ sample (inner_plane pad width height stored) x y
   stored_sample x y column row = sym (sample-plane_of width height at x y column row)
 
-  -- a row of the plane is a range of what is stored
-  module _ (y start : ℕ) (row : y < height) (begins : start ≡ (y + pad) * (width + 2 * pad) + pad) where
-    enough : start + width ≤ length stored
-    enough = omega (arith, long, row_fits (y + pad) (width + 2 * pad) (height + 2 * pad) (width + 2 * pad) (omega arith) (omega arith), begins)
+  -- the plane that a contract sees of them
+  module _ (p : Plane) (is : inner_plane pad width height stored ≡ p) where
+    pub sizes : (width ≡ p.width) × (height ≡ p.height)
+    sizes = (ap (λ p. p.width) is, ap (λ p. p.height) is)
 
-    whole : y * width + width ≤ length samples
-    whole = omega (arith, length-plane_of width height at, row_fits y width height width row (omega arith), mul_comm width height)
+    pub all_samples : length p.samples ≡ p.width * p.height
+    all_samples = rw (← is) (length-plane_of width height at)
 
-    each_of_row : (k : ℕ) → k < width → get_or (take width (drop start stored)) k 0 ≡ get_or (slice_range samples (y * width) (y * width + width)) k 0
-    each_of_row k column =
+    -- without padding nothing else is stored
+    pub seen_all : pad ≡ 0 → stored ≡ p.samples
+    seen_all none =
+        ap (λ (p : Plane). p.samples)
+        (plane_is (record { width = width; height = height; samples = stored }) at (long ∙ rw none (omega (arith, mul_comm width height)))
+        (λ x y column row. ap (λ i. get_or stored i 0) (rw none (omega arith))) ∙ is)
+
+    pub seen_sample : (x y d : ℕ) → x < p.width → y < p.height → get_or stored (stored_place pad width x y) d ≡ sample p x y
+    seen_sample x y d column row =
+        get_or_default_zero stored (stored_place pad width x y) d (fits x y (omega (arith, sizes)) (omega (arith, sizes)))
+        ∙ stored_sample x y (omega (arith, sizes)) (omega (arith, sizes)) ∙ ap (λ p. sample p x y) is
+
+    -- a row is a range of what is stored
+    pub seen_row : (xs : List ℕ) (y start : ℕ) → xs ≡ stored → y < p.height → start ≡ (y + pad) * (width + 2 * pad) + pad
+        → take (start + width - start) (drop start xs) ≡ slice_range p.samples (y * p.width) (y * p.width + p.width)
+    seen_row xs y start same row begins =
+        let many : start + width - start ≡ width = omega arith in
+        let here : y < height = omega (arith, sizes) in
+        let enough : start + width ≤ length stored =
+        omega (arith, long, row_fits (y + pad) (width + 2 * pad) (height + 2 * pad) (width + 2 * pad) (omega arith) (omega arith), begins) in
+        let whole : y * width + width ≤ length samples =
+        omega (arith, length-plane_of width height at, row_fits y width height width here (omega arith), mul_comm width height) in
+        let each : (k : ℕ) → k < width → get_or (take width (drop start stored)) k 0 ≡ get_or (slice_range samples (y * width) (y * width + width)) k 0 =
+        λ k column.
         get_or-take width (drop start stored) k 0 column
         ∙ get_or-drop start stored k 0
         ∙ ap (λ i. get_or stored i 0) (omega arith)
-        ∙ stored_sample k y column row
-        ∙ sym (get_or-take (y * width + width - y * width) (drop (y * width) samples) k 0 (omega arith) ∙ get_or-drop (y * width) samples k 0)
+        ∙ stored_sample k y column here
+        ∙ sym (get_or-take (y * width + width - y * width) (drop (y * width) samples) k 0 (omega arith) ∙ get_or-drop (y * width) samples k 0) in
+        rw (← is, many, same) (same_number_lists _ _ (grind (arith, common_steps, enough, whole)) (λ k h. each k (grind (arith, common_steps))))
 
-    pub stored_row : take width (drop start stored) ≡ slice_range samples (y * width) (y * width + width)
-    stored_row = same_number_lists _ _ (grind (arith, common_steps, enough, whole)) (λ k h. each_of_row k (grind (arith, common_steps)))
-
-  -- one stored sample changed is one sample of the plane changed
-  module _ (x y value : ℕ) (column : x < width) (row : y < height) where
-    abbrev place : ℕ
-    place = stored_place pad width x y
-
-    in_plane : y * width + x < width * height
-    in_plane = mul-add-lt y width x height row column
-
-    at_place : (k : ℕ) → k ≡ y * width + x → stored_place pad width (k % width) (k / width) ≡ place
-    at_place k here =
-        ap (λ u. stored_place pad width u (k / width)) (ap (λ n. n % width) here ∙ mod-mul-add y width x column)
-        ∙ ap (λ v. stored_place pad width x v) (ap (λ n. n / width) here ∙ div-mul-add y width x column)
-
-    elsewhere : (k : ℕ) → k < width * height → (k ≡ y * width + x → ⊥) → stored_place pad width (k % width) (k / width) ≢ place
-    elsewhere k inside apart e =
-        let positive : 0 < width = omega arith in
-        let below : k % width < width = mod_below k width positive in
-        let same = same_from_place (k / width + pad) (k % width + pad) (y + pad) (x + pad) (width + 2 * pad) (omega arith) (omega arith) e in
-        let down : k / width ≡ y = omega (arith, same.0) in
-        let across : k % width ≡ x = omega (arith, same.1) in
-        let parts : k ≡ (k / width) * width + k % width = sym (omega (arith, mul_comm (k / width) width)) in
-        apart (parts ∙ ap (λ v. v * width + k % width) down ∙ ap (λ u. y * width + u) across)
-
-    each_changed : (k : ℕ) → k < width * height → get_or (set samples (y * width + x) value) k 0 ≡ get_or (set stored place value) (stored_place pad width (k % width) (k / width)) 0
-    each_changed k inside = ⊎_elim
-        (λ here. ap (λ n. get_or (set samples (y * width + x) value) n 0) here
-        ∙ get_or-set_same samples (y * width + x) value 0 (omega (arith, in_plane, length-plane_of width height at))
-        ∙ sym (ap (λ n. get_or (set stored place value) n 0) (at_place k here) ∙ get_or-set_same stored place value 0 (fits x y column row)))
-        (λ apart. get_or-set_other samples (y * width + x) k value 0 apart
-        ∙ get_or-map-range_with_len (λ i. at (i % width) (i / width)) 0 (width * height) k k 0 inside (zero-add k)
-        ∙ sym (get_or-set_other stored place (stored_place pad width (k % width) (k / width)) value 0 (elsewhere k inside apart)))
-        (cases_eq k (y * width + x))
-
-    pub stored_set : inner_plane pad width height (set stored place value) ≡ with_sample (inner_plane pad width height stored) x y value
-    stored_set =
-        ap (λ (s : List ℕ). record { width = width; height = height; samples = s })
-        (sym (fill_by_all (λ i. get_or (set stored place value) (stored_place pad width (i % width) (i / width)) 0) (set samples (y * width + x) value) (width * height) 0
-        (length-set samples (y * width + x) value ∙ length-plane_of width height at)
-        each_changed))
-
--- without padding nothing else is stored
-pub all_stored : (pad width height : ℕ) (stored : List ℕ) → pad ≡ 0 → length stored ≡ (height + 2 * pad) * (width + 2 * pad) → stored ≡ (inner_plane pad width height stored).samples
-all_stored pad width height stored none long =
-    fill_by_all (λ i. get_or stored (stored_place pad width (i % width) (i / width)) 0) stored (width * height) 0
-    (long ∙ rw none (omega (arith, mul_comm width height)))
-    (λ k inside. ap (λ i. get_or stored i 0) (rw none (omega (arith, mul_comm width (k / width)))))
-
--- ---- rectangles of a plane, written line by line
-
--- ---- planes that are the same at each place
-
-pub plane_of_same : (width height : ℕ) (f g : ℕ → ℕ → ℕ) → ((x y : ℕ) → x < width → y < height → f x y ≡ g x y) → plane_of width height f ≡ plane_of width height g
-plane_of_same width height f g same =
-    ap (λ (s : List ℕ). record { width = width; height = height; samples = s })
-    (fill_by_all (λ i. g (i % width) (i / width)) (plane_of width height f).samples (width * height) 0 (length-plane_of width height f)
-    (λ k below. get_or-map-range_with_len (λ i. f (i % width) (i / width)) 0 (width * height) k k 0 below (zero-add k)
-    ∙ same (k % width) (k / width) (column width height k below) (row width height k below)))
+    -- one stored sample changed is one sample of the plane changed
+    pub seen_set : (x y value : ℕ) → x < p.width → y < p.height
+        → inner_plane pad width height (set stored (stored_place pad width x y) value) ≡ with_sample p x y value
+    seen_set x y value column row =
+        let place = stored_place pad width in
+        let left : x < width = omega (arith, sizes) in
+        let low : y < height = omega (arith, sizes) in
+        let each : (u v : ℕ) → u < width → v < height
+        → get_or (set samples (y * width + x) value) (v * width + u) 0 ≡ get_or (set stored (place x y) value) (place u v) 0 =
+        λ u v across down. ⊎_elim
+        (λ here.
+        let same = same_from_place v u y x width across left here in
+        rw (same.0, same.1)
+        (get_or-set_same samples (y * width + x) value 0 (omega (arith, mul-add-lt y width x height low left, length-plane_of width height at))
+        ∙ sym (get_or-set_same stored (place x y) value 0 (fits x y left low))))
+        (λ apart. get_or-set_other samples (y * width + x) (v * width + u) value 0 apart
+        ∙ sample-plane_of width height at u v across down
+        ∙ sym (get_or-set_other stored (place x y) (place u v) value 0 (λ e.
+        let same = same_from_place (v + pad) (u + pad) (y + pad) (x + pad) (width + 2 * pad) (omega arith) (omega arith) e in
+        let down_is : v ≡ y = omega (arith, same.0) in
+        let across_is : u ≡ x = omega (arith, same.1) in
+        apart (rw (down_is, across_is)))))
+        (cases_eq (v * width + u) (y * width + x)) in
+        rw (← is) (sym (plane_is (with_sample (inner_plane pad width height stored) x y value) (λ u v. get_or (set stored (place x y) value) (place u v) 0)
+        (length-set samples (y * width + x) value ∙ length-plane_of width height at) each))
 
 -- ---- places inside a rectangle and outside it
 
 pub inside : (left top width height x y : ℕ) → left ≤ x → x < left + width → top ≤ y → y < top + height → is_inside left top width height x y ≡ true
 inside left top width height x y a b c d = grind (arith, nat_tests)
-
-pub left_of_it : (left top width height x y : ℕ) → x < left → is_inside left top width height x y ≡ false
-left_of_it left top width height x y a = grind (arith, nat_tests)
-
-pub right_of_it : (left top width height x y : ℕ) → left + width ≤ x → is_inside left top width height x y ≡ false
-right_of_it left top width height x y a = grind (arith, nat_tests)
-
-pub above_it : (left top width height x y : ℕ) → y < top → is_inside left top width height x y ≡ false
-above_it left top width height x y a = grind (arith, nat_tests)
-
-pub below_it : (left top width height x y : ℕ) → top + height ≤ y → is_inside left top width height x y ≡ false
-below_it left top width height x y a = grind (arith, nat_tests)
-
--- ---- a part of a list changed
-
-module _ (xs ys : List ℕ) (a : ℕ) (within : a + length ys ≤ length xs) where
-  abbrev pub spliced : List ℕ
-  spliced = take a xs ++ (ys ++ drop (a + length ys) xs)
-
-  front : length (take a xs) ≡ a
-  front = length-take-le a xs (omega arith)
-
-  pub length-spliced : length spliced ≡ length xs
-  length-spliced = omega (arith, length-append (take a xs) (ys ++ drop (a + length ys) xs), length-append ys (drop (a + length ys) xs), front, length-drop (a + length ys) xs)
-
-  pub spliced_before : (p : ℕ) → p < a → get_or spliced p 0 ≡ get_or xs p 0
-  spliced_before p below = get_or_append_left (take a xs) (ys ++ drop (a + length ys) xs) 0 p (omega (arith, front)) ∙ get_or-take a xs p 0 below
-
-  pub spliced_inside : (p k : ℕ) → p ≡ a + k → k < length ys → get_or spliced p 0 ≡ get_or ys k 0
-  spliced_inside p k is below =
-      get_or-append_right (take a xs) (ys ++ drop (a + length ys) xs) a p 0 front (omega arith)
-      ∙ ap (λ n. get_or (ys ++ drop (a + length ys) xs) n 0) (omega arith)
-      ∙ get_or_append_left ys (drop (a + length ys) xs) 0 k below
-
-  pub spliced_after : (p : ℕ) → a + length ys ≤ p → get_or spliced p 0 ≡ get_or xs p 0
-  spliced_after p above =
-      get_or-append_right (take a xs) (ys ++ drop (a + length ys) xs) a p 0 front (omega arith)
-      ∙ get_or-append_right ys (drop (a + length ys) xs) (length ys) (p - a) 0 refl (omega arith)
-      ∙ get_or-drop (a + length ys) xs (p - a - length ys) 0
-      ∙ ap (λ n. get_or xs n 0) (omega arith)
-
--- ---- one line of stored samples
-
-module _ (pad width height left y : ℕ) (stored line : List ℕ) (long : length stored ≡ (height + 2 * pad) * (width + 2 * pad)) (columns : left + length line ≤ width) (row : y < height) where
-  abbrev start : ℕ
-  start = stored_place pad width left y
-
-  abbrev old : Plane
-  old = inner_plane pad width height stored
-
-  abbrev put : ℕ → ℕ → ℕ
-  put u v = if is_inside left y (length line) 1 u v then get_or line (u - left) 0 else sample old u v
-
-  pub within : start + length line ≤ length stored
-  within = omega (arith, long, row_fits (y + pad) (width + 2 * pad) (height + 2 * pad) (width + 2 * pad) (omega arith) (omega arith))
-
-  -- the sample outside the line is what was stored
-  outside : (u v : ℕ) → u < width → v < height → is_inside left y (length line) 1 u v ≡ false → get_or stored (stored_place pad width u v) 0 ≡ put u v
-  outside u v column below out = stored_sample pad width height stored long u v column below ∙ ap (λ b. if b then get_or line (u - left) 0 else sample old u v) (sym out)
-
-  changed_at : (u v : ℕ) → u < width → v < height → get_or (spliced stored line start within) (stored_place pad width u v) 0 ≡ put u v
-  changed_at u v column below = elim (cases_order v y) [
-    | inl same ↦ elim (cases_lt u left) [
-      | inl before ↦
-          spliced_before stored line start within (stored_place pad width u v) (omega (arith, ap (λ r. (r + pad) * (width + 2 * pad)) same))
-          ∙ outside u v column below (left_of_it left y (length line) 1 u v before)
-      | inr from ↦ elim (cases_lt u (left + length line)) [
-        | inl less ↦
-            spliced_inside stored line start within (stored_place pad width u v) (u - left) (omega (arith, ap (λ r. (r + pad) * (width + 2 * pad)) same)) (omega arith)
-            ∙ ap (λ b. if b then get_or line (u - left) 0 else sample old u v) (sym (inside left y (length line) 1 u v from less (omega arith) (omega arith)))
-        | inr past ↦
-            spliced_after stored line start within (stored_place pad width u v) (omega (arith, ap (λ r. (r + pad) * (width + 2 * pad)) same))
-            ∙ outside u v column below (right_of_it left y (length line) 1 u v past)
-      ]
-    ]
-    | inr (inl higher) ↦
-        spliced_before stored line start within (stored_place pad width u v) (omega (arith, row_fits (v + pad) (width + 2 * pad) (y + pad) (width + 2 * pad) (omega arith) (omega arith)))
-        ∙ outside u v column below (above_it left y (length line) 1 u v higher)
-    | inr (inr lower) ↦
-        spliced_after stored line start within (stored_place pad width u v) (omega (arith, row_fits (y + pad) (width + 2 * pad) (v + pad) (width + 2 * pad) (omega arith) (omega arith)))
-        ∙ outside u v column below (below_it left y (length line) 1 u v (omega arith))
-  ]
-
-  pub stored_line : inner_plane pad width height (spliced stored line start within) ≡ with_block old left y (length line) 1 (λ x _. get_or line x 0)
-  stored_line = plane_of_same width height (λ u v. get_or (spliced stored line start within) (stored_place pad width u v) 0) put changed_at
-
--- ---- a block, line by line
-
-none_inside : (left top width x y : ℕ) → is_inside left top width 0 x y ≡ false
-none_inside left top width x y = elim (cases_lt y top) [
-  | inl above ↦ above_it left top width 0 x y above
-  | inr below ↦ below_it left top width 0 x y (omega arith)
-]
-
--- no line
-pub no_line : (p : Plane) (left top width : ℕ) (f : ℕ → ℕ → ℕ) → length p.samples ≡ p.width * p.height → p ≡ with_block p left top width 0 f
-no_line p left top width f long =
-    ap (λ (s : List ℕ). record { width = p.width; height = p.height; samples = s })
-    (fill_by_all (λ i. if is_inside left top width 0 (i % p.width) (i / p.width) then f (i % p.width - left) (i / p.width - top) else sample p (i % p.width) (i / p.width)) p.samples (p.width * p.height) 0 long
-    (λ k below. ap (λ i. get_or p.samples i 0) (omega (arith, mul_comm p.width (k / p.width), some_column p.width p.height k below))
-    ∙ ap (λ b. if b then f (k % p.width - left) (k / p.width - top) else sample p (k % p.width) (k / p.width)) (sym (none_inside left top width (k % p.width) (k / p.width)))))
-
--- outside its last line a rectangle is as without that line
-one_line_more : (left top width count x y : ℕ) → is_inside left (top + count) width 1 x y ≡ false → is_inside left top width count x y ≡ is_inside left top width (count + 1) x y
-one_line_more left top width count x y out = grind (arith, nat_tests)
-
-module _ (p : Plane) (left top width count : ℕ) (line samples : List ℕ) (len : length line ≡ width) (same : (x : ℕ) → x < width → get_or line x 0 ≡ get_or samples (width * count + x) 0) where
-  abbrev f : ℕ → ℕ → ℕ
-  f x y = get_or samples (width * y + x) 0
-
-  abbrev so_far : Plane
-  so_far = with_block p left top width count f
-
-  abbrev more : ℕ → ℕ → ℕ
-  more x y = if is_inside left (top + count) (length line) 1 x y then get_or line (x - left) 0 else sample so_far x y
-
-  abbrev all : ℕ → ℕ → ℕ
-  all x y = if is_inside left top width (count + 1) x y then f (x - left) (y - top) else sample p x y
-
-  kept : (x y : ℕ) → x < p.width → y < p.height → is_inside left (top + count) (length line) 1 x y ≡ false → is_inside left top width count x y ≡ is_inside left top width (count + 1) x y → more x y ≡ all x y
-  kept x y column row out like =
-      ap (λ b. if b then get_or line (x - left) 0 else sample so_far x y) out
-      ∙ sample-with_block p left top width count f x y column row
-      ∙ ap (λ b. if b then f (x - left) (y - top) else sample p x y) like
-
-  in_line : (x y : ℕ) → left ≤ x → x < left + width → y ≡ top + count → more x y ≡ all x y
-  in_line x y from less here =
-      ap (λ b. if b then get_or line (x - left) 0 else sample so_far x y) (inside left (top + count) (length line) 1 x y from (omega arith) (omega arith) (omega arith))
-      ∙ same (x - left) (omega arith)
-      ∙ ap (λ n. get_or samples (width * n + (x - left)) 0) (omega arith)
-      ∙ ap (λ b. if b then f (x - left) (y - top) else sample p x y) (sym (inside left top width (count + 1) x y from less (omega arith) (omega arith)))
-
-  each : (x y : ℕ) → x < p.width → y < p.height → more x y ≡ all x y
-  each x y column row = elim (cases_Bool (is_inside left (top + count) (length line) 1 x y)) [
-    | inl in_there ↦ in_line x y (grind (arith, nat_tests)) (grind (arith, nat_tests)) (grind (arith, nat_tests))
-    | inr apart ↦ kept x y column row apart (one_line_more left top width count x y (ap (λ n. is_inside left (top + count) n 1 x y) (sym len) ∙ apart))
-  ]
-
-  -- one line more
-  pub line_more : with_block so_far left (top + count) (length line) 1 (λ x _. get_or line x 0) ≡ with_block p left top width (count + 1) f
-  line_more = plane_of_same p.width p.height more all each
-
--- ---- rectangles of a plane, in its padded rows
 
 -- a place is in a rectangle, or it isn't
 pub by_place : (P : Bool → Type 0) (left top width height a b : ℕ) → (left ≤ a → a < left + width → top ≤ b → b < top + height → P true)
@@ -273,6 +131,13 @@ by_place P left top width height a b in_it out = elim (cases_Bool (is_inside lef
 
 pub small : (w h n : ℕ) → w < 2 ^ 31 → h < 2 ^ 31 → w * h ≡ n → n * 1 < 9223372036854775808
 small w h n narrow low e = let wide : w * h ≤ 2147483648 * h = mul-le-mul_right h (omega arith) in omega (arith, e, wide)
+
+-- what is in none of so many places is before or behind them
+beside : (P : ℕ → Type 0) (start width j : ℕ) → ((x : ℕ) → x < width → j ≢ start + x) → (j < start → P j) → (start + width ≤ j → P j) → P j
+beside P start width j none before behind =
+    ⊎_elim before (λ above. ⊎_elim (λ within. absurd (none (j - start) (omega arith) (omega arith))) behind (cases_lt j (start + width))) (cases_lt j start)
+
+-- ---- rectangles of a plane, in its padded rows
 
 module _ (pad width height left top w h : ℕ) (stored : List ℕ) (long : length stored ≡ (height + 2 * pad) * (width + 2 * pad)) (columns : left + w ≤ width) (rows : top + h ≤ height) where
   abbrev stride : ℕ
@@ -317,6 +182,80 @@ module _ (pad width height left top w h : ℕ) (stored : List ℕ) (long : lengt
       plane_of_same width height (λ x y. slice_index new (stored_place pad width x y)) _
       (rectangle_at (λ x y. slice_index samples (w * y + x)) (sample (inner_plane pad width height stored)) new within outside (stored_sample pad width height stored long))
 
+-- ---- a part of a list changed
+
+module _ (xs ys : List ℕ) (a : ℕ) (within : a + length ys ≤ length xs) where
+  abbrev pub spliced : List ℕ
+  spliced = take a xs ++ (ys ++ drop (a + length ys) xs)
+
+  pub length-spliced : length spliced ≡ length xs
+  length-spliced = grind (arith, common_steps)
+
+  spliced_before : (p : ℕ) → p < a → get_or spliced p 0 ≡ get_or xs p 0
+  spliced_before p below = grind (arith, places)
+
+  spliced_inside : (p k : ℕ) → p ≡ a + k → k < length ys → get_or spliced p 0 ≡ get_or ys k 0
+  spliced_inside p k is below = grind (arith, places)
+
+  spliced_after : (p : ℕ) → a + length ys ≤ p → get_or spliced p 0 ≡ get_or xs p 0
+  spliced_after p above = grind (arith, places)
+
+-- ---- one line of stored samples
+
+module _ (pad width height left y : ℕ) (stored line : List ℕ) (long : length stored ≡ (height + 2 * pad) * (width + 2 * pad)) (columns : left + length line ≤ width) (row : y < height) where
+  abbrev start : ℕ
+  start = stored_place pad width left y
+
+  pub within : start + length line ≤ length stored
+  within = omega (arith, long, row_fits (y + pad) (width + 2 * pad) (height + 2 * pad) (width + 2 * pad) (omega arith) (omega arith))
+
+  pub stored_line : inner_plane pad width height (spliced stored line start within)
+      ≡ with_block (inner_plane pad width height stored) left y (length line) 1 (λ x _. get_or line x 0)
+  stored_line =
+      let new = spliced stored line start within in
+      plane_of_same width height (λ u v. get_or new (stored_place pad width u v) 0) _
+      (rectangle_at pad width height left y (length line) 1 stored long columns (omega arith) (λ x _. get_or line x 0)
+      (sample (inner_plane pad width height stored)) new
+      (λ r low x column. spliced_inside stored line start within (start + r * (width + 2 * pad) + x) x
+      (below_more (λ r. start + r * (width + 2 * pad) + x ≡ start + x) 0 (λ k h. absurd (omega arith)) (omega arith) r low) column)
+      (λ j none. beside (λ j. get_or new j 0 ≡ get_or stored j 0) start (length line) j (λ x column e. none x 0 column (omega arith) (omega arith))
+      (spliced_before stored line start within j) (spliced_after stored line start within j))
+      (stored_sample pad width height stored long))
+
+-- ---- a block, line by line
+
+-- no line
+pub no_line : (p : Plane) (left top width : ℕ) (f : ℕ → ℕ → ℕ) → length p.samples ≡ p.width * p.height → p ≡ with_block p left top width 0 f
+no_line p left top width f long =
+    plane_is p (λ x y. if is_inside left top width 0 x y then f (x - left) (y - top) else sample p x y) long (λ x y _ _. grind (arith, nat_tests))
+
+-- outside its last line a rectangle is as without that line
+one_line_more : (left top width count x y : ℕ) → is_inside left (top + count) width 1 x y ≡ false → is_inside left top width count x y ≡ is_inside left top width (count + 1) x y
+one_line_more left top width count x y out = grind (arith, nat_tests)
+
+module _ (p : Plane) (left top width count : ℕ) (line samples : List ℕ) (len : length line ≡ width) (same : (x : ℕ) → x < width → get_or line x 0 ≡ get_or samples (width * count + x) 0) where
+  abbrev f : ℕ → ℕ → ℕ
+  f x y = get_or samples (width * y + x) 0
+
+  abbrev so_far : Plane
+  so_far = with_block p left top width count f
+
+  -- one line more
+  pub line_more : with_block so_far left (top + count) (length line) 1 (λ x _. get_or line x 0) ≡ with_block p left top width (count + 1) f
+  line_more =
+      plane_of_same p.width p.height
+      (λ x y. if is_inside left (top + count) (length line) 1 x y then get_or line (x - left) 0 else sample so_far x y)
+      (λ x y. if is_inside left top width (count + 1) x y then f (x - left) (y - top) else sample p x y)
+      (λ x y column row. elim (cases_Bool (is_inside left (top + count) (length line) 1 x y)) [
+        | inl in_there ↦
+            let here : y ≡ top + count = grind (arith, nat_tests) in
+            rw (in_there, inside left top width (count + 1) x y (grind (arith, nat_tests)) (grind (arith, nat_tests)) (omega arith) (omega arith))
+            (same (x - left) (grind (arith, nat_tests)) ∙ ap (λ n. get_or samples (width * n + (x - left)) 0) (omega arith))
+        | inr apart ↦
+            rw apart (sample-with_block p left top width count f x y column row
+            ∙ ap (λ b. if b then f (x - left) (y - top) else sample p x y) (one_line_more left top width count x y (rw (← len) apart)))
+      ])
+
 -- ---- planes whose padded rows were lent
 
 -- the elements of a list that was filled up from another
@@ -334,12 +273,6 @@ rows_written pad width height n stored ws all long =
     refilled n (stored_place pad width x y) stored ws all (omega (arith, all, fits pad width height stored long x y column row))
     ∙ ap (slice_index_or ws (stored_place pad width x y)) (stored_sample pad width height stored long x y column row))
 
-pub have_samples : (pad width height : ℕ) (stored : List ℕ) → length stored ≡ (height + 2 * pad) * (width + 2 * pad) → HaveSamples pad (inner_plane pad width height stored) stored
-have_samples pad width height stored long = record {
-  long = long;
-  at = λ x y column row. stored_sample pad width height stored long x y column row;
-}
-
 -- a rectangle of lent rows, whose first sample is at this place
 module _ (pad : ℕ) (p : Plane) (left top w h first stride : ℕ) (rows : List ℕ) (have : HaveSamples pad p rows) (columns : left + w ≤ p.width) (lines : top + h ≤ p.height)
     (is_first : first ≡ stored_place pad p.width left top) (is_stride : stride ≡ p.width + 2 * pad) where
@@ -356,27 +289,8 @@ module _ (pad : ℕ) (p : Plane) (left top w h first stride : ℕ) (rows : List 
 
 -- ---- the nearest coordinate inside a size
 
-pub nearest_before : (pad size x : ℕ) → x < pad → nearest pad size x ≡ 0
-nearest_before pad size x before = grind (arith, nat_tests)
-
-pub nearest_inside : (pad size x : ℕ) → pad ≤ x → x < pad + size → nearest pad size x ≡ x - pad
-nearest_inside pad size x from below = grind (arith, nat_tests)
-
-pub nearest_after : (pad size x : ℕ) → pad + size ≤ x → nearest pad size x ≡ size - 1
-nearest_after pad size x after = grind (arith, nat_tests)
-
-pub nearest_is_inside : (pad size x : ℕ) → 0 < size → nearest pad size x < size
-nearest_is_inside pad size x some = grind (arith, nat_tests)
-
 held_is : (pad size x : ℕ) → 0 < size → nat_abs (clip3 (pos 0) (pos size -ℤ pos 1) (pos x -ℤ pos pad)) ≡ nearest pad size x
 held_is pad size x some = search (arith, ints, nat_tests)
-
--- the sample nearest to a place of the padding
-pub clamped_is : (pad width height x y : ℕ) (f : ℕ → ℕ → ℕ) → 0 < width → 0 < height →
-    clamped width height f (pos x -ℤ pos pad) (pos y -ℤ pos pad) ≡ f (nearest pad width x) (nearest pad height y)
-clamped_is pad width height x y f some_column some_row =
-    ap (λ u. f u (nat_abs (clip3 (pos 0) (pos height -ℤ pos 1) (pos y -ℤ pos pad)))) (held_is pad width x some_column)
-    ∙ ap (λ v. f (nearest pad width x) v) (held_is pad height y some_row)
 
 -- ---- rectangles in memory that are set some rows at a time
 
@@ -413,12 +327,9 @@ module _ (w n y start stride : ℕ) (f g : ℕ → ℕ → ℕ) (old mid new : L
         put.outside (start + v * stride + x) (λ u r u_low r_low e. other v r x u above column (e ∙ strided_place r u))
         ∙ so_far.inside v above x column
     | inr from ↦
-        let here : n * y + (v - n * y) ≡ v = omega arith in
-        ap (λ k. slice_index new (start + k * stride + x)) (sym here)
-        ∙ ap (slice_index new) (sym (strided_place (v - n * y) x))
-        ∙ put.inside (v - n * y) (omega (arith, low, one_more n y)) x column
-        ∙ same (v - n * y) x (omega (arith, low, one_more n y)) column
-        ∙ ap (f x) here
+        let here : v ≡ n * y + (v - n * y) = omega arith in
+        rw here (ap (slice_index new) (sym (strided_place (v - n * y) x)) ∙ put.inside (v - n * y) (omega (arith, low, one_more n y)) x column
+        ∙ same (v - n * y) x (omega (arith, low, one_more n y)) column)
   ]
 
   pub strided_more : IsStridedSet w (n * (y + 1)) start stride f old new
@@ -439,21 +350,12 @@ module _ (w y start stride : ℕ) (f : ℕ → ℕ → ℕ) (old mid new : List 
   earlier : (v x : ℕ) → v < y → x < w → start + v * stride + x < start + y * stride
   earlier v x low column = let more : (v + 1) * stride ≤ y * stride = mul-le-mul_right stride (omega arith) in omega (arith, more)
 
-  beside : (j : ℕ) → ((x : ℕ) → x < w → j ≢ start + y * stride + x) → slice_index new j ≡ slice_index mid j
-  beside j none = elim (cases_lt j (start + y * stride)) [
-    | inl less ↦ before j less
-    | inr from ↦ elim (cases_lt j (start + y * stride + w)) [
-      | inl within ↦ absurd (none (j - (start + y * stride)) (omega arith) (omega arith))
-      | inr past ↦ behind j past
-    ]
-  ]
-
   pub strided_line : IsStridedSet w (y + 1) start stride f old new
   strided_line = record {
     long = long ∙ so_far.long;
     inside = below_more _ _ (λ v h x column. before (start + v * stride + x) (earlier v x h column) ∙ so_far.inside v h x column) (λ x column. here x column);
     outside = λ j none.
-        beside j (λ x column. none x y column (omega arith))
+        beside (λ j. slice_index new j ≡ slice_index mid j) (start + y * stride) w j (λ x column. none x y column (omega arith)) (before j) (behind j)
         ∙ so_far.outside j (λ x v column low. none x v column (omega arith));
   }
 
@@ -468,9 +370,9 @@ module _ (pad width height : ℕ) (old new : List ℕ) (some_column : 0 < width)
     slice_index new (y * (width + 2 * pad) + x) ≡ slice_index old ((nearest pad height y + pad) * (width + 2 * pad) + (nearest pad width x + pad))) where
   itself : (x y : ℕ) → x < width → y < height → slice_index new (stored_place pad width x y) ≡ slice_index old (stored_place pad width x y)
   itself x y column row =
-      all (x + pad) (y + pad) (omega arith) (omega arith)
-      ∙ ap (λ v. slice_index old ((v + pad) * (width + 2 * pad) + (nearest pad width (x + pad) + pad))) (omega (arith, nearest_inside pad height (y + pad) (omega arith) (omega arith)))
-      ∙ ap (λ u. slice_index old ((y + pad) * (width + 2 * pad) + (u + pad))) (omega (arith, nearest_inside pad width (x + pad) (omega arith) (omega arith)))
+      let across : nearest pad width (x + pad) ≡ x = omega arith in
+      let down : nearest pad height (y + pad) ≡ y = omega arith in
+      all (x + pad) (y + pad) (omega arith) (omega arith) ∙ rw (across, down)
 
   pub same_plane : inner_plane pad width height new ≡ inner_plane pad width height old
   same_plane = plane_of_same width height (λ x y. slice_index new (stored_place pad width x y)) (λ x y. slice_index old (stored_place pad width x y)) itself
@@ -478,10 +380,11 @@ module _ (pad width height : ℕ) (old new : List ℕ) (some_column : 0 < width)
   near : (x y : ℕ) → x < width + 2 * pad → y < height + 2 * pad →
       slice_index new (y * (width + 2 * pad) + x) ≡ clamped width height (sample (inner_plane pad width height new)) (pos x -ℤ pos pad) (pos y -ℤ pos pad)
   near x y column row =
-      all x y column row
-      ∙ sym (sample-plane_of width height (λ x y. slice_index old (stored_place pad width x y)) (nearest pad width x) (nearest pad height y) (nearest_is_inside pad width x some_column) (nearest_is_inside pad height y some_row))
-      ∙ ap (λ (p : Plane). sample p (nearest pad width x) (nearest pad height y)) (sym same_plane)
-      ∙ sym (clamped_is pad width height x y (sample (inner_plane pad width height new)) some_column some_row)
+      rw (held_is pad width x some_column, held_is pad height y some_row)
+      (all x y column row
+      ∙ sym (sample-plane_of width height (λ x y. slice_index old (stored_place pad width x y)) (nearest pad width x) (nearest pad height y)
+      (omega arith) (omega arith))
+      ∙ ap (λ (p : Plane). sample p (nearest pad width x) (nearest pad height y)) (sym same_plane))
 
   pub surrounded : length new ≡ (height + 2 * pad) * (width + 2 * pad) → IsSurrounded pad (inner_plane pad width height new) new
   surrounded long = record { long = long; near = near }

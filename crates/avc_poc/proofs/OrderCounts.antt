@@ -29,29 +29,23 @@ msb_down max p lsb h k = rw (lt_no lsb p.lsb (omega (arith, ints)), lt_yes p.lsb
 pub msb_above : (max : ℤ) (p : Previous) (lsb : ℤ) → p.lsb <ℤ lsb → (pos 2 *ℤ (lsb -ℤ p.lsb)) ≤ℤ max → msb_of max p lsb ≡ p.msb
 msb_above max p lsb h k = rw (lt_no lsb p.lsb (omega (arith, ints)), lt_yes p.lsb lsb h, lt_no max (pos 2 *ℤ (lsb -ℤ p.lsb)) k)
 
-pub msb_same : (max : ℤ) (p : Previous) (lsb : ℤ) → p.lsb ≤ℤ lsb → lsb ≤ℤ p.lsb → msb_of max p lsb ≡ p.msb
-msb_same max p lsb h k = rw (lt_no lsb p.lsb h, lt_no p.lsb lsb k)
-
 -- from what the function says, its arguments cast
 pub msb_told : (r m l max lsb : ℤ) (p : Previous) → r ≡ msb_of (to_z w64 (of_z w64 m)) p (to_z w64 (of_z w64 l)) → IsNear 17 m → IsNear 33 l → m ≡ max → l ≡ lsb
     → r ≡ msb_of max p lsb
 msb_told r m l max lsb p e small few f g =
-    let first : to_z w64 (of_z w64 m) ≡ m = omega (arith, ints) in
-    let second : to_z w64 (of_z w64 l) ≡ l = omega (arith, ints) in
-    e ∙ ap (λ (x : ℤ). msb_of x p (to_z w64 (of_z w64 l))) (first ∙ f) ∙ ap (λ (x : ℤ). msb_of max p x) (second ∙ g)
+    let first : to_z w64 (of_z w64 m) ≡ max = omega (arith, ints) in
+    let second : to_z w64 (of_z w64 l) ≡ lsb = omega (arith, ints) in
+    rw (first, second) at e
 
 pub lowered_told : (r d delta top : ℤ) → IsNear 33 d → IsNear 33 r → d ≡ delta → ((t : ℤ) → r ≡ t -ℤ int_min t (t +ℤ to_z w64 (of_z w64 d)))
     → to_z w64 (of_z w64 r) ≡ top -ℤ int_min top (top +ℤ delta)
 lowered_told r d delta top few small e told =
     let first : to_z w64 (of_z w64 r) ≡ r = omega (arith, ints) in
-    let second : to_z w64 (of_z w64 d) ≡ d = omega (arith, ints) in
-    first ∙ told top ∙ ap (λ (x : ℤ). top -ℤ int_min top (top +ℤ x)) (second ∙ e)
+    let second : to_z w64 (of_z w64 d) ≡ delta = omega (arith, ints) in
+    rw (first, ← second) (told top)
 
 pub previous_cast : (m l : ℤ) → IsNear 34 m → IsNear 33 l → IsPrevious (record { msb = to_z w64 (of_z w64 m); lsb = to_z w64 (of_z w64 l) })
-previous_cast m l a b = record {
-  msb = record { low = omega (arith, ints); high = omega (arith, ints) };
-  lsb = record { low = omega (arith, ints); high = omega (arith, ints) };
-}
+previous_cast m l a b = grind (arith, ints)
 
 -- ---- sums of offsets
 
@@ -65,25 +59,20 @@ sum_parts (x ∷ xs) ys = ap (λ (s : ℤ). x +ℤ s) (sum_parts xs ys) ∙ omeg
 pub sum_whole : (cycle : List ℤ) (k : ℕ) (first rest : ℤ) → k ≤ length cycle → first ≡ sum_ℤ (take k cycle) → rest ≡ sum_ℤ (take (length cycle - k) (drop k cycle))
     → first +ℤ rest ≡ sum_ℤ cycle
 sum_whole cycle k first rest h e f =
-    let all : take (length cycle - k) (drop k cycle) ≡ drop k cycle = grind (arith, take_all, length-drop) in
-    ap (λ (x : ℤ). x +ℤ rest) e ∙ ap (λ (y : ℤ). sum_ℤ (take k cycle) +ℤ y) (f ∙ ap sum_ℤ all)
-    ∙ sym (sum_parts (take k cycle) (drop k cycle)) ∙ ap sum_ℤ (take-append-drop k cycle)
+    rw (e, f, take_rest cycle k, ← sum_parts (take k cycle) (drop k cycle), take-append-drop k cycle) refl
 
 pub expected_is : (abs : ℕ) (cycle : List ℤ) → (abs ≡ 0 → ⊥) → (length cycle == 0) ≡ false
     → expected_order_count abs cycle ≡ pos ((abs - 1) / length cycle) *ℤ sum_ℤ cycle +ℤ sum_ℤ (take ((abs - 1) % length cycle + 1) cycle)
 expected_is zero cycle some more = absurd (some refl)
 expected_is (suc n) [] some more = absurd (grind (arith, nat_tests))
 expected_is (suc n) (x ∷ xs) some more =
-    let less : n ≡ suc n - 1 = omega arith in
-    ap (λ (k : ℕ). pos (k / length (x ∷ xs)) *ℤ sum_ℤ (x ∷ xs) +ℤ sum_ℤ (take (k % length (x ∷ xs) + 1) (x ∷ xs))) less
+    let less : suc n - 1 ≡ n = omega arith in rw less refl
 
 near_abs : (z : ℤ) → IsNear 40 z → unsigned_abs z ≤ 2 ^ 40
-near_abs (pos a) h = omega (arith, ints)
-near_abs (negsuc a) h = omega (arith, ints)
+near_abs z h = grind (arith, ints)
 
 abs_near : (z : ℤ) → unsigned_abs z ≤ 2 ^ 31 * 2 ^ 40 → IsNear 71 z
-abs_near (pos a) h = record { low = omega (arith, ints); high = omega (arith, ints) }
-abs_near (negsuc a) h = record { low = omega (arith, ints); high = omega (arith, ints) }
+abs_near z h = grind (arith, ints)
 
 pub times_near : (n : ℕ) (z : ℤ) → n < 2 ^ 31 → IsNear 40 z → IsNear 71 (pos n *ℤ z)
 times_near n z h near = abs_near (pos n *ℤ z) (rw (unsigned_abs-mul (pos n) z) (mul-le n (unsigned_abs z) (2 ^ 31) (2 ^ 40) (omega arith) (near_abs z near)))
@@ -94,49 +83,29 @@ pub product_told : (n : ℕ) (z a b : ℤ) → n < 2 ^ 31 → IsNear 40 z → a 
 product_told n z a b h near e f =
     let first : to_z w128 (of_z w128 a) ≡ pos n = omega (arith, ints) in
     let second : to_z w128 (of_z w128 b) ≡ z = omega (arith, ints) in
-    ap (λ (x : ℤ). x *ℤ to_z w128 (of_z w128 b)) first ∙ ap (λ (y : ℤ). pos n *ℤ y) second
+    rw (first, second) refl
 
 -- ---- what an answer says of the counts behind it
 
-abbrev IsValue : Result (ℤ × ℤ) Fault → Type 0
-IsValue (Ok p) = Unit {0}
-IsValue (Err f) = ⊥
-
-abbrev value : Result (ℤ × ℤ) Fault → ℤ × ℤ
-value (Ok p) = p
-value (Err f) = (pos 0, pos 0)
-
 pub ok_is : (b : Bool) (p q : ℤ × ℤ) → ◌≡◌ {A = Result (ℤ × ℤ) Fault} (Ok q) (if b then Ok p else Err PocRange) → (b ≡ true) × (q ≡ p)
-ok_is true p q e = (refl, ap value e)
-ok_is false p q e = absurd (subst IsValue e tt)
+ok_is true p q e = (refl, cc)
+ok_is false p q e = cc
 
 pub counted : (r : Result Counts Fault) (p : ℤ × ℤ) → ◌≡◌ {A = Result (ℤ × ℤ) Fault} (Ok p) (count_pair r) → is_ok r ≡ true
-counted (Ok c) p e = refl
-counted (Err f) p e = absurd (subst IsValue e tt)
-
-answer_tested : (b : Bool) (c : Counts) → ◌≡◌ {A = Result (ℤ × ℤ) Fault} (if b then Ok (pair c) else Err PocRange) (count_pair (if b then Ok c else Err PocRange))
-answer_tested true c = refl
-answer_tested false c = refl
+counted r p e = grind arith
 
 pub in_range_lowered : (h : Header) (c : Counts) → has_operation_5 h ≡ true → both_in_32_bits c ≡ true
     → ◌≡◌ {A = Result (ℤ × ℤ) Fault} (if both_in_32_bits (lowered_by_operation_5 c) then Ok (pair (lowered_by_operation_5 c)) else Err PocRange) (count_pair (in_range h c))
-in_range_lowered h c five fit = rw (five, fit) (answer_tested (both_in_32_bits (lowered_by_operation_5 c)) (lowered_by_operation_5 c))
+in_range_lowered h c five fit = grind arith
 
 fits_is : (z : ℤ) → in_32_bits z ≡ true → IsNear 31 z
-fits_is z e =
-    let parts = and_parts (int_le (neg_ℤ (pos (2 ^ 31))) z) (int_lt z (pos (2 ^ 31))) e in
-    let low : int_le (neg_ℤ (pos (2 ^ 31))) z ≡ true = parts.0 in
-    let high : int_lt z (pos (2 ^ 31)) ≡ true = parts.1 in
-    record { low = omega (arith, ints); high = omega (arith, ints) }
+fits_is z e = grind (arith, ints)
 
 tested : (b : Bool) (c : Counts) → is_ok (if b then Ok c else Err PocRange) ≡ true → b ≡ true
-tested true c e = refl
-tested false c e = e
+tested b c e = grind arith
 
 unmoved : (a b : Bool) (m : ℤ) → (if a then m +ℤ pos 0 else (if b then m -ℤ pos 0 else m)) ≡ m
-unmoved true b m = omega (arith, ints)
-unmoved false true m = omega (arith, ints)
-unmoved false false m = refl
+unmoved a b m = grind (arith, ints)
 
 msb_unmoved : (max : ℤ) (p : Previous) (lsb : ℤ) → max ≡ pos 0 → IsPrevious p → IsNear 34 (msb_of max p lsb)
 msb_unmoved max p lsb e near =
@@ -183,11 +152,7 @@ held_step false true o before n m = rw (none_below n)
 held_step false false o before n m = held_more (nat_lt n before) o m
 
 pub offset_law : (sps : Sps) (h : Header) (older : List Past) → picture_offset sps h (order_count_state older) ≡ saturated (frame_num_offset (picture sps h ∷ older))
-offset_law sps h [] = held_step (is_idr h) true 0 0 h.frame_num (max_frame_num sps) ∙ at_first (is_idr h)
-  where
-    at_first : (b : Bool) → saturated (elim b as (λ x. ℕ) [ true ↦ 0 | false ↦ 0 ]) ≡ 0
-    at_first true = refl
-    at_first false = refl
+offset_law sps h [] = held_step (is_idr h) true 0 0 h.frame_num (max_frame_num sps) ∙ grind arith
 offset_law sps h (x ∷ others) = held_step (is_idr h) (resets_order_counts x) (frame_num_offset (x ∷ others)) (past_number x) h.frame_num (max_frame_num sps)
 
 pub missing_offset : (sps : Sps) (n : ℕ) (older : List Past)
@@ -196,23 +161,18 @@ missing_offset sps n [] = rw (none_below n) refl
 missing_offset sps n (x ∷ others) = held_step false (resets_order_counts x) (frame_num_offset (x ∷ others)) (past_number x) n (max_frame_num sps)
 
 -- FrameNumOffset may be held at 2^31, since no count is answered from there on
-in_range_alike : {A : Type 0} (f : ℕ → A) (z : A) (x n : ℕ) (b : Bool) → nat_lt x (2 ^ 31) ≡ b
+in_range_alike : {A : Type 0} (f : ℕ → A) (z : A) (x n : ℕ)
     → (if nat_lt (saturated x + n) (2 ^ 31) then f (saturated x + n) else z) ≡ (if nat_lt (x + n) (2 ^ 31) then f (x + n) else z)
-in_range_alike f z x n true e =
-    let below : saturated x ≡ x = grind (arith, nat_tests) in
-    ap (λ k. if nat_lt (k + n) (2 ^ 31) then f (k + n) else z) below
-in_range_alike f z x n false e =
-    let first : nat_lt (saturated x + n) (2 ^ 31) ≡ false = grind (arith, nat_tests) in
-    let second : nat_lt (x + n) (2 ^ 31) ≡ false = grind (arith, nat_tests) in
-    rw (first, second)
+in_range_alike f z x n = elim (cases_lt x (2 ^ 31)) [
+  | inl h ↦ let below : saturated x ≡ x = omega arith in rw below refl
+  | inr h ↦ grind (arith, nat_tests)
+]
 
 held_counts : (o : OrderCount) (sps : Sps) (h : Header) (p : Previous) (x n : ℕ)
     → ◌≡◌ {A = Result _ Fault} (if number_in_range o (saturated x + n) then in_range h (counts_by o sps h p (saturated x + n)) else Err PocRange)
     (if number_in_range o (x + n) then in_range h (counts_by o sps h p (x + n)) else Err PocRange)
 held_counts (orders.Type0 log2) sps h p x n = refl
-held_counts (orders.Type1 z a b cycle) sps h p x n =
-    in_range_alike (λ k. in_range h (counts_by (orders.Type1 z a b cycle) sps h p k)) (Err PocRange) x n (nat_lt x (2 ^ 31)) refl
-held_counts orders.Type2 sps h p x n = in_range_alike (λ k. in_range h (counts_by orders.Type2 sps h p k)) (Err PocRange) x n (nat_lt x (2 ^ 31)) refl
+held_counts o sps h p x n = in_range_alike (λ k. in_range h (counts_by o sps h p k)) (Err PocRange) x n
 
 pub previous_law : (older : List Past) → (order_count_state older).previous ≡ previous_of older
 previous_law [] = refl
@@ -220,30 +180,14 @@ previous_law (x ∷ others) = refl
 
 pub counts_law : (sps : Sps) (h : Header) (older : List Past) → counts_after sps h (order_count_state older) ≡ order_counts sps h older
 counts_law sps h older =
-    ap (λ p. counts_from sps h (previous_for h p) (picture_offset sps h (order_count_state older) + h.frame_num)) (previous_law older)
-    ∙ ap (λ (k : ℕ). counts_from sps h (previous_for h (previous_of older)) (k + h.frame_num)) (offset_law sps h older)
-    ∙ held_counts sps.order_count sps h (previous_for h (previous_of older)) (frame_num_offset (picture sps h ∷ older)) h.frame_num
+    rw (previous_law older, offset_law sps h older)
+    (held_counts sps.order_count sps h (previous_for h (previous_of older)) (frame_num_offset (picture sps h ∷ older)) h.frame_num)
 
 previous_after_law : (sps : Sps) (h : Header) (older : List Past) → previous_after sps h (order_count_state older).previous ≡ previous_of (picture sps h ∷ older)
-previous_after_law sps h older = ap (previous_after sps h) (previous_law older) ∙ same (is_reference h) (is_idr h)
-  where
-    same : (reference idr : Bool)
-        → elim reference as (λ x. Previous) [ false ↦ previous_of older | true ↦ previous_from sps h (elim idr as (λ x. Previous) [ true ↦ no_previous | false ↦ previous_of older ]) ]
-        ≡ elim reference as (λ x. Previous) [ false ↦ previous_of older | true ↦ elim idr as (λ x. Previous) [ true ↦ previous_from sps h no_previous | false ↦ previous_from sps h (previous_of older) ] ]
-    same false idr = refl
-    same true true = refl
-    same true false = refl
-
-after_is : (sps : Sps) (h : Header) (s : OrderCountState) (p : Previous) (k : ℕ) → previous_after sps h s.previous ≡ p → picture_offset sps h s ≡ k
-    → after_picture sps h s ≡ record { previous = p; offset = if has_operation_5 h then 0 else k; frame_num = if has_operation_5 h then 0 else h.frame_num }
-after_is sps h s p k e f =
-    ap (λ (x : Previous). after x (picture_offset sps h s)) e ∙ ap (λ (x : ℕ). after p x) f
-  where
-    after : Previous → ℕ → OrderCountState
-    after x y = record { previous = x; offset = if has_operation_5 h then 0 else y; frame_num = if has_operation_5 h then 0 else h.frame_num }
+previous_after_law sps h older = grind (arith, previous_law older)
 
 pub after_law : (sps : Sps) (h : Header) (older : List Past) → after_picture sps h (order_count_state older) ≡ order_count_state (picture sps h ∷ older)
-after_law sps h older = after_is sps h (order_count_state older) _ _ (previous_after_law sps h older) (offset_law sps h older)
+after_law sps h older = rw (previous_after_law sps h older, offset_law sps h older) refl
 
 -- ---- the order counts after a gap in frame_num
 
@@ -280,11 +224,7 @@ is_state s b m j e f = rw (sym e, sym f) refl
 
 -- a missing number leaves prevPicOrderCntMsb and prevPicOrderCntLsb
 same_previous : (sps : Sps) (k b m j : ℕ) (older : List Past) → state (order_count_state (missing sps k ∷ older)) b m j ≡ state (order_count_state older) b m j
-same_previous sps k b m j older =
-    ap (λ (p : Previous). of_previous p) (sym (previous_law older))
-  where
-    of_previous : Previous → OrderCountState
-    of_previous p = record { previous = p; offset = saturated (b + j / m * m); frame_num = j % m }
+same_previous sps k b m j older = rw (previous_law older) refl
 
 -- n numbers more
 numbers_on : (n : ℕ) (sps : Sps) (b j : ℕ) (older : List Past) → 1 < max_frame_num sps

@@ -200,9 +200,7 @@ pub no_piece_begun : (number : ℕ) (unread held : Option (List ℕ)) (r : Resul
 no_piece_begun number unread held (Ok found) is = absurd is
 no_piece_begun number unread held (Err fault) is = no_piece (piece_text number) unread held fault is
 
--- ---- a run, piece after piece
-
--- ---- reports
+-- ---- a run, piece after piece: reports
 
 abbrev fresh : Report
 fresh = record { pictures = 0; refused = [] }

@@ -37,18 +37,10 @@ keeps-where_set false part g = keeps-give None
 
 -- ---- codes
 
-split-more : (n : ℕ) (bit : Bool) (word : List Bool) (r : Option (List Bool × List Bool)) (p : List Bool × List Bool) → ((q : List Bool × List Bool) → r ≡ Some q → length word ≡ n + length q.1)
-    → option_map (λ q. (bit ∷ q.0, q.1)) r ≡ Some p → length (bit ∷ word) ≡ suc n + length p.1
-split-more n bit word (Some q) p h e =
-    let same : q.1 ≡ p.1 = cc in
-    let len : length q.1 ≡ length p.1 = ap length same in
-    omega (arith, h q refl)
-split-more n bit word None p h e = cc
-
 split-length : (n : ℕ) (word : List Bool) (p : List Bool × List Bool) → split n word ≡ Some p → length word ≡ n + length p.1
-split-length zero word p e = let same : word ≡ p.1 = cc in let len : length word ≡ length p.1 = ap length same in omega arith
+split-length zero word p e = grind arith
 split-length (suc n) [] p e = cc
-split-length (suc n) (bit ∷ word) p e = split-more n bit word (split n word) p (λ q f. split-length n word q f) e
+split-length (suc n) (bit ∷ word) p e = grind (arith, split-length n word)
 
 bits-by : (n : ℕ) (b next : Bits) (r : Option (List Bool × List Bool)) (x : List Bool) → split n b.ahead ≡ r → bits n b ≡ Ok (x, next) → total next ≡ total b
 bits-by n b next (Some p) x is e =
@@ -70,12 +62,7 @@ zeros-length limit fault seen (true ∷ ahead) r e =
     let count : r.0 ≡ seen = cc in
     let rest : r.1 ≡ ahead = cc in
     rw (count, rest) (omega arith)
-zeros-length limit fault seen (false ∷ ahead) r e = one (nat_lt seen limit) refl e (λ f. zeros-length limit fault (seen + 1) ahead r f)
-  where
-    one : (less : Bool) → nat_lt seen limit ≡ less → zeros limit fault seen (false ∷ ahead) ≡ Ok r
-        → (zeros limit fault (seen + 1) ahead ≡ Ok r → r.0 + 1 + length r.1 ≡ seen + 1 + length ahead) → r.0 + 1 + length r.1 ≡ seen + length (false ∷ ahead)
-    one true is f later = let read = rw (is, zeros) at f in omega (arith, later read)
-    one false is f later = let wrong = rw (is, zeros) at f in cc
+zeros-length limit fault seen (false ∷ ahead) r e = grind (arith, zeros-length limit fault (seen + 1) ahead)
 
 zeros-by : (limit : ℕ) (fault : Fault) (b next : Bits) (r : Result (ℕ × List Bool) Fault) (x : ℕ) → zeros limit fault 0 b.ahead ≡ r → zeros_before_one limit fault b ≡ Ok (x, next) → total next ≡ total b
 zeros-by limit fault b next (Ok p) x is e =
@@ -126,46 +113,37 @@ joined-one xs x part b (Err f) e = rw e refl
 pub record IsUnderWay {A : Type 0} (read_code : Read ℕ) (stop : ℕ) (item : ℕ → Read A) (fault : Fault) (whole : Result (List A × Bits) Fault) (left : ℕ) (xs : List A) (b : Bits) : Type 0 where
   pub rest : whole ≡ joined xs (up_to read_code stop item fault left b)
 
-pub one_more : {A : Type 0} (read_code : Read ℕ) (stop : ℕ) (item : ℕ → Read A) (fault : Fault) (whole : Result (List A × Bits) Fault) (left : ℕ) (xs : List A) (b b1 b2 : Bits) (code : ℕ) (x : A)
-    → IsUnderWay read_code stop item fault whole (suc left) xs b → read_code b ≡ Ok (code, b1) → (code ≡ stop → ⊥) → item code b1 ≡ Ok (x, b2)
-    → IsUnderWay read_code stop item fault whole left (xs ++ x ∷ []) b2
-one_more read_code stop item fault whole left xs b b1 b2 code x h e n i =
-    record { rest = h.rest ∙ rw (e, ne_eqb code stop n, i) (joined-one xs x (up_to read_code stop item fault left) b2 (up_to read_code stop item fault left b2) refl) }
+module _ {A : Type 0} (read_code : Read ℕ) (stop : ℕ) (item : ℕ → Read A) (fault : Fault) (whole : Result (List A × Bits) Fault) where
+  abbrev UnderWay : (left : ℕ) → List A → Bits → Type 0
+  UnderWay = IsUnderWay read_code stop item fault whole
 
-pub stops : {A : Type 0} (read_code : Read ℕ) (stop : ℕ) (item : ℕ → Read A) (fault : Fault) (whole : Result (List A × Bits) Fault) (left : ℕ) (xs : List A) (b b1 : Bits) (code : ℕ)
-    → IsUnderWay read_code stop item fault whole (suc left) xs b → read_code b ≡ Ok (code, b1) → code ≡ stop → whole ≡ Ok (xs, b1)
-stops read_code stop item fault whole left xs b b1 code h e y = h.rest ∙ rw (e, eq-eqb code stop y) (ap (λ items. Ok (items, b1)) (append-nil xs))
+  pub one_more : (left n : ℕ) (xs : List A) (b b1 b2 : Bits) (code : ℕ) (x : A) → left ≡ suc n
+      → UnderWay left xs b → read_code b ≡ Ok (code, b1) → (code ≡ stop → ⊥) → item code b1 ≡ Ok (x, b2) → UnderWay n (xs ++ x ∷ []) b2
+  one_more left n xs b b1 b2 code x more h e go i =
+      record { rest = h.rest ∙ rw (more, e, ne_eqb code stop go, i) (joined-one xs x (up_to read_code stop item fault n) b2 (up_to read_code stop item fault n b2) refl) }
 
-pub ends : {A : Type 0} (read_code : Read ℕ) (stop : ℕ) (item : ℕ → Read A) (fault : Fault) (whole : Result (List A × Bits) Fault) (xs : List A) (b b1 : Bits) (code : ℕ)
-    → IsUnderWay read_code stop item fault whole 0 xs b → read_code b ≡ Ok (code, b1) → code ≡ stop → whole ≡ Ok (xs, b1)
-ends read_code stop item fault whole xs b b1 code h e y = h.rest ∙ rw (e, eq-eqb code stop y) (ap (λ items. Ok (items, b1)) (append-nil xs))
+  pub stops : (left : ℕ) (xs : List A) (b b1 : Bits) (code : ℕ) → UnderWay left xs b → read_code b ≡ Ok (code, b1) → code ≡ stop → whole ≡ Ok (xs, b1)
+  stops zero xs b b1 code h e y = h.rest ∙ rw (e, eq-eqb code stop y) (ap (λ items. Ok (items, b1)) (append-nil xs))
+  stops (suc left) xs b b1 code h e y = h.rest ∙ rw (e, eq-eqb code stop y) (ap (λ items. Ok (items, b1)) (append-nil xs))
 
-pub overflows : {A : Type 0} (read_code : Read ℕ) (stop : ℕ) (item : ℕ → Read A) (fault : Fault) (whole : Result (List A × Bits) Fault) (xs : List A) (b b1 : Bits) (code : ℕ)
-    → IsUnderWay read_code stop item fault whole 0 xs b → read_code b ≡ Ok (code, b1) → (code ≡ stop → ⊥) → whole ≡ Err fault
-overflows read_code stop item fault whole xs b b1 code h e n = h.rest ∙ rw (e, ne_eqb code stop n) refl
+  pub overflows : (left : ℕ) (xs : List A) (b b1 : Bits) (code : ℕ) → left ≡ 0
+      → UnderWay left xs b → read_code b ≡ Ok (code, b1) → (code ≡ stop → ⊥) → whole ≡ Err fault
+  overflows left xs b b1 code none h e go = h.rest ∙ rw (none, e, ne_eqb code stop go) refl
 
-pub no_code : {A : Type 0} (read_code : Read ℕ) (stop : ℕ) (item : ℕ → Read A) (fault : Fault) (whole : Result (List A × Bits) Fault) (left : ℕ) (xs : List A) (b : Bits) (f : Fault)
-    → IsUnderWay read_code stop item fault whole left xs b → read_code b ≡ Err f → whole ≡ Err f
-no_code read_code stop item fault whole zero xs b f h e = h.rest ∙ rw e refl
-no_code read_code stop item fault whole (suc left) xs b f h e = h.rest ∙ rw e refl
+  pub no_code : (left : ℕ) (xs : List A) (b : Bits) (f : Fault) → UnderWay left xs b → read_code b ≡ Err f → whole ≡ Err f
+  no_code zero xs b f h e = h.rest ∙ rw e refl
+  no_code (suc left) xs b f h e = h.rest ∙ rw e refl
 
-pub no_item : {A : Type 0} (read_code : Read ℕ) (stop : ℕ) (item : ℕ → Read A) (fault : Fault) (whole : Result (List A × Bits) Fault) (left : ℕ) (xs : List A) (b b1 : Bits) (code : ℕ) (f : Fault)
-    → IsUnderWay read_code stop item fault whole (suc left) xs b → read_code b ≡ Ok (code, b1) → (code ≡ stop → ⊥) → item code b1 ≡ Err f → whole ≡ Err f
-no_item read_code stop item fault whole left xs b b1 code f h e n i = h.rest ∙ rw (e, ne_eqb code stop n, i) refl
+  pub no_item : (left n : ℕ) (xs : List A) (b b1 : Bits) (code : ℕ) (f : Fault) → left ≡ suc n
+      → UnderWay left xs b → read_code b ≡ Ok (code, b1) → (code ≡ stop → ⊥) → item code b1 ≡ Err f → whole ≡ Err f
+  no_item left n xs b b1 code f more h e go i = h.rest ∙ rw (more, e, ne_eqb code stop go, i) refl
 
 -- nothing has come yet
 pub starts : {A : Type 0} (read_code : Read ℕ) (stop : ℕ) (item : ℕ → Read A) (fault : Fault) (room left : ℕ) (b : Bits) → left ≡ room
     → IsUnderWay read_code stop item fault (up_to read_code stop item fault room b) left [] b
 starts read_code stop item fault room left b e = record { rest = rw e (sym (joined-none (up_to read_code stop item fault room b))) }
 
--- the same, where the number that is left is written in another way
-pub same_left : {A : Type 0} (read_code : Read ℕ) (stop : ℕ) (item : ℕ → Read A) (fault : Fault) (whole : Result (List A × Bits) Fault) (left left' : ℕ) (xs : List A) (b : Bits)
-    → left ≡ left' → IsUnderWay read_code stop item fault whole left xs b → IsUnderWay read_code stop item fault whole left' xs b
-same_left read_code stop item fault whole left left' xs b e h = record { rest = h.rest ∙ ap (λ n. joined xs (up_to read_code stop item fault n b)) e }
-
--- ---- the table of explicit weights that was read: its ranges, and that nothing is passed but what stood ahead
-
--- ---- nothing but what stood ahead is passed
+-- ---- the table of explicit weights that was read: its ranges, and that nothing is passed but what stood ahead: nothing but what stood ahead is passed
 
 keeps-optional : {A : Type 0} (part : Read A) → Keeps part → Keeps (optional part)
 keeps-optional part g = search parts_keep
@@ -186,16 +164,10 @@ keeps-table n = search (parts_keep, keeps-times, keeps-entry_weights)
 -- ---- the ranges
 
 gives-coded_weight : Gives IsCodedWeight coded_weight
-gives-coded_weight =
-    gives-bind (IsFrom (negsuc 127) (pos 127)) IsCodedWeight (se_within (negsuc 127) (pos 127)) _ (gives-se_within (negsuc 127) (pos 127)) (λ weight is_weight.
-    gives-bind (IsFrom (negsuc 127) (pos 127)) IsCodedWeight (se_within (negsuc 127) (pos 127)) _ (gives-se_within (negsuc 127) (pos 127)) (λ offset is_offset.
-    gives-give IsCodedWeight _ (record { weight_low = is_weight.least; weight_high = is_weight.most; offset_low = is_offset.least; offset_high = is_offset.most })))
+gives-coded_weight = search (parts_give, rules) depth 16
 
 gives-chroma_weights : Gives IsChromaWeights chroma_weights
-gives-chroma_weights =
-    gives-bind IsCodedWeight IsChromaWeights coded_weight _ gives-coded_weight (λ cb is_cb.
-    gives-bind IsCodedWeight IsChromaWeights coded_weight _ gives-coded_weight (λ cr is_cr.
-    gives-give IsChromaWeights _ (record { cb = is_cb; cr = is_cr })))
+gives-chroma_weights = search (gives-coded_weight, parts_give, rules) depth 16
 
 gives-entry_weights : Gives IsEntryWeights entry_weights
 gives-entry_weights =
@@ -221,18 +193,15 @@ gives-table n =
     gives-bind (AreEntries n) (IsPredWeightTable n) (times n entry_weights) _ (gives-entries n) (λ entries are.
     gives-give (IsPredWeightTable n) _ (record { luma_denom = few_luma; chroma_denom = few_chroma; count = are.count; entries = are.each }))))
 
--- ---- what a slice header that was read keeps to
-
--- ---- nothing but what stood ahead is passed
+-- ---- what a slice header that was read keeps to: nothing but what stood ahead is passed
 
 keeps-optional_se : (present : Bool) → Keeps (optional_se present)
 keeps-optional_se true = keeps-se
 keeps-optional_se false = keeps-give (pos 0)
 
 keeps-coded_order : (order : OrderCount) (bottom_present : Bool) → Keeps (coded_order order bottom_present)
-keeps-coded_order (orders.Type0 log2_minus4) bottom_present = search (parts_keep, keeps-optional_se)
-keeps-coded_order (orders.Type1 always_zero _ _ _) bottom_present = search (parts_keep, keeps-optional_se)
 keeps-coded_order orders.Type2 bottom_present = keeps-give _
+keeps-coded_order _ bottom_present = search (parts_keep, keeps-optional_se)
 
 keeps-unless_ended : {A : Type 0} (ended : Bool) (others : Read (List A)) → Keeps others → Keeps (unless_ended ended others)
 keeps-unless_ended true others g = keeps-give []
@@ -245,21 +214,15 @@ keeps-up_to code stop item fault (suc room) g h =
     (keeps-bind (item next) _ (h next) (λ one. keeps-bind (up_to code stop item fault room) _ (keeps-up_to code stop item fault room g h) (λ others. keeps-give _))))
 
 keeps-modification : (most idc : ℕ) → Keeps (modification most idc)
-keeps-modification most zero = search parts_keep
-keeps-modification most (suc zero) = search parts_keep
 keeps-modification most (suc (suc _)) = search parts_keep
+keeps-modification most _ = search parts_keep
 
 keeps-modification_list : (max room : ℕ) → Keeps (modification_list max room)
 keeps-modification_list max room = search (parts_keep, keeps-up_to, keeps-modification)
 
 keeps-operation : (number : ℕ) → Keeps (operation number)
-keeps-operation zero = search parts_keep
-keeps-operation (suc zero) = search parts_keep
-keeps-operation (suc (suc zero)) = search parts_keep
-keeps-operation (suc (suc (suc zero))) = search parts_keep
-keeps-operation (suc (suc (suc (suc zero)))) = search parts_keep
-keeps-operation (suc (suc (suc (suc (suc zero))))) = keeps-give _
 keeps-operation (suc (suc (suc (suc (suc (suc n)))))) = search parts_keep
+keeps-operation _ = search parts_keep
 
 keeps-marking : (idr : Bool) → Keeps (marking idr)
 keeps-marking true = search parts_keep
@@ -316,8 +279,7 @@ keeps-back nal_ref_idc idr start pps sps =
 -- ---- what the fields keep to
 
 not_off : (all : Bool) → (if all then AllEdges else WithinSlice) ≡ NoEdges → ⊥
-not_off true e = cc
-not_off false e = cc
+not_off all e = grind arith
 
 gives-deblocked : (off : Bool) (filtered : FilteredEdges) → (filtered ≡ NoEdges → ⊥) → Gives IsDeblocking (elim off [ true ↦ give no_edges | false ↦ offset_pair filtered ])
 gives-deblocked true filtered on =
@@ -336,15 +298,10 @@ record IsFront (nal_ref_idc : ℕ) (idr : Bool) (start : Front) : Type 0 where
   reference : idr ≡ true → not (nal_ref_idc == 0) ≡ true
 
 intra_in : (idr none p : Bool) → not (idr && (none || p)) ≡ true → idr ≡ true → p ≡ false
-intra_in true true p e is = cc
-intra_in true false true e is = cc
-intra_in true false false e is = refl
-intra_in false none p e is = cc
+intra_in idr none p e is = grind arith
 
 reference_in : (idr none p : Bool) → not (idr && (none || p)) ≡ true → idr ≡ true → not none ≡ true
-reference_in true true p e is = e
-reference_in true false p e is = refl
-reference_in false none p e is = cc
+reference_in idr none p e is = grind arith
 
 gives-front : (nal_ref_idc : ℕ) (idr : Bool) → Gives (IsFront nal_ref_idc idr) (front nal_ref_idc idr)
 gives-front nal_ref_idc idr =

@@ -232,10 +232,7 @@ silent_step sets u s =
     s.accepted.bit ∙ silent_kind sets u (kind u) s.accepted.set s.no_start
 
 pub silent_unit : (s : State) (u : Unit) → s.phase ≡ waiting → IsSilent u → after_unit s u ≡ no_change waiting
-silent_unit s u waits silent =
-    let sets = sets_after s.sets in
-    ap (λ p. in_phase s.output sets u.index (step sets (is_running p) (open_facts_in p) u) p) waits
-    ∙ ap (after_next s.output sets u.index waiting) (silent_step sets u silent)
+silent_unit s u waits silent = grind (arith, sets_after, silent_step)
 
 pub silent_units : (us : List Unit) (s : State) → s.phase ≡ waiting → All IsSilent us → events_from s us true ≡ []
 silent_units [] s waits h = ap (λ p. at_end s.output p) waits
@@ -286,11 +283,7 @@ bit_is_zero output sets n p false others h = refl
 -- what a unit does whose forbidden_zero_bit is 0
 step_is : (sets : Sets) (runs : Bool) (open_picture : Option OpenPictureFacts) (u : Unit) → forbidden_zero_bit u.header ≡ false →
     step sets runs open_picture u ≡ elim runs [ true ↦ running_step sets open_picture u (kind u) | false ↦ waiting_step sets u (kind u) ]
-step_is sets runs open_picture u bit =
-    ap (λ b. elim b [
-      | true ↦ record { closes = false; next = Refusal faults.ForbiddenBit; even_after_fault = true }
-      | false ↦ elim runs [ true ↦ running_step sets open_picture u (kind u) | false ↦ waiting_step sets u (kind u) ]
-    ]) bit
+step_is sets runs open_picture u bit = search (rules)
 
 set_is_good : (output : Output) (sets : Sets) (n : ℕ) (p : Phase) (o : Option Fault) → ArePictures (in_phase output sets n (ends_picture (refusal_of o)) p).events → o ≡ None
 set_is_good output sets n p None h = refl
@@ -381,18 +374,13 @@ whole_by : (output : Output) (sets : Sets) (u : Unit) (p : Phase) (body : Option
     ArePictures (in_phase output sets u.index (step sets (is_running p) (open_facts_in p) u) p).events → kind u ≡ slice_kind true → IsTrue (is_some body)
 whole_by output sets u waiting body none runs bit all is = (cc)
 whole_by output sets u (running h o) (Some body) none runs bit all is = refl
-whole_by output sets u (running h o) None none runs bit all is =
-    let facts = open_facts_in (running h o) in
-    absurd (unreadable_refused output sets u.index faults.NalTooLong facts h o
-    (ap (λ what. list_all is_picture (in_phase output sets u.index what (running h o)).events) (sym (too_long sets facts u bit is (sym none))) ∙ all))
+whole_by output sets u (running h o) None none runs bit all is = search (rules, unreadable_refused, too_long)
 
 pub is_whole : (s : State) (u : Unit) → is_running s.phase ≡ true → ArePictures (after_unit s u).events → IsWholeStart u
 is_whole s u runs all five =
     whole_by s.output (sets_after s.sets) u s.phase u.body refl runs (is_accepted s u all).bit all (start_is_slice u five)
 
--- ---- the events of a piece: of its front, of what follows its cut point, and of what it leaves out
-
--- ---- units one after the other
+-- ---- the events of a piece: of its front, of what follows its cut point, and of what it leaves out: units one after the other
 
 pub events-append : (us vs : List Unit) (s : State) (ended : Bool) → events_from s (us ++ vs) ended ≡ events_from s us false ++ events_from (state_through s us) vs ended
 events-append [] vs s ended = refl
@@ -621,11 +609,7 @@ no_set_if : (bit : Bool) (o : Option SetUnit) → o ≡ None → (if bit then No
 no_set_if bit o e = grind arith
 
 leads_no_set : (u : Unit) → leads u ≡ true → set_unit u ≡ None
-leads_no_set u h =
-    let t = nal_unit_type u.header in
-    let no : (t == 7 || t == 8) ≡ false = grind (arith, nat_tests, h) in
-    no_set_if (forbidden_zero_bit u.header) (set_of (kind u) (rbsp_of u))
-    (none_brought (kind u) (rbsp_of u) (set_by (t == 1) (t == 5) (nat_le 2 t && nat_le t 4) (t == 7) (t == 8) ((nat_le 6 t && nat_le t 11) || (nat_le 15 t && nat_le t 18)) no))
+leads_no_set u h = search (rules, no_set_if, none_brought, set_by, nat_le)
 
 leading_by : (x : Bool) (u : Unit) (us : List Unit) → leads u ≡ x → set_units us ≡ [] → set_units (cond x (u ∷ us) us) ≡ []
 leading_by true u us is h = ap₂ (λ o t. list_of o ++ t) (leads_no_set u is) h
@@ -665,9 +649,7 @@ pub sets_alike : SetsAreInForceAgain → (max : ℕ) (before : List Unit) → Al
     sets_after (set_units (cut max (front before))) ≡ sets_after (set_units before)
 sets_alike again max before h = ap sets_after (same_sets max (front before) (all_front (IsAcceptedWithin max) before h)) ∙ front_sets again before
 
--- ---- the events of a stream, from those of its pieces
-
--- ---- the flags
+-- ---- the events of a stream, from those of its pieces: the flags
 
 abbrev AreOff : List Bool → Type 0
 AreOff flags = list_all (λ f. not f) flags ≡ true
@@ -684,11 +666,7 @@ off_behind starts flag others e = grind arith
 -- the unit's flag, where all are off
 own_off : (b xs : List Unit) (u : Unit) (more : List Unit) → is_start u ≡ true → AreOff (drop_flags b (xs ++ u ∷ more))
     → drops_prior (slice_in (tables (b ++ xs)) u) ≡ false
-own_off b [] u more starts off =
-    let others = drop_flags (b ++ u ∷ []) more in
-    let flag = drops_prior (slice_in (tables b) u) in
-    ap (λ us. drops_prior (slice_in (tables us) u)) (append-nil b)
-    ∙ off_first flag others (subst (λ s. AreOff (flags_by s flag others)) starts off)
+own_off b [] u more starts off = search (rules, append-nil, off_first)
 own_off b (v ∷ xs) u more starts off =
     let others = drop_flags (b ++ v ∷ []) (xs ++ u ∷ more) in
     ap (λ us. drops_prior (slice_in (tables us) u)) (sym (append_assoc b (v ∷ []) xs))

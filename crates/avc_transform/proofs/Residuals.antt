@@ -17,53 +17,26 @@ below_two P a b zero h = a
 below_two P a b (suc zero) h = b
 below_two P a b (suc (suc x)) h = absurd (omega arith)
 
--- what holds below 4, of the elements of a list of four
-pub each_of_four : (P : ℤ → Type 0) (a b c d : ℤ) → P a → P b → P c → P d → (x : ℕ) → x < 4 → P (slice_index_or (a ∷ b ∷ c ∷ d ∷ []) x (pos 0))
-each_of_four P a b c d pa pb pc pd = below_four (λ k. P (slice_index_or (a ∷ b ∷ c ∷ d ∷ []) k (pos 0))) pa pb pc pd
-
 -- ---- four columns that are written one row at a time
 
-abbrev pub with_row : List ℤ → ℕ → ℤ → ℤ → ℤ → ℤ → List ℤ
-with_row out y a b c d = set (set (set (set out y a) (4 + y) b) (8 + y) c) (12 + y) d
+module _ (out : List ℤ) (y : ℕ) (v : ℕ → ℤ) (long : length out ≡ 16) (row : y < 4) where
+  abbrev pub with_row : List ℤ
+  with_row = set (set (set (set out y (v 0)) (4 + y) (v 1)) (8 + y) (v 2)) (12 + y) (v 3)
 
-module _ (out : List ℤ) (y : ℕ) (a b c d : ℤ) (long : length out ≡ 16) (row : y < 4) where
-  other : (i : ℕ) → i ≢ y → i ≢ 4 + y → i ≢ 8 + y → i ≢ 12 + y → get_or (with_row out y a b c d) i (pos 0) ≡ get_or out i (pos 0)
-  other i n0 n1 n2 n3 = rw (get_or-set_other, get_or-set_other, get_or-set_other, get_or-set_other)
+  written : (x : ℕ) → x < 4 → get_or with_row (4 * x + y) (pos 0) ≡ v x
+  written = below_four _ (grind (arith, common_steps)) (grind (arith, common_steps)) (grind (arith, common_steps)) (grind (arith, common_steps))
 
-  at0 : get_or (with_row out y a b c d) y (pos 0) ≡ a
-  at0 = grind (arith, common_steps)
-
-  at1 : get_or (with_row out y a b c d) (4 + y) (pos 0) ≡ b
-  at1 = grind (arith, common_steps)
-
-  at2 : get_or (with_row out y a b c d) (8 + y) (pos 0) ≡ c
-  at2 = grind (arith, common_steps)
-
-  at3 : get_or (with_row out y a b c d) (12 + y) (pos 0) ≡ d
-  at3 = grind (arith, common_steps)
+  other : (x k : ℕ) → x < 4 → k < y → get_or with_row (4 * x + k) (pos 0) ≡ get_or out (4 * x + k) (pos 0)
+  other x k column above = grind (arith, common_steps)
 
   -- what held of the rows before y, and holds of this one, holds of the rows up to y
-  module _ (P : ℕ → ℕ → ℤ → Type 0) (old : (x k : ℕ) → x < 4 → k < y → P x k (get_or out (4 * x + k) (pos 0))) where
-    step_at : (x : ℕ) (v : ℤ) → x < 4 → get_or (with_row out y a b c d) (4 * x + y) (pos 0) ≡ v → P x y v → (k : ℕ) → k < y + 1 → P x k (get_or (with_row out y a b c d) (4 * x + k) (pos 0))
-    step_at x v hx e p =
-        below_more (λ k. P x k (get_or (with_row out y a b c d) (4 * x + k) (pos 0))) y
-        (λ k hk. subst (P x k) (sym (other (4 * x + k) (omega arith) (omega arith) (omega arith) (omega arith))) (old x k hx hk))
-        (subst (P x y) (sym e) p)
-
-    pub columns_more : P 0 y a → P 1 y b → P 2 y c → P 3 y d → (x k : ℕ) → x < 4 → k < y + 1 → P x k (get_or (with_row out y a b c d) (4 * x + k) (pos 0))
-    columns_more pa pb pc pd x k hx hk =
-        below_four (λ x. (k : ℕ) → k < y + 1 → P x k (get_or (with_row out y a b c d) (4 * x + k) (pos 0)))
-        (step_at 0 a (omega arith) (ap (λ i. get_or (with_row out y a b c d) i (pos 0)) (zero-add y) ∙ at0) pa)
-        (step_at 1 b (omega arith) at1 pb)
-        (step_at 2 c (omega arith) at2 pc)
-        (step_at 3 d (omega arith) at3 pd)
-        x hx k hk
+  pub columns_more : (P : ℕ → ℕ → ℤ → Type 0) → ((x k : ℕ) → x < 4 → k < y → P x k (get_or out (4 * x + k) (pos 0))) → ((x : ℕ) → x < 4 → P x y (v x))
+      → (x k : ℕ) → x < 4 → k < y + 1 → P x k (get_or with_row (4 * x + k) (pos 0))
+  columns_more P old new x k column =
+      below_more (λ k. P x k (get_or with_row (4 * x + k) (pos 0))) y
+      (λ k above. rw (other x k column above) (old x k column above)) (rw (written x column) (new x column)) k
 
 -- ---- numbers that are small enough for their 32 bits
-
--- a small number is what its 32 bits say
-pub cast_back : (z : ℤ) → IsBelow (2 ^ 31) z → to_z w32 (of_z w32 z) ≡ z
-cast_back z small = omega (arith, ints)
 
 pub IsBelow-more : (m n : ℕ) (z : ℤ) → m ≤ n → IsBelow m z → IsBelow n z
 IsBelow-more m n z h small = record { low = omega (arith, ints); high = omega (arith, ints) }
@@ -71,24 +44,34 @@ IsBelow-more m n z h small = record { low = omega (arith, ints); high = omega (a
 pub AllBelow-more : {c m n : ℕ} (l : List ℤ) → m ≤ n → AllBelow c m l → AllBelow c n l
 AllBelow-more {c} {m} {n} l h all i less = IsBelow-more m n (slice_index_or l i (pos 0)) h (all i less)
 
--- a number that is small for other bounds
+-- a small number is what its 32 bits say
 pub cast_small : {n : ℕ} {z : ℤ} → n ≤ 2 ^ 31 → IsBelow n z → to_z w32 (of_z w32 z) ≡ z
-cast_small {n} {z} h small = cast_back z (IsBelow-more n (2 ^ 31) z h small)
+cast_small {n} {z} h small = omega (arith, ints)
 
 pub small_cast : {n : ℕ} {z : ℤ} → n ≤ 2 ^ 31 → IsBelow n z → IsBelow n (to_z w32 (of_z w32 z))
-small_cast {n} {z} h small = subst (IsBelow n) (sym (cast_small h small)) small
+small_cast {n} {z} h small = rw (cast_small h small) small
 
-pub IsBelow-abs : (n : ℕ) (z : ℤ) → unsigned_abs z < n → IsBelow n z
+-- what a function gives for a small number that passes through its bits, and back
+pub passed : (f : ℤ → ℤ) {m n : ℕ} {d r : ℤ} → m ≤ 2 ^ 31 → n ≤ 2 ^ 31 → IsBelow m d → IsBelow n r → r ≡ f (to_z w32 (of_z w32 d)) → to_z w32 (of_z w32 r) ≡ f d
+passed f few many p q e = cast_small many q ∙ e ∙ ap f (cast_small few p)
+
+IsBelow-abs : (n : ℕ) (z : ℤ) → unsigned_abs z < n → IsBelow n z
 IsBelow-abs n (pos a) h = record { low = omega (arith, ints); high = omega (arith, ints) }
 IsBelow-abs n (negsuc a) h = record { low = omega (arith, ints); high = omega (arith, ints) }
 
-pub abs-IsBelow : (n : ℕ) (z : ℤ) → IsBelow n z → unsigned_abs z < n
+abs-IsBelow : (n : ℕ) (z : ℤ) → IsBelow n z → unsigned_abs z < n
 abs-IsBelow n (pos a) h = omega (arith, ints)
 abs-IsBelow n (negsuc a) h = omega (arith, ints)
 
 pub IsBelow-mul : (m n : ℕ) (z : ℤ) (k : ℕ) → IsBelow m z → k < n → IsBelow (m * n) (z *ℤ pos k)
-IsBelow-mul m n z k small h =
-    IsBelow-abs (m * n) (z *ℤ pos k) (rw unsigned_abs-mul (mul-lt (unsigned_abs z) k m n (abs-IsBelow m z small) h))
+IsBelow-mul m n z k small h = IsBelow-abs (m * n) (z *ℤ pos k) (rw unsigned_abs-mul (mul-lt (unsigned_abs z) k m n (abs-IsBelow m z small) h))
+
+-- a level is what its sixteen bits say, and so in thirty-two
+pub level_back : (z : ℤ) → IsBelow (2 ^ 12) z → to_z w16 (of_z w16 z) ≡ z
+level_back z small = omega (arith, ints)
+
+pub level_read : (l r : ℤ) → IsBelow (2 ^ 12) l → r ≡ to_z w16 (of_z w16 l) → to_z w32 (of_z w32 r) ≡ l
+level_read l r small told = omega (arith, ints)
 
 -- one factor after the other
 neg_times : (m b : ℕ) → neg_ℤ (pos m) *ℤ pos b ≡ neg_ℤ (pos (m * b))
@@ -99,81 +82,37 @@ pub times_times : (z : ℤ) (a b : ℕ) → z *ℤ pos a *ℤ pos b ≡ z *ℤ p
 times_times (pos n) a b = ap pos (mul_assoc n a b)
 times_times (negsuc n) a b = neg_times (suc n * a) b ∙ ap (λ m. neg_ℤ (pos m)) (mul_assoc (suc n) a b)
 
--- a level of 16 bits, read into 32
-pub level_read : (levels : List ℤ) (p q : ℕ) (r : ℤ) → IsBelow (2 ^ 12) (level levels p) → p ≡ q → r ≡ to_z w16 (of_z w16 (slice_index_or levels p (pos 0))) → to_z w32 (of_z w32 r) ≡ level levels q
-level_read levels p q r small e told =
-    let narrow : to_z w16 (of_z w16 (slice_index_or levels p (pos 0))) ≡ slice_index_or levels p (pos 0) = omega (arith, ints) in
-    let read = told ∙ narrow in
-    ap (λ z. to_z w32 (of_z w32 z)) read ∙ cast_back _ (IsBelow-more (2 ^ 12) (2 ^ 31) _ (omega arith) small) ∙ ap (level levels) e
-
 -- a level times its scale, which was raised before
-pub raised_is : (qp : ℕ) (c l r : ℤ) (s x y : ℕ) → r ≡ l *ℤ pos s → l ≡ c → s ≡ level_scale (qp % 6) x y * 2 ^ (qp / 6) → r ≡ scaled qp c x y
-raised_is qp c l r s x y told el es =
-    told ∙ ap (λ (z : ℤ). z *ℤ pos s) el ∙ ap (λ n. c *ℤ pos n) es ∙ sym (times_times c (level_scale (qp % 6) x y) (2 ^ (qp / 6)))
-
 pub scaled_of : (qp : ℕ) (c : ℤ) (x y : ℕ) {l r : ℤ} {s : ℕ} → r ≡ l *ℤ pos s → l ≡ c → s ≡ level_scale (qp % 6) x y * 2 ^ (qp / 6) → r ≡ scaled qp c x y
-scaled_of qp c x y {l} {r} {s} told el es = raised_is qp c l r s x y told el es
+scaled_of qp c x y told el es = rw (told, el, es) (sym (times_times c (level_scale (qp % 6) x y) (2 ^ (qp / 6))))
 
--- four levels and what each of them is
-pub four_levels : (l0 l1 l2 l3 : ℤ) (m : ℕ → ℤ) → l0 ≡ m 0 → l1 ≡ m 1 → l2 ≡ m 2 → l3 ≡ m 3 → (k : ℕ) → k < 4 →
-    slice_index_or (l0 ∷ l1 ∷ l2 ∷ l3 ∷ []) k (pos 0) ≡ m k
-four_levels l0 l1 l2 l3 m e0 e1 e2 e3 = below_four (λ k. slice_index_or (l0 ∷ l1 ∷ l2 ∷ l3 ∷ []) k (pos 0) ≡ m k) e0 e1 e2 e3
-
--- a level is what its sixteen bits say
-pub level_back : (z : ℤ) → IsBelow (2 ^ 12) z → to_z w16 (of_z w16 z) ≡ z
-level_back z small = omega (arith, ints)
-
-pub level_small : (z : ℤ) → IsBelow (2 ^ 12) z → IsBelow (2 ^ 12) (to_z w16 (of_z w16 z))
-level_small z small = subst (IsBelow (2 ^ 12)) (sym (level_back z small)) small
+pub scaled_line : (qp x : ℕ) (c l r : ℕ → ℤ) (s : ℕ → ℕ) → ((y : ℕ) → y < 4 → r y ≡ l y *ℤ pos (s y)) → ((y : ℕ) → y < 4 → l y ≡ c y)
+    → ((y : ℕ) → y < 4 → s y ≡ level_scale (qp % 6) x y * 2 ^ (qp / 6)) → (y : ℕ) → y < 4 → r y ≡ scaled qp (c y) x y
+scaled_line qp x c l r s told el es y h = scaled_of qp (c y) x y (told y h) (el y h) (es y h)
 
 -- ---- the DC values of luma and of chroma
 
 pub scale_below : (a p e k : ℕ) → a ≤ 288 → p ≡ 2 ^ e → e ≤ k → a * p ≤ 288 * 2 ^ k
 scale_below a p e k few is less = mul-le-mul few (rw is (pow-le-pow_right (omega arith) less))
 
-shifted : (f r : ℤ) (a s p e : ℕ) → a ≡ s → p ≡ 2 ^ e → r ≡ f *ℤ pos (a * p) → r ≡ (f *ℤ pos s <<ℤ e)
-shifted f r a s p e ea ep told =
-    told ∙ ap (λ n. f *ℤ pos (n * p)) ea ∙ ap (λ n. f *ℤ pos (s * n)) ep ∙ sym (times_times f s (2 ^ e))
-
 pub luma_shifted : (qp : ℕ) (f r : ℤ) (a p : ℕ) → 36 ≤ qp → a ≡ 16 * even_scale (qp % 6) → p ≡ 2 ^ (qp / 6 - 6) → r ≡ f *ℤ pos (a * p) → r ≡ luma_dc_scaled qp f
 luma_shifted qp f r a p from ea ep told =
     let test : nat_lt qp 36 ≡ false = grind (arith, nat_tests) in
-    shifted f r a (16 * even_scale (qp % 6)) p (qp / 6 - 6) ea ep told
-    ∙ ap (λ t. if t then ((f *ℤ pos (16 * even_scale (qp % 6)) +ℤ pos (2 ^ (5 - qp / 6))) >>ℤ (6 - qp / 6)) else (f *ℤ pos (16 * even_scale (qp % 6)) <<ℤ (qp / 6 - 6))) (sym test)
+    rw (test, told, ea, ep) (sym (times_times f (16 * even_scale (qp % 6)) (2 ^ (qp / 6 - 6))))
 
 pub chroma_shifted : (qp : ℕ) (f v r : ℤ) (a p : ℕ) → a ≡ 16 * even_scale (qp % 6) → p ≡ 2 ^ (qp / 6) → v ≡ f *ℤ pos (a * p) → r ≡ (v >>ℤ 5) → r ≡ chroma_dc_scaled qp f
-chroma_shifted qp f v r a p ea ep told last =
-    last ∙ ap (λ z. z >>ℤ 5) (shifted f v a (16 * even_scale (qp % 6)) p (qp / 6) ea ep told)
+chroma_shifted qp f v r a p ea ep told last = rw (last, told, ea, ep, times_times f (16 * even_scale (qp % 6)) (2 ^ (qp / 6)))
 
-same_sum : (a0 a1 a2 a3 b0 b1 b2 b3 : ℤ) → a0 ≡ b0 → a1 ≡ b1 → a2 ≡ b2 → a3 ≡ b3 → pos 0 +ℤ a0 +ℤ a1 +ℤ a2 +ℤ a3 ≡ pos 0 +ℤ b0 +ℤ b1 +ℤ b2 +ℤ b3
-same_sum a0 a1 a2 a3 b0 b1 b2 b3 e0 e1 e2 e3 =
-    ap (λ z. pos 0 +ℤ z +ℤ a1 +ℤ a2 +ℤ a3) e0 ∙ ap (λ z. pos 0 +ℤ b0 +ℤ z +ℤ a2 +ℤ a3) e1
-    ∙ ap (λ z. pos 0 +ℤ b0 +ℤ b1 +ℤ z +ℤ a3) e2 ∙ ap (λ z. pos 0 +ℤ b0 +ℤ b1 +ℤ b2 +ℤ z) e3
-
--- the product looks at four numbers alone
+-- the product of a row looks at four numbers alone
 pub same_hadamard_row : (d e : ℕ → ℤ) (x : ℕ) → ((u : ℕ) → u < 4 → d u ≡ e u) → hadamard_row d x ≡ hadamard_row e x
-same_hadamard_row d e x same =
-    same_sum (d 0 *ℤ hadamard x 0) (d 1 *ℤ hadamard x 1) (d 2 *ℤ hadamard x 2) (d 3 *ℤ hadamard x 3)
-    (e 0 *ℤ hadamard x 0) (e 1 *ℤ hadamard x 1) (e 2 *ℤ hadamard x 2) (e 3 *ℤ hadamard x 3)
-    (ap (λ z. z *ℤ hadamard x 0) (same 0 (omega arith))) (ap (λ z. z *ℤ hadamard x 1) (same 1 (omega arith)))
-    (ap (λ z. z *ℤ hadamard x 2) (same 2 (omega arith))) (ap (λ z. z *ℤ hadamard x 3) (same 3 (omega arith)))
-
--- the same of four numbers that are the row's
-pub hadamard_row_of : (a0 a1 a2 a3 : ℤ) (d : ℕ → ℤ) (x : ℕ) → a0 ≡ d 0 → a1 ≡ d 1 → a2 ≡ d 2 → a3 ≡ d 3
-    → hadamard_row (λ u. slice_index_or (a0 ∷ a1 ∷ a2 ∷ a3 ∷ []) u (pos 0)) x ≡ hadamard_row d x
-hadamard_row_of a0 a1 a2 a3 d x e0 e1 e2 e3 =
-    same_hadamard_row (λ u. slice_index_or (a0 ∷ a1 ∷ a2 ∷ a3 ∷ []) u (pos 0)) d x
-    (below_four (λ u. slice_index_or (a0 ∷ a1 ∷ a2 ∷ a3 ∷ []) u (pos 0) ≡ d u) e0 e1 e2 e3)
+same_hadamard_row d e x same = rw (same 0 (omega arith), same 1 (omega arith), same 2 (omega arith), same 3 (omega arith))
 
 -- a sign goes out of a row's product
-module _ (d : ℕ → ℤ) where
-  plus : (x : ℕ) → x < 4 → hadamard_row d x *ℤ pos 1 ≡ sum_below_ℤ 4 (λ u. pos 1 *ℤ d u *ℤ hadamard x u)
-  plus = below_four (λ x. hadamard_row d x *ℤ pos 1 ≡ sum_below_ℤ 4 (λ u. pos 1 *ℤ d u *ℤ hadamard x u))
-      (omega (arith, ints)) (omega (arith, ints)) (omega (arith, ints)) (omega (arith, ints))
+plus : (d : ℕ → ℤ) (x : ℕ) → x < 4 → hadamard_row d x *ℤ pos 1 ≡ sum_below_ℤ 4 (λ u. pos 1 *ℤ d u *ℤ hadamard x u)
+plus d = below_four _ (omega (arith, ints)) (omega (arith, ints)) (omega (arith, ints)) (omega (arith, ints))
 
-  minus : (x : ℕ) → x < 4 → hadamard_row d x *ℤ negsuc 0 ≡ sum_below_ℤ 4 (λ u. negsuc 0 *ℤ d u *ℤ hadamard x u)
-  minus = below_four (λ x. hadamard_row d x *ℤ negsuc 0 ≡ sum_below_ℤ 4 (λ u. negsuc 0 *ℤ d u *ℤ hadamard x u))
-      (omega (arith, ints)) (omega (arith, ints)) (omega (arith, ints)) (omega (arith, ints))
+minus : (d : ℕ → ℤ) (x : ℕ) → x < 4 → hadamard_row d x *ℤ negsuc 0 ≡ sum_below_ℤ 4 (λ u. negsuc 0 *ℤ d u *ℤ hadamard x u)
+minus d = below_four _ (omega (arith, ints)) (omega (arith, ints)) (omega (arith, ints)) (omega (arith, ints))
 
 -- the matrix multiplies the rows, and then the columns
 pub product_is : (c : ℕ → ℕ → ℤ) (x y : ℕ) → x < 4 → y < 4
@@ -182,30 +121,12 @@ product_is c x y column =
     let p = λ (v : ℕ). plus (λ u. c u v) x column in
     let m = λ (v : ℕ). minus (λ u. c u v) x column in
     below_four (λ y. hadamard_row (λ v. hadamard_row (λ u. c u v) x) y ≡ sum_below_ℤ 4 (λ v. sum_below_ℤ 4 (λ u. hadamard v y *ℤ c u v *ℤ hadamard x u)))
-    (same_sum _ _ _ _ _ _ _ _ (p 0) (p 1) (p 2) (p 3))
-    (same_sum _ _ _ _ _ _ _ _ (p 0) (p 1) (m 2) (m 3))
-    (same_sum _ _ _ _ _ _ _ _ (p 0) (m 1) (m 2) (p 3))
-    (same_sum _ _ _ _ _ _ _ _ (p 0) (m 1) (p 2) (m 3))
-    y
-
--- the four products of chroma are those of a row of four
-module _ (levels : List ℤ) where
-  pub whole_is : hadamard_row (level levels) 0 ≡ chroma_dc_product levels 0 0
-  whole_is = omega (arith, ints)
-
-  pub across_is : hadamard_row (level levels) 3 ≡ chroma_dc_product levels 1 0
-  across_is = omega (arith, ints)
-
-  pub below_is : hadamard_row (level levels) 1 ≡ chroma_dc_product levels 0 1
-  below_is = omega (arith, ints)
-
-  pub both_is : hadamard_row (level levels) 2 ≡ chroma_dc_product levels 1 1
-  both_is = omega (arith, ints)
+    (rw (p 0, p 1, p 2, p 3)) (rw (p 0, p 1, m 2, m 3)) (rw (p 0, m 1, m 2, p 3)) (rw (p 0, m 1, p 2, m 3)) y
 
 -- ---- what is done to four numbers at once is done to each of them
 
 -- number k of what two vectors of bits give together
-pub lane : (f : ℕ → ℕ → ℕ) (xs ys : List ℤ) (k : ℕ) → k < length xs → k < length ys
+lane : (f : ℕ → ℕ → ℕ) (xs ys : List ℤ) (k : ℕ) → k < length xs → k < length ys
     → get_or (map (to_z w32) (zip2 f (map (of_z w32) xs) (map (of_z w32) ys))) k (pos 0)
     ≡ to_z w32 (f (of_z w32 (get_or xs k (pos 0))) (of_z w32 (get_or ys k (pos 0))))
 lane f [] ys k h j = absurd (omega (arith, h))
@@ -214,12 +135,33 @@ lane f (x ∷ xs) (y ∷ ys) zero h j = refl
 lane f (x ∷ xs) (y ∷ ys) (suc k) h j = lane f xs ys k (omega (arith, h)) (omega (arith, j))
 
 -- what is asked of each two numbers
-pub each_lane : (P : ℕ → ℕ → Type 0) (xs ys : List ℤ)
+each_lane : (P : ℕ → ℕ → Type 0) (xs ys : List ℤ)
     → ((k : ℕ) → k < length xs → k < length ys → P (of_z w32 (get_or xs k (pos 0))) (of_z w32 (get_or ys k (pos 0))))
     → Each2 P (map (of_z w32) xs) (map (of_z w32) ys)
 each_lane P [] ys f = tt
 each_lane P (x ∷ xs) [] f = tt
 each_lane P (x ∷ xs) (y ∷ ys) f = (f 0 (omega arith) (omega arith), each_lane P xs ys (λ k h j. f (suc k) (omega (arith, h)) (omega (arith, j))))
+
+-- an operation that does not overflow on numbers below 2 ^ 30
+module _ (op : ℤ → ℤ → ℤ) (small : (m n : ℕ) (a b : ℤ) → IsBelow m a → IsBelow n b → IsBelow (m + n) (op a b)) (xs ys : List ℤ)
+    (four_xs : length xs ≡ 4) (four_ys : length ys ≡ 4) (small_xs : AllBelow 4 (2 ^ 30) xs) (small_ys : AllBelow 4 (2 ^ 30) ys) where
+  abbrev done : List ℤ
+  done = map (to_z w32) (zip2 (λ x y. of_z w32 (op (to_z w32 x) (to_z w32 y))) (map (of_z w32) xs) (map (of_z w32) ys))
+
+  fits : (a b : ℤ) → IsBelow (2 ^ 30) a → IsBelow (2 ^ 30) b → FitsSigned w32 (op (to_z w32 (of_z w32 a)) (to_z w32 (of_z w32 b)))
+  fits a b p q = let r = small (2 ^ 30) (2 ^ 30) a b p q in rw (cast_small (omega arith) p, cast_small (omega arith) q) (search (arith, ints))
+
+  pub lanes_fit : Each2 (λ x y. FitsSigned w32 (op (to_z w32 x) (to_z w32 y))) (map (of_z w32) xs) (map (of_z w32) ys)
+  lanes_fit = each_lane _ xs ys (λ k h j. fits _ _ (small_xs k (omega arith)) (small_ys k (omega arith)))
+
+  pub lanes : (k : ℕ) → k < 4 → get_or done k (pos 0) ≡ op (get_or xs k (pos 0)) (get_or ys k (pos 0))
+  lanes k h =
+      lane (λ x y. of_z w32 (op (to_z w32 x) (to_z w32 y))) xs ys k (omega arith) (omega arith)
+      ∙ rw (cast_small (omega arith) (small_xs k h), cast_small (omega arith) (small_ys k h))
+      (cast_small (omega arith) (small _ _ _ _ (small_xs k h) (small_ys k h)))
+
+  pub lanes_small : (m n : ℕ) → AllBelow 4 m xs → AllBelow 4 n ys → AllBelow 4 (m + n) done
+  lanes_small m n p q k h = rw (lanes k h) (small m n _ _ (p k h) (q k h))
 
 -- ---- sixteen numbers as a matrix
 
@@ -231,83 +173,63 @@ pub place_more : (P : ℕ → ℤ → Type 0) (out : List ℤ) (i : ℕ) (v : �
     → ((k : ℕ) → k < i → P k (get_or out k (pos 0))) → P i v → (k : ℕ) → k < i + 1 → P k (get_or (set out i v) k (pos 0))
 place_more P out i v inside before here =
     below_more (λ k. P k (get_or (set out i v) k (pos 0))) i
-    (λ k h. subst (P k) (sym (get_or-set_other out i k v (pos 0) (omega arith))) (before k h))
-    (subst (P i) (sym (get_or-set_same out i v (pos 0) inside)) here)
+    (λ k h. rw (get_or-set_other out i k v (pos 0) (omega arith)) (before k h))
+    (rw (get_or-set_same out i v (pos 0) inside) here)
+
+-- ---- numbers that are scaled one after another
+
+-- each of the first i is replaced by f of it, which is small
+pub record AreScaled (f : ℤ → ℤ) (old new : List ℤ) (i : ℕ) : Type 0 where
+  pub done : (k : ℕ) → k < i → slice_index_or new k (pos 0) ≡ f (slice_index_or old k (pos 0))
+  pub small : (k : ℕ) → k < i → IsBelow (2 ^ 27) (slice_index_or new k (pos 0))
+  pub left : (k : ℕ) → i ≤ k → slice_index_or new k (pos 0) ≡ slice_index_or old k (pos 0)
+
+module _ (f : ℤ → ℤ) (old now : List ℤ) (i n : ℕ) (so_far : AreScaled f old now i) (few : n ≤ 2 ^ 31) (before : IsBelow n (slice_index_or old i (pos 0))) where
+  pub next_small : IsBelow n (to_z w32 (of_z w32 (slice_index_or now i (pos 0))))
+  next_small = rw (so_far.left i (omega arith)) (small_cast few before)
+
+  pub scaled_more : (r : ℤ) → i < length now → r ≡ f (to_z w32 (of_z w32 (slice_index_or now i (pos 0)))) → IsBelow (2 ^ 27) r
+      → AreScaled f old (set now i (to_z w32 (of_z w32 r))) (i + 1)
+  scaled_more r inside value small = record {
+    done = place_more (λ k v. v ≡ f (slice_index_or old k (pos 0))) now i _ inside so_far.done
+        (cast_small (omega arith) small ∙ value ∙ ap f (ap (λ z. to_z w32 (of_z w32 z)) (so_far.left i (omega arith)) ∙ cast_small few before));
+    small = place_more (λ k v. IsBelow (2 ^ 27) v) now i _ inside so_far.small (small_cast (omega arith) small);
+    left = λ k later. get_or-set_other now i k (to_z w32 (of_z w32 r)) (pos 0) (omega arith) ∙ so_far.left k (omega arith);
+  }
 
 -- ---- laws of the residual: what is left of a block whose levels are all 0
 
-pub same_inverse4 : (a0 a1 a2 a3 b0 b1 b2 b3 : ℤ) (x : ℕ) → a0 ≡ b0 → a1 ≡ b1 → a2 ≡ b2 → a3 ≡ b3 → inverse4 a0 a1 a2 a3 x ≡ inverse4 b0 b1 b2 b3 x
-same_inverse4 a0 a1 a2 a3 b0 b1 b2 b3 x e0 e1 e2 e3 =
-    ap (λ z. inverse4 z a1 a2 a3 x) e0 ∙ ap (λ z. inverse4 b0 z a2 a3 x) e1 ∙ ap (λ z. inverse4 b0 b1 z a3 x) e2 ∙ ap (λ z. inverse4 b0 b1 b2 z x) e3
-
 -- the first number alone comes out everywhere
 inverse4_alone : (d : ℤ) (x : ℕ) → inverse4 d (pos 0) (pos 0) (pos 0) x ≡ d
-inverse4_alone d zero = ap (λ z. z +ℤ pos 0) (+ℤ_idr d) ∙ +ℤ_idr d
-inverse4_alone d (suc zero) = ap (λ z. z +ℤ pos 0) (+ℤ_idr d) ∙ +ℤ_idr d
-inverse4_alone d (suc (suc zero)) = ap (λ z. z +ℤ pos 0) (+ℤ_idr d) ∙ +ℤ_idr d
-inverse4_alone d (suc (suc (suc x))) = ap (λ z. z +ℤ pos 0) (+ℤ_idr d) ∙ +ℤ_idr d
+inverse4_alone d zero = omega (arith, ints)
+inverse4_alone d (suc zero) = omega (arith, ints)
+inverse4_alone d (suc (suc zero)) = omega (arith, ints)
+inverse4_alone d (suc (suc (suc x))) = omega (arith, ints)
 
-transformed_row_alone : (f : ℕ → ℕ → ℤ) (d : ℤ) (x y : ℕ) → f 0 y ≡ d → f 1 y ≡ pos 0 → f 2 y ≡ pos 0 → f 3 y ≡ pos 0 → transformed_row f x y ≡ d
-transformed_row_alone f d x y e0 e1 e2 e3 =
-    same_inverse4 (f 0 y) (f 1 y) (f 2 y) (f 3 y) d (pos 0) (pos 0) (pos 0) x e0 e1 e2 e3 ∙ inverse4_alone d x
-
-transformed_alone : (f : ℕ → ℕ → ℤ) (d : ℤ) (x y : ℕ)
-    → transformed_row f x 0 ≡ d → transformed_row f x 1 ≡ pos 0 → transformed_row f x 2 ≡ pos 0 → transformed_row f x 3 ≡ pos 0
-    → transformed f x y ≡ ((d +ℤ pos 32) >>ℤ 6)
-transformed_alone f d x y e0 e1 e2 e3 =
-    ap (λ z. (z +ℤ pos 32) >>ℤ 6)
-    (same_inverse4 (transformed_row f x 0) (transformed_row f x 1) (transformed_row f x 2) (transformed_row f x 3) d (pos 0) (pos 0) (pos 0) y e0 e1 e2 e3
-    ∙ inverse4_alone d y)
-
-scaled_zero : (qp : ℕ) (c : ℤ) (x y : ℕ) → c ≡ pos 0 → scaled qp c x y ≡ pos 0
-scaled_zero qp c x y none =
-    ap (λ (z : ℤ). scaled qp z x y) none
-    ∙ ap (λ (z : ℤ). z *ℤ pos (2 ^ (qp / 6))) (zero-*ℤ (pos (level_scale (qp % 6) x y)))
-    ∙ zero-*ℤ (pos (2 ^ (qp / 6)))
+zero_scaled : (m n : ℕ) → pos 0 *ℤ pos m *ℤ pos n ≡ pos 0
+zero_scaled m n = ap (λ (z : ℤ). z *ℤ pos n) (zero-*ℤ (pos m)) ∙ zero-*ℤ (pos n)
 
 -- a block whose levels are all 0 has no residual
 pub no_residual : (qp : ℕ) (levels : List ℤ) (x y : ℕ) → ((i : ℕ) → level levels i ≡ pos 0) → residual4x4 qp levels x y ≡ pos 0
-no_residual qp levels x y none =
-    let f = scaled_block qp levels in
-    let z = λ (u v : ℕ). scaled_zero qp (level levels (zigzag u v)) u v (none (zigzag u v)) in
-    transformed_alone f (pos 0) x y
-    (transformed_row_alone f (pos 0) x 0 (z 0 0) (z 1 0) (z 2 0) (z 3 0))
-    (transformed_row_alone f (pos 0) x 1 (z 0 1) (z 1 1) (z 2 1) (z 3 1))
-    (transformed_row_alone f (pos 0) x 2 (z 0 2) (z 1 2) (z 2 2) (z 3 2))
-    (transformed_row_alone f (pos 0) x 3 (z 0 3) (z 1 3) (z 2 3) (z 3 3))
+no_residual qp levels x y none = simp (none, zero_scaled, inverse4_alone)
 
 -- with a DC value and no other level it has the same residual everywhere
 pub residual_of_dc : (qp : ℕ) (dc : ℤ) (levels : List ℤ) (x y : ℕ) → ((i : ℕ) → level levels i ≡ pos 0) → residual4x4_with_dc qp dc levels x y ≡ ((dc +ℤ pos 32) >>ℤ 6)
-residual_of_dc qp dc levels x y none =
-    let f = scaled_block_with_dc qp dc levels in
-    let z = λ (u v : ℕ). scaled_zero qp (level levels (zigzag u v - 1)) u v (none (zigzag u v - 1)) in
-    transformed_alone f dc x y
-    (transformed_row_alone f dc x 0 refl (z 1 0) (z 2 0) (z 3 0))
-    (transformed_row_alone f (pos 0) x 1 (z 0 1) (z 1 1) (z 2 1) (z 3 1))
-    (transformed_row_alone f (pos 0) x 2 (z 0 2) (z 1 2) (z 2 2) (z 3 2))
-    (transformed_row_alone f (pos 0) x 3 (z 0 3) (z 1 3) (z 2 3) (z 3 3))
+residual_of_dc qp dc levels x y none = simp (none, zero_scaled, inverse4_alone)
 
 -- ---- the tables of the code are those of the standard
 
--- functions that are the same at each number below n
-same_below : (n : ℕ) (f g : ℕ → ℕ) → list_all (λ k. nat_eq (f k) (g k)) (range_with_len 0 n) ≡ true → (k : ℕ) → k < n → f k ≡ g k
-same_below n f g same k below =
-    let here : nat_eq (f (slice_index (range_with_len 0 n) k)) (g (slice_index (range_with_len 0 n) k)) ≡ true =
-    AllPass-from_list_all (λ k. nat_eq (f k) (g k)) (range_with_len 0 n) same k 0 (rw length-range_with_len below) in
-    let at : slice_index (range_with_len 0 n) k ≡ k = get_or-range_with_len 0 n k 0 below ∙ zero-add k in
-    eqb-true (f k) (g k) (ap (λ i. nat_eq (f i) (g i)) (sym at) ∙ here)
-
 pub zigzag_table : (k : ℕ) → k < 16 → slice_index ZIGZAG k ≡ zigzag (k % 4) (k / 4)
-zigzag_table = same_below 16 (λ k. slice_index ZIGZAG k) (λ k. zigzag (k % 4) (k / 4)) refl
+zigzag_table k below = eqb-true _ _ (agree_below_at (λ k. nat_eq (slice_index ZIGZAG k) (zigzag (k % 4) (k / 4))) (λ _. true) 16 k refl below)
 
 pub zigzag_inside : (k : ℕ) → k < 16 → slice_index ZIGZAG k < 16
-zigzag_inside k below = ltb-true (slice_index ZIGZAG k) 16 (AllPass-from_list_all (λ n. nat_lt n 16) ZIGZAG refl k 0 below)
+zigzag_inside k below = ltb-true _ _ (agree_below_at (λ k. nat_lt (slice_index ZIGZAG k) 16) (λ _. true) 16 k refl below)
 
 -- QPc from 30 on
 pub chroma_table : (n : ℕ) → 30 ≤ n → slice_index CHROMA_QP (n - 30) ≡ chroma_qp_at n
 chroma_table n from =
     let test : nat_lt n 30 ≡ false = grind (arith, nat_tests) in
-    ap (λ t. if t then n else slice_index CHROMA_QP (n - 30)) (sym test)
+    rw test
 
 -- ---- worked values of the residual
 

@@ -1,10 +1,9 @@
 -- How `History`'s functions are proved: each makes the empty struct, with items of its own. Assumes `Logic`.
 use Rattle.std.proofs.Common.{◌≡◌, ℕ, List, [], ◌∷◌, ◌++◌, length, map, refl, ◌+◌}
 use seplogic.Ra.Ura.{Ura}
-use mir.Val.{Val, vptr, WT, has_ty}
+use mir.Val.{Val, vptr, vstruct, vcons, vnil, WT, has_ty}
 use types.Logic.{Logic}
-use denote.RattleType.{RattleType}
-use denote.RattleType.{owns}
+use denote.RattleType.{RattleType, Valss, owns}
 use denote.Steps.{nothing, owned}
 use Rattle.std.proofs.raw_atomic.Walks.{proved}
 use lib.Dec.{T}
@@ -18,7 +17,7 @@ use contract.Lifetimes.{Lfts, lft_at}
 use contract.Monad.{fact}
 use contract.Notation.{connectives}
 use contract.Running.{Running, MachineTables, tables}
-use types.Kit.{Goal, Step, step, Item as Entry, ‵, raw, ◌⊛◌, ◌$◌, ◌∵◌, !, qed, move, keep, split, fjoin, suffices, done}
+use types.Kit.{Goal, Step, step, Item as Entry, ‵, raw, ◌⊛◌, ◌$◌, ◌∵◌, !, qed, move, keep, split, fjoin, fpack, feq_i, suffices, done}
 use types.Part.{agg}
 use types.Run.{enter, returns, and_then, no_more}
 use types.ByLocal.{alloc_all, pass_all, free_all, look_at, get, sets}
@@ -30,15 +29,21 @@ use denote.Laws.{Is, Tells}
 use denote.Param.{param}
 use denote.Signature.{Slot, plain, types_at}
 use denote.Struct.Laws.{makes}
+use denote.Struct.Struct.{within}
 use denote.Triple.Clauses.{Clauses, Ended, closing}
 use denote.Triple.Entry.{alive}
 use denote.Triple.Spec.{Meets}
 use denote.Triple.Walked.{Stays, says, stay_dropped, walk_of, ends_at, Goes-dropped}
 use Rattle.std.specs.contracts.marker.PhantomData as Mark
-use Rattle.avc_types.proofs.Walks.{none, one, one_made}
 use Rattle.avc_types.specs.contracts.history.History as Log
 use Rattle.avc_types.specs.contracts.history.History.new as New
 use Rattle.avc_types.specs.contracts.history.History.with as With
+
+abbrev none : Val
+none = vstruct vnil
+
+abbrev one : Val → Val
+one u = vstruct (vcons u vnil)
 
 module _ (A : RattleType) where
   abbrev pub Item : Type 0
@@ -58,7 +63,8 @@ module _ (A : RattleType) where
     held : K → (items : List Item) → Step K 𝓛 (‵ (row.own_val (holding items) (one none ∷ [])) ∷ Γ) G Γ G
     held t items = step (λ s.
         nothing t $ owned t mark (Is mark) (makes (Mark.the_type (param 0 A)) tt 𝓛) (record {}) (none ∷ []) (tt, (refl, tt)) $
-        one_made t mark (record {}) none $ fjoin t $ s)
+        nothing t $ move t (1 ∷ 0 ∷ []) $ fjoin t $ feq_i t (List Val) (one none ∷ []) (one none ∷ []) refl $ fjoin t $
+        fpack t (Valss (mark ∷ [])) (within (record { name = []; args = []; types = []; fields = mark ∷ [] }) (record {}, tt) (one none ∷ [])) (none ∷ [], tt) $ fjoin t $ s)
 
   -- ---- what a function is given beside the history: one machine value of the type τ, of which nothing is said at exit
   pub record Given (τ : Ty) : Type 2 where

@@ -31,6 +31,7 @@ impl<const W: usize, const H: usize> Block<W, H> {
     }
 
     /// Gives the block other samples: row y becomes the W samples at the place `first` + y * `stride`.
+    #[tactic(auto, using(crate::proofs::Frames::block_rules))]
     #[inline(always)]
     pub fn set_rows(&mut self, samples: &[u8], first: usize, stride: usize)
         requires source { (y : ℕ) → y < H → first + y * stride + 16 ≤ length samples.now }

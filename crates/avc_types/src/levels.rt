@@ -58,6 +58,7 @@ impl<const MAXN: usize> Levels<MAXN> {
     }
 
     /// All of them become 0, as those of a block that is not coded. Where none is another number nothing is written.
+    #[tactic(auto, using(crate::proofs::Frames::none_counted))]
     #[inline(always)]
     pub fn clear(&mut self)
         ensures { self.new ≡ replicate MAXN (pos 0) }

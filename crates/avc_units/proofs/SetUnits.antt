@@ -3,9 +3,7 @@ pub mod Common
 unfoldable pub use Common.*
 use Rattle.avc_units.specs.Grouping.{other as other_kind}
 
--- ---- the unit that decides which parameter set of an id is in force
-
--- ---- the last of a list
+-- ---- the unit that decides which parameter set of an id is in force: the last of a list
 
 pub last-map : {X Y : Type 0} (f : X → Y) (xs : List X) → last (map f xs) ≡ option_map f (last xs)
 last-map f [] = refl
@@ -18,8 +16,7 @@ last_behind (x ∷ []) z zs = refl
 last_behind (x ∷ y ∷ xs) z zs = last_behind (y ∷ xs) z zs
 
 pub last_of_list : (o : Option Unit) → last (unit_list o) ≡ o
-last_of_list None = refl
-last_of_list (Some u) = refl
+last_of_list o = grind arith
 
 pub all_last : (P : Unit → Type 0) (us : List Unit) → All P us → All P (unit_list (last us))
 all_last P [] h = All-nil P
@@ -118,8 +115,7 @@ abbrev pub AreApart : (test other : SetUnit → Bool) → Type 0
 AreApart test other = (s : SetUnit) → other s ≡ true → test s ≡ false
 
 missing : (test other : SetUnit → Bool) → AreApart test other → (o : Option SetUnit) → satisfies other o ≡ true → satisfies test o ≡ false
-missing test other apart None passes = refl
-missing test other apart (Some s) passes = apart s passes
+missing test other apart o passes = grind (arith, apart)
 
 -- It brings none for another id, nor of the other kind.
 pub other_unit : (test other : SetUnit → Bool) → AreApart test other → (in_force : Bool) (us : List Unit)
@@ -130,26 +126,15 @@ other_unit test other apart in_force us =
 
 -- ---- what a parameter set's unit says
 
-fault-refused : {A : Type 0} (r : Result A SetFault) → option_map (λ why. why.fault) (refused r) ≡ fault_in r
-fault-refused (Ok set) = refl
-fault-refused (Err why) = refl
-
-pub sps-refused : (read : Option (List ℕ)) (rbsp seen : List ℕ) (fault : Option SetFault) → read ≡ Some rbsp → seen ≡ rbsp → fault ≡ refused (sps_of seen)
-    → refusal_of (option_map (λ why. why.fault) fault) ≡ refusal_of (set_fault sps read)
-sps-refused read rbsp seen fault is same put = rw (is, put, same) (ap refusal_of (fault-refused (sps_of rbsp)))
-
-pub pps-refused : (read : Option (List ℕ)) (rbsp seen : List ℕ) (fault : Option SetFault) → read ≡ Some rbsp → seen ≡ rbsp → fault ≡ refused (pps_of seen)
-    → refusal_of (option_map (λ why. why.fault) fault) ≡ refusal_of (set_fault pps read)
-pps-refused read rbsp seen fault is same put = rw (is, put, same) (ap refusal_of (fault-refused (pps_of rbsp)))
-
-no-slice : (fault : Option Fault) (P : Slice → Type 0) → IfSlice (refusal_of fault) P
-no-slice None P = tt
-no-slice (Some f) P = tt
+pub refused_as : {A : Type 0} (r : Result A SetFault) (fault : Option SetFault) → fault ≡ refused r
+    → refusal_of (option_map (λ why. why.fault) fault) ≡ refusal_of (fault_in r)
+refused_as r fault put = grind arith
 
 -- It is no slice.
-pub set-step : (r : Result Step OutOfMemory) (fault : Option Fault) (P : Slice → Type 0) → IfOk r (λ s. s ≡ ends_picture (refusal_of fault)) → IfOk r (λ s. IfSlice s.next P)
-set-step (Ok s) fault P is = rw is (no-slice fault P)
-set-step (Err e) fault P is = tt
+pub set_step : (r : Result Step OutOfMemory) (fault : Option Fault) (P : Slice → Type 0) → IfOk r (λ s. s ≡ ends_picture (refusal_of fault)) → IfOk r (λ s. IfSlice s.next P)
+set_step (Ok s) None P is = rw is tt
+set_step (Ok s) (Some f) P is = rw is tt
+set_step (Err e) fault P is = tt
 
 -- a unit with an RBSP is not too long
 pub has-body : (u : Unit) (bytes : List ℕ) → rbsp_of u ≡ Some bytes → is_some u.body ≡ true
@@ -163,9 +148,9 @@ pub on-err : {A E : Type 0} (r : Result A E) (P : Type 0) → P → OnErr r P
 on-err (Ok x) P p = tt
 on-err (Err e) P p = p
 
--- ---- parameter sets that are sent again
+pub ruleset set_refused = (refused_as, has-body)
 
--- ---- sets come alike
+-- ---- parameter sets that are sent again: sets come alike
 
 alike : {A B : Type 0} (record_of : Option B → A) (these those more : List B) → record_of (last these) ≡ record_of (last those)
     → record_of (last (these ++ more)) ≡ record_of (last (those ++ more))
@@ -202,15 +187,10 @@ abbrev pub HasOneId : (ℕ → SetUnit → Bool) → Type 0
 HasOneId test = (i j : ℕ) (s : SetUnit) → test i s ≡ true → test j s ≡ true → i ≡ j
 
 ids_apart : (test : ℕ → SetUnit → Bool) → HasOneId test → (id j : ℕ) → (j ≡ id → ⊥) → AreApart (test id) (test j)
-ids_apart test one_id id j differ s passes = by (test id s) refl
-  where
-    by : (hit : Bool) → test id s ≡ hit → test id s ≡ false
-    by true is = absurd (differ (one_id j id s passes is))
-    by false is = is
+ids_apart test one_id id j differ s passes = grind (arith, one_id j id s passes)
 
 is_id-one : (i j : ℕ) (read : Option ℕ) → is_id i read ≡ true → is_id j read ≡ true → i ≡ j
-is_id-one i j None first second = cc
-is_id-one i j (Some id) first second = sym (eqb-true id i first) ∙ eqb-true id j second
+is_id-one i j read first second = grind (arith, nat_tests)
 
 sps_one_id : HasOneId is_sps
 sps_one_id i j (OfSps rbsp) first second = is_id-one i j (sps_id rbsp) first second
@@ -381,18 +361,10 @@ by-start false false idr open_picture sets u read is is_read = rw (waiting_step,
 type_by : (idr one five parts seven eight others : Bool) → (one ≡ true → five ≡ false)
     → (if one then slice false else (if five then slice true else (if parts then partition else (if seven then sps else (if eight then pps else (if others then boundary else other_kind)))))) ≡ slice idr
     → five ≡ idr
-type_by true true five parts seven eight others apart is = cc
-type_by false true five parts seven eight others apart is = apart refl
-type_by true false true parts seven eight others apart is = refl
-type_by false false true parts seven eight others apart is = cc
-type_by idr false false true seven eight others apart is = cc
-type_by idr false false false true eight others apart is = cc
-type_by idr false false false false true others apart is = cc
-type_by idr false false false false false true apart is = cc
-type_by idr false false false false false false apart is = cc
+type_by idr one five parts seven eight others apart is = grind arith
 
 one_is_not_five : (type : ℕ) → (type == 1) ≡ true → (type == 5) ≡ false
-one_is_not_five type is = rw (eqb-true type 1 is) refl
+one_is_not_five type is = grind (arith, nat_tests)
 
 slice_type : (type : ℕ) (idr : Bool) → kind_of type ≡ slice idr → (type == 5) ≡ idr
 slice_type type idr is = type_by idr (type == 1) (type == 5) _ (type == 7) (type == 8) _ (one_is_not_five type) is

@@ -3,9 +3,7 @@ pub mod Codes
 unfoldable pub use Codes.*
 use Rattle.avc_types.specs.declared.fault.Fault.TheVariants as faults
 
--- ---- an entry says how the bits ahead are read by the table
-
--- ---- more bits behind those that decide
+-- ---- an entry says how the bits ahead are read by the table: more bits behind those that decide
 
 -- a word that neither is in front of the bits nor begins with them
 past_more : (word bits more : List Bool) → after_word word bits ≡ None → goes_on bits word ≡ false → after_word word (bits ++ more) ≡ None
@@ -13,8 +11,7 @@ past_more [] bits more e g = cc
 past_more (w ∷ word) [] more e g = cc
 past_more (true ∷ word) (true ∷ bits) more e g = past_more word bits more e g
 past_more (false ∷ word) (false ∷ bits) more e g = past_more word bits more e g
-past_more (true ∷ word) (false ∷ bits) more e g = refl
-past_more (false ∷ word) (true ∷ bits) more e g = refl
+past_more word bits more e g = refl
 
 -- a word that doesn't begin with the bits
 apart_more : (word bits more : List Bool) → is_prefix bits word ≡ false → is_prefix (bits ++ more) word ≡ false
@@ -22,15 +19,10 @@ apart_more word [] more e = cc
 apart_more [] (b ∷ bits) more e = refl
 apart_more (true ∷ word) (true ∷ bits) more e = apart_more word bits more e
 apart_more (false ∷ word) (false ∷ bits) more e = apart_more word bits more e
-apart_more (true ∷ word) (false ∷ bits) more e = refl
-apart_more (false ∷ word) (true ∷ bits) more e = refl
+apart_more word bits more e = refl
 
 stops : (bits word : List Bool) → is_prefix bits word ≡ false → goes_on bits word ≡ false
-stops bits word = by_answer (after_word bits word) refl
-  where
-    by_answer : (o : Option (List Bool)) → after_word bits word ≡ o → is_prefix bits word ≡ false → goes_on bits word ≡ false
-    by_answer None e p = ap (λ o. elim o [ None ↦ false | Some left ↦ elim left [ [] ↦ false | _ ∷ _ ↦ true ] ]) e
-    by_answer (Some left) e p = let q : true ≡ false = sym (ap (λ o. elim o [ None ↦ false | Some l ↦ true ]) e) ∙ p in cc
+stops bits word = search (rules)
 
 -- whether a codeword goes on behind the bits
 abbrev longer : {A : Type 0} → Table A → List Bool → Bool
@@ -38,17 +30,10 @@ longer table bits = list_any (λ entry. goes_on bits entry.0) table
 
 lookup-more : {A : Type 0} (table : Table A) (bits more : List Bool) (f : A × ℕ × List Bool) → lookup table bits ≡ Some f → longer table bits ≡ false → lookup table (bits ++ more) ≡ Some (f.0, f.1, f.2 ++ more)
 lookup-more [] bits more f e g = cc
-lookup-more {A} (entry ∷ table) bits more f e g = by_answer (after_word entry.0 bits) refl (lookup-more table bits more f) e g
-  where
-    by_answer : (o : Option (List Bool)) → after_word entry.0 bits ≡ o → (lookup table bits ≡ Some f → longer table bits ≡ false → lookup table (bits ++ more) ≡ Some (f.0, f.1, f.2 ++ more)) →
-        lookup (entry ∷ table) bits ≡ Some f → longer (entry ∷ table) bits ≡ false → lookup (entry ∷ table) (bits ++ more) ≡ Some (f.0, f.1, f.2 ++ more)
-    by_answer (Some left) a later e g =
-        let q : Some (entry.1, length entry.0, left) ≡ Some f = sym (lookup-here entry table bits left a) ∙ e in
-        let r : (entry.1, length entry.0, left) ≡ f = cc in
-        rw (← r) (lookup-here entry table (bits ++ more) (left ++ more) (after_word-more entry.0 bits more left a))
-    by_answer None a later e g =
-        lookup-past entry table (bits ++ more) (past_more entry.0 bits more a (or_parts _ _ g).0)
-        ∙ later (sym (lookup-past entry table bits a) ∙ e) (or_parts _ _ g).1
+lookup-more (entry ∷ table) bits more f e g = lookup_by entry table bits (λ o. o ≡ Some f → lookup (entry ∷ table) (bits ++ more) ≡ Some (f.0, f.1, f.2 ++ more))
+    (λ left a q. let r : (entry.1, length entry.0, left) ≡ f = cc in rw (← r) (lookup-here entry table (bits ++ more) (left ++ more) (after_word-more entry.0 bits more left a)))
+    (λ a q. lookup-past entry table (bits ++ more) (past_more entry.0 bits more a (or_parts _ _ g).0) ∙ lookup-more table bits more f q (or_parts _ _ g).1)
+    e
 
 -- no codeword is in front of the bits, and none begins with them
 pub record IsNone {A : Type 0} (table : Table A) (bits : List Bool) : Type 0 where
@@ -57,18 +42,16 @@ pub record IsNone {A : Type 0} (table : Table A) (bits : List Bool) : Type 0 whe
 
 none-more : {A : Type 0} (table : Table A) (bits more : List Bool) → lookup table bits ≡ None → begins table bits ≡ false → IsNone table (bits ++ more)
 none-more [] bits more e g = record { no_front = refl; no_word = refl }
-none-more {A} (entry ∷ table) bits more e g = by_answer (after_word entry.0 bits) refl (none-more table bits more) e g
-  where
-    by_answer : (o : Option (List Bool)) → after_word entry.0 bits ≡ o → (lookup table bits ≡ None → begins table bits ≡ false → IsNone table (bits ++ more)) →
-        lookup (entry ∷ table) bits ≡ None → begins (entry ∷ table) bits ≡ false → IsNone (entry ∷ table) (bits ++ more)
-    by_answer (Some left) a later e g = let q : Some (entry.1, length entry.0, left) ≡ None = sym (lookup-here entry table bits left a) ∙ e in cc
-    by_answer None a later e g =
-        let none = or_parts (is_prefix bits entry.0) (begins table bits) g in
-        let rest = later (sym (lookup-past entry table bits a) ∙ e) none.1 in
-        record {
-          no_front = lookup-past entry table (bits ++ more) (past_more entry.0 bits more a (stops bits entry.0 none.0)) ∙ rest.no_front;
-          no_word = begins-first entry table (bits ++ more) false (apart_more entry.0 bits more none.0) ∙ rest.no_word;
-        }
+none-more (entry ∷ table) bits more e g =
+    let none = or_parts (is_prefix bits entry.0) (begins table bits) g in
+    lookup_by entry table bits (λ o. o ≡ None → IsNone (entry ∷ table) (bits ++ more)) (λ left a q. cc)
+    (λ a q.
+    let rest = none-more table bits more q none.1 in
+    record {
+      no_front = lookup-past entry table (bits ++ more) (past_more entry.0 bits more a (stops bits entry.0 none.0)) ∙ rest.no_front;
+      no_word = begins-first entry table (bits ++ more) false (apart_more entry.0 bits more none.0) ∙ rest.no_word;
+    })
+    e
 
 -- ---- what an entry answers
 
@@ -89,16 +72,10 @@ split-append (b ∷ word) left = ap (λ o. option_map (λ p. (b ∷ p.0, p.1)) o
 
 -- whether so many bits can be passed
 pub skip-ok : (n : ℕ) (b : Bits) (r : Unit {0} × Bits) → skip n b ≡ Ok r → n ≤ length b.ahead
-skip-ok n b r is = elim (cases_lt (length b.ahead) n) [
-  | inl short ↦ let cut : skip n b ≡ Err faults.Truncated = skip_short n b short in cc
-  | inr long ↦ long
-]
+skip-ok n b r is = search (rules, cases_lt, skip, skip_short)
 
 pub skip-err : (n : ℕ) (b : Bits) (f : Fault) → skip n b ≡ Err f → length b.ahead < n
-skip-err n b f is = elim (cases_lt (length b.ahead) n) [
-  | inl short ↦ short
-  | inr long ↦ let passed : skip n b ≡ Ok (tt, record { position = b.position + n; ahead = drop n b.ahead }) = skip_long n b long in cc
-]
+skip-err n b f is = search (rules, cases_lt, skip, skip_long)
 
 abbrev bits_at : ℕ → List Bool → Bits
 bits_at position ahead = record { position = position; ahead = ahead }
@@ -117,15 +94,7 @@ pub record IsWordHere {A : Type 0} (table : Table A) (front : List Bool) (f : A 
   pub entry : e ≡ word_here front f.0
 
 word_entry-is : {A : Type 0} (table : Table A) (front : List Bool) (f : A × ℕ × List Bool) (e : Entry A) → word_entry table front f ≡ Some e → IsWordHere table front f e
-word_entry-is {A} table front f e p = by_left f.2 refl p
-  where
-    by_longer : f.2 ≡ [] → (g : Bool) → longer table front ≡ g → (elim g [ true ↦ None | false ↦ Some (word_here front f.0) ]) ≡ Some e → IsWordHere table front f e
-    by_longer w true h q = cc
-    by_longer w false h q = record { whole = w; no_longer = h; entry = cc }
-
-    by_left : (left : List Bool) → f.2 ≡ left → (elim left [ _ ∷ _ ↦ None | [] ↦ elim (longer table front) [ true ↦ None | false ↦ Some (word_here front f.0) ] ]) ≡ Some e → IsWordHere table front f e
-    by_left (b ∷ left) w q = cc
-    by_left [] w q = by_longer w (longer table front) refl q
+word_entry-is {A} table front f e p = search (rules)
 
 -- a word that is found
 read_word : {A : Type 0} (table : Table A) (front tail : List Bool) (f : A × ℕ × List Bool) (e : Entry A) (position : ℕ) → lookup table front ≡ Some f → word_entry table front f ≡ Some e →
@@ -140,10 +109,7 @@ read_word table front tail f e position found is =
 
 read_hole : {A : Type 0} (table : Table A) (front tail : List Bool) (position : ℕ) → lookup table front ≡ None → begins table front ≡ false →
     table_code table (bits_at position (front ++ tail)) ≡ answer (hole front) (bits_at position (front ++ tail))
-read_hole table front tail position none no_word =
-    let more = none-more table front tail none no_word in
-    code-none table (bits_at position (front ++ tail)) false more.no_front more.no_word
-    ∙ sym (ap (answered (hole front) position) (split-append front tail))
+read_hole table front tail position none no_word = search (rules, none-more, code-none, split-append)
 
 -- ---- along the bits
 
@@ -171,51 +137,31 @@ front_next front b = length-append front (b ∷ []) ∙ omega arith
 
 -- the entry is no shorter than the front
 entry_long : {A : Type 0} (table : Table A) (front bits : List Bool) (e : Entry A) → entry_from table front bits ≡ Some e → length front ≤ e.length
-entry_long {A} table front [] e is = by_case (cases table front None e is)
-  where
-    by_case : Case table front None e → length front ≤ e.length
-    by_case (is_found f found word) = omega (arith, ap (λ x. x.length) (word_entry-is table front f e word).entry)
-    by_case (is_hole none no_word same) = omega (arith, ap (λ x. x.length) same)
-    by_case (is_open none word on) = cc
-entry_long {A} table front (b ∷ bits) e is = by_case (entry_long table (front ++ b ∷ []) bits e) (cases table front (entry_from table (front ++ b ∷ []) bits) e is)
-  where
-    by_case : (entry_from table (front ++ b ∷ []) bits ≡ Some e → length (front ++ b ∷ []) ≤ e.length) → Case table front (entry_from table (front ++ b ∷ []) bits) e → length front ≤ e.length
-    by_case later (is_found f found word) = omega (arith, ap (λ x. x.length) (word_entry-is table front f e word).entry)
-    by_case later (is_hole none no_word same) = omega (arith, ap (λ x. x.length) same)
-    by_case later (is_open none word on) = omega (arith, later on, front_next front b)
+entry_long table front [] e is = search (rules, cases, word_entry-is)
+entry_long table front (b ∷ bits) e is = elim (cases table front (entry_from table (front ++ b ∷ []) bits) e is) [
+  | is_found f found word ↦ omega (arith, ap (λ x. x.length) (word_entry-is table front f e word).entry)
+  | is_hole none no_word same ↦ omega (arith, ap (λ x. x.length) same)
+  | is_open none word on ↦ omega (arith, entry_long table (front ++ b ∷ []) bits e on, front_next front b)
+]
 
 abbrev Answers : {A : Type 0} → Table A → Entry A → ℕ → List Bool → Type 0
 Answers table e position ahead = table_code table (bits_at position ahead) ≡ answer e (bits_at position ahead)
 
 -- the bits end where they decide nothing yet
 read_cut : {A : Type 0} (table : Table A) (front : List Bool) (e : Entry A) (position : ℕ) → lookup table front ≡ None → begins table front ≡ true → length front < e.length → Answers table e position (front ++ [])
-read_cut {A} table front e position none word short =
-    let P : List Bool → Type 0 = λ l. Answers table e position l in
-    subst P (sym (append-nil front)) (code-none table (bits_at position front) true none word ∙ sym (ap (answered e position) (split_short e.length front short)))
+read_cut {A} table front e position none word short = search (rules, append-nil, code-none, split_short)
 
 -- The entry answers as the table does.
 pub read_entry : {A : Type 0} (table : Table A) (front bits tail : List Bool) (e : Entry A) (position : ℕ) → entry_from table front bits ≡ Some e → Agree bits tail → Answers table e position (front ++ tail)
-read_entry {A} table front [] tail e position is agree = by_case (cases table front None e is)
-  where
-    by_case : Case table front None e → Answers table e position (front ++ tail)
-    by_case (is_found f found word) = read_word table front tail f e position found word
-    by_case (is_hole none no_word same) = rw same (read_hole table front tail position none no_word)
-    by_case (is_open none word on) = cc
-read_entry {A} table front (b ∷ bits) [] e position is agree = by_case (cases table front (entry_from table (front ++ b ∷ []) bits) e is)
-  where
-    by_case : Case table front (entry_from table (front ++ b ∷ []) bits) e → Answers table e position (front ++ [])
-    by_case (is_found f found word) = read_word table front [] f e position found word
-    by_case (is_hole none no_word same) = rw same (read_hole table front [] position none no_word)
-    by_case (is_open none word on) = read_cut table front e position none word (omega (arith, entry_long table (front ++ b ∷ []) bits e on, front_next front b))
-read_entry {A} table front (b ∷ bits) (t ∷ tail) e position is agree =
-    by_case (λ on. read_entry table (front ++ b ∷ []) bits tail e position on agree.1) (cases table front (entry_from table (front ++ b ∷ []) bits) e is)
-  where
-    by_case : (entry_from table (front ++ b ∷ []) bits ≡ Some e → Answers table e position ((front ++ b ∷ []) ++ tail)) → Case table front (entry_from table (front ++ b ∷ []) bits) e → Answers table e position (front ++ t ∷ tail)
-    by_case later (is_found f found word) = read_word table front (t ∷ tail) f e position found word
-    by_case later (is_hole none no_word same) = rw same (read_hole table front (t ∷ tail) position none no_word)
-    by_case later (is_open none word on) =
-        let P : List Bool → Type 0 = λ l. Answers table e position l in
-        subst P (append_assoc front (b ∷ []) tail ∙ ap (λ c. front ++ c ∷ tail) agree.0) (later on)
+read_entry table front [] tail e position is agree = search (rules, cases, read_word, read_hole)
+read_entry table front (b ∷ bits) [] e position is agree = search (rules, cases, read_word, read_hole, read_cut, entry_long, front_next)
+read_entry table front (b ∷ bits) (t ∷ tail) e position is agree = elim (cases table front (entry_from table (front ++ b ∷ []) bits) e is) [
+  | is_found f found word ↦ read_word table front (t ∷ tail) f e position found word
+  | is_hole none no_word same ↦ rw same (read_hole table front (t ∷ tail) position none no_word)
+  | is_open none word on ↦
+      let P : List Bool → Type 0 = λ l. Answers table e position l in
+      subst P (append_assoc front (b ∷ []) tail ∙ ap (λ c. front ++ c ∷ tail) agree.0) (read_entry table (front ++ b ∷ []) bits tail e position on agree.1)
+]
 
 -- ---- the reader's answers
 
@@ -249,17 +195,23 @@ reads_cut table e n b f d same cut =
 
 -- ---- the places of an indexed table
 
+-- the cell of rows that are computed
+cell_at : {X : Type 0} (cell : ℕ → ℕ → Option X) (m n : ℕ) (rows : List (List X)) (r c : ℕ) (none : List X) (e : X) →
+    map (λ r. map (cell r) (range_with_len 0 n)) (range_with_len 0 m) ≡ map (map Some) rows → r < m → r < length rows → c < n → c < length (get_or rows r none) →
+    cell r c ≡ Some (get_or (get_or rows r none) c e)
+cell_at cell m n rows r c none e is below within narrow there =
+    sym (get_or-map-range_with_len (cell r) 0 n c c None narrow (omega arith))
+    ∙ ap (λ l. get_or l c None) (sym (get_or-map-range_with_len (λ r. map (cell r) (range_with_len 0 n)) 0 m r r [] below (omega arith)) ∙ ap (λ l. get_or l r []) is ∙ get_or-map (map Some) rows r none [] within)
+    ∙ get_or-map Some (get_or rows r none) c e None there
+
 -- the entry at a place
-pub indexed_place : {A : Type 0} (table : Table A) (tail : ℕ) (rows : List (List (Entry A))) (row column : ℕ) (none : List (Entry A)) (e : Entry A) → IsIndexed table tail rows → row < length rows → column < 2 ^ tail → column < length (get_or rows row none) →
-    entry_of table (place_bits (length rows - 1) tail row column) ≡ Some (get_or (get_or rows row none) column e)
-indexed_place {A} table tail rows row column none e is within narrow there =
-    let cell : ℕ → ℕ → Option (Entry A) = λ r c. entry_of table (place_bits (length rows - 1) tail r c) in
-    let here : get_or (index table tail (length rows)) row [] ≡ map (cell row) (range_with_len 0 (2 ^ tail)) =
-    get_or-map-range_with_len (λ r. map (cell r) (range_with_len 0 (2 ^ tail))) 0 (length rows) row row [] within (omega arith) in
-    let given : get_or (index table tail (length rows)) row [] ≡ map Some (get_or rows row none) = ap (λ l. get_or l row []) is.same ∙ get_or-map (map Some) rows row none [] within in
-    sym (get_or-map-range_with_len (cell row) 0 (2 ^ tail) column column None narrow (omega arith))
-    ∙ ap (λ l. get_or l column None) (sym here ∙ given)
-    ∙ get_or-map Some (get_or rows row none) column e None there
+pub indexed_place : {A : Type 0} (table : Table A) (tail : ℕ) (rows : List (List (Entry A))) (row column : ℕ) (ahead : List Bool) (none : List (Entry A)) (e : Entry A) → IsIndexed table tail rows → row < length rows → column < 2 ^ tail →
+    column < length (get_or rows row none) → IsPlaceOf ahead (length rows - 1) tail row column → Decides table ahead (get_or (get_or rows row none) column e)
+indexed_place table tail rows row column ahead none e is within narrow there at = record {
+  bits = place_bits (length rows - 1) tail row column;
+  is_entry = cell_at (λ r c. entry_of table (place_bits (length rows - 1) tail r c)) (length rows) (2 ^ tail) rows row column none e is.same within within narrow there;
+  agrees = at.agrees;
+}
 
 -- one of several tables
 pub indexed_table : {A : Type 0} (each : ℕ → Table A) (tail rows : ℕ) (tables : List (List (List (Entry A)))) (k : ℕ) (none : List (List (Entry A))) →
@@ -275,17 +227,13 @@ indexed_table {A} each tail rows tables k none is there =
     }
 
 -- the entry of three bits in one of several tables
-pub front_entry : {A : Type 0} (each : ℕ → Table A) (tables : List (List (Entry A))) (k n : ℕ) (none : List (Entry A)) (e : Entry A) → AreFronts each tables → k < length tables → n < 8 → n < length (get_or tables k none) →
-    entry_of (each k) (bits_of 3 n) ≡ Some (get_or (get_or tables k none) n e)
-front_entry {A} each tables k n none e are within narrow there =
-    let cell : ℕ → ℕ → Option (Entry A) = λ t f. entry_of (each t) (bits_of 3 f) in
-    let here : get_or (map (λ t. map (cell t) (range_with_len 0 8)) (range_with_len 0 (length tables))) k [] ≡ map (cell k) (range_with_len 0 8) =
-    get_or-map-range_with_len (λ t. map (cell t) (range_with_len 0 8)) 0 (length tables) k k [] within (omega arith) in
-    let given : get_or (map (λ t. map (cell t) (range_with_len 0 8)) (range_with_len 0 (length tables))) k [] ≡ map Some (get_or tables k none) =
-    ap (λ l. get_or l k []) are.same ∙ get_or-map (map Some) tables k none [] within in
-    sym (get_or-map-range_with_len (cell k) 0 8 n n None narrow (omega arith))
-    ∙ ap (λ l. get_or l n None) (sym here ∙ given)
-    ∙ get_or-map Some (get_or tables k none) n e None there
+pub front_entry : {A : Type 0} (each : ℕ → Table A) (tables : List (List (Entry A))) (k n : ℕ) (ahead : List Bool) (none : List (Entry A)) (e : Entry A) → AreFronts each tables → k < length tables → n < 8 → n < length (get_or tables k none) →
+    IsFrontOf ahead 3 n → Decides (each k) ahead (get_or (get_or tables k none) n e)
+front_entry each tables k n ahead none e are within narrow there at = record {
+  bits = bits_of 3 n;
+  is_entry = cell_at (λ t f. entry_of (each t) (bits_of 3 f)) (length tables) 8 tables k n none e are.same within within narrow there;
+  agrees = at.agrees;
+}
 
 six_computed : map (λ n. entry_of tokens_8 (bits_of 6 n)) (range_with_len 0 64) ≡ map (λ n. Some (six_bit_entry n)) (range_with_len 0 64)
 six_computed = refl
@@ -299,9 +247,7 @@ six_bits_decide number small =
 -- ---- the table of coded_block_pattern
 
 all_below : (numbers : List ℕ) (n most : ℕ) → list_all (λ v. nat_lt v most) numbers ≡ true → n < length numbers → get_or numbers n 0 < most
-all_below [] n most test within = absurd (omega arith)
-all_below (v ∷ numbers) zero most test within = ltb-true v most (and_parts (nat_lt v most) (list_all (λ w. nat_lt w most) numbers) test).0
-all_below (v ∷ numbers) (suc n) most test within = all_below numbers n most (and_parts (nat_lt v most) (list_all (λ w. nat_lt w most) numbers) test).1 (omega arith)
+all_below numbers n most test within = ltb-true (get_or numbers n 0) most (all_at (λ v. nat_lt v most) numbers n 0 test within)
 
 pub intra_below : (n : ℕ) → n < 48 → get_or cbp_intra n 0 < 48
 intra_below n small = all_below cbp_intra n 48 refl small
@@ -379,9 +325,7 @@ one_behind word zeros low tail large small =
 
 -- zeros
 zeros_behind : (word zeros low : ℕ) → word < 2 ^ low → bits_of (zeros + low) word ≡ replicate zeros false ++ bits_of low word
-zeros_behind word zeros low small =
-    let none : word / 2 ^ low ≡ 0 = div-eq_of_lt small in
-    bits_of-append zeros low word ∙ rw (none, bits_of-zero zeros) refl
+zeros_behind word zeros low small = search (rules, div-eq_of_lt, bits_of-append, bits_of-zero)
 
 pub agree_place : (word last tail row column : ℕ) (ahead : List Bool) → last ≤ 15 → tail ≤ 8 → row ≡ min (count_leading_zeros 32 word) last → column ≡ word / 2 ^ (31 - tail - row) % 2 ^ tail →
     IsAhead word ahead → Agree (place_bits last tail row column) ahead
@@ -461,16 +405,7 @@ word_none {A} same value test (entry ∷ table) is all fails =
 -- the word of an entry that has the value
 held : {A : Type 0} (same : A → A → Bool) (value : A) (table : Table A) (entry : Entry A) (word : List Bool) → ((a b : A) → same a b ≡ true → a ≡ b) →
     entry_word same table entry ≡ (elim entry.value [ None ↦ None | Some own ↦ Some word ]) → holds same value entry ≡ true → Some word ≡ word_of (same value) table
-held {A} same value table entry word is placed here = by_value entry.value refl
-  where
-    by_value : (v : Option A) → entry.value ≡ v → Some word ≡ word_of (same value) table
-    by_value None e = let q : false ≡ true = sym (ap (λ v. elim v [ None ↦ false | Some own ↦ same value own ]) e) ∙ here in cc
-    by_value (Some own) e =
-        let one : same value own ≡ true = sym (ap (λ v. elim v [ None ↦ false | Some own ↦ same value own ]) e) ∙ here in
-        sym (ap (λ v. elim v [ None ↦ None | Some own ↦ Some word ]) e)
-        ∙ sym placed
-        ∙ ap (λ v. elim v [ None ↦ None | Some own ↦ word_of (same own) table ]) e
-        ∙ ap (λ v. word_of (same v) table) (sym (is value own one))
+held {A} same value table entry word is placed here = search (rules)
 
 pub word_found : {A : Type 0} (same : A → A → Bool) (value : A) (table : Table A) (tail : ℕ) (rows : List (List (Entry A))) (row column : ℕ) (none : List (Entry A)) (e : Entry A) → ((a b : A) → same a b ≡ true → a ≡ b) → IsWritten same table tail rows →
     row < length rows → column < length (get_or rows row none) → holds same value (get_or (get_or rows row none) column e) ≡ true →

@@ -23,6 +23,7 @@ pub fn read_cbp(reader: &mut BitReader, intra: bool) -> Result<u8, Fault>
 }
 
 /// CodedBlockPatternLuma + 16 * CodedBlockPatternChroma of a codeNum of me(v), in an intra macroblock or in another.
+#[tactic(auto, using(crate::proofs::Entries::pattern_intra, crate::proofs::Entries::pattern_inter))]
 pub fn cbp_of(number: u32, intra: bool) -> u8
     requires { number < 48 }
     ensures value { pattern_at intra number ≡ Some result }

@@ -3,9 +3,7 @@ pub mod Common
 unfoldable pub use Common.*
 use Rattle.avc_types.specs.declared.fault.Fault.TheVariants as faults
 
--- ---- reading runs, and how many places they take
-
--- ---- what came before a value
+-- ---- reading runs, and how many places they take: what came before a value
 
 pub record Before {A B : Type 0} (part : Result (A × Bits) Fault) (next : A → Read B) (y : B) (after : Bits) : Type 0 where
   pub value : A
@@ -20,11 +18,8 @@ before (Err f) next b y after is = cc
 pub ok_parts : {A B : Type 0} {x y : A} {a b : B} → ◌≡◌ {A = Result (A × B) Fault} (Ok (x, a)) (Ok (y, b)) → (x ≡ y) × (a ≡ b)
 ok_parts is = grind arith
 
-pub given : {A : Type 0} (x y : A) (b after : Bits) → give x b ≡ Ok (y, after) → (x ≡ y) × (b ≡ after)
-given x y b after is = ok_parts is
-
 checked : (test : Bool) (f : Fault) (x y : ℕ) (b after : Bits) → ((check test f >> give x) b) ≡ Ok (y, after) → (test ≡ true) × (x ≡ y)
-checked true f x y b after is = (refl, (given x y b after is).0)
+checked true f x y b after is = (refl, (ok_parts is).0)
 checked false f x y b after is = cc
 
 -- ---- one run
@@ -43,29 +38,21 @@ run_before_most zeros_left gap b after is =
     omega (arith, test.1)
 
 pub run_most : (others zeros_left gap : ℕ) (b after : Bits) → run others zeros_left b ≡ Ok (gap, after) → gap ≤ zeros_left
-run_most zero zeros_left gap b after is = omega (arith, (given zeros_left gap b after is).0)
-run_most (suc others) zero gap b after is = omega (arith, (given 0 gap b after is).0)
 run_most (suc others) (suc zeros_left) gap b after is = run_before_most (suc zeros_left) gap b after is
+run_most others zeros_left gap b after is = omega (arith, (ok_parts is).0)
 
 pub run_last : (others zeros_left gap : ℕ) (b after : Bits) → run others zeros_left b ≡ Ok (gap, after) → others ≡ 0 → zeros_left ≡ gap
-run_last zero zeros_left gap b after is last = (given zeros_left gap b after is).0
+run_last zero zeros_left gap b after is last = (ok_parts is).0
 run_last (suc others) zeros_left gap b after is last = absurd (omega arith)
 
 -- ---- the places
 
 pub each_more : (v : ℤ) (values : List ℤ) (gap : ℕ) (zero_runs : List ℕ) →
     each_after_zeros (v ∷ values) (gap ∷ zero_runs) ≡ each_after_zeros values zero_runs ++ (replicate gap (pos 0) ++ v ∷ [])
-each_more v values gap zero_runs =
-    let f : ℤ × ℕ → List ℤ = λ p. replicate p.1 (pos 0) ++ p.0 ∷ [] in
-    ap (flat_map f) (reverse_onto (zip values zero_runs) (v, gap) [])
-    ∙ flat_map-append f (reverse (zip values zero_runs)) ((v, gap) ∷ [])
-    ∙ ap (λ l. each_after_zeros values zero_runs ++ l) (append-nil (replicate gap (pos 0) ++ v ∷ []))
+each_more v values gap zero_runs = grind (arith, reverse_onto, flat_map-append, reverse, append-nil)
 
 length_each_more : (v : ℤ) (values : List ℤ) (gap : ℕ) (zero_runs : List ℕ) → length (each_after_zeros (v ∷ values) (gap ∷ zero_runs)) ≡ length (each_after_zeros values zero_runs) + (gap + 1)
-length_each_more v values gap zero_runs =
-    ap length (each_more v values gap zero_runs)
-    ∙ length-append (each_after_zeros values zero_runs) (replicate gap (pos 0) ++ v ∷ [])
-    ∙ ap (λ n. length (each_after_zeros values zero_runs) + n) (length-append (replicate gap (pos 0)) (v ∷ []) ∙ ap (λ n. n + 1) (length-replicate gap (pos 0)))
+length_each_more v values gap zero_runs = grind (arith, each_more, length-append, length-replicate)
 
 abbrev then_runs : ℕ → ℕ → ℕ → Read (List ℕ)
 then_runs n zeros_left gap = runs n (zeros_left - gap) >>= (λ others. give (gap ∷ others))
@@ -74,29 +61,21 @@ then_runs n zeros_left gap = runs n (zeros_left - gap) >>= (λ others. give (gap
 pub runs_length : (n : ℕ) (values : List ℤ) (zeros_left : ℕ) (zero_runs : List ℕ) (b after : Bits) → length values ≡ n → (n ≡ 0 → zeros_left ≡ 0) → runs n zeros_left b ≡ Ok (zero_runs, after) →
     length (each_after_zeros values zero_runs) ≡ n + zeros_left
 runs_length zero [] zeros_left zero_runs b after long none is = omega (arith, none refl)
-runs_length zero (v ∷ values) zeros_left zero_runs b after long none is = absurd (omega arith)
-runs_length (suc n) [] zeros_left zero_runs b after long none is = absurd (omega arith)
 runs_length (suc n) (v ∷ values) zeros_left zero_runs b after long none is =
     let one = before (run n zeros_left b) (then_runs n zeros_left) b zero_runs after is in
     let others = before (runs n (zeros_left - one.value) one.left) (λ o. give (one.value ∷ o)) one.left zero_runs after one.second in
-    let same : one.value ∷ others.value ≡ zero_runs = (given (one.value ∷ others.value) zero_runs others.left after others.second).0 in
-    let most : one.value ≤ zeros_left = run_most n zeros_left one.value b one.left one.first in
-    let last : n ≡ 0 → zeros_left - one.value ≡ 0 = λ e. let all : zeros_left ≡ one.value = run_last n zeros_left one.value b one.left one.first e in omega arith in
-    let rest : length (each_after_zeros values others.value) ≡ n + (zeros_left - one.value) = runs_length n values (zeros_left - one.value) others.value one.left others.left (omega arith) last others.first in
-    ap (λ l. length (each_after_zeros (v ∷ values) l)) (sym same) ∙ length_each_more v values one.value others.value ∙ omega arith
+    let same : one.value ∷ others.value ≡ zero_runs = (ok_parts others.second).0 in
+    let last : n ≡ 0 → zeros_left - one.value ≡ 0 = λ e. omega (arith, run_last n zeros_left one.value b one.left one.first e) in
+    let rest = runs_length n values (zeros_left - one.value) others.value one.left others.left (omega arith) last others.first in
+    ap (λ l. length (each_after_zeros (v ∷ values) l)) (sym same) ∙ length_each_more v values one.value others.value ∙ omega (arith, rest, run_most n zeros_left one.value b one.left one.first)
+runs_length _ _ zeros_left zero_runs b after long none is = absurd (omega arith)
 
--- ---- one value more is put in its place
-
--- ---- reading
+-- ---- one value more is put in its place: reading
 
 after_run : (r : Result (List ℕ × Bits) Fault) (done values : List ℤ) (v : ℤ) (gap : ℕ) (b : Bits) →
     (((λ _. r) >>= (λ others. give (gap ∷ others))) >>= (λ zero_runs. give (each_after_zeros (v ∷ values) zero_runs ++ done))) b
     ≡ ((λ _. r) >>= (λ zero_runs. give (each_after_zeros values zero_runs ++ (replicate gap (pos 0) ++ v ∷ done)))) b
-after_run (Ok p) done values v gap b =
-    ap (λ l. Ok (l, p.1))
-    (ap (λ l. l ++ done) (each_more v values gap p.0)
-    ∙ append_assoc (each_after_zeros values p.0) (replicate gap (pos 0) ++ v ∷ []) done
-    ∙ ap (λ l. each_after_zeros values p.0 ++ l) (append_assoc (replicate gap (pos 0)) (v ∷ []) done))
+after_run (Ok p) done values v gap b = grind (arith, each_more, append_assoc)
 after_run (Err f) done values v gap b = refl
 
 pub run_more : (done values others : List ℤ) (v : ℤ) (n left zeros_left gap : ℕ) (b mid : Bits) → left ≡ suc n → values ≡ v ∷ others → run n zeros_left b ≡ Ok (gap, mid) →
@@ -139,17 +118,13 @@ side_by_side done (v ∷ values) (suc n) b long =
 
 -- one value is left, which has all zeros before it
 last_value : (done : List ℤ) (v : ℤ) (zeros_left : ℕ) (b : Bits) → placed_before done (v ∷ []) 1 zeros_left b ≡ Ok (replicate zeros_left (pos 0) ++ (v ∷ done), b)
-last_value done v zeros_left b =
-    run_more done (v ∷ []) [] v 0 1 zeros_left zeros_left b b refl refl refl
-    ∙ no_run (replicate zeros_left (pos 0) ++ (v ∷ done)) [] 0 (zeros_left - zeros_left) b refl refl
+last_value done v zeros_left b = simp append_assoc
 
 pub no_runs : (done values : List ℤ) (n zeros_left : ℕ) (b : Bits) → length values ≡ n → 1 ≤ n → (2 ≤ n → zeros_left ≡ 0) →
     placed_before done values n zeros_left b ≡ Ok (replicate zeros_left (pos 0) ++ (reverse values ++ done), b)
 no_runs done [] n zeros_left b long some none = absurd (omega arith)
 no_runs done (v ∷ []) n zeros_left b long some none = let one : n ≡ 1 = omega arith in rw one (last_value done v zeros_left b)
-no_runs done (v ∷ w ∷ values) n zeros_left b long some none =
-    let zero_left : zeros_left ≡ 0 = none (omega arith) in
-    rw zero_left (side_by_side done (v ∷ w ∷ values) n b long)
+no_runs done (v ∷ w ∷ values) n zeros_left b long some none = grind (arith, side_by_side)
 
 -- ---- the array
 
@@ -172,28 +147,22 @@ pub record IsOpen (place : ℕ) (levels : List ℤ) : Type 0 where
 pub open_first : (place max : ℕ) → place ≤ max → IsOpen place (replicate max (pos 0))
 open_first place max within = record { within = omega (arith, length-replicate max (pos 0)); front = take-replicate place max (pos 0) within }
 
+pub open_front : (place next : ℕ) (levels : List ℤ) → IsOpen place levels → next ≤ place → take next levels ≡ replicate next (pos 0)
+open_front place next levels is less = rw (← take-take next place levels less, is.front) (take-replicate next place (pos 0) less)
+
 pub open_more : (place at gap next : ℕ) (levels : List ℤ) (v : ℤ) → IsOpen place levels → place ≡ suc at → at ≡ next + gap → IsOpen next (set levels at v)
 open_more place at gap next levels v is is_place is_at = record {
   within = omega (arith, is.within, length-set {A = ℤ});
-  front = take-set-le next levels at v (omega arith)
-      ∙ sym (take-take next place levels (omega arith))
-      ∙ ap (take next) is.front
-      ∙ take-replicate next place (pos 0) (omega arith);
+  front = rw (take-set-le next levels at v (omega arith)) (open_front place next levels is (omega arith));
 }
 
 -- the places behind have the value after its gap, and what was done
 pub done_more : (place at gap next : ℕ) (levels : List ℤ) (v : ℤ) → IsOpen place levels → place ≡ suc at → at ≡ next + gap →
     drop next (set levels at v) ≡ replicate gap (pos 0) ++ v ∷ drop place levels
 done_more place at gap next levels v is is_place is_at =
-    let after : place ≡ at + 1 = omega arith in
-    let here : drop at (set levels at v) ≡ v ∷ drop place levels = drop-set levels at v (omega (arith, is.within)) ∙ ap (λ k. v ∷ drop k levels) (sym after) in
-    let front : take gap (drop next (set levels at v)) ≡ replicate gap (pos 0) =
-    sym (drop-take next gap (set levels at v))
-    ∙ ap (λ k. drop next (take k (set levels at v))) (sym is_at)
-    ∙ ap (drop next) (take-set-le at levels at v (omega arith) ∙ sym (take-take at place levels (omega arith)) ∙ ap (take at) is.front ∙ take-replicate at place (pos 0) (omega arith))
-    ∙ drop-replicate next at (pos 0) ∙ ap (λ k. replicate k (pos 0)) (omega arith) in
-    let rest : drop gap (drop next (set levels at v)) ≡ v ∷ drop place levels = drop-drop gap next (set levels at v) ∙ ap (λ k. drop k (set levels at v)) (omega arith) ∙ here in
-    sym (take-append-drop gap (drop next (set levels at v))) ∙ ap (λ l. l ++ drop gap (drop next (set levels at v))) front ∙ ap (λ l. replicate gap (pos 0) ++ l) rest
+    let left : at - next ≡ gap = omega arith in
+    let within : next ≤ length (replicate at (pos 0)) = omega (arith, length-replicate {A = ℤ}) in
+    rw (set_split levels at v (omega (arith, is.within)), open_front place at levels is (omega arith), ← is_place, drop-append-le next (replicate at (pos 0)) (v ∷ drop place levels) within, drop-replicate next at (pos 0), left) refl
 
 -- ---- how many are not 0
 
@@ -220,10 +189,8 @@ pub small_zero : IsSmall (pos 0)
 small_zero = record { low = omega (arith, ints); high = omega (arith, ints) }
 
 pub small_none : (max i : ℕ) → IsSmall (get_or (replicate max (pos 0)) i (pos 0))
-small_none max i = elim (cases_lt i max) [
-  | inl within ↦ subst IsSmall (sym (get_or-replicate max i (pos 0) (pos 0) within)) small_zero
-  | inr past ↦ subst IsSmall (sym (get_or_past (replicate max (pos 0)) i (pos 0) (omega (arith, length-replicate max (pos 0))))) small_zero
-]
+small_none (suc max) (suc i) = small_none max i
+small_none max i = small_zero
 
 pub small_more : (levels : List ℤ) (at : ℕ) (v : ℤ) → ((i : ℕ) → IsSmall (get_or levels i (pos 0))) → IsLevel v → at < length levels → (i : ℕ) → IsSmall (get_or (set levels at v) i (pos 0))
 small_more levels at v all here within i = elim (cases_eq i at) [
@@ -242,18 +209,13 @@ first_read false p rest = refl
 
 all_read : (n p : ℕ) (xs rest : List Bool) → length xs ≡ n → times n trailing_one (from p (xs ++ rest)) ≡ Ok (map one_of_sign xs, from (p + n) rest)
 all_read zero p [] rest long = ap (λ k. Ok ([], from k rest)) (omega arith)
-all_read zero p (x ∷ xs) rest long = absurd (omega arith)
-all_read (suc n) p [] rest long = absurd (omega arith)
-all_read (suc n) p (x ∷ xs) rest long =
-    one_first trailing_one n (from p (x ∷ (xs ++ rest))) (from (p + 1) (xs ++ rest)) (from (p + 1 + n) rest) (one_of_sign x) (map one_of_sign xs)
-    (first_read x p (xs ++ rest)) (all_read n (p + 1) xs rest (omega arith))
-    ∙ ap (λ k. Ok (one_of_sign x ∷ map one_of_sign xs, from k rest)) (omega arith)
+all_read (suc n) p (x ∷ xs) rest long = grind (arith, one_first, first_read, all_read n (p + 1) xs rest (omega arith))
+all_read _ p _ rest long = absurd (omega arith)
 
 short_read : (n p : ℕ) (xs : List Bool) → length xs < n → times n trailing_one (from p xs) ≡ Err Truncated
 short_read zero p xs short = absurd (omega arith)
 short_read (suc n) p [] short = refl
-short_read (suc n) p (x ∷ xs) short =
-    fault_later trailing_one n (from p (x ∷ xs)) (from (p + 1) xs) (one_of_sign x) Truncated (first_read x p xs) (short_read n (p + 1) xs (omega arith))
+short_read (suc n) p (x ∷ xs) short = grind (arith, fault_later, first_read, short_read n (p + 1) xs (omega arith))
 
 -- the ones of three bits
 abbrev pub three_ones : ℕ → List ℤ
@@ -283,18 +245,13 @@ ones_read n signs b after few same skipped =
     ∙ ap (λ a. Ok (take n (three_ones signs), a)) there
 
 pub ones_fault : (n : ℕ) (b : Bits) (f : Fault) → skip n b ≡ Err f → times n trailing_one b ≡ Err f
-ones_fault n b f skipped =
-    let short : length b.ahead < n = skip-err n b f skipped in
-    let same : f ≡ Truncated = ap (λ r. elim r [ Ok p ↦ Truncated | Err g ↦ g ]) (sym skipped ∙ skip_short n b short) in
-    short_read n b.position b.ahead short ∙ ap (λ g. Err g) (sym same)
+ones_fault n b f skipped = grind (arith, skip-err, skip_short, short_read)
 
 -- ---- the array of levels
 
 pub ones_put : (n : ℕ) (xs : List ℤ) (x y z : ℤ) → n ≤ 3 → 3 ≤ length xs → take n (set (set (set xs 0 x) 1 y) 2 z) ≡ take n (x ∷ y ∷ z ∷ [])
-ones_put n [] x y z few long = absurd (omega arith)
-ones_put n (a ∷ []) x y z few long = absurd (omega arith)
-ones_put n (a ∷ b ∷ []) x y z few long = absurd (omega arith)
 ones_put n (a ∷ b ∷ c ∷ xs) x y z few long = up_to_three (λ k. take k (x ∷ y ∷ z ∷ xs) ≡ take k (x ∷ y ∷ z ∷ [])) refl refl refl refl n few
+ones_put n xs x y z few long = absurd (omega arith)
 
 one_level : (negative : Bool) → IsLevel (one_of_sign negative)
 one_level true = record { some = omega (arith, ints); most = omega (arith, ints) }
@@ -318,9 +275,7 @@ of_signs : (signs : ℕ) → signs < 8 → get_or table signs [] ≡ three_ones 
 of_signs signs few = get_or-map-range_with_len three_ones 0 8 signs signs [] few (omega arith)
 
 pub one_there : (signs k : ℕ) → signs < 8 → k < 3 → get_or (get_or table signs []) k (pos 0) ≡ one_of_sign (signs / 2 ^ (2 - k) % 2 == 1)
-one_there signs k three few =
-    ap (λ l. get_or l k (pos 0)) (of_signs signs three)
-    ∙ up_to_three (λ j. j < 3 → get_or (three_ones signs) j (pos 0) ≡ one_of_sign (signs / 2 ^ (2 - j) % 2 == 1)) (λ w. refl) (λ w. refl) (λ w. refl) (λ w. absurd (omega arith)) k (omega arith) few
+one_there signs k three few = grind (arith, of_signs, up_to_three)
 
 -- ---- a block of 16 levels as one of fewer
 
@@ -330,38 +285,23 @@ ReadsShorter max values n zeros b after block =
     (placed_by_runs max values n zeros b ≡ Ok (take max block, after)) × (drop max block ≡ replicate (16 - max) (pos 0))
 
 front : (found : List ℤ) (max more : ℕ) → length found + more ≡ max → max ≤ 16 → take max (found ++ replicate (16 - length found) (pos 0)) ≡ found ++ replicate (max - length found) (pos 0)
-front found max more is few =
-    let rest : more ≡ max - length found = omega arith in
-    rw (← is) (take-append-add found (replicate (16 - length found) (pos 0)) more)
-    ∙ ap (λ l. found ++ l) (take-replicate more (16 - length found) (pos 0) (omega arith) ∙ ap (λ k. replicate k (pos 0)) rest)
+front found max more is few = grind (arith, take-append-add, take-replicate)
 
 behind : (found : List ℤ) (max more : ℕ) → length found + more ≡ max → max ≤ 16 → drop max (found ++ replicate (16 - length found) (pos 0)) ≡ replicate (16 - max) (pos 0)
-behind found max more is few =
-    ap (λ k. drop k (found ++ replicate (16 - length found) (pos 0))) (sym is)
-    ∙ drop-append-add found (replicate (16 - length found) (pos 0)) more
-    ∙ drop-replicate more (16 - length found) (pos 0)
-    ∙ ap (λ k. replicate k (pos 0)) (omega arith)
+behind found max more is few = grind (arith, drop-append-add, drop-replicate)
 
 pub shorter : (max : ℕ) (values : List ℤ) (n zeros : ℕ) (b after : Bits) (block : List ℤ) → length values ≡ n → (n ≡ 0 → zeros ≡ 0) → n + zeros ≤ max → max ≤ 16 →
     placed_by_runs 16 values n zeros b ≡ Ok (block, after) → ReadsShorter max values n zeros b after block
-shorter max values n zeros b after block long none room few is_block = by_runs (runs n zeros b) refl
+shorter max values n zeros b after block long none room few is_block = by (before (runs n zeros b) (λ zero_runs. give (placed 16 values zero_runs)) b block after is_block)
   where
-    by_runs : (r : Result (List ℕ × Bits) Fault) → runs n zeros b ≡ r → ReadsShorter max values n zeros b after block
-    by_runs (Err f) is =
-        let fault : placed_by_runs 16 values n zeros b ≡ Err f = rw is refl in
-        let no : ◌≡◌ {A = Result (List ℤ × Bits) Fault} (Err f) (Ok (block, after)) = sym fault ∙ is_block in
-        cc
-    by_runs (Ok p) is =
-        let found = each_after_zeros values p.0 in
-        let size : length found ≡ n + zeros = runs_length n values zeros p.0 b p.1 long none is in
-        let all : placed_by_runs 16 values n zeros b ≡ Ok (found ++ replicate (16 - length found) (pos 0), p.1) = rw is refl in
-        let both = ok_parts (sym all ∙ is_block) in
-        let same = both.0 in
-        let there = both.1 in
-        let gap : length found + (max - length found) ≡ max = omega arith in
-        let some : placed_by_runs max values n zeros b ≡ Ok (found ++ replicate (max - length found) (pos 0), p.1) = rw is refl in (
-          some ∙ rw (there, ← same, front found max (max - length found) gap few) refl,
-          ap (drop max) (sym same) ∙ behind found max (max - length found) gap few,
+    by : Before (runs n zeros b) (λ zero_runs. give (placed 16 values zero_runs)) block after → ReadsShorter max values n zeros b after block
+    by one =
+        let found = each_after_zeros values one.value in
+        let size : length found ≡ n + zeros = runs_length n values zeros one.value b one.left long none one.first in
+        let both = ok_parts one.second in
+        let gap : length found + (max - length found) ≡ max = omega arith in (
+          rw (one.first, ← both.0, ← both.1, front found max (max - length found) gap few) refl,
+          rw (← both.0) (behind found max (max - length found) gap few),
         )
 
 pub shorter_count : (max : ℕ) (block : List ℤ) (k : ℕ) → drop max block ≡ replicate k (pos 0) → total_coeff (take max block) ≡ total_coeff block

@@ -3,9 +3,7 @@ pub mod EdgesOnPlane
 unfoldable pub use EdgesOnPlane.*
 use Rattle.avc_neigh.specs.declared.neighbour_info.Motion.TheVariants.{Inter as inter_motion}
 
--- ---- the macroblocks and blocks on both sides of a place of an edge, and the setting of its line
-
--- ---- addresses
+-- ---- the macroblocks and blocks on both sides of a place of an edge, and the setting of its line: addresses
 
 address_is : (c : Coded) (x y column row : ℕ) → x / 16 ≡ column → y / 16 ≡ row → address_of c x y ≡ row * c.width + column
 address_is c x y column row e f = ap (λ u. (y / 16) * c.width + u) e ∙ ap (λ v. v * c.width + column) f
@@ -57,20 +55,14 @@ module _ (c : Coded) (motion : List (List Motion)) (k : ℕ) where
       luma_per_sample k * x ≡ along v (16 * column) (4 * n) j → luma_per_sample k * y ≡ along (not v) (16 * row) (4 * n) j →
       setting_at c motion (record { component = k; is_vertical = v; x = x; y = y })
       ≡ between (p_address c v n a) (edge_block v ((n + 3) % 4) (j / 4)) a (edge_block v n (j / 4))
-  setting_along true column row a n j x y at low j_low across down e f =
-      let G : ℕ → ℕ → Setting = λ X Y. between (address_of c (X - 1) Y) (block_at ((X - 1) % 16) (Y % 16)) (address_of c X Y) (block_at (X % 16) (Y % 16)) in
-      let some = across refl in
-      ap (λ X. G X (luma_per_sample k * y)) e ∙ ap (G (16 * column + 4 * n)) f
-      ∙ four between _ _ _ _ _ _ _ _ (before c column row a j at j_low true n low across down) (omega arith) (here c column row a j at j_low true n low) (omega arith)
+  setting_along true column row a n j x y at low j_low across down e f = grind (arith, four, here)
   setting_along false column row a n j x y at low j_low across down e f =
       let G : ℕ → ℕ → Setting = λ X Y. between (address_of c X (Y - 1)) (block_at (X % 16) ((Y - 1) % 16)) (address_of c X Y) (block_at (X % 16) (Y % 16)) in
       let some = down refl in
       ap (λ X. G X (luma_per_sample k * y)) e ∙ ap (G (16 * column + j)) f
       ∙ four between _ _ _ _ _ _ _ _ (before c column row a j at j_low false n low across down) (omega arith) (here c column row a j at j_low false n low) (omega arith)
 
--- ---- edges whose lines have equal settings, and edges of strength 0
-
--- ---- equal settings
+-- ---- edges whose lines have equal settings, and edges of strength 0: equal settings
 
 lines_same : (f g : ℕ → Setting) (v : Bool) (x y a m : ℕ) (s : Plane) → ((i : ℕ) → i < a + m → f i ≡ g i) → lines_filtered f v x y (range_with_len a m) s ≡ lines_filtered g v x y (range_with_len a m) s
 lines_same f g true x y a zero s same = refl
@@ -343,9 +335,7 @@ module _ (c : Coded) (motion : List (List Motion)) (a : ℕ) where
       ∙ component_in_order c motion a 2 s2
       ∙ same_planes (filters_vertical c a 0) (filters_horizontal c a 0) (filters_edge_to c a a) s
 
--- ---- the macroblocks of a row, one after another
-
--- ---- which edges are filtered
+-- ---- the macroblocks of a row, one after another: which edges are filtered
 
 filters_is : (e : FilteredEdges) (b : Bool) → filters_at e b ≡ (elim e [
   | All ↦ true

@@ -7,9 +7,7 @@ use Rattle.avc_types.specs.Results.{◌>>=◌}
 use Rattle.avc_units.specs.Grouping.{slice, sps as sps_kind, pps as pps_kind}
 use Rattle.avc_types.specs.declared.fault.Fault.TheVariants as faults
 
--- ---- units with other numbers: slices, pictures and events are the same but for these
-
--- ---- what names a unit, with that unit's other number
+-- ---- units with other numbers: slices, pictures and events are the same but for these: what names a unit, with that unit's other number
 
 abbrev pub renumbered_slice : (ℕ → ℕ) → Slice → Slice
 renumbered_slice r s = record s { unit = r s.unit }
@@ -118,13 +116,8 @@ on-same : (r : ℕ → ℕ) (o : OpenPicture) (h : History)
     → progress_on (renumbered_picture r o) h ≡ renumbered_progress r (progress_on o h)
 on-same r o h = progress-same r (start_on o h) (o.last ∷ o.earlier)
 
-planes-same : (r : ℕ → ℕ) (o : OpenPicture) (h : History) → picture_planes (renumbered_picture r o) h ≡ picture_planes o h
-planes-same r o h = ap (λ g. deblocked (coded_of (start_on o h) g)) (on-same r o h)
-
 closed-same : (r : ℕ → ℕ) (o : OpenPicture) (h : History) → closed_history (renumbered_picture r o) h ≡ closed_history o h
-closed-same r o h =
-    ap (λ hd. history_after_closing o.sps hd (picture_planes (renumbered_picture r o) h) h) (header-same r o)
-    ∙ ap (λ planes. history_after_closing o.sps (first_header o) planes h) (planes-same r o h)
+closed-same r o h = ap₂ (λ hd g. history_after_closing o.sps hd (deblocked (coded_of (start_on o h) g)) h) (header-same r o) (on-same r o h)
 
 history-same : (r : ℕ → ℕ) (o : OpenPicture) → history_of (renumbered_picture r o) ≡ history_of o
 history-same r o =
@@ -148,23 +141,11 @@ facts-same r o =
 
 -- ---- its first fault
 
-full-same : (r : ℕ → ℕ) (full : Bool) (unit : ℕ) (closed : Result History Fault)
-    → by_full full (r unit) closed ≡ option_map (renumbered_fault r) (by_full full unit closed)
-full-same r true unit (Ok h) = refl
-full-same r _ unit closed = refl
-
-closing-same : (r : ℕ → ℕ) (o : OpenPicture) (h : History)
-    → found_at_closing (renumbered_picture r o) h ≡ option_map (renumbered_fault r) (found_at_closing o h)
-closing-same r o h =
-    ap (λ g. by_full (is_full (start_on o h) g) (r (o.last).unit) (closed_history (renumbered_picture r o) h)) (on-same r o h)
-    ∙ ap (by_full (is_full (start_on o h) (progress_on o h)) (r (o.last).unit)) (closed-same r o h)
-    ∙ full-same r (is_full (start_on o h) (progress_on o h)) (o.last).unit (closed_history o h)
-
-then-same : (r : ℕ → ℕ) (f : Option (ℕ × Fault)) (closing : Bool) (c' c : Option (ℕ × Fault))
-    → c' ≡ option_map (renumbered_fault r) c
-    → then_closing (option_map (renumbered_fault r) f) closing c' ≡ option_map (renumbered_fault r) (then_closing f closing c)
-then-same r None true c' c e = e
-then-same r f closing c' c e = refl
+later-cases : (r : ℕ → ℕ) (f : Option (ℕ × Fault)) (closing full : Bool) (unit : ℕ) (closed : Result History Fault)
+    → then_closing (option_map (renumbered_fault r) f) closing (by_full full (r unit) closed)
+    ≡ option_map (renumbered_fault r) (then_closing f closing (by_full full unit closed))
+later-cases r None true true unit (Ok h) = refl
+later-cases r _ closing full unit closed = refl
 
 fault-same : (r : ℕ → ℕ) (address unit : ℕ) (opened : Result History Fault) (a b : History → Option (ℕ × Fault))
     → ((h : History) → a h ≡ option_map (renumbered_fault r) (b h))
@@ -176,8 +157,8 @@ later-same : (r : ℕ → ℕ) (o : OpenPicture) (closing : Bool) (h : History)
     → then_closing (progress_on (renumbered_picture r o) h).fault closing (found_at_closing (renumbered_picture r o) h)
     ≡ option_map (renumbered_fault r) (then_closing (progress_on o h).fault closing (found_at_closing o h))
 later-same r o closing h =
-    ap (λ (g : Progress). then_closing g.fault closing (found_at_closing (renumbered_picture r o) h)) (on-same r o h)
-    ∙ then-same r (progress_on o h).fault closing _ _ (closing-same r o h)
+    ap₂ (λ (g : Progress) c. then_closing g.fault closing (by_full (is_full (start_on o h) g) (r (o.last).unit) c)) (on-same r o h) (closed-same r o h)
+    ∙ later-cases r (progress_on o h).fault closing (is_full (start_on o h) (progress_on o h)) (o.last).unit (closed_history o h)
 
 pub first_fault-same : (r : ℕ → ℕ) (o : OpenPicture) (closing : Bool)
     → first_fault (renumbered_picture r o) closing ≡ option_map (renumbered_fault r) (first_fault o closing)
@@ -194,33 +175,23 @@ pictures-same : (r : ℕ → ℕ) (out : List Decoded) → map (renumbered_event
 pictures-same r [] = refl
 pictures-same r (p ∷ out) = ap (λ es. Picture p ∷ es) (pictures-same r out)
 
-refused-same : (r : ℕ → ℕ) (out : List Decoded) (unit : ℕ) (f : Fault)
-    → map (renumbered_event r) (pictures out ++ Refused unit f ∷ []) ≡ pictures out ++ Refused (r unit) f ∷ []
-refused-same r out unit f =
-    map-append (renumbered_event r) (pictures out) (Refused unit f ∷ []) ∙ ap (λ es. es ++ Refused (r unit) f ∷ []) (pictures-same r out)
-
 failed-same : (output : Output) (r : ℕ → ℕ) (h : History) (unit : ℕ) (f : Fault) (read : ℕ)
     → failed_at output h (r unit) f read ≡ renumbered_outcome r (failed_at output h unit f read)
-failed-same output r h unit f read = ap (λ es. outcome_of es waiting read) (sym (refused-same r (held_pictures output h) unit f))
+failed-same output r h unit f read =
+    ap (λ es. outcome_of es waiting read) (sym (map-append (renumbered_event r) (pictures (held_pictures output h)) (Refused unit f ∷ [])
+    ∙ ap (λ es. es ++ Refused (r unit) f ∷ []) (pictures-same r (held_pictures output h))))
 
-last-same : (r : ℕ → ℕ) (o : OpenPicture) (closed : Result History Fault)
-    → at_last_slice (renumbered_picture r o) closed ≡ renumbered_result r (at_last_slice o closed)
-last-same r o (Ok h) = refl
-last-same r o (Err f) = refl
-
-found-same : (r : ℕ → ℕ) (f : Option (ℕ × Fault)) (c' c : Result History (ℕ × Fault)) → c' ≡ renumbered_result r c
-    → unless_found (option_map (renumbered_fault r) f) c' ≡ renumbered_result r (unless_found f c)
-found-same r (Some found) c' c e = refl
-found-same r None c' c e = e
+result-cases : (r : ℕ → ℕ) (o : OpenPicture) (f : Option (ℕ × Fault)) (c : Result History Fault)
+    → unless_found (option_map (renumbered_fault r) f) (at_last_slice (renumbered_picture r o) c) ≡ renumbered_result r (unless_found f (at_last_slice o c))
+result-cases r o None (Ok h) = refl
+result-cases r o _ c = refl
 
 result-same : (r : ℕ → ℕ) (o : OpenPicture) → closing_result (renumbered_picture r o) ≡ renumbered_result r (closing_result o)
 result-same r o =
     let o' = renumbered_picture r o in
-    ap (λ f. unless_found f (at_last_slice o' (closed_history o' (history_of o')))) (first_fault-same r o true)
-    ∙ found-same r (first_fault o true) _ _
-    (ap (λ h. at_last_slice o' (closed_history o' h)) (history-same r o)
-    ∙ ap (at_last_slice o') (closed-same r o (history_of o))
-    ∙ last-same r o (closed_history o (history_of o)))
+    ap₂ (λ f c. unless_found f (at_last_slice o' c)) (first_fault-same r o true)
+    (ap (closed_history o') (history-same r o) ∙ closed-same r o (history_of o))
+    ∙ result-cases r o (first_fault o true) (closed_history o (history_of o))
 
 outcome-same : (output : Output) (r : ℕ → ℕ) (o : OpenPicture) (x : Result History (ℕ × Fault))
     → closed_outcome output (renumbered_picture r o) (renumbered_result r x) ≡ renumbered_outcome r (closed_outcome output o x)
@@ -269,25 +240,15 @@ next_slice-same output r p s = refl
 
 -- ---- a unit
 
-base-same : (r : ℕ → ℕ) (p : Phase) → base_in (renumbered_phase r p) ≡ base_in p
-base-same r (running h (Some o)) = refl
-base-same r p = refl
+-- what is the same of an open picture is the same of the phase
+pub phase-same : {A : Type 0} (r : ℕ → ℕ) (say : Phase → A)
+    → ((h : History) (o : OpenPicture) → say (running h (Some (renumbered_picture r o))) ≡ say (running h (Some o)))
+    → (p : Phase) → say (renumbered_phase r p) ≡ say p
+phase-same r say same (running h (Some o)) = same h o
+phase-same r say same p = refl
 
 history_in-same : (r : ℕ → ℕ) (p : Phase) → history_in (renumbered_phase r p) ≡ history_in p
-history_in-same r (running h (Some o)) = history-same r o
-history_in-same r p = refl
-
-pub running-same : (r : ℕ → ℕ) (p : Phase) → is_running (renumbered_phase r p) ≡ is_running p
-running-same r (running h (Some o)) = refl
-running-same r p = refl
-
-waiting-same : (r : ℕ → ℕ) (p : Phase) → is_waiting (renumbered_phase r p) ≡ is_waiting p
-waiting-same r (running h (Some o)) = refl
-waiting-same r p = refl
-
-pub open_facts-same : (r : ℕ → ℕ) (p : Phase) → open_facts_in (renumbered_phase r p) ≡ open_facts_in p
-open_facts-same r (running h (Some o)) = ap (λ f. Some f) (facts-same r o)
-open_facts-same r p = refl
+history_in-same r p = phase-same r history_in (λ h o. history-same r o) p
 
 next-same : (output : Output) (r : ℕ → ℕ) (sets : Sets) (unit : ℕ) (p : Phase) (n : Next)
     → after_next output sets (r unit) (renumbered_phase r p) (renumbered_next r n) ≡ renumbered_outcome r (after_next output sets unit p n)
@@ -295,7 +256,7 @@ next-same output r sets unit p (FaultOfOpen f) = ap (λ h. failed_at output h (r
 next-same output r sets unit p (FaultOfOwn f) = ap (λ h. failed_at output h (r unit) f 0) (history_in-same r p) ∙ failed-same output r (history_in p) unit f 0
 next-same output r sets unit p (Begins s) =
     let named = sets_named sets s.header in
-    ap (λ h. after_first_slice output named h (renumbered_slice r s)) (base-same r p) ∙ first_slice-same output r named (base_in p) s
+    ap (λ h. after_first_slice output named h (renumbered_slice r s)) (phase-same r base_in (λ h o. refl) p) ∙ first_slice-same output r named (base_in p) s
 next-same output r sets unit p (Continues s) = next_slice-same output r p s
 next-same output r sets unit p _ = refl
 
@@ -310,7 +271,7 @@ after_closing-same : (output : Output) (r : ℕ → ℕ) (sets : Sets) (unit : �
 after_closing-same output r sets unit what x =
     let x' = renumbered_outcome r x in
     ap (λ b. unless_silent (b && not what.even_after_fault) x' (after_next output sets (r unit) x'.phase (renumbered_next r what.next)))
-    (waiting-same r x.phase)
+    (phase-same r is_waiting (λ h o. refl) x.phase)
     ∙ either-same (renumbered_outcome r) (is_waiting x.phase && not what.even_after_fault) _ _ _ _ refl
     (ap (followed_by x') (next-same output r sets unit x.phase what.next) ∙ followed-same r x (after_next output sets unit x.phase what.next))
 
@@ -337,9 +298,8 @@ and_held-same output r x =
     ∙ sym (map-append (renumbered_event r) x.events (held_after output x.phase))
 
 pub at_end-same : (output : Output) (r : ℕ → ℕ) (p : Phase) → at_end output (renumbered_phase r p) ≡ map (renumbered_event r) (at_end output p)
-at_end-same output r waiting = refl
-at_end-same output r (running h None) = sym (pictures-same r (held_pictures output h))
 at_end-same output r (running h (Some o)) = ap (events_and_held output) (closed_picture-same output r o) ∙ and_held-same output r (closed_picture output o)
+at_end-same output r p = held-same output r p
 
 -- ---- an open IDR picture: it gives what it gives with no sequence before it, and when it is closed, or refused, what that sequence holds
 -- goes out.
@@ -455,13 +415,9 @@ pub data Owed (output : Output) (before : History) (x' x : Outcome) : Type 0 whe
       → x'.phase ≡ running before (Some (picture_on before o)) → x.phase ≡ running [] (Some (picture_on [] o)) → Owed output before x' x
   Paid : Gives (due output before) x' x → Owed output before x' x
 
-pub failed_first : (output : Output) (before : History) (unit : ℕ) (f : Fault) (read' read : ℕ)
-    → Gives (due output before) (failed_at output before unit f read') (failed_at output [] unit f read)
-failed_first output before unit f read' read = record { events = refl; phase = refl }
-
 gives_fault : (output : Output) (before : History) (o : OpenPicture) → IsFirstPicture o → (unit : ℕ) (f : Fault)
     → Gives (due output before) (failed_at output (history_of (picture_on before o)) unit f 0) (failed_at output (history_of (picture_on [] o)) unit f 0)
-gives_fault output before o first unit f = rw (stands_before before o first, stands_before [] o first) (failed_first output before unit f 0 0)
+gives_fault output before o first unit f = rw (stands_before before o first, stands_before [] o first) (record { events = refl; phase = refl })
 
 -- What is held goes out where an IDR picture lets it.
 closed_out : (output : Output) (before full : History) (idr drops : Bool) → idr ≡ true → drops ≡ false
@@ -498,7 +454,7 @@ closed_first output before o first =
 slice_by : (output : Output) (before : History) (o : OpenPicture) → IsFirstPicture o → (f : Option (ℕ × Fault)) (read' read : ℕ)
     → Owed output before
     (slice_outcome output f before (picture_on before o) before read') (slice_outcome output f [] (picture_on [] o) [] read)
-slice_by output before o first (Some found) read' read = Paid (failed_first output before found.0 found.1 read' read)
+slice_by output before o first (Some found) read' read = Paid (record { events = refl; phase = refl })
 slice_by output before o first None read' read =
     Still o first (ap pictures (sym (nothing_goes_out output before))) (ap pictures (sym (nothing_goes_out output []))) refl refl
 
@@ -593,9 +549,7 @@ in_first output before o first sets unit what keeps shown =
     (after_closing_first output (due output before) sets unit what _ _ (closed_first output before o first))
     (λ stays shows. next_first output before o first sets unit what.next stays shows)
 
--- ---- a unit with which decoding could start, while it runs: what is held goes out, and then decoding goes on as from a new start
-
--- ---- events that are pictures
+-- ---- a unit with which decoding could start, while it runs: what is held goes out, and then decoding goes on as from a new start: events that are pictures
 
 abbrev AllPictures : List Event → Type 0
 AllPictures es = IsTrue (list_all is_picture es)
@@ -611,19 +565,19 @@ not_refused es unit f e = back_shown es (Refused unit f ∷ []) e
 
 -- ---- what a unit says while an IDR picture is open
 
-keeps_by : HeadersKeepIdrRules → (sets : Sets) (u : Piece) (facts : OpenPictureFacts) → is_idr facts.last ≡ true → (closes : Bool) (n : Next)
+keeps_by : (sets : Sets) (u : Piece) (facts : OpenPictureFacts) → is_idr facts.last ≡ true → (closes : Bool) (n : Next)
     → BringsNext (slice_in sets u) (Some facts) closes n → KeepsPicture closes n
-keeps_by rules sets u facts idr true n b = tt
-keeps_by rules sets u facts idr false (Begins s) b = cc b.0
-keeps_by rules sets u facts idr false (Continues s) b =
+keeps_by sets u facts idr true n b = tt
+keeps_by sets u facts idr false (Begins s) b = cc b.0
+keeps_by sets u facts idr false (Continues s) b =
     let continues = idr_continues facts.last s.header idr b.1 in
-    ((rules_in rules sets u s b.2).intra continues, continues)
-keeps_by rules sets u facts idr false _ b = tt
+    ((rules_in sets u s b.2).intra continues, continues)
+keeps_by sets u facts idr false _ b = tt
 
-step_keeps : HeadersKeepIdrRules → (sets : Sets) (facts : OpenPictureFacts) (u : Piece) → is_idr facts.last ≡ true
+step_keeps : (sets : Sets) (facts : OpenPictureFacts) (u : Piece) → is_idr facts.last ≡ true
     → let what = step sets true (Some facts) u in KeepsPicture what.closes what.next
-step_keeps rules sets facts u idr =
-    keeps_by rules sets u facts idr _ _ (brings_step sets true (Some facts) u (λ e. absurd (false≢true (sym e)))).brings
+step_keeps sets facts u idr =
+    keeps_by sets u facts idr _ _ (brings_step sets true (Some facts) u (λ e. absurd (false≢true (sym e)))).brings
 
 -- ---- from the IDR picture on
 
@@ -653,29 +607,29 @@ owed_gives output before us gives units x' x (Paid paid) shown =
     let from : Phase → List Event = λ p. events_from (state_of output units p) us true in
     ap₂ (λ es p. es ++ from p) paid.events paid.phase ∙ append_assoc (due output before) x.events (from x.phase)
 
-unit_owed : HeadersKeepIdrRules → (output : Output) (before : History) (units : List SetUnit) (o : OpenPicture) (u : Piece)
+unit_owed : (output : Output) (before : History) (units : List SetUnit) (o : OpenPicture) (u : Piece)
     → IsFirstPicture o → AllPictures (after_unit (state_of output units (open_on before o)) u).events
     → Owed output before (after_unit (state_of output units (open_on before o)) u) (after_unit (state_of output units (open_on [] o)) u)
-unit_owed rules output before units o u first =
+unit_owed output before units o u first =
     let sets = sets_after units in
     let by_facts : OpenPictureFacts → Outcome = λ f. in_phase output sets u.index (step sets true (Some f) u) (open_on before o) in
     let x = after_unit (state_of output units (open_on [] o)) u in
     subst (λ f. AllPictures (by_facts f).events → Owed output before (by_facts f) x) (sym (facts_first before o first))
     (in_first output before o first sets u.index (step sets true (Some (open_picture_facts (picture_on [] o))) u)
-    (step_keeps rules sets (open_picture_facts (picture_on [] o)) u first.last_idr))
+    (step_keeps sets (open_picture_facts (picture_on [] o)) u first.last_idr))
 
 end_gives : (output : Output) (front : List Event) (x' x : Outcome) → Gives front x' x
     → events_and_held output x' ≡ front ++ events_and_held output x
 end_gives output front x' x g = ap₂ (λ es p. es ++ held_after output p) g.events g.phase ∙ append_assoc front x.events (held_after output x.phase)
 
-open_gives : HeadersKeepIdrRules → (output : Output) (before : History) (us : List Piece) → OpenGives output before us
-open_gives rules output before [] units o first shown = end_gives output (due output before) _ _ (closed_first output before o first)
-open_gives rules output before (u ∷ us) units o first shown =
+open_gives : (output : Output) (before : History) (us : List Piece) → OpenGives output before us
+open_gives output before [] units o first shown = end_gives output (due output before) _ _ (closed_first output before o first)
+open_gives output before (u ∷ us) units o first shown =
     let x' = after_unit (state_of output units (open_on before o)) u in
     let x = after_unit (state_of output units (open_on [] o)) u in
     let after = units ++ set_units (u ∷ []) in
-    owed_gives output before us (open_gives rules output before us) after x' x
-    (unit_owed rules output before units o u first (front_shown x'.events (events_from (state_of output after x'.phase) us true) shown))
+    owed_gives output before us (open_gives output before us) after x' x
+    (unit_owed output before units o u first (front_shown x'.events (events_from (state_of output after x'.phase) us true) shown))
     shown
 
 -- ---- the unit itself
@@ -703,17 +657,17 @@ record IsBeginning (sets : Sets) (s : Slice) : Type 0 where
 abbrev LetsOut : Sets → Piece → Type 0
 LetsOut sets u = (s : Slice) → slice_in sets u ≡ Ok s → no_output_of_prior_pics (s.header).marking ≡ false
 
-beginning : HeadersKeepIdrRules → (sets : Sets) (u : Piece) → is_start u ≡ true → LetsOut sets u → (s : Slice) → slice_in sets u ≡ Ok s
+beginning : (sets : Sets) (u : Piece) → is_start u ≡ true → LetsOut sets u → (s : Slice) → slice_in sets u ≡ Ok s
     → IsBeginning sets s
-beginning rules sets u e lets s read =
+beginning sets u e lets s read =
     let unit_starts = starts u e in
     let of_unit = slice_of_unit sets u s read in
-    let is = is_read u.header sets of_unit.rbsp s.header of_unit.is_read in
+    let is = of_unit.2 in
     record {
       named = is.named;
-      address = is.address (unit_starts.reads of_unit.rbsp of_unit.there);
+      address = is.address (unit_starts.reads of_unit.0 of_unit.1);
       idr = is.of_idr (ap (λ t. t == 5) unit_starts.of_idr);
-      intra = rules u.header sets of_unit.rbsp s.header of_unit.is_read;
+      intra = is.rules;
       keeps = lets s read;
     }
 
@@ -744,12 +698,12 @@ and_others output units us x = x.events ++ events_from (state_of output units x.
 abbrev begun : Output → Sets → (unit : ℕ) → Slice → Outcome
 begun output sets unit s = after_next output sets unit waiting (Begins s)
 
-closed_begins : HeadersKeepIdrRules → (output : Output) (sets : Sets) (unit : ℕ) (units : List SetUnit) (us : List Piece) (s : Slice)
+closed_begins : (output : Output) (sets : Sets) (unit : ℕ) (units : List SetUnit) (us : List Piece) (s : Slice)
     → IsBeginning sets s → (h : History) → AllPictures (and_others output units us (after_next output sets unit (running h None) (Begins s)))
     → and_others output units us (after_next output sets unit (running h None) (Begins s))
     ≡ due output h ++ and_others output units us (begun output sets unit s)
-closed_begins rules output sets unit units us s is h shown =
-    owed_gives output h us (open_gives rules output h us) units
+closed_begins output sets unit units us s is h shown =
+    owed_gives output h us (open_gives output h us) units
     (after_first_slice output (sets_named sets s.header) h s) (after_first_slice output (sets_named sets s.header) [] s)
     (first_owed output h sets s is) shown
 
@@ -760,21 +714,21 @@ abbrev begins_after : Output → Sets → (unit : ℕ) → Slice → Outcome →
 begins_after output sets unit s closed =
     after_closing output sets unit (record { closes = true; next = Begins s; even_after_fault = true }) closed
 
-closed_gives : HeadersKeepIdrRules → (output : Output) (sets : Sets) (unit : ℕ) (units : List SetUnit) (us : List Piece) (s : Slice)
+closed_gives : (output : Output) (sets : Sets) (unit : ℕ) (units : List SetUnit) (us : List Piece) (s : Slice)
     → IsBeginning sets s → (o : OpenPicture) (r : Result History (ℕ × Fault))
     → let x = begins_after output sets unit s (closed_outcome output o r) in
     AllPictures (and_others output units us x)
     → and_others output units us x
     ≡ events_and_held output (closed_outcome output o r) ++ and_others output units us (begun output sets unit s)
-closed_gives rules output sets unit units us s is o (Ok h) shown =
+closed_gives output sets unit units us s is o (Ok h) shown =
     let out = (closed_outcome output o (Ok h)).events in
     let x = after_next output sets unit (running h None) (Begins s) in
     let behind = append_assoc out x.events (events_from (state_of output units x.phase) us true) in
     let shown_behind = back_shown out (and_others output units us x) (subst AllPictures behind shown) in
     behind
-    ∙ ap (λ es. out ++ es) (closed_begins rules output sets unit units us s is h shown_behind)
+    ∙ ap (λ es. out ++ es) (closed_begins output sets unit units us s is h shown_behind)
     ∙ sym (append_assoc out (due output h) (and_others output units us (begun output sets unit s)))
-closed_gives rules output sets unit units us s is o (Err found) shown =
+closed_gives output sets unit units us s is o (Err found) shown =
     let out = (closed_outcome output o (Err found)).events in
     let x = begun output sets unit s in
     append_assoc out x.events (events_from (state_of output units x.phase) us true)
@@ -820,24 +774,24 @@ unreadable_refused output sets unit h o f true shown = by_closed (closing_result
     by_closed (Err found) shown = not_refused (due output (history_of o)) found.0 found.1 shown
 unreadable_refused output sets unit h o f false shown = not_refused (due output (history_of o)) unit f shown
 
-gives : HeadersKeepIdrRules → (output : Output) (units : List SetUnit) (u : Piece) (us : List Piece) (h : History) (o : Option OpenPicture)
+gives : (output : Output) (units : List SetUnit) (u : Piece) (us : List Piece) (h : History) (o : Option OpenPicture)
     → (read : Result Slice Fault) → ((s : Slice) → read ≡ Ok s → IsBeginning (sets_after units) s)
     → GivesIn output units u us (running h o) (slice_step (open_facts_in (running h o)) true read) (slice_step None true read)
-gives rules output units u us h None (Ok s) is shown =
-    closed_begins rules output (sets_after units) u.index (units ++ set_units (u ∷ [])) us s (is s refl) h shown
-gives rules output units u us h None (Err f) is shown =
+gives output units u us h None (Ok s) is shown =
+    closed_begins output (sets_after units) u.index (units ++ set_units (u ∷ [])) us s (is s refl) h shown
+gives output units u us h None (Err f) is shown =
     let after = units ++ set_units (u ∷ []) in
-    owed_gives output h us (open_gives rules output h us) after (failed_at output h u.index f 0) (failed_at output [] u.index f 0)
-    (Paid (failed_first output h u.index f 0 0)) shown
-gives rules output units u us h (Some o) (Ok s) is shown =
+    owed_gives output h us (open_gives output h us) after (failed_at output h u.index f 0) (failed_at output [] u.index f 0)
+    (Paid (record { events = refl; phase = refl })) shown
+gives output units u us h (Some o) (Ok s) is shown =
     let begun_by : Bool → Step = λ b. elim b [
       | true ↦ record { closes = true; next = Begins s; even_after_fault = true }
       | false ↦ record { closes = false; next = Continues s; even_after_fault = false }
     ] in
     subst (λ b. GivesIn output units u us (running h (Some o)) (begun_by b) (slice_step None true (Ok s)))
     (sym (begins_at_zero (o.last).header s.header (is s refl).address))
-    (closed_gives rules output (sets_after units) u.index (units ++ set_units (u ∷ [])) us s (is s refl) o (closing_result o)) shown
-gives rules output units u us h (Some o) (Err f) is shown =
+    (closed_gives output (sets_after units) u.index (units ++ set_units (u ∷ [])) us s (is s refl) o (closing_result o)) shown
+gives output units u us h (Some o) (Err f) is shown =
     let sets = sets_after units in
     let full = (open_picture_facts o).full in
     let x = in_phase output sets u.index (unreadable_by f full) (running h (Some o)) in
@@ -846,16 +800,16 @@ gives rules output units u us h (Some o) (Err f) is shown =
     unreadable_refused output sets u.index h o f full (front_shown x.events (events_from (state_of output after x.phase) us true) shown) in
     (cc no)
 
-starts_in : HeadersKeepIdrRules → (output : Output) (units : List SetUnit) (u : Piece) (us : List Piece) → is_start u ≡ true
+starts_in : (output : Output) (units : List SetUnit) (u : Piece) (us : List Piece) → is_start u ≡ true
     → (p : Phase) → (is_running p ≡ true → LetsOut (sets_after units) u) → StartsAnewIn output units u us p
-starts_in rules output units u us e waiting lets = λ shown. refl
-starts_in rules output units u us e (running h o) lets =
+starts_in output units u us e waiting lets = λ shown. refl
+starts_in output units u us e (running h o) lets =
     let sets = sets_after units in
     let read = slice_in sets u in
     let facts = open_facts_in (running h o) in
     subst (λ what. GivesIn output units u us (running h o) what (step sets false None u)) (sym ((says sets u e).runs facts))
     (subst (λ here. GivesIn output units u us (running h o) (slice_step facts true read) here) (sym (says sets u e).waits)
-    (gives rules output units u us h o read (beginning rules sets u e (lets refl))))
+    (gives output units u us h o read (beginning sets u e (lets refl))))
 
 -- ---- the law
 
@@ -866,8 +820,8 @@ flag_is (Some (Idr n l)) f = f n l refl
 flag_is (Some SlidingWindow) f = refl
 flag_is (Some (Adaptive operations)) f = refl
 
-pub start_units : HeadersKeepIdrRules → StartUnitsBeginAnew
-start_units rules output before us u e prior shown =
+pub start_units : StartUnitsBeginAnew
+start_units output before us u e prior shown =
     let first = first_state output in
     let s = state_through first before in
     let p = s.phase in
@@ -876,6 +830,6 @@ start_units rules output before us u e prior shown =
     ap₂ (λ m units. events_from (state_of m units q) (u ∷ us) true) (output_through first before) (sets_through first before) in
     let lets : is_running p ≡ true → LetsOut (sets_after all) u = λ runs t read. flag_is (t.header).marking (λ n l. prior runs t n l read) in
     state_is p
-    ∙ starts_in rules output all u us e p lets (subst AllPictures (state_is p) shown)
+    ∙ starts_in output all u us e p lets (subst AllPictures (state_is p) shown)
     ∙ ap (λ m. at_end m p ++ events_from (state_of output all waiting) (u ∷ us) true) (sym (output_through first before))
     ∙ ap (λ es. at_end s.output p ++ es) (sym (state_is waiting))

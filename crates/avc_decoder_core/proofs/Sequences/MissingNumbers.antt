@@ -294,18 +294,7 @@ outputs_on output sps (n ∷ numbers) old mid x =
 pub stored_rest : (sps : Sps) (numbers : List ℕ) (from' : FrameBufferState) (rest : List ℕ) (now : FrameBufferState) (out : List Picture)
     (new : FrameBufferState) (more out' : List Picture) → HasStored sps numbers from' rest now out → StoresAll now (with_missing sps rest now.history) more new →
     out' ≡ out ++ more → StoresAll from' (with_missing sps numbers from'.history) out' new
-stored_rest sps numbers from' rest now out new more out' h stores out_is =
-    let full = with_all_missing sps rest now.history in
-    let reached : new.history ≡ full = is_with_all sps rest now.history new.history stores.history in
-    record {
-      going = stores.going;
-      history = sym h.left ∙ stores.history;
-      output = stores.output ∙ h.output;
-      pictures =
-          out_is
-          ∙ ap₂ (λ (a b : List Picture). a ++ b) h.pictures (stores.pictures ∙ ap₂ (λ o l. output_pictures o now.history l) h.output reached)
-          ∙ sym (outputs_on from'.output sps rest from'.history now.history h.extends) ∙ ap (output_pictures from'.output from'.history) (sym reached);
-    }
+stored_rest sps numbers from' rest now out new more out' h stores out_is = search (rules, is_with_all, outputs_on)
 
 -- ---- what goes out for missing numbers, of the pictures that are needed for output
 
@@ -339,9 +328,7 @@ missing_numbers_keep_the_order output sps h history full e =
     let o = opened_by sps h history full e in
     needed_along output sps o.numbers history history full (extends_itself output history) (ap (λ l. l ++ held_pictures output history) (nothing_goes_out output history)) o.missing
 
--- ---- one more missing number in a settled window
-
--- ---- entries among those of reference frames
+-- ---- one more missing number in a settled window: entries among those of reference frames
 
 below_all : (low next p : ℕ) (rs : List Reference) → p < low → StandFrom low next rs → is_entry rs p ≡ false
 below_all low next p [] before h = refl
@@ -512,9 +499,7 @@ settled_on output sps (suc n) q h low number place stays (r ∷ rs) (s ∷ ss) l
     rw (← append_assoc rs (new ∷ []) (missing_references max (number + 1) (q + 1) n), ← append_assoc ss (missing_stored q ∷ []) (stored_missing (q + 1) n))
     (settled_later output sps _ low (number + 1 + n) (number + suc n) place stays _ _ (omega arith) more)
 
--- ---- the frames that a long gap leaves are those of its last numbers
-
--- ---- the last numbers
+-- ---- the frames that a long gap leaves are those of its last numbers: the last numbers
 
 numbers_from : (max k n m a : ℕ) → m ≡ k + n → drop k (frame_nums_from max a m) ≡ frame_nums_from max (a + k) n
 numbers_from max zero n m a is = grind arith
@@ -564,11 +549,7 @@ entries_before sps (n ∷ numbers) h p low =
 entries_missing : (sps : Sps) (max n a i p number : ℕ) (h : History) → i < n → p ≡ length h + i → number ≡ a + i →
     entry_at (with_all_missing sps (frame_nums_from max a n) h) p ≡ Some (missing_frame sps (number % max))
 entries_missing sps max zero a i p number h low place is = absurd (omega (arith, low))
-entries_missing sps max (suc n) a zero p number h low place is =
-    let e = missing_frame sps (a % max) in
-    let here : p ≡ length h = omega arith in
-    let same : number ≡ a = omega arith in
-    rw (here, same) (entries_before sps (frame_nums_from max (a + 1) n) (e ∷ h) (length h) (omega arith) ∙ entry_newest e h)
+entries_missing sps max (suc n) a zero p number h low place is = search (rules, entries_before, frame_nums_from, entry_newest)
 entries_missing sps max (suc n) a (suc i) p number h low place is =
     entries_missing sps max n (a + 1) i p number (missing_frame sps (a % max) ∷ h) (omega arith) (omega arith) (omega arith)
 

@@ -4,9 +4,7 @@ unfoldable pub use BumpingTimes.*
 use Rattle.avc_dpb.specs.Bumping.{no_longer_needed}
 use Rattle.avc_dpb.specs.Steps.{Bumps}
 
--- ---- what slots and frames stand for while a frame is stored, or all pictures go out
-
--- ---- the marks of all frames
+-- ---- what slots and frames stand for while a frame is stored, or all pictures go out: the marks of all frames
 
 abbrev Tells : (frame_of : ℕ → Frame 32) (references : List ℕ) → ℕ → Type 0
 Tells frame_of references entry = IsReferenceAmong (frame_of entry) entry references

@@ -1,7 +1,6 @@
 -- The names that the proofs cite of std, of the crates below and of the definitions here, passed on from one place. Declares nothing.
-pub use Rattle.std.proofs.Common.{◌≡◌, true, false, List, [], ◌∷◌, ◌++◌, Option, Some, None, refl, ap, sym, subst, ◌∙◌, append_assoc, append-nil}
-pub use Rattle.std.proofs.Common.{arith, ℕ, take, Result, ◌+◌, ◌<◌, ◌≤◌, length, Ok, Err, IfErr, length-append, suc, zero, ◌-◌, ◌^◌, replicate}
-pub use Rattle.std.proofs.Common.{string_bytes, rules}
+pub use Rattle.std.proofs.Common.{◌≡◌, true, false, List, [], ◌∷◌, ◌++◌, Option, Some, None, refl, ap, sym, subst, ◌∙◌, append_assoc, append-nil, arith, ℕ}
+pub use Rattle.std.proofs.Common.{take, Result, ◌+◌, ◌<◌, ◌≤◌, length, Ok, Err, IfErr, length-append, suc, zero, ◌-◌, ◌^◌, replicate, string_bytes, rules}
 pub use Rattle.std.proofs.KnownBytes.{Appends-nil, Consumes-kept, Consumes-trans, Appends-trans}
 pub use Rattle.std.proofs.lemmas.List.{take-append-le}
 pub use Rattle.std.proofs.lemmas.Nat.Gcd.{IsGcd-from_zero, IsGcd-from_mod}
@@ -19,8 +18,7 @@ pub use Rattle.avc_params.specs.Tables.{sets_after}
 pub use Rattle.avc_params.specs.declared.set_unit.SetUnit.{SetUnit}
 pub use Rattle.avc_params.specs.declared.sps.Sps.{Sps}
 pub use Rattle.avc_run.proofs.Running.Telling.{stopped_after}
-pub use Rattle.avc_run.proofs.Running.{err_is}
-pub use Rattle.avc_run.proofs.Running.{nothing_more}
+pub use Rattle.avc_run.proofs.Running.{err_is, nothing_more}
 pub use Rattle.avc_run.specs.Decoding.{max_unit}
 pub use Rattle.avc_run.specs.Formats.{Format, StopsPicture}
 pub use Rattle.avc_run.specs.Output.{Output}
@@ -30,16 +28,16 @@ pub use Rattle.avc_run.specs.declared.fault.RunFault.TheVariants.{Read, Memory, 
 pub use Rattle.avc_run.specs.declared.report.Report.{Report}
 pub use Rattle.avc_tools.proofs.Pieces.Taking.{IsDraining, one_more, all_taken}
 pub use Rattle.avc_tools.proofs.Pieces.Taking.Stages.{AreLeft, drained, left_by_feed, left_by_finish}
-pub use Rattle.avc_tools.proofs.Pieces.Taking.{set_units-append, sets_then}
+pub use Rattle.avc_units.proofs.SetUnits.{set_units-append, sets_then}
 pub use Rattle.avc_tools.specs.Streams.{units_left}
 pub use Rattle.avc_units.specs.Grouping.{set_units}
 pub use Rattle.avc_yuv.specs.I420.{i420}
 pub use Rattle.hex.specs.Hex.{encode_lower}
 pub use Rattle.md5.specs.Md5.{md5}
-pub use Rattle.avc_formats.specs.FrameMd5.{column, aspect_line, codec_lines, columns_line, dimensions_line, format_lines, time_base_line}
-pub use Rattle.avc_formats.specs.FrameMd5.{framemd5_line, size_text, times_text}
-pub use Rattle.avc_formats.specs.Front.{first_of, first_sps, starting_sps, IsFound, IsSaid, in_front, stream_sps, Decodes, IsFront, IsLooking}
-pub use Rattle.avc_formats.specs.Front.{NoFront, front_length}
+pub use Rattle.avc_formats.specs.FrameMd5.{column, aspect_line, codec_lines, columns_line, dimensions_line, format_lines, time_base_line, framemd5_line}
+pub use Rattle.avc_formats.specs.FrameMd5.{size_text, times_text}
+pub use Rattle.avc_formats.specs.Front.{first_of, first_sps, starting_sps, IsFound, IsSaid, in_front, stream_sps, Decodes, IsFront, IsLooking, NoFront}
+pub use Rattle.avc_formats.specs.Front.{front_length}
 pub use Rattle.avc_formats.specs.Headed.{headed}
 pub use Rattle.avc_formats.specs.Presenting.{no_presentation, Says}
 pub use Rattle.avc_formats.specs.Selecting.{selected}

@@ -1,15 +1,14 @@
 -- The names that the proofs cite of std, of the crates below and of the definitions here, passed on from one place. Declares nothing.
-pub use Rattle.std.proofs.Common.{◌≡◌, ℕ, List, ap, ◌∙◌, ◌≤◌, Bool, true, false, [], ◌∷◌, ◌++◌, length, if◌then◌else◌, refl, sym, append_assoc}
-pub use Rattle.std.proofs.Common.{append-nil, rules, arith}
+pub use Rattle.std.proofs.Common.{◌≡◌, ℕ, List, ap, ◌∙◌, ◌≤◌, Bool, true, false, [], ◌∷◌, ◌++◌, length, if◌then◌else◌, refl, sym, append_assoc, append-nil}
+pub use Rattle.std.proofs.Common.{rules, arith}
 pub use Rattle.avc_annexb.specs.SplitterState.{SplitterState, after_feed, units_waiting}
 pub use Rattle.avc_annexb.specs.Units.{units}
 pub use Rattle.avc_annexb.specs.declared.unit.Unit.{Unit}
 pub use Rattle.avc_params.specs.Tables.{sets_after}
 pub use Rattle.avc_params.specs.declared.set_unit.SetUnit.{SetUnit}
 pub use Rattle.avc_tools.proofs.Pieces.Taking.{IsDraining, all_taken, draining_begun, one_more}
-pub use Rattle.avc_tools.proofs.Pieces.Taking.Stages.{AreLeft, drained, left_by_finish, left_by_feed}
-pub use Rattle.avc_tools.proofs.Pieces.Taking.Stages.{whole_units}
-pub use Rattle.avc_tools.proofs.Pieces.Taking.{set_units-append}
+pub use Rattle.avc_tools.proofs.Pieces.Taking.Stages.{AreLeft, drained, left_by_finish, left_by_feed, whole_units}
+pub use Rattle.avc_units.proofs.SetUnits.{set_units-append}
 pub use Rattle.avc_tools.specs.Streams.{StreamSoFar, after_end, after_piece, after_units_left, units_left, max_unit}
 pub use Rattle.avc_units.specs.Grouping.{list_of, set_unit, set_units}
 unfoldable pub use Rattle.serde_json.proofs.OnLiterals.{serde_json_on_literals}

@@ -4,41 +4,17 @@ unfoldable pub use Common.*
 
 -- ---- a shift right by its bounds, and the sum of six taps in sixteen bits
 
-pub low_4 : (z : ℤ) → (pos 4 *ℤ (z >>ℤ 2)) ≤ℤ z
-low_4 (pos a) = omega (arith, ints)
-low_4 (negsuc a) = omega (arith, ints)
+pub by_4 : (z : ℤ) → ((pos 4 *ℤ (z >>ℤ 2)) ≤ℤ z) × (z ≤ℤ (pos 4 *ℤ (z >>ℤ 2) +ℤ pos 3))
+by_4 (pos a) = (omega (arith, ints), omega (arith, ints))
+by_4 (negsuc a) = (omega (arith, ints), omega (arith, ints))
 
-pub high_4 : (z : ℤ) → z ≤ℤ (pos 4 *ℤ (z >>ℤ 2) +ℤ pos 3)
-high_4 (pos a) = omega (arith, ints)
-high_4 (negsuc a) = omega (arith, ints)
+pub by_64 : (z : ℤ) → ((pos 64 *ℤ (z >>ℤ 6)) ≤ℤ z) × (z ≤ℤ (pos 64 *ℤ (z >>ℤ 6) +ℤ pos 63))
+by_64 (pos a) = (omega (arith, ints), omega (arith, ints))
+by_64 (negsuc a) = (omega (arith, ints), omega (arith, ints))
 
-pub low_64 : (z : ℤ) → (pos 64 *ℤ (z >>ℤ 6)) ≤ℤ z
-low_64 (pos a) = omega (arith, ints)
-low_64 (negsuc a) = omega (arith, ints)
-
-pub high_64 : (z : ℤ) → z ≤ℤ (pos 64 *ℤ (z >>ℤ 6) +ℤ pos 63)
-high_64 (pos a) = omega (arith, ints)
-high_64 (negsuc a) = omega (arith, ints)
-
-pub low_1024 : (z : ℤ) → (pos 1024 *ℤ (z >>ℤ 10)) ≤ℤ z
-low_1024 (pos a) = omega (arith, ints)
-low_1024 (negsuc a) = omega (arith, ints)
-
-pub high_1024 : (z : ℤ) → z ≤ℤ (pos 1024 *ℤ (z >>ℤ 10) +ℤ pos 1023)
-high_1024 (pos a) = omega (arith, ints)
-high_1024 (negsuc a) = omega (arith, ints)
-
--- where the sum of sixteen bits is exact, in thirds of the way: a quarter, a sixteenth, and the whole
-pub exact : (a b c t u v w : ℤ) → (pos 4 *ℤ t) ≤ℤ (a -ℤ b) →
-    (a -ℤ b) ≤ℤ (pos 4 *ℤ t +ℤ pos 3) →
-    (pos 4 *ℤ u) ≤ℤ (t -ℤ b +ℤ c) →
-    (t -ℤ b +ℤ c) ≤ℤ (pos 4 *ℤ u +ℤ pos 3) →
-    (pos 64 *ℤ v) ≤ℤ (u +ℤ c +ℤ pos 32) →
-    (u +ℤ c +ℤ pos 32) ≤ℤ (pos 64 *ℤ v +ℤ pos 63) →
-    (pos 1024 *ℤ w) ≤ℤ (a -ℤ pos 5 *ℤ b +ℤ pos 20 *ℤ c +ℤ pos 512) →
-    (a -ℤ pos 5 *ℤ b +ℤ pos 20 *ℤ c +ℤ pos 512) ≤ℤ (pos 1024 *ℤ w +ℤ pos 1023) →
-    v ≡ w
-exact a b c t u v w p q p' q' p'' q'' r s = omega (arith, ints)
+by_1024 : (z : ℤ) → ((pos 1024 *ℤ (z >>ℤ 10)) ≤ℤ z) × (z ≤ℤ (pos 1024 *ℤ (z >>ℤ 10) +ℤ pos 1023))
+by_1024 (pos a) = (omega (arith, ints), omega (arith, ints))
+by_1024 (negsuc a) = (omega (arith, ints), omega (arith, ints))
 
 -- samples on one side of the range are clipped alike
 clip_low : (v w : ℤ) → v <ℤ pos 0 → w <ℤ pos 0 → clip1 v ≡ clip1 w
@@ -49,38 +25,23 @@ clip_low (pos n) w p q = omega (arith, ints)
 clip_high : (v w : ℤ) → pos 255 <ℤ v → pos 255 <ℤ w → clip1 v ≡ clip1 w
 clip_high v w p q = search (arith, ints)
 
-high_c : (a b c t d e : ℤ) → a ≤ℤ pos 21420 → neg_ℤ (pos 5100) ≤ℤ b → d ≡ a -ℤ b → (pos 4 *ℤ t) ≤ℤ d → e ≡ t -ℤ b → pos 32767 <ℤ (e +ℤ c) → pos 21038 ≤ℤ c
-high_c a b c t d e p q r s u v = omega (arith, ints)
+above : (a b c t d e q u x v w : ℤ) → IsPair a → IsPair b → d ≡ a -ℤ b → (pos 4 *ℤ t) ≤ℤ d → e ≡ t -ℤ b → pos 32767 <ℤ (e +ℤ c) → q ≡ pos 32767 →
+    q ≤ℤ (pos 4 *ℤ u +ℤ pos 3) → x ≡ u +ℤ c +ℤ pos 32 → x ≤ℤ (pos 64 *ℤ v +ℤ pos 63) → (a -ℤ pos 5 *ℤ b +ℤ pos 20 *ℤ c +ℤ pos 512) ≤ℤ (pos 1024 *ℤ w +ℤ pos 1023) → clip1 v ≡ clip1 w
+above a b c t d e q u x v w pa pb dd tl ee over qq uh xx vh wh =
+    let big : pos 21038 ≤ℤ c = omega (arith, ints, pa.high, pb.low) in
+    clip_high v w (omega (arith, ints)) (omega (arith, ints, pa.low, pb.high))
 
-high_v : (c q u x v : ℤ) → pos 21038 ≤ℤ c → q ≡ pos 32767 → q ≤ℤ (pos 4 *ℤ u +ℤ pos 3) → x ≡ u +ℤ c +ℤ pos 32 → x ≤ℤ (pos 64 *ℤ v +ℤ pos 63) → pos 255 <ℤ v
-high_v c q u x v p r s t y = omega (arith, ints)
+below : (a b c t d e q u x v w : ℤ) → IsPair a → IsPair b → d ≡ a -ℤ b → d ≤ℤ (pos 4 *ℤ t +ℤ pos 3) → e ≡ t -ℤ b → (e +ℤ c) <ℤ neg_ℤ (pos 32768) → q ≡ neg_ℤ (pos 32768) →
+    (pos 4 *ℤ u) ≤ℤ q → x ≡ u +ℤ c +ℤ pos 32 → (pos 64 *ℤ v) ≤ℤ x → (pos 1024 *ℤ w) ≤ℤ (a -ℤ pos 5 *ℤ b +ℤ pos 20 *ℤ c +ℤ pos 512) → clip1 v ≡ clip1 w
+below a b c t d e q u x v w pa pb dd th ee under qq ul xx vl wl =
+    let small : c ≤ℤ neg_ℤ (pos 4719) = omega (arith, ints, pa.low, pb.high) in
+    clip_low v w (omega (arith, ints)) (omega (arith, ints, pa.high, pb.low))
 
-high_w : (a b c w : ℤ) → neg_ℤ (pos 5100) ≤ℤ a → b ≤ℤ pos 21420 → pos 21038 ≤ℤ c → (a -ℤ pos 5 *ℤ b +ℤ pos 20 *ℤ c +ℤ pos 512) ≤ℤ (pos 1024 *ℤ w +ℤ pos 1023) → pos 255 <ℤ w
-high_w a b c w p q r s = omega (arith, ints)
-
-low_c : (a b c t d e : ℤ) → neg_ℤ (pos 5100) ≤ℤ a → b ≤ℤ pos 21420 → d ≡ a -ℤ b → d ≤ℤ (pos 4 *ℤ t +ℤ pos 3) → e ≡ t -ℤ b → (e +ℤ c) <ℤ neg_ℤ (pos 32768) → c ≤ℤ neg_ℤ (pos 4719)
-low_c a b c t d e p q r s u v = omega (arith, ints)
-
-low_v : (c q u x v : ℤ) → c ≤ℤ neg_ℤ (pos 4719) → q ≡ neg_ℤ (pos 32768) → (pos 4 *ℤ u) ≤ℤ q → x ≡ u +ℤ c +ℤ pos 32 → (pos 64 *ℤ v) ≤ℤ x → v <ℤ pos 0
-low_v c q u x v p r s t y = omega (arith, ints)
-
-low_w : (a b c w : ℤ) → a ≤ℤ pos 21420 → neg_ℤ (pos 5100) ≤ℤ b → c ≤ℤ neg_ℤ (pos 4719) → (pos 1024 *ℤ w) ≤ℤ (a -ℤ pos 5 *ℤ b +ℤ pos 20 *ℤ c +ℤ pos 512) → w <ℤ pos 0
-low_w a b c w p q r s = omega (arith, ints)
-
--- a sum below, in or above sixteen bits
-Where : ℤ → Type 0
-Where z = (z <ℤ neg_ℤ (pos 32768)) ⊎ (((neg_ℤ (pos 32768) ≤ℤ z) × (z ≤ℤ pos 32767)) ⊎ (pos 32767 <ℤ z))
-
-where_is : (z : ℤ) → Where z
-unfolding Where
-where_is (pos n) = ⊎_elim (λ big. inr (inr (omega (arith, ints)))) (λ fits. inr (inl ((omega (arith, ints)), (omega (arith, ints))))) (cases_lt 32767 n)
-where_is (negsuc n) = ⊎_elim (λ big. inl (omega (arith, ints))) (λ fits. inr (inl ((omega (arith, ints)), (omega (arith, ints))))) (cases_lt 32767 n)
-
+-- where the sum of sixteen bits is exact, in thirds of the way: a quarter, a sixteenth, and the whole
 exact_by : (a b c d t e q u x v w : ℤ) → d ≡ a -ℤ b → (pos 4 *ℤ t) ≤ℤ d → d ≤ℤ (pos 4 *ℤ t +ℤ pos 3) → e ≡ t -ℤ b → q ≡ e +ℤ c →
     (pos 4 *ℤ u) ≤ℤ q → q ≤ℤ (pos 4 *ℤ u +ℤ pos 3) → x ≡ u +ℤ c +ℤ pos 32 → (pos 64 *ℤ v) ≤ℤ x → x ≤ℤ (pos 64 *ℤ v +ℤ pos 63) →
     (pos 1024 *ℤ w) ≤ℤ (a -ℤ pos 5 *ℤ b +ℤ pos 20 *ℤ c +ℤ pos 512) → (a -ℤ pos 5 *ℤ b +ℤ pos 20 *ℤ c +ℤ pos 512) ≤ℤ (pos 1024 *ℤ w +ℤ pos 1023) → v ≡ w
-exact_by a b c d t e q u x v w dd tl th ee qq ul uh xx vl vh wl wh =
-    exact a b c t u v w (rw (← dd) tl) (rw (← dd) th) (omega (arith, ints)) (omega (arith, ints)) (rw (← xx) vl) (rw (← xx) vh) wl wh
+exact_by a b c d t e q u x v w dd tl th ee qq ul uh xx vl vh wl wh = omega (arith, ints)
 
 -- by sixteen bits, and at once
 pub near : (a b c d t e q u x v : ℤ) → IsPair a → IsPair b → IsPair c →
@@ -88,29 +49,15 @@ pub near : (a b c d t e q u x v : ℤ) → IsPair a → IsPair b → IsPair c �
     (neg_ℤ (pos 32768) ≤ℤ (e +ℤ c) → (e +ℤ c) ≤ℤ pos 32767 → q ≡ e +ℤ c) → ((e +ℤ c) <ℤ neg_ℤ (pos 32768) → q ≡ neg_ℤ (pos 32768)) → (pos 32767 <ℤ (e +ℤ c) → q ≡ pos 32767) →
     (pos 4 *ℤ u) ≤ℤ q → q ≤ℤ (pos 4 *ℤ u +ℤ pos 3) → x ≡ u +ℤ c +ℤ pos 32 → (pos 64 *ℤ v) ≤ℤ x → x ≤ℤ (pos 64 *ℤ v +ℤ pos 63) →
     clip1 v ≡ clip1 (a -ℤ pos 5 *ℤ b +ℤ pos 20 *ℤ c +ℤ pos 512 >>ℤ 10)
-unfolding Where
-near a b c d t e q u x v pa pb pc dd tl th ee in_range below above ul uh xx vl vh =
+near a b c d t e q u x v pa pb pc dd tl th ee in_range at_least at_most ul uh xx vl vh =
     let all = a -ℤ pos 5 *ℤ b +ℤ pos 20 *ℤ c +ℤ pos 512 in
     let w = all >>ℤ 10 in
-    let wl = low_1024 all in
-    let wh = high_1024 all in
-    ⊎_elim
-    (λ under. let small = low_c a b c t d e pa.low pb.high dd th ee under in clip_low v w (low_v c q u x v small (below under) ul xx vl) (low_w a b c w pa.high pb.low small wl))
-    (λ rest. ⊎_elim
-    (λ fits. ap clip1 (exact_by a b c d t e q u x v w dd tl th ee (in_range fits.0 fits.1) ul uh xx vl vh wl wh))
-    (λ over. let big = high_c a b c t d e pa.high pb.low dd tl ee over in clip_high v w (high_v c q u x v big (above over) uh xx vh) (high_w a b c w pa.low pb.high big wh))
-    rest)
-    (where_is (e +ℤ c))
-
--- the same, where calls see some of the numbers through their bits
-pub near_cast : (a b c d t e q u x v c' q' v' : ℤ) → c' ≡ c → q' ≡ q → v' ≡ v → IsPair a → IsPair b → IsPair c →
-    d ≡ a -ℤ b → (pos 4 *ℤ t) ≤ℤ d → d ≤ℤ (pos 4 *ℤ t +ℤ pos 3) → e ≡ t -ℤ b →
-    (neg_ℤ (pos 32768) ≤ℤ (e +ℤ c') → (e +ℤ c') ≤ℤ pos 32767 → q ≡ e +ℤ c') → ((e +ℤ c') <ℤ neg_ℤ (pos 32768) → q ≡ neg_ℤ (pos 32768)) → (pos 32767 <ℤ (e +ℤ c') → q ≡ pos 32767) →
-    (pos 4 *ℤ u) ≤ℤ q' → q' ≤ℤ (pos 4 *ℤ u +ℤ pos 3) → x ≡ u +ℤ c +ℤ pos 32 → (pos 64 *ℤ v) ≤ℤ x → x ≤ℤ (pos 64 *ℤ v +ℤ pos 63) →
-    clip1 v' ≡ clip1 (a -ℤ pos 5 *ℤ b +ℤ pos 20 *ℤ c +ℤ pos 512 >>ℤ 10)
-near_cast a b c d t e q u x v c' q' v' c_is q_is v_is pa pb pc dd tl th ee i l h ul uh xx vl vh =
-    ap clip1 v_is ∙ near a b c d t e q u x v pa pb pc dd tl th ee
-    (rw (← c_is) i) (rw (← c_is) l) (rw (← c_is) h) (rw (← q_is) ul) (rw (← q_is) uh) xx vl vh
+    let whole = by_1024 all in
+    by_lt_z (e +ℤ c) (neg_ℤ (pos 32768))
+    (λ under. below a b c t d e q u x v w pa pb dd th ee under (at_least under) ul xx vl whole.0)
+    (λ low. by_lt_z (pos 32767) (e +ℤ c)
+    (λ over. above a b c t d e q u x v w pa pb dd tl ee over (at_most over) uh xx vh whole.1)
+    (λ high. ap clip1 (exact_by a b c d t e q u x v w dd tl th ee (in_range low high) ul uh xx vl vh whole.0 whole.1)))
 
 -- numbers that calls see through their bits
 pub back : (z : ℤ) → neg_ℤ (pos 32768) ≤ℤ z → z ≤ℤ pos 32767 → to_z w16 (of_z w16 z) ≡ z
@@ -148,9 +95,6 @@ by_pairs e f g h i j e' f' g' h' i' j' a b c a' b' c' k l m n o p q r s t u v = 
 pub back_pair : (z : ℤ) → IsPair z → to_z w16 (of_z w16 z) ≡ z
 back_pair z p = back z (omega (arith, ints, p.low)) (omega (arith, ints, p.high))
 
-pub back_sum : (z : ℤ) → neg_ℤ (pos 2550) ≤ℤ z → z ≤ℤ pos 10710 → to_z w16 (of_z w16 z) ≡ z
-back_sum z p q = back z (omega (arith, ints)) (omega (arith, ints))
-
 pub same_taps : (e f g h i j e' f' g' h' i' j' : ℕ) → e ≡ e' → f ≡ f' → g ≡ g' → h ≡ h' → i ≡ i' → j ≡ j' →
     six_taps (pos e) (pos f) (pos g) (pos h) (pos i) (pos j) ≡ six_taps (pos e') (pos f') (pos g') (pos h') (pos i') (pos j')
 same_taps e f g h i j e' f' g' h' i' j' a b c d x y = cc (a, b, c, d, x, y)
@@ -160,7 +104,7 @@ pub same_centre : (e f g h i j e' f' g' h' i' j' : ℤ) → e ≡ e' → f ≡ f
 same_centre e f g h i j e' f' g' h' i' j' a b c d x y = cc (a, b, c, d, x, y)
 
 of_sum : (z : ℤ) → IsSum z → to_z w16 (of_z w16 z) ≡ z
-of_sum z p = back_sum z p.low p.high
+of_sum z p = omega (arith, ints, p.low, p.high)
 
 pub centre_cast : (e f g h i j : ℤ) (r : ℕ) → IsSum e → IsSum f → IsSum g → IsSum h → IsSum i → IsSum j →
     r ≡ clip1 (six_taps (to_z w16 (of_z w16 e)) (to_z w16 (of_z w16 f)) (to_z w16 (of_z w16 g)) (to_z w16 (of_z w16 h)) (to_z w16 (of_z w16 i)) (to_z w16 (of_z w16 j)) +ℤ pos 512 >>ℤ 10) →
@@ -177,11 +121,6 @@ sums_small m n a b p q =
 pub multiples_small : (m by : ℕ) (a : List ℕ) → Each1 (λ x. x ≤ m) a → Each1 (λ z. z ≤ m * by) (map (λ x. x * by) a)
 multiples_small m by [] p = tt
 multiples_small m by (x ∷ xs) p = (mul-le-mul_right by p.0, multiples_small m by xs p.1)
-
-pub get_or-multiples : (by : ℕ) (a : List ℕ) (k : ℕ) → get_or (map (λ x. x * by) a) k 0 ≡ get_or a k 0 * by
-get_or-multiples by [] k = omega arith
-get_or-multiples by (x ∷ xs) zero = refl
-get_or-multiples by (x ∷ xs) (suc k) = get_or-multiples by xs k
 
 -- numbers that fit stay as they are through their bits
 pub get_or-through_bits : (w : Width) (ds : List ℤ) (k : ℕ) → FitsSigned w (get_or ds k (pos 0)) → get_or (map (to_z w) (map (of_z w) ds)) k (pos 0) ≡ get_or ds k (pos 0)
@@ -240,10 +179,14 @@ stored_more P dst r at room long fits old new k h =
 
 -- ---- places on and about a plane: in sixty-four bits, and in its padded rows
 
+-- a plane as a sample at every place
+abbrev pub wide_of : Plane → Wide
+wide_of p = clamped p.width p.height (sample p)
+
 -- the rows that a place was found in
 pub there_in : {pad w h : ℕ} {p : Plane} {left top : ℤ} (found : Option RowsPlace) (at : RowsPlace) → found ≡ Some at →
-    IfSome found (λ at. (rows : List ℕ) → IsSurrounded pad p rows → IsThere (clamped p.width p.height (sample p)) left top w h at.first at.stride rows) →
-    (rows : List ℕ) → IsSurrounded pad p rows → IsThere (clamped p.width p.height (sample p)) left top w h at.first at.stride rows
+    IfSome found (λ at. (rows : List ℕ) → IsSurrounded pad p rows → IsThere (wide_of p) left top w h at.first at.stride rows) →
+    (rows : List ℕ) → IsSurrounded pad p rows → IsThere (wide_of p) left top w h at.first at.stride rows
 there_in found at is holds = rw is at holds
 
 -- a place that a call sees through its bits, and one further on
@@ -284,13 +227,13 @@ module _ (pad : ℕ) (p : Plane) (rows : List ℕ) (all : IsSurrounded pad p row
       omega (arith, all.long, row_fits (row + j) stride (p.height + 2 * pad) stride (omega arith) (omega arith), add-mul row j stride)
 
   pub sample_there : (i j : ℕ) → i < columns → j < count →
-      slice_index rows (row * stride + column + j * stride + i) ≡ clamped p.width p.height (sample p) (left +ℤ pos i) (top +ℤ pos j)
+      slice_index rows (row * stride + column + j * stride + i) ≡ wide_of p (left +ℤ pos i) (top +ℤ pos j)
   sample_there i j less under =
       let l = place_back left place_left in
       let t = place_back top place_top in
       ap (λ k. slice_index rows k) (omega (arith, add-mul row j stride))
       ∙ all.near (column + i) (row + j) (omega arith) (omega arith)
-      ∙ same_place (clamped p.width p.height (sample p)) (pos (column + i) -ℤ pos pad) (pos (row + j) -ℤ pos pad) (left +ℤ pos i) (top +ℤ pos j) (omega (arith, ints)) (omega (arith, ints))
+      ∙ same_place (wide_of p) (pos (column + i) -ℤ pos pad) (pos (row + j) -ℤ pos pad) (left +ℤ pos i) (top +ℤ pos j) (omega (arith, ints)) (omega (arith, ints))
 
 -- a rectangle inside the plane, whose upper left sample is in column x and row y
 module _ (pad : ℕ) (p : Plane) (rows : List ℕ) (all : IsSurrounded pad p rows) (x y w h first stride : ℕ) (columns : x + w ≤ p.width) (lines : y + h ≤ p.height)
@@ -298,12 +241,12 @@ module _ (pad : ℕ) (p : Plane) (rows : List ℕ) (all : IsSurrounded pad p row
   pub room_inside : IsRoom w h first stride (length rows)
   room_inside = rw (is_first, is_stride) (room pad p.width p.height x y w h rows all.long columns lines)
 
-  pub sample_inside : (i j : ℕ) → i < w → j < h → slice_index rows (first + j * stride + i) ≡ clamped p.width p.height (sample p) (pos x +ℤ pos i) (pos y +ℤ pos j)
+  pub sample_inside : (i j : ℕ) → i < w → j < h → slice_index rows (first + j * stride + i) ≡ wide_of p (pos x +ℤ pos i) (pos y +ℤ pos j)
   sample_inside i j column row =
       rw (is_first, is_stride)
       (ap (slice_index rows) (omega (arith, add-mul (y + pad) j (p.width + 2 * pad)))
       ∙ all.near (x + pad + i) (y + pad + j) (omega arith) (omega arith)
-      ∙ same_place (clamped p.width p.height (sample p)) (pos (x + pad + i) -ℤ pos pad) (pos (y + pad + j) -ℤ pos pad) (pos x +ℤ pos i) (pos y +ℤ pos j) (omega (arith, ints)) (omega (arith, ints)))
+      ∙ same_place (wide_of p) (pos (x + pad + i) -ℤ pos pad) (pos (y + pad + j) -ℤ pos pad) (pos x +ℤ pos i) (pos y +ℤ pos j) (omega (arith, ints)) (omega (arith, ints)))
 
 -- ---- lines of samples that are copied four at a time, each four counted from their first sample on
 
@@ -329,70 +272,46 @@ rest a xs = take (length xs - a) (drop a xs)
 in_rest : (a k : ℕ) (xs : List ℕ) → a + k < length xs → slice_index (rest a xs) k ≡ slice_index xs (a + k)
 in_rest a k xs within = get_or-take (length xs - a) (drop a xs) k 0 (omega arith) ∙ get_or-drop a xs k 0
 
-length-rest : (a : ℕ) (xs : List ℕ) → a ≤ length xs → length (rest a xs) ≡ length xs - a
-length-rest a xs within = omega (arith, length-take-le (length xs - a) (drop a xs) (omega (arith, length-drop a xs)))
-
--- a list whose rest was changed
-module _ (a : ℕ) (xs ys : List ℕ) (within : a ≤ length xs) (long : length ys ≡ length (rest a xs)) where
-  abbrev changed : List ℕ
-  changed = put_mid a (length xs - a) xs ys
-
-  front : length (take a xs) ≡ a
-  front = length-take-le a xs within
-
-  none : length (post_of a (length xs - a) xs) ≡ 0
-  none = omega (arith, length-drop (length xs - a) (drop a xs), length-drop a xs)
-
-  length-changed : length changed ≡ length xs
-  length-changed =
-      omega (arith, length-append (take a xs) (ys ++ post_of a (length xs - a) xs), length-append ys (post_of a (length xs - a) xs), front, none, long, length-rest a xs within)
-
-  changed_before : (j : ℕ) → j < a → slice_index changed j ≡ slice_index xs j
-  changed_before j below = get_or_append_left (take a xs) (ys ++ post_of a (length xs - a) xs) 0 j (omega (arith, front)) ∙ get_or-take a xs j 0 below
-
-  changed_behind : (k : ℕ) → a + k < length xs → slice_index changed (a + k) ≡ slice_index ys k
-  changed_behind k below =
-      get_or-append_right (take a xs) (ys ++ post_of a (length xs - a) xs) a (a + k) 0 front (omega arith)
-      ∙ ap (λ n. get_or (ys ++ post_of a (length xs - a) xs) n 0) (omega arith)
-      ∙ get_or_append_left ys (post_of a (length xs - a) xs) 0 k (omega (arith, long, length-rest a xs within))
-
 -- lines that are set in the rest of a list are set in the list
 module _ (w h from source_stride to stride : ℕ) (p old new : List ℕ) (some : 0 < h)
     (source : IsRoom w h from source_stride (length p)) (room : IsRoom w h to stride (length old))
     (set : IsStridedSet w h 0 stride (λ x y. slice_index (rest from p) (0 + y * source_stride + x)) (rest to old) new) where
-  begins_within : to ≤ length old
-  begins_within = omega (arith, room 0 some)
+  long_rest : to + length new ≡ length old
+  long_rest = omega (arith, room 0 some, set.long, length-take-le (length old - to) (drop to old) (omega (arith, length-drop to old)))
 
-  at_place : (y x : ℕ) → y < h → x < w → slice_index (changed to old new begins_within set.long) (to + y * stride + x) ≡ slice_index p (from + y * source_stride + x)
+  is_chunk : put_mid to (length old - to) old new ≡ put_chunk to old new
+  is_chunk =
+      let all : length old - to ≡ length new = omega (arith, long_rest) in
+      ap (λ n. take to old ++ (new ++ drop n (drop to old))) all ∙ sym (put_chunk_is to old new (omega (arith, long_rest)))
+
+  at_place : (y x : ℕ) → y < h → x < w → slice_index (put_chunk to old new) (to + y * stride + x) ≡ slice_index p (from + y * source_stride + x)
   at_place y x low column =
-      ap (slice_index (changed to old new begins_within set.long)) (omega arith)
-      ∙ changed_behind to old new begins_within set.long (0 + y * stride + x) (omega (arith, room y low))
+      ap (slice_index (put_chunk to old new)) (omega arith)
+      ∙ get_or-put_chunk_at to old new (0 + y * stride + x) 0 (omega (arith, long_rest, room y low)) (omega (arith, long_rest))
       ∙ set.inside y low x column
       ∙ in_rest from (0 + y * source_stride + x) p (omega (arith, source y low))
       ∙ ap (slice_index p) (omega arith)
 
-  elsewhere : IsSameOutside w h to stride old (changed to old new begins_within set.long)
+  elsewhere : IsSameOutside w h to stride old (put_chunk to old new)
   elsewhere j apart = elim (cases_lt j to) [
-    | inl before ↦ changed_before to old new begins_within set.long j before
+    | inl before ↦ get_or-put_chunk_below to old new j 0 before
     | inr behind ↦ elim (cases_lt j (length old)) [
       | inl within ↦
-          ap (slice_index (changed to old new begins_within set.long)) (omega arith)
-          ∙ changed_behind to old new begins_within set.long (j - to) (omega arith)
+          ap (slice_index (put_chunk to old new)) (omega arith)
+          ∙ get_or-put_chunk_at to old new (j - to) 0 (omega (arith, long_rest)) (omega (arith, long_rest))
           ∙ set.outside (j - to) (λ x y column low e. apart x y column low (omega (arith, e)))
           ∙ in_rest to (j - to) old (omega arith)
           ∙ ap (slice_index old) (omega arith)
-      | inr past ↦
-          get_or_past (changed to old new begins_within set.long) j 0 (omega (arith, length-changed to old new begins_within set.long))
-          ∙ sym (get_or_past old j 0 past)
+      | inr past ↦ get_or-put_chunk_above to old new j 0 (omega (arith, long_rest))
     ]
   ]
 
   pub set_in_rest : IsStridedSet w h to stride (λ x y. slice_index p (from + y * source_stride + x)) old (put_mid to (length old - to) old new)
-  set_in_rest = record {
-    long = length-changed to old new begins_within set.long;
+  set_in_rest = rw is_chunk (record {
+    long = length-put_chunk to old new;
     inside = λ y low x column. at_place y x low column;
     outside = elsewhere;
-  }
+  })
 
 -- ---- a loop that fills a list from the front
 

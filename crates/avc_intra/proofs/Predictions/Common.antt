@@ -1,18 +1,17 @@
 -- The names that the proofs cite of std, of the crates below and of the definitions here, passed on from one place. Declares nothing.
 pub use Rattle.std.proofs.Common.{◌≡◌, ℕ, ℤ, zero, suc, ◌+◌, ◌*◌, ◌-◌, ◌<◌, pos, negsuc, ◌+ℤ◌, ◌-ℤ◌, ◌*ℤ◌, inl, inr, add-one, ap, ◌∙◌, sym, arith}
-pub use Rattle.std.proofs.Common.{List, slice_index, to_z, of_z, w32, refl, ◌≤◌, Bool, true, false, if◌then◌else◌, zero-add, mul_comm, below_more}
-pub use Rattle.std.proofs.Common.{◌/◌, ◌%◌, [], ◌∷◌, Some, None, length, get_or, subst, ⊎_elim, slice_set, get_or as slice_index_or, rules}
+pub use Rattle.std.proofs.Common.{List, slice_index, to_z, of_z, w32, refl, ◌≤◌, Bool, true, false, if◌then◌else◌, zero-add, below_more}
+pub use Rattle.std.proofs.Common.{◌/◌, ◌%◌, [], ◌∷◌, Some, None, length, get_or, subst, slice_set, get_or as slice_index_or, rules}
 pub use Rattle.std.proofs.Math.Nat.{mul-le-mul, mul-le-mul_right}
 pub use Rattle.std.proofs.lemmas.Bool.{cases_lt}
 pub use Rattle.std.proofs.lemmas.Bool.Decides.{nat_tests}
 pub use Rattle.std.proofs.lemmas.Int.{ints, unsigned_abs-mul}
 pub use Rattle.std.proofs.lemmas.List.{get_or-set_same, get_or-set_other, get_or-replicate}
 pub use Rattle.std.proofs.lemmas.List.FromFn.{get_or-map-range_with_len, fill_by_all}
-pub use Rattle.std.proofs.lemmas.Nat.{mul-add-lt}
 pub use Rattle.std.specs.Int.RustNames.{unsigned_abs}
 pub use Rattle.std.specs.List.{range_with_len}
 pub use Rattle.std.specs.Option.{unwrap_or, is_some}
-pub use Rattle.std.specs.Prelude.{nat_lt, not, ◌&&◌, map, replicate}
+pub use Rattle.std.specs.Prelude.{nat_lt, not, ◌&&◌, map}
 pub use Rattle.avc_plane.proofs.PlaneMaps.{strided_same, strided_more, strided_line, strided_rows}
 pub use Rattle.avc_plane.specs.Strided.{IsStridedSet}
 pub use Rattle.avc_types.specs.Arithmetic.{sum_below, sum_below_ℤ, ◌>>ℤ◌, clip1, mean_of_two, mean_of_three}

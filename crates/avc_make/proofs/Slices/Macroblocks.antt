@@ -83,9 +83,7 @@ back-qp_delta least most = back-se_within (negsuc 25) (pos 25) refl least most
 
 back-delta : (pattern : ℕ) (d : ℤ) → negsuc 25 ≤ℤ d → d ≤ℤ pos 25 → (pattern ≡ 0 → d ≡ pos 0) → GivesBack (qp_delta_where (not (pattern == 0))) (qp_delta_bits pattern d) d
 back-delta zero d least most none = let same = none refl in rw same back-give
-back-delta (suc p) d least most none =
-    let some : (suc p == 0) ≡ false = grind (arith, nat_tests) in
-    rw some (back-qp_delta least most)
+back-delta (suc p) d least most none = search (rules, back-qp_delta)
 
 -- what follows coded_block_pattern
 back-after_pattern : (c : Context) (r : Residual) → IsPattern r → GivesBack (after_pattern c (pattern_of r)) (qp_delta_bits (pattern_of r) r.mb_qp_delta ++ residual_bits c false r) r
@@ -266,10 +264,7 @@ with_token most word found =
     ∷ zeros_bits most total (sum (runs_of found)) ∷ runs_bits (sum (runs_of found)) (runs_of found) ∷ [])
 
 bits_capped : (max n : ℕ) (levels : List ℤ) → block_bits max (pos (min n 8)) levels ≡ block_bits max (pos n) levels
-bits_capped max n levels =
-    let found = coded levels in
-    let t = token (length found) (ones_first 3 (values_of found)) in
-    ap (λ table. with_token max (word_of (is_token_same t) table) found) (token_capped n)
+bits_capped max n levels = search (rules, token, token_capped)
 
 pub coded_block : (max n : ℕ) (z : ℤ) (coded : Bool) (levels : List ℤ) → coded ≡ true → z ≡ pos (min n 8) → block_bits max z levels ≡ bits_where_coded max (pos n) coded levels
 coded_block max n z coded levels is same = rw (same, is) (bits_capped max n levels)
@@ -322,6 +317,4 @@ module _ {max size total : ℕ} {coded : ℕ → Bool} {left up : Option (List �
       }
 
   pub blocks_put : ArePut max size total coded left up blocks start now counts k → total ≤ k → now ≡ with_bits start (blocks_bits max size coded left up (range_with_len 0 total) [] blocks)
-  blocks_put are past =
-      let none : total - k ≡ 0 = omega arith in
-      put_all start now _ are.going (rw none at are.sum)
+  blocks_put are past = search (rules, total, put_all)

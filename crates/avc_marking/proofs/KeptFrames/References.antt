@@ -2,9 +2,7 @@
 pub mod Common
 unfoldable pub use Common.*
 
--- ---- what a change of frames makes of the reference frames among them
-
--- ---- rising entries
+-- ---- what a change of frames makes of the reference frames among them: rising entries
 
 stand_rest : (e : ℕ) (es : List ℕ) (f : MarkedFrame) (fs : List MarkedFrame) → StandAt (e ∷ es) (f ∷ fs) → StandAt es fs
 stand_rest e es f fs s = record { each = omega (arith, s.each); rising = rising_rest e es s.rising }
@@ -17,6 +15,8 @@ references-append [] [] e f same = refl
 references-append [] (g ∷ fs) e f same = absurd (omega (arith, same))
 references-append (d ∷ es) [] e f same = absurd (omega (arith, same))
 references-append (d ∷ es) (g ∷ fs) e f same = grind (arith, (references-append es fs e f (omega (arith, same))))
+
+pub ruleset references_added = (references-append)
 
 -- ---- frames become unused
 
@@ -115,6 +115,9 @@ long-ok s d index max_long_term_frame_idx es xs ws place stand within kept short
     let f : MarkedFrame = record (slice_index_or ws place no_frame) { mark = Some (Long index) } in
     grind (arith, references-changed (λ t. with_other_mark t (Long index)) es ws place f stand' (omega arith) (grind arith) refl)
 
+-- what an operation needs
+pub ruleset operating = (nat_tests, stand_as, stand_with, refilled, err_from_is_err_and, filter_agree, not-not)
+
 -- ---- all operations
 
 pub stand_turned : (assigned : Bool) (entries : List ℕ) (own : ℕ) (xs ys : List MarkedFrame) → StandBefore entries own xs → length ys ≡ length xs + (if assigned then 1 else 0) → StandWith assigned entries own ys
@@ -133,9 +136,7 @@ pub stand_settled : (assigned : Bool) (entries : List ℕ) (own : ℕ) (xs ys zs
     length zs + (if assigned then 1 else 0) ≡ length ys + 1 → StandAt (entries ++ own ∷ []) zs
 stand_settled assigned entries own xs ys zs stand h k = record { each = grind (arith, length-append); rising = stand.rising }
 
--- ---- the picture's own frame among the others, and the limit
-
--- ---- after the operations
+-- ---- the picture's own frame among the others, and the limit: after the operations
 
 pub settled-assigned : (s : MarkingEntry) (entries : List ℕ) (entry : ℕ) (max_long_term_frame_idx : Option ℕ) (xs zs ys : List MarkedFrame) (last kept : ℕ) → zs ≡ xs → ys ≡ xs →
     StandWith true entries entry xs → last + 1 ≡ length xs → kept ≡ frame_num_after_marking s →
@@ -149,9 +150,7 @@ settled-assigned s entries entry max_long_term_frame_idx xs zs ys last kept same
     references-changed (λ r. current_frame s entry r.mark) es xs last g (stand_with true entries entry xs stand) (omega (arith, place)) (cc) (cc) in
     grind (arith, changed, refilled, length-set)
 
--- ---- the sliding window
-
--- ---- no reference picture
+-- ---- the sliding window: no reference picture
 
 pub unmarked_added : (new : NewFrame) (marking : Option Marking) (entries : List ℕ) (entry : ℕ) (max_long_term_frame_idx : Option ℕ) (xs ys : List MarkedFrame) → marking ≡ None → length entries ≡ length xs →
     ys ≡ xs ++ record { frame_num = new.current.frame_num; existing = new.existing; mark = None } ∷ [] →
@@ -179,6 +178,8 @@ pub numbers_next : (max next after left : ℕ) → next < max → 0 < left → a
     frame_nums_from max next left ≡ next ∷ frame_nums_from max after (left - 1)
 numbers_next max next after left below more moved = grind (arith, mod-eq_of_lt, numbers-mod)
 
+pub ruleset gap_numbers = (nat_tests, length_numbers, numbers-mod, numbers_skipped)
+
 -- ---- how many reference frames there are, and which goes first from the sliding window
 
 pub length_references : (es : List ℕ) (fs : List MarkedFrame) → length es ≡ length fs →
@@ -188,7 +189,7 @@ length_references [] (f ∷ fs) same = absurd (omega (arith, same))
 length_references (e ∷ es) [] same = refl
 length_references (e ∷ es) (f ∷ fs) same = grind (arith, (length_references es fs (omega (arith, same))))
 
--- ---- of two
+pub ruleset counting = (take_all, length_references)
 
 -- ---- among those from a place on
 
@@ -222,9 +223,7 @@ first-step current es fs p n first before e stand within long short so_far = by_
     by_test false h =
         first-without_frame current es fs p n e stand.each within h ∙ so_far ∙ ap (option_map (reference_at es fs)) (sym (long h))
 
--- ---- the sliding window over short-term frames whose numbers rise
-
--- ---- numbers that go on past MaxFrameNum
+-- ---- the sliding window over short-term frames whose numbers rise: numbers that go on past MaxFrameNum
 
 -- one that comes less than max later
 ahead : (max v number : ℕ) → v ≤ number → number < v + max → (number % max ≡ v % max + (number - v)) ⊎ (number % max + max ≡ v % max + (number - v))
@@ -277,9 +276,6 @@ sorted_head current r (s ∷ rs) h =
 goes_first : (current : CurrentFrameNum) (r : Reference) (rs : List Reference) → NoneBefore current r rs →
     slice_get (sorted_by (precedes_in_window current) (r ∷ rs)) 0 ≡ Some r
 goes_first current r rs h = grind (arith, first-placed, sorted_head)
-
-lt_no : (a b : ℤ) → b ≤ℤ a → int_lt a b ≡ false
-lt_no a b h = grind (arith, ints)
 
 -- a later number that was decoded later
 abbrev at : (number max : ℕ) → CurrentFrameNum

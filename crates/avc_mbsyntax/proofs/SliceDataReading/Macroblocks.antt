@@ -4,18 +4,13 @@ unfoldable pub use Common.*
 use Rattle.avc_cavlc.specs.Block.{placed}
 use Rattle.avc_types.specs.declared.fault.Fault.TheVariants as faults
 
--- ---- one block more
-
--- ---- nC above 8
+-- ---- one block more: nC above 8
 
 many_levels : (n : ℕ) → 8 ≤ n → token_table (pos n) ≡ tokens_8
 many_levels n many = rw (le-ltb n 2 (omega (arith, many)), le-ltb n 4 (omega (arith, many)), le-ltb n 8 many) refl
 
 pub token_capped : (n : ℕ) → token_table (pos (min n 8)) ≡ token_table (pos n)
-token_capped n = elim (cases_lt n 8) [
-  | inl few ↦ ap (λ m. token_table (pos m)) (let same : min n 8 ≡ n = omega (arith, few) in same)
-  | inr many ↦ many_levels (min n 8) (omega (arith, many)) ∙ sym (many_levels n many)
-]
+token_capped n = grind (arith, cases_lt, min, many_levels)
 
 abbrev by_table : (max : ℕ) → Table Token → Read (List ℤ)
 by_table max table = do
@@ -49,14 +44,10 @@ pub none_coded : (max size : ℕ) (coded : ℕ → Bool) (left up : Option (List
 unfolding blocks
 none_coded max size coded left up [] done b none = ap (λ l. Ok (l, b)) (sym (append-nil done))
 none_coded max size coded left up (k ∷ numbers) done b none =
-    next_block max size coded left up k numbers done (no_levels max) b b (rw (none k) refl)
-    ∙ none_coded max size coded left up numbers (done ++ no_levels max ∷ []) b none
-    ∙ ap (λ l. Ok (l, b)) (append_assoc done (no_levels max ∷ []) (replicate (length numbers) (no_levels max)))
+    grind (arith, next_block, append_assoc, none_coded max size coded left up numbers (done ++ no_levels max ∷ []) b none)
 
 pub none_in_pattern : (k : ℕ) → is_coded 0 k ≡ false
-none_in_pattern k =
-    let none : 0 / 2 ^ (k / 4) ≡ 0 = div-eq_of_lt (pow_pos (k / 4)) in
-    rw none refl
+none_in_pattern k = grind (arith, div-eq_of_lt, pow_pos)
 
 pub no_luma : (max : ℕ) (pattern : ℕ) (left up : Option (List ℕ)) (b : Bits) → pattern ≡ 0 →
     blocks max 16 (is_coded pattern) left up (range_with_len 0 16) [] b ≡ Ok (replicate 16 (no_levels max), b)
@@ -74,10 +65,7 @@ total_none (suc n) = total_none n
 
 -- those that come later are all 0 still
 all_zero : {A : Type 0} (n : ℕ) (a : A) (j : ℕ) → get_or (replicate n a) j a ≡ a
-all_zero n a j = elim (cases_lt j n) [
-  | inl within ↦ get_or-replicate n j a a within
-  | inr past ↦ get_or_past (replicate n a) j a (omega (arith, length-replicate n a, past))
-]
+all_zero n a j = grind (arith, cases_lt, get_or-replicate, get_or_past, length-replicate)
 
 -- Reading all blocks is reading those from block k on, after the levels of the first; their counts are told, and those of the others are 0.
 pub record AreRead (max size total : ℕ) (coded : ℕ → Bool) (left up : Option (List ℕ)) (start now : Bits) (levels : List (List ℤ)) (counts : List ℕ) (k : ℕ) : Type 0 where
@@ -96,9 +84,9 @@ module _ {max size total : ℕ} {coded : ℕ → Bool} {left up : Option (List �
 
 module _ {max size total : ℕ} {coded : ℕ → Bool} {left up : Option (List ℕ)} {start now : Bits} {levels : List (List ℤ)} {counts : List ℕ} {k : ℕ} where
   -- a block is read
-  pub block_read : {block : List ℤ} {mid : Bits} → AreRead max size total coded left up start now levels counts k → k < total → coded k ≡ true →
-      block_where max true (nc size left up (take k counts) k) now ≡ Ok (block, mid) → AreSmall block → AreRead max size total coded left up start mid (set levels k block) (set counts k (total_coeff block)) (k + 1)
-  block_read {block} {mid} are below is_coded is small =
+  pub block_read : {test : Bool} {block : List ℤ} {mid : Bits} → AreRead max size total coded left up start now levels counts k → k < total → coded k ≡ test →
+      block_where max test (nc size left up (take k counts) k) now ≡ Ok (block, mid) → AreSmall block → AreRead max size total coded left up start mid (set levels k block) (set counts k (total_coeff block)) (k + 1)
+  block_read {test} {block} {mid} are below is_coded is small =
       let more : total - k ≡ suc (total - (k + 1)) = omega arith in
       let taken = take_more_set levels k block (omega (arith, are.long)) in
       let told = are.told in
@@ -115,17 +103,8 @@ module _ {max size total : ℕ} {coded : ℕ → Bool} {left up : Option (List �
   -- a block that is not coded
   pub block_passed : AreRead max size total coded left up start now levels counts k → k < total → coded k ≡ false → AreRead max size total coded left up start now (set levels k (no_levels max)) counts (k + 1)
   block_passed are below is_none =
-      let more : total - k ≡ suc (total - (k + 1)) = omega arith in
-      let taken = take_more_set levels k (no_levels max) (omega (arith, are.long)) in
-      let here : block_where max (coded k) (nc size left up (map total_coeff (take k levels)) k) now ≡ Ok (no_levels max, now) = rw is_none refl in
-      record {
-        long = length-set levels k (no_levels max) ∙ are.long;
-        counts_long = are.counts_long;
-        told = take_more counts k 0 (omega (arith, are.counts_long)) ∙ rw (are.told, are.none k (omega arith), taken) (ap (λ n. map total_coeff (take k levels) ++ n ∷ []) (sym (total_none max)) ∙ sym (map-append total_coeff (take k levels) (no_levels max ∷ [])));
-        none = λ j later. are.none j (omega (arith, later));
-        small = all_more AreSmall levels k (no_levels max) (omega (arith, are.long)) are.small (λ i. small_none max i);
-        read = are.read ∙ rw (more, taken) (next_block max size coded left up k (range_with_len (k + 1) (total - (k + 1))) (take k levels) (no_levels max) now now here);
-      }
+      let same : set counts k (total_coeff (no_levels max)) ≡ counts = rw (total_none max, ← are.none k (omega arith)) (set-get_or counts k 0) in
+      rw same at (block_read {block = no_levels max} {mid = now} are below is_none refl (λ i. small_none max i))
 
   pub block_fault : {f : Fault} → AreRead max size total coded left up start now levels counts k → k < total → coded k ≡ true →
       block_where max true (nc size left up (take k counts) k) now ≡ Err f → blocks max size coded left up (range_with_len 0 total) [] start ≡ Err f
@@ -137,10 +116,7 @@ module _ {max size total : ℕ} {coded : ℕ → Bool} {left up : Option (List �
 
   pub all_read : AreRead max size total coded left up start now levels counts k → total ≤ k → (blocks max size coded left up (range_with_len 0 total) [] start ≡ Ok (levels, now)) × All AreSmall levels
   unfolding blocks
-  all_read are past =
-      let none : total - k ≡ 0 = omega arith in
-      let whole = take_all k levels (omega (arith, are.long)) in
-      (are.read ∙ rw (none, whole) refl, rw whole at are.small)
+  all_read are past = grind (arith, take_all)
 
 -- one block more that is cleared
 pub cleared_more : (xs : List (List ℤ)) (k n : ℕ) (x : List ℤ) → k < length xs → take k xs ≡ replicate k x → take (k + 1) (set xs k x) ≡ replicate (k + 1) x
@@ -166,8 +142,7 @@ pub i_16x16_read : (c : Context) (n chroma pattern q : ℕ) (delta d : ℤ) (dc 
     ue_to 3 b ≡ Ok (chroma, b1) → qp_delta b1 ≡ Ok (delta, b2) → luma_dc_levels c b2 ≡ Ok (dc, b3) → pattern ≡ luma_pattern_of n → d ≡ delta →
     residual_blocks c 15 dc pattern ((n / 4) % 3) d b3 ≡ Ok (r, b4) → q ≡ qp_after c.qp r.mb_qp_delta →
     i_16x16_mb c n b ≡ Ok (record { syntax = i_16x16 (n % 4) chroma r; qp = q }, b4)
-i_16x16_read c n chroma pattern q delta d dc r b b1 b2 b3 b4 e1 e2 e3 e4 e5 e6 e7 =
-    after_dc c n chroma pattern delta d dc b b1 b2 b3 e1 e2 e3 e4 e5 ∙ rw (e6, e7) refl
+i_16x16_read c n chroma pattern q delta d dc r b b1 b2 b3 b4 e1 e2 e3 e4 e5 e6 e7 = grind (arith, after_dc)
 
 -- ---- where coded_block_pattern is 0
 
@@ -209,12 +184,10 @@ nothing_in_range levels z = record {
 -- ---- a part of the syntax in other words
 
 pub reads_same : {V : Type 0} (result : Result V Fault) (p q : Read V) (old new : BitReader) → ((b : Bits) → p b ≡ q b) → Reads result p old new → Reads result q old new
-reads_same (Ok v) p q old new same read = (sym (same (reader_bits old)) ∙ read.0, read.1)
-reads_same (Err f) p q old new same read = sym (same (reader_bits old)) ∙ read
+reads_same result p q old new same read = MatchResult-weaker result read (λ v r. (sym (same (reader_bits old)) ∙ r.0, r.1)) (λ f r. sym (same (reader_bits old)) ∙ r)
 
 pub reads_into_same : {V : Type 0} (result : Result (Unit {0}) Fault) (value : V) (p q : Read V) (old new : BitReader) → ((b : Bits) → p b ≡ q b) → ReadsInto result value p old new → ReadsInto result value q old new
-reads_into_same (Ok v) value p q old new same read = (sym (same (reader_bits old)) ∙ read.0, read.1)
-reads_into_same (Err f) value p q old new same read = sym (same (reader_bits old)) ∙ read
+reads_into_same result value p q old new same read = MatchResult-weaker result read (λ v r. (sym (same (reader_bits old)) ∙ r.0, r.1)) (λ f r. sym (same (reader_bits old)) ∙ r)
 
 pub capped_read : (max nC : ℕ) (z : ℤ) (b : Bits) → z ≡ pos (min nC 8) → residual_block max z b ≡ block_where max true nC b
 capped_read max nC z b is = rw is (block_capped max nC b)
@@ -233,10 +206,7 @@ i_mb_16x16 c (suc n) b some other =
 -- ---- what holds of the values that parts of a macroblock give
 
 pub gives_te_to : (range : ℕ) → Gives (λ v. v ≤ range) (te_to range)
-gives_te_to range =
-    gives-bind (λ _. Unit {0}) (λ v. v ≤ range) (te range) _ (gives-any (te range)) (λ v _.
-    gives-check (λ w. w ≤ range) (nat_le v range) _ _ (λ h.
-    gives-give (λ w. w ≤ range) v (grind (arith, nat_tests))))
+gives_te_to range = grind (arith, gives-bind, gives-any, gives-check, gives-give)
 
 pub gives_u : (n : ℕ) → Gives (λ v. v < 2 ^ n) (u n)
 gives_u n b next x e =
@@ -278,22 +248,14 @@ eight v e many few = grind (arith, nat_tests)
 
 by_none : (p v : ℕ) (bits : List Bool) → bits_of 4 v ≡ take 4 (bits ++ replicate 4 false) → v < 16 → 8 ≤ v →
     block_mode (ahead p bits) ≡ (skip 1 >>= λ _. give None) (ahead p bits)
-by_none p v [] e few many = absurd (eight v (ap first e) many few)
-by_none p v (false ∷ bits) e few many = absurd (eight v (ap first e) many few)
 by_none p v (true ∷ bits) e few many = refl
+by_none p v bits e few many = absurd (eight v (ap first e) many few)
 
 by_some : (p v : ℕ) (bits : List Bool) → bits_of 4 v ≡ take 4 (bits ++ replicate 4 false) → v < 8 →
     block_mode (ahead p bits) ≡ (skip 4 >>= λ _. give (Some v)) (ahead p bits)
-by_some p v [] e few = refl
 by_some p v (true ∷ bits) e few = absurd (not_eight v (ap first e) few)
-by_some p v (false ∷ []) e few = refl
-by_some p v (false ∷ x ∷ []) e few = refl
-by_some p v (false ∷ x ∷ y ∷ []) e few = refl
-by_some p v (false ∷ x ∷ y ∷ z ∷ bits) e few =
-    let same : v % 2 ^ 4 ≡ v = omega (arith, few) in
-    let value : number_of (x ∷ y ∷ z ∷ []) ≡ v = sym (ap number_of e) ∙ number-bits_of 4 v ∙ same in
-    let place : p + 1 + 3 ≡ p + 4 = omega arith in
-    rw (value, place) refl
+by_some p v (false ∷ x ∷ y ∷ z ∷ bits) e few = grind (arith, number-bits_of)
+by_some p v bits e few = refl
 
 pub mode_none : (b : Bits) (v : ℕ) → bits_of 4 v ≡ take 4 (b.ahead ++ replicate 4 false) → v < 16 → 8 ≤ v → block_mode b ≡ (skip 1 >>= λ _. give None) b
 mode_none b v e few many = by_none b.position v b.ahead e few many
@@ -308,32 +270,19 @@ count s = length (parts_of_quarter s 0 0 0)
 
 anywhere : (s : SubMbType) (x y q : ℕ) → length (parts_of_quarter s x y q) ≡ count s
 anywhere Sub8x8 x y q = refl
-anywhere Sub8x4 x y q = refl
-anywhere Sub4x8 x y q = refl
-anywhere Sub4x4 x y q = refl
+anywhere s x y q = refl
 
-one_quarter : (s : SubMbType) (subs : List SubMbType) (q n : ℕ) → length (parts_of_quarters subs (q + 1)) ≡ n → length (parts_of_quarters (s ∷ subs) q) ≡ count s + n
-one_quarter s subs q n is = length-append (parts_of_quarter s (quarter_x q) (quarter_y q) q) (parts_of_quarters subs (q + 1)) ∙ omega (arith, anywhere s (quarter_x q) (quarter_y q) q, is)
+one_quarter : (s : SubMbType) (subs : List SubMbType) (q : ℕ) → length (parts_of_quarters (s ∷ subs) q) ≡ count s + length (parts_of_quarters subs (q + 1))
+one_quarter s subs q = length-append (parts_of_quarter s (quarter_x q) (quarter_y q) q) (parts_of_quarters subs (q + 1)) ∙ ap (λ n. n + length (parts_of_quarters subs (q + 1))) (anywhere s (quarter_x q) (quarter_y q) q)
 
 pub four_quarters : (subs : List SubMbType) (d : SubMbType) → length subs ≡ 4 →
     count (get_or subs 0 d) + count (get_or subs 1 d) + count (get_or subs 2 d) + count (get_or subs 3 d) ≡ length (parts_of_quarters subs 0)
 four_quarters (s ∷ t ∷ u ∷ v ∷ []) d long =
-    let last : length (parts_of_quarters (v ∷ []) (0 + 1 + 1 + 1)) ≡ count v + 0 = one_quarter v [] (0 + 1 + 1 + 1) 0 refl in
-    let two : length (parts_of_quarters (u ∷ v ∷ []) (0 + 1 + 1)) ≡ count u + (count v + 0) = one_quarter u (v ∷ []) (0 + 1 + 1) (count v + 0) last in
-    let three : length (parts_of_quarters (t ∷ u ∷ v ∷ []) (0 + 1)) ≡ count t + (count u + (count v + 0)) = one_quarter t (u ∷ v ∷ []) (0 + 1) (count u + (count v + 0)) two in
-    let all : length (parts_of_quarters (s ∷ t ∷ u ∷ v ∷ []) 0) ≡ count s + (count t + (count u + (count v + 0))) = one_quarter s (t ∷ u ∷ v ∷ []) 0 (count t + (count u + (count v + 0))) three in
-    omega (arith, all)
-four_quarters [] d long = absurd (omega arith)
-four_quarters (s ∷ []) d long = absurd (omega arith)
-four_quarters (s ∷ t ∷ []) d long = absurd (omega arith)
-four_quarters (s ∷ t ∷ u ∷ []) d long = absurd (omega arith)
-four_quarters (s ∷ t ∷ u ∷ v ∷ w ∷ subs) d long = absurd (omega arith)
+    omega (arith, one_quarter s (t ∷ u ∷ v ∷ []) 0, one_quarter t (u ∷ v ∷ []) (0 + 1), one_quarter u (v ∷ []) (0 + 1 + 1), one_quarter v [] (0 + 1 + 1 + 1))
+four_quarters _ d long = absurd (omega arith)
 
 -- ---- where reference indices are coded
 
 pub ref_idx_coded : (n : ℕ) (s : PMbType) (b : Bits) → is_ref0 s ≡ false → 1 < n → ref_idx_l0 n s b ≡ times (partitions s) (te_to (n - 1)) b
-ref_idx_coded n P16x16 b other some = rw (ref_idx_l0, lt-leb n 1 some) refl
-ref_idx_coded n P16x8 b other some = rw (ref_idx_l0, lt-leb n 1 some) refl
-ref_idx_coded n P8x16 b other some = rw (ref_idx_l0, lt-leb n 1 some) refl
-ref_idx_coded n (P8x8 subs) b other some = rw (ref_idx_l0, lt-leb n 1 some) refl
 ref_idx_coded n (P8x8Ref0 subs) b other some = cc
+ref_idx_coded n s b other some = rw (ref_idx_l0, lt-leb n 1 some) refl

@@ -17,25 +17,10 @@ AllPlaced n (p ∷ ps) = IsPlaced n p × AllPlaced n ps
 
 module _ (x y q : ℕ) (left : x ≤ 8) (top : y ≤ 8) (first : q < 4) (rest : List Part) (others : AllPlaced 4 rest) where
   placed_quarter : (s : SubMbType) → AllPlaced 4 (parts_of_quarter s x y q ++ rest)
-  placed_quarter Sub8x8 = (record { in_columns = omega arith; column = omega arith; row = omega arith; of_partition = first }, others)
-  placed_quarter Sub8x4 = (
-    record { in_columns = omega arith; column = omega arith; row = omega arith; of_partition = first },
-    (record { in_columns = omega arith; column = omega arith; row = omega arith; of_partition = first }, others),
-  )
-  placed_quarter Sub4x8 = (
-    record { in_columns = omega arith; column = omega arith; row = omega arith; of_partition = first },
-    (record { in_columns = omega arith; column = omega arith; row = omega arith; of_partition = first }, others),
-  )
-  placed_quarter Sub4x4 = (
-    record { in_columns = omega arith; column = omega arith; row = omega arith; of_partition = first },
-    (
-      record { in_columns = omega arith; column = omega arith; row = omega arith; of_partition = first },
-      (
-        record { in_columns = omega arith; column = omega arith; row = omega arith; of_partition = first },
-        (record { in_columns = omega arith; column = omega arith; row = omega arith; of_partition = first }, others),
-      ),
-    ),
-  )
+  placed_quarter Sub8x8 = (omega arith, others)
+  placed_quarter Sub8x4 = (omega arith, (omega arith, others))
+  placed_quarter Sub4x8 = (omega arith, (omega arith, others))
+  placed_quarter Sub4x4 = (omega arith, (omega arith, (omega arith, (omega arith, others))))
 
 placed_quarters : (subs : List SubMbType) (q : ℕ) → length subs + q ≤ 4 → AllPlaced 4 (parts_of_quarters subs q)
 placed_quarters [] q h = tt
@@ -44,15 +29,9 @@ placed_quarters (s ∷ subs) q h =
     (parts_of_quarters subs (q + 1)) (placed_quarters subs (q + 1) (omega (arith, h))) s
 
 pub parts_placed : (shape : PMbType) → HasFourQuarters shape → AllPlaced (partitions shape) (parts_of shape)
-parts_placed P16x16 four = (record { in_columns = omega arith; column = omega arith; row = omega arith; of_partition = omega arith }, tt)
-parts_placed P16x8 four = (
-  record { in_columns = omega arith; column = omega arith; row = omega arith; of_partition = omega arith },
-  (record { in_columns = omega arith; column = omega arith; row = omega arith; of_partition = omega arith }, tt),
-)
-parts_placed P8x16 four = (
-  record { in_columns = omega arith; column = omega arith; row = omega arith; of_partition = omega arith },
-  (record { in_columns = omega arith; column = omega arith; row = omega arith; of_partition = omega arith }, tt),
-)
+parts_placed P16x16 four = omega arith
+parts_placed P16x8 four = omega arith
+parts_placed P8x16 four = omega arith
 parts_placed (P8x8 subs) four = placed_quarters subs 0 (omega (arith, four))
 parts_placed (P8x8Ref0 subs) four = placed_quarters subs 0 (omega (arith, four))
 
@@ -73,12 +52,6 @@ pub record HasOwn (p : Part) (ps : List Part) : Type 0 where
 abbrev pub Apart : List Part → Type 0
 Apart [] = Unit {0}
 Apart (p ∷ ps) = HasOwn p ps × Apart ps
-
-pub and_first : (a b : Bool) → (a && b) ≡ true → a ≡ true
-and_first a b e = (and_parts a b e).0
-
-pub and_second : (a b : Bool) → (a && b) ≡ true → b ≡ true
-and_second a b e = (and_parts a b e).1
 
 off_both : (k : ℕ) (ps qs : List Part) → is_off k ps ≡ true → is_off k qs ≡ true → is_off k (ps ++ qs) ≡ true
 off_both k [] qs e f = f
@@ -139,40 +112,26 @@ quarters Sub8x4 = (refl, refl, refl, refl)
 quarters Sub4x8 = (refl, refl, refl, refl)
 quarters Sub4x4 = (refl, refl, refl, refl)
 
-abbrev from3 : SubMbType → List Part
-from3 s3 = parts_of_quarter s3 8 8 3 ++ []
-
-abbrev from2 : SubMbType → SubMbType → List Part
-from2 s2 s3 = parts_of_quarter s2 0 8 2 ++ from3 s3
-
-abbrev from1 : SubMbType → SubMbType → SubMbType → List Part
-from1 s1 s2 s3 = parts_of_quarter s1 8 0 1 ++ from2 s2 s3
-
-off3 : (s3 : SubMbType) (k : ℕ) → k < 12 → is_off k (from3 s3) ≡ true
+off3 : (s3 : SubMbType) (k : ℕ) → k < 12 → is_off k (parts_of_quarters (s3 ∷ []) 3) ≡ true
 off3 s3 k h = off_both k (parts_of_quarter s3 8 8 3) [] (off_before 12 s3 (parts_of_quarter s3 8 8 3) (quarters s3).3 k h) refl
 
-off2 : (s2 s3 : SubMbType) (k : ℕ) → k < 8 → is_off k (from2 s2 s3) ≡ true
+off2 : (s2 s3 : SubMbType) (k : ℕ) → k < 8 → is_off k (parts_of_quarters (s2 ∷ s3 ∷ []) 2) ≡ true
 off2 s2 s3 k h =
-    off_both k (parts_of_quarter s2 0 8 2) (from3 s3) (off_before 8 s2 (parts_of_quarter s2 0 8 2) (quarters s2).2 k h) (off3 s3 k (omega (arith, h)))
+    off_both k (parts_of_quarter s2 0 8 2) (parts_of_quarters (s3 ∷ []) 3) (off_before 8 s2 (parts_of_quarter s2 0 8 2) (quarters s2).2 k h)
+    (off3 s3 k (omega (arith, h)))
 
-off1 : (s1 s2 s3 : SubMbType) (k : ℕ) → k < 4 → is_off k (from1 s1 s2 s3) ≡ true
+off1 : (s1 s2 s3 : SubMbType) (k : ℕ) → k < 4 → is_off k (parts_of_quarters (s1 ∷ s2 ∷ s3 ∷ []) 1) ≡ true
 off1 s1 s2 s3 k h =
-    off_both k (parts_of_quarter s1 8 0 1) (from2 s2 s3) (off_before 4 s1 (parts_of_quarter s1 8 0 1) (quarters s1).1 k h) (off2 s2 s3 k (omega (arith, h)))
-
-none_off : (k : ℕ) → k < 16 → is_off k [] ≡ true
-none_off k h = refl
+    off_both k (parts_of_quarter s1 8 0 1) (parts_of_quarters (s2 ∷ s3 ∷ []) 2) (off_before 4 s1 (parts_of_quarter s1 8 0 1) (quarters s1).1 k h)
+    (off2 s2 s3 k (omega (arith, h)))
 
 quarters_apart : (subs : List SubMbType) → length subs ≡ 4 → Apart (parts_of_quarters subs 0)
-quarters_apart [] e = absurd (omega (arith, e))
-quarters_apart (s0 ∷ []) e = absurd (omega (arith, e))
-quarters_apart (s0 ∷ s1 ∷ []) e = absurd (omega (arith, e))
-quarters_apart (s0 ∷ s1 ∷ s2 ∷ []) e = absurd (omega (arith, e))
 quarters_apart (s0 ∷ s1 ∷ s2 ∷ s3 ∷ []) e =
-    apart_before 0 s0 (parts_of_quarter s0 0 0 0) (from1 s1 s2 s3) (omega arith) (quarters s0).0 (off1 s1 s2 s3)
-    (apart_before 4 s1 (parts_of_quarter s1 8 0 1) (from2 s2 s3) (omega arith) (quarters s1).1 (off2 s2 s3)
-    (apart_before 8 s2 (parts_of_quarter s2 0 8 2) (from3 s3) (omega arith) (quarters s2).2 (off3 s3)
-    (apart_before 12 s3 (parts_of_quarter s3 8 8 3) [] (omega arith) (quarters s3).3 none_off tt)))
-quarters_apart (s0 ∷ s1 ∷ s2 ∷ s3 ∷ s4 ∷ subs) e = absurd (omega (arith, e))
+    apart_before 0 s0 (parts_of_quarter s0 0 0 0) (parts_of_quarters (s1 ∷ s2 ∷ s3 ∷ []) 1) (omega arith) (quarters s0).0 (off1 s1 s2 s3)
+    (apart_before 4 s1 (parts_of_quarter s1 8 0 1) (parts_of_quarters (s2 ∷ s3 ∷ []) 2) (omega arith) (quarters s1).1 (off2 s2 s3)
+    (apart_before 8 s2 (parts_of_quarter s2 0 8 2) (parts_of_quarters (s3 ∷ []) 3) (omega arith) (quarters s2).2 (off3 s3)
+    (apart_before 12 s3 (parts_of_quarter s3 8 8 3) [] (omega arith) (quarters s3).3 (λ k h. refl) tt)))
+quarters_apart _ e = absurd (omega (arith, e))
 
 pub parts_apart : (shape : PMbType) → HasFourQuarters shape → Apart (parts_of shape)
 parts_apart P16x16 four = (record { block = 0; below = omega arith; inside = refl; alone = refl }, tt)
@@ -194,14 +153,6 @@ median_back r x y z fx fy fz fr e = rw (to_z-of_z w16 r fr, e, to_z-of_z w16 x f
 abbrev pub kept : Bool → ℤ → Option ℤ
 kept b z = if b then Some z else None
 
-kept_true : (b : Bool) (z x : ℤ) → Some x ≡ kept b z → b ≡ true
-kept_true true z x e = refl
-kept_true false z x e = cc
-
-kept_is : (b : Bool) (z x : ℤ) → Some x ≡ kept b z → x ≡ z
-kept_is true z x e = same_Some x z e
-kept_is false z x e = cc
-
 kept_false : (b : Bool) (z : ℤ) → None ≡ kept b z → b ≡ false
 kept_false true z e = cc
 kept_false false z e = refl
@@ -212,10 +163,12 @@ pub both_fit : (r : ℕ) (u : Mv) (d : Mvd) (x y px dx py dy : ℤ) → px ≡ u
     → Some x ≡ kept (is_16_bit (px +ℤ dx)) (px +ℤ dx) → Some y ≡ kept (is_16_bit (py +ℤ dy)) (py +ℤ dy)
     → Ok (inter r (record { x = to_z w16 (of_z w16 x); y = to_z w16 (of_z w16 y) })) ≡ in_range_only (inter r (sum_with_mvd u d))
 both_fit r u d x y px dx py dy a b c e fx fy p q =
-    let ix : u.x +ℤ d.x ≡ x = rw (← a, ← b) (sym (kept_is (is_16_bit (px +ℤ dx)) (px +ℤ dx) x p)) in
-    let iy : u.y +ℤ d.y ≡ y = rw (← c, ← e) (sym (kept_is (is_16_bit (py +ℤ dy)) (py +ℤ dy) y q)) in
-    let tx : is_16_bit x ≡ true = rw (kept_is (is_16_bit (px +ℤ dx)) (px +ℤ dx) x p) (kept_true (is_16_bit (px +ℤ dx)) (px +ℤ dx) x p) in
-    let ty : is_16_bit y ≡ true = rw (kept_is (is_16_bit (py +ℤ dy)) (py +ℤ dy) y q) (kept_true (is_16_bit (py +ℤ dy)) (py +ℤ dy) y q) in
+    let sx = cond_some (is_16_bit (px +ℤ dx)) (px +ℤ dx) x (sym p) in
+    let sy = cond_some (is_16_bit (py +ℤ dy)) (py +ℤ dy) y (sym q) in
+    let ix : u.x +ℤ d.x ≡ x = rw (← a, ← b) sx.1 in
+    let iy : u.y +ℤ d.y ≡ y = rw (← c, ← e) sy.1 in
+    let tx : is_16_bit x ≡ true = rw (← sx.1) sx.0 in
+    let ty : is_16_bit y ≡ true = rw (← sy.1) sy.0 in
     rw (to_z-of_z w16 x fx, to_z-of_z w16 y fy, ix, iy, tx, ty)
 
 -- a vector of which a component does not fit
@@ -244,14 +197,26 @@ same_blocks xs ys e f same = same_lists xs ys (e ∙ sym f) (λ k d h.
     let below : k < 16 = omega arith in
     get_or_default xs k d absent h ∙ same k below ∙ get_or_default ys k absent d (omega arith))
 
--- One more block is set.
-pub set_more : (f : ℕ → Motion) (mine : List Motion) (v : Motion) (first i : ℕ) → i < length mine → v ≡ f i
-    → ((j : ℕ) → first ≤ j → j < i → slice_index_or mine j absent ≡ f j)
-    → (j : ℕ) → first ≤ j → j < i + 1 → slice_index_or (slice_set mine i v) j absent ≡ f j
-set_more f mine v first i h value done j from below =
-    below_more (λ n. first ≤ n → slice_index_or (slice_set mine i v) n absent ≡ f n) i
-    (λ n less some. get_or-set_other mine i n v absent (λ e. absurd (omega (arith, e))) ∙ done n some less)
-    (λ some. get_or-set_same mine i v absent h ∙ value) j below from
+-- the blocks from the first of a quarter up to i have f, and all others are as they were
+pub record AreSet (f : ℕ → Motion) (old now : List Motion) (first i : ℕ) : Type 0 where
+  pub long : length now ≡ 16
+  pub from : first ≤ i
+  pub done : (j : ℕ) → first ≤ j → j < i → slice_index_or now j absent ≡ f j
+  pub before : (j : ℕ) → j < first → slice_index_or now j absent ≡ slice_index_or old j absent
+  pub left : (j : ℕ) → i ≤ j → slice_index_or now j absent ≡ slice_index_or old j absent
+
+-- one more block is set
+pub set_more : (f : ℕ → Motion) (old mine : List Motion) (v : Motion) (first i : ℕ) → i < 16 → v ≡ f i → AreSet f old mine first i
+    → AreSet f old (slice_set mine i v) first (i + 1)
+set_more f old mine v first i h value had = record {
+  long = length-set _ _ _ ∙ had.long;
+  from = omega (arith, had.from);
+  done = λ j some below. below_more (λ n. first ≤ n → slice_index_or (slice_set mine i v) n absent ≡ f n) i
+      (λ n less some. get_or-set_other mine i n v absent (λ e. absurd (omega (arith, e))) ∙ had.done n some less)
+      (λ some. get_or-set_same mine i v absent (omega (arith, had.long)) ∙ value) j below some;
+  before = λ j h. get_or-set_other mine i j v absent (λ e. absurd (omega (arith, e, h, had.from))) ∙ had.before j h;
+  left = λ j h. get_or-set_other mine i j v absent (λ e. absurd (omega (arith, e, h))) ∙ had.left j (omega (arith, h));
+}
 
 -- ---- a quarter of the blocks
 
@@ -346,7 +311,7 @@ decodes_ok (Err f) u now d e h = cc
 
 pub decodes_err : (r : Result (Unit {0}) Fault) (f : Fault) (now : List Motion) (d : Option (List Motion)) → r ≡ Err f → Decodes r now d → (f ≡ VectorRange) × (d ≡ None)
 decodes_err (Ok v) f now d e h = cc
-decodes_err (Err g) f now d e h = let same : f ≡ g = cc in (same ∙ h.0, h.1)
+decodes_err (Err g) f now d e h = (cc, h.1)
 
 -- one more quarter
 module _ (near : Near) (shape : PMbType) (refs : List ℕ) (mine : List Motion) (subs : List SubMbType) (mvds : List Mvd) (q used : ℕ) (d : SubMbType)
@@ -381,28 +346,16 @@ all_behind xs i n e = ap (λ m. take (m - i) (drop i xs)) (sym e) ∙ take_rest 
 
 -- ---- a macroblock of one partition: all its blocks have one motion
 
-filled_alike : (v : Motion) → AreOfOneMotion (with_part no_motion (part 0 0 16 16 0) v)
+filled_alike : (mine : List Motion) (v : Motion) → AreOfOneMotion (with_part mine (part 0 0 16 16 0) v)
 unfolding with_part
-filled_alike v = refl
-
-one_alike : (b : Bool) (v : Motion) (m : List Motion) → (if b then Some (with_part no_motion (part 0 0 16 16 0) v) else None) ≡ Some m → AreOfOneMotion m
-one_alike true v m e = subst AreOfOneMotion (same_Some (with_part no_motion (part 0 0 16 16 0) v) m e) (filled_alike v)
-one_alike false v m e = cc
-
-module _ (near : Near) (refs : List ℕ) where
-  from_none : (shape : PMbType) (mvds : List Mvd) (m : List Motion) → is_one_partition shape ≡ true → decoded near shape refs no_motion (parts_of shape) mvds ≡ Some m
-      → AreOfOneMotion m
-  from_none P16x16 [] m one e = subst AreOfOneMotion (same_Some no_motion m e) refl
-  from_none P16x16 (d ∷ ds) m one e =
-      let v = motion_of_part near P16x16 (slice_index refs 0) no_motion (part 0 0 16 16 0) d in
-      one_alike (is_in_range v) v m e
-  from_none P16x8 mvds m one e = cc
-  from_none P8x16 mvds m one e = cc
-  from_none (P8x8 subs) mvds m one e = cc
-  from_none (P8x8Ref0 subs) mvds m one e = cc
+filled_alike mine v = refl
 
 -- whatever stood there, where no block is decoded yet
 pub decoded_alike : (near : Near) (refs : List ℕ) (shape : PMbType) (mvds : List Mvd) (mine m : List Motion) → is_one_partition shape ≡ true → mine ≡ no_motion
     → decoded near shape refs mine (parts_of shape) mvds ≡ Some m → AreOfOneMotion m
-decoded_alike near refs shape mvds mine m one none e =
-    from_none near refs shape mvds m one (ap (λ l. decoded near shape refs l (parts_of shape) mvds) (sym none) ∙ e)
+decoded_alike near refs P16x16 [] mine m one none e = subst AreOfOneMotion (sym none ∙ same_Some mine m e) refl
+decoded_alike near refs P16x16 (d ∷ ds) mine m one none e =
+    let v = motion_of_part near P16x16 (slice_index refs 0) mine (part 0 0 16 16 0) d in
+    let filled = with_part mine (part 0 0 16 16 0) v in
+    subst AreOfOneMotion (same_Some filled m (some_where (is_in_range v) (Some filled) m e).1) (filled_alike mine v)
+decoded_alike near refs _ mvds mine m one none e = cc

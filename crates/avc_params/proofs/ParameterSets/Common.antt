@@ -1,10 +1,10 @@
 -- The names that the proofs cite of std, of the crates below and of the definitions here, passed on from one place. Declares nothing.
 pub use Rattle.std.proofs.Common.{◌≡◌, ℕ, Option, IfSome, Result, Ok, Err, refl, ap, sym, pos, negsuc, ◌≤◌, ◌==◌, not, List, Some, ◌+◌, ◌*◌, Bool}
 pub use Rattle.std.proofs.Common.{true, false, nat_lt, nat_le, ◌&&◌, ◌||◌, length, None, IsSome, is_some, arith, [], ◌∷◌, ◌++◌, ◌∙◌, if◌then◌else◌}
-pub use Rattle.std.proofs.Common.{append-nil, eqb-true, Bor, rules, ◌-◌, vec_len}
+pub use Rattle.std.proofs.Common.{append-nil, eqb-true, Bor, All, rules, ◌-◌, vec_len}
 pub use Rattle.std.proofs.lemmas.Bool.Decides.{nat_tests}
 pub use Rattle.std.proofs.lemmas.Grind.{common_steps}
-pub use Rattle.std.proofs.lemmas.List.Elements.{filter-append}
+pub use Rattle.std.proofs.lemmas.List.Elements.{filter-append, filter_passes, All-head, All-tail}
 pub use Rattle.std.specs.List.{filter}
 pub use Rattle.std.specs.Option.{option_copied, option_map}
 pub use Rattle.avc_bits.proofs.Reading.{Gives, gives-any, gives-bind, gives-where_set, IsFrom, bind-ok, gives-check, gives-give, gives-se_within}

@@ -8,17 +8,11 @@ use Rattle.avc_plane.specs.declared.frame.Frame.{Frame}
 use Rattle.std.proofs.Math.ListN.{get_or-map}
 use Rattle.avc_types.specs.declared.fault.Fault.TheVariants as faults
 
--- ---- what holds of all reference frames holds of those that a list names (8.2.4)
-
--- ---- in any list
+-- ---- what holds of all reference frames holds of those that a list names (8.2.4): in any list
 
 keeps-placed : {A : Type 0} (P : A → Type 0) (before : A → A → Bool) (x : A) (ys : List A) → P x → All P ys → All P (placed_by before x ys)
 keeps-placed P before x [] here all = All-cons P x [] here all
-keeps-placed P before x (y ∷ ys) here all = by_test (keeps-placed P before x ys here (All-tail P y ys all)) (before y x)
-  where
-    by_test : All P (placed_by before x ys) → (b : Bool) → All P (elim b [ true ↦ y ∷ placed_by before x ys | false ↦ x ∷ y ∷ ys ])
-    by_test more true = All-cons P y (placed_by before x ys) (All-head P y ys all) more
-    by_test more false = All-cons P x (y ∷ ys) here all
+keeps-placed P before x (y ∷ ys) here all = search (rules, All-cons, All-head, All-tail, keeps-placed P before x ys here (All-tail P y ys all))
 
 keeps-sorted : {A : Type 0} (P : A → Type 0) (before : A → A → Bool) (xs : List A) → All P xs → All P (sorted_by before xs)
 keeps-sorted P before [] all = all
@@ -43,16 +37,13 @@ module _ (P : Reference → Type 0) (current : CurrentFrameNum) (references : Li
       by_test false = tt
 
   named : (number : ℕ) (m : Modification) → IfSome (modification_frame current number m references) P
-  named number (Subtract n) =
-      holds-first P _ (keeps-sorted P (λ a b. nat_lt b.entry a.entry) _ (All-filter (has_pic_num current (pic_num_of current number)) P references all))
-  named number (Add n) =
-      holds-first P _ (keeps-sorted P (λ a b. nat_lt b.entry a.entry) _ (All-filter (has_pic_num current (pic_num_of current number)) P references all))
   named number (LongTerm index) = holds-found P (has_long_term_frame_idx index) references all
+  named number m =
+      holds-first P _ (keeps-sorted P (λ a b. nat_lt b.entry a.entry) _ (All-filter (has_pic_num current (pic_num_of current number)) P references all))
 
   both : (r : Result Reference Fault) (others : Result (List Reference) Fault) → IfOk r P → IfOk others (All P) → IfOk (cons_result r others) (All P)
   both (Ok r) (Ok others) p ps = All-cons P r others p ps
-  both (Ok r) (Err f) p ps = tt
-  both (Err f) others p ps = tt
+  both r others p ps = tt
 
   all-named : (predictor : ℕ) (ms : List Modification) → IfOk (modification_frames current predictor ms references) (All P)
   all-named predictor [] = All-nil P
@@ -102,26 +93,15 @@ pub own-entries : (rs : List Reference) → All (λ r. list_any (λ s. s.entry =
 own-entries [] = All-nil _
 own-entries (r ∷ rs) =
     let here : (r.entry == r.entry) ≡ true = grind (arith, nat_tests) in
-    All-cons (λ x. list_any (λ s. s.entry == x.entry) (r ∷ rs) ≡ true) r rs (ap (λ b. b || list_any (λ s. s.entry == r.entry) rs) here)
-    (All-weaker (λ x. list_any (λ s. s.entry == x.entry) rs ≡ true) (λ x. list_any (λ s. s.entry == x.entry) (r ∷ rs) ≡ true) (λ x h. either (r.entry == x.entry) _ h) rs (own-entries rs))
-  where
-    either : (b c : Bool) → c ≡ true → (b || c) ≡ true
-    either true c h = refl
-    either false c h = h
+    All-cons (λ x. list_any (λ s. s.entry == x.entry) (r ∷ rs) ≡ true) r rs (rw here refl)
+    (All-weaker (λ x. list_any (λ s. s.entry == x.entry) rs ≡ true) (λ x. list_any (λ s. s.entry == x.entry) (r ∷ rs) ≡ true) (λ x h. grind (arith, nat_tests)) rs (own-entries rs))
 
--- ---- frames of the buffer as the reference frames of a picture
-
--- ---- which they are
+-- ---- frames of the buffer as the reference frames of a picture: which they are
 
 pub stored-references : {PAD : ℕ} (es : List ℕ) (fs : List (Frame PAD)) → map (λ (f : StoredFrame). f.reference) (stored_at es fs) ≡ references_at es (map marked_frame fs)
 stored-references [] fs = refl
 stored-references (e ∷ es) [] = refl
-stored-references (e ∷ es) (f ∷ fs) = by_mark (is_some f.mark) (stored-references es fs)
-  where
-    by_mark : (b : Bool) → map (λ (g : StoredFrame). g.reference) (stored_at es fs) ≡ references_at es (map marked_frame fs) → map (λ (g : StoredFrame). g.reference) (elim b [ true ↦ stored_frame e f ∷ stored_at es fs | false ↦ stored_at es fs ])
-        ≡ elim b [ true ↦ reference_of e (marked_frame f) ∷ references_at es (map marked_frame fs) | false ↦ references_at es (map marked_frame fs) ]
-    by_mark true same = ap (λ rs. reference_of e (marked_frame f) ∷ rs) same
-    by_mark false same = same
+stored-references (e ∷ es) (f ∷ fs) = grind (arith, stored-references es fs)
 
 -- ---- the one at a place
 
@@ -138,25 +118,17 @@ listed-is-marked es fs k f stand at listed =
 
 pub found-stored : {PAD : ℕ} (es : List ℕ) (fs : List (Frame PAD)) (k : ℕ) (f : Frame PAD) → FramesStandAt es fs → slice_get fs k ≡ Some f → is_some f.mark ≡ true
     → find (λ g. (g.reference).entry == slice_index es k) (stored_at es fs) ≡ Some (stored_frame (slice_index es k) f)
-found-stored [] fs k f stand at marked =
-    absurd (omega (arith, stand.each, length-map fs marked_frame, slice_get_within fs k f at))
-found-stored (e ∷ es) [] k f stand at marked = absurd (omega (arith, slice_get_within [] k f at))
-found-stored (e ∷ es) (g ∷ gs) zero f stand at marked =
+found-stored [] fs k f stand got marked = absurd (omega (arith, stand.each, length-map fs marked_frame, slice_get_within fs k f got))
+found-stored (e ∷ es) [] k f stand got marked = cc
+found-stored (e ∷ es) (g ∷ gs) zero f stand got marked =
     let same : g ≡ f = cc in
     let own : (e == e) ≡ true = grind (arith, nat_tests) in
     let kept : is_some g.mark ≡ true = ap (λ x. is_some x.mark) same ∙ marked in
-    ap (λ b. find (λ x. (x.reference).entry == e) (elim b [ true ↦ stored_frame e g ∷ stored_at es gs | false ↦ stored_at es gs ])) kept
-    ∙ ap (λ b. cond b (Some (stored_frame e g)) (find (λ x. (x.reference).entry == e) (stored_at es gs))) own
-    ∙ ap (λ x. Some (stored_frame e x)) same
-found-stored (e ∷ es) (g ∷ gs) (suc k) f stand at marked =
-    let within : k < length es = omega (arith, stand.each, length-map gs marked_frame, slice_get_within gs k f at) in
-    let below : e < slice_index es k = below_rest e es k stand.rising within in
-    by_mark (is_some g.mark) (grind (arith, nat_tests)) (found-stored es gs k f (stand_rest e es (marked_frame g) (map marked_frame gs) stand) at marked)
-  where
-    by_mark : (b : Bool) → (e == slice_index es k) ≡ false → find (λ g. (g.reference).entry == slice_index es k) (stored_at es gs) ≡ Some (stored_frame (slice_index es k) f)
-        → find (λ g. (g.reference).entry == slice_index es k) (elim b [ true ↦ stored_frame e g ∷ stored_at es gs | false ↦ stored_at es gs ]) ≡ Some (stored_frame (slice_index es k) f)
-    by_mark true other found = ap (λ b. cond b (Some (stored_frame e g)) (find (λ g. (g.reference).entry == slice_index es k) (stored_at es gs))) other ∙ found
-    by_mark false other found = found
+    grind (arith, own, kept, same)
+found-stored (e ∷ es) (g ∷ gs) (suc k) f stand got marked =
+    let below : e < slice_index es k = below_rest e es k stand.rising (omega (arith, stand.each, length-map gs marked_frame, slice_get_within gs k f got)) in
+    let other : (e == slice_index es k) ≡ false = grind (arith, nat_tests) in
+    grind (arith, other, found-stored es gs k f (stand_rest e es (marked_frame g) (map marked_frame gs) stand) got marked)
 
 -- ---- as predictions name it
 
@@ -174,9 +146,7 @@ module _ {PAD : ℕ} (sps : Sps) (pps : Pps) (es : List ℕ) (fs : List (Frame P
 -- ---- what the code knows of a slice
 
 some-within : {A : Type 0} (xs : List A) (k : ℕ) → k < length xs → (x : A) × (slice_get xs k ≡ Some x)
-some-within [] k h = absurd (omega (arith, h))
-some-within (x ∷ xs) zero h = (x, refl)
-some-within (x ∷ xs) (suc k) h = some-within xs k (omega (arith, h))
+some-within xs k h = elim (slice_get_cases xs k).1 [ inl found ↦ (found.0, found.2) | inr past ↦ absurd (omega (arith, past.0)) ]
 
 -- ---- weights
 
@@ -184,37 +154,25 @@ small-power : (d : ℕ) → d ≤ 7 → 2 ^ d ≤ 128
 small-power d h = each_of_eight (λ d. 2 ^ d ≤ 128) (lit≤ tt) (lit≤ tt) (lit≤ tt) (lit≤ tt) (lit≤ tt) (lit≤ tt) (lit≤ tt) (lit≤ tt) d (omega arith)
 
 is-weight : (d : ℕ) (o : Option CodedWeight) → d ≤ 7 → IfSome o IsCodedWeight → IsWeight (weight_of d o)
-is-weight d None h is =
-    let small = small-power d h in
-    record { log2_denom = h; weight = record { low = omega (arith, ints, small); high = omega (arith, ints, small) }; offset = record { low = omega (arith, ints); high = omega (arith, ints) } }
-is-weight d (Some c) h is = record {
-  log2_denom = h;
-  weight = record { low = omega (arith, ints, is.weight_low); high = omega (arith, ints, is.weight_high) };
-  offset = record { low = omega (arith, ints, is.offset_low); high = omega (arith, ints, is.offset_high) };
-}
+is-weight d None h is = let small = small-power d h in grind (arith, ints)
+is-weight d (Some c) h is = grind (arith, ints)
 
 are-weights : (t : PredWeightTable) (e : EntryWeights) → t.luma_log2_weight_denom ≤ 7 → t.chroma_log2_weight_denom ≤ 7 → IsEntryWeights e → AreWeights (weights_of t e)
 are-weights t e l c is = record {
   luma = is-weight t.luma_log2_weight_denom e.luma l is.luma;
-  cb = is-weight t.chroma_log2_weight_denom (option_map (λ x. x.cb) e.chroma) c (of_cb e.chroma is.chroma);
-  cr = is-weight t.chroma_log2_weight_denom (option_map (λ x. x.cr) e.chroma) c (of_cr e.chroma is.chroma);
+  cb = is-weight t.chroma_log2_weight_denom (option_map (λ x. x.cb) e.chroma) c (of_both e.chroma is.chroma).0;
+  cr = is-weight t.chroma_log2_weight_denom (option_map (λ x. x.cr) e.chroma) c (of_both e.chroma is.chroma).1;
 } where
-  of_cb : (o : Option ChromaWeights) → IfSome o IsChromaWeights → IfSome (option_map (λ x. x.cb) o) IsCodedWeight
-  of_cb None h = tt
-  of_cb (Some x) h = h.cb
-
-  of_cr : (o : Option ChromaWeights) → IfSome o IsChromaWeights → IfSome (option_map (λ x. x.cr) o) IsCodedWeight
-  of_cr None h = tt
-  of_cr (Some x) h = h.cr
+  of_both : (o : Option ChromaWeights) → IfSome o IsChromaWeights
+      → IfSome (option_map (λ x. x.cb) o) IsCodedWeight × IfSome (option_map (λ x. x.cr) o) IsCodedWeight
+  of_both None h = (tt, tt)
+  of_both (Some x) h = (h.cb, h.cr)
 
 all-weights-by : (h : Header) (t : Option PredWeightTable) → IfSome t (IsPredWeightTable h.num_ref_idx_active) → All AreWeights (weights (record h { pred_weight_table = t }))
 all-weights-by h None is = All-nil AreWeights
 all-weights-by h (Some t) is =
     All-map AreWeights (weights_of t) t.entries
     (All-weaker IsEntryWeights (λ e. AreWeights (weights_of t e)) (λ e w. are-weights t e is.luma_denom is.chroma_denom w) t.entries is.entries)
-
-all-weights : (h : Header) → IfSome h.pred_weight_table (IsPredWeightTable h.num_ref_idx_active) → All AreWeights (weights h)
-all-weights h is = all-weights-by h h.pred_weight_table is
 
 -- ---- pictures that can be predicted from
 
@@ -237,7 +195,7 @@ module _ {PAD : ℕ} (width height : ℕ) (fs : List (Frame PAD)) (h : Header) (
     where
       by_weights : (o w : Option Weights) → slice_get (weights h) r ≡ o → slice_get (weights h) r ≡ w → IfSome w AreWeights
       by_weights o None e e' = tt
-      by_weights o (Some w) e e' = subst AreWeights (get_or_from_slice_get (weights h) r w w e') (all-weights h table r w (slice_get_within (weights h) r w e'))
+      by_weights o (Some w) e e' = subst AreWeights (get_or_from_slice_get (weights h) r w w e') (all-weights-by h h.pred_weight_table table r w (slice_get_within (weights h) r w e'))
 
   pub usable-pictures : (places : List (Option ℕ)) (pictures : List (Option (ReferencePicture PAD))) → length pictures ≡ 16 → ArePicturesAt fs h 16 places pictures
       → AreUsable width height pictures
@@ -277,11 +235,12 @@ module _ {PAD : ℕ} (sps : Sps) (pps : Pps) (es : List ℕ) (fs : List (Frame P
     abbrev reference : ℕ → Reference
     reference k = reference_at es (map marked_frame fs) k
 
-    named-at : (r : ℕ) → frame_named c s.number r ≡ option_map (frame_of context_parts) (option_map reference (slice_index_or places r None))
-    named-at r =
+    named-at : (r : ℕ) (place : Option ℕ) → slice_index_or places r None ≡ place
+        → frame_named c s.number r ≡ option_map (frame_of context_parts) (option_map reference place)
+    named-at r place e =
         ap (λ x. slice_index_or x.references r None) info
         ∙ get_or-map (option_map (frame_of context_parts)) list r None
-        ∙ ap (option_map (frame_of context_parts)) (has r)
+        ∙ ap (option_map (frame_of context_parts)) (has r ∙ ap (option_map reference) e)
 
     frame-at : (r k : ℕ) → r < 16 → slice_index_or places r None ≡ Some k → (f : Frame PAD) × (slice_get fs k ≡ Some f)
     frame-at r k inside place =
@@ -291,25 +250,23 @@ module _ {PAD : ℕ} (sps : Sps) (pps : Pps) (es : List ℕ) (fs : List (Frame P
         → ShowsReference c s.number r o
     by-frame r k f None place got shown =
         let none : f.planes ≡ None = rw got at shown in
-        ap is_picture (named-at r ∙ ap (λ x. option_map (frame_of context_parts) (option_map reference x)) place) ∙ named-missing sps pps es fs k f stand got none
+        ap is_picture (named-at r (Some k) place) ∙ named-missing sps pps es fs k f stand got none
     by-frame r k f (Some q) place got shown =
         let some : f.planes ≡ Some q.planes.now = rw got at shown.0 in
         record {
           entry = slice_index es k;
-          frame =
-              named-at r ∙ ap (λ x. option_map (frame_of context_parts) (option_map reference x)) place
-              ∙ ap Some (named-picture sps pps es fs k f stand got q.planes.now (marked list places r k f is has place got) some);
+          frame = named-at r (Some k) place ∙ ap Some (named-picture sps pps es fs k f stand got q.planes.now (marked list places r k f is has place got) some);
           weights = ap (λ x. slice_get x.weights r) info ∙ shown.1;
         }
 
     by-place : (r : ℕ) (place : Option ℕ) (o : Option (ReferencePicture PAD)) → r < 16 → slice_index_or places r None ≡ place → IsPictureAt fs h r place o
         → ShowsReference c s.number r o
-    by-place r None None inside e shown = ap is_picture (named-at r ∙ ap (λ x. option_map (frame_of context_parts) (option_map reference x)) e)
+    by-place r None None inside e shown = ap is_picture (named-at r None e)
     by-place r None (Some q) inside e shown = let wrong = shown.0 in cc
     by-place r (Some k) o inside e shown = let found = frame-at r k inside e in by-frame r k found.0 o e found.1 shown
 
     unnamed : (r : ℕ) → 16 ≤ r → is_picture (frame_named c s.number r) ≡ false
-    unnamed r past = grind (arith, ints, nat_tests, get_or_past, named-at)
+    unnamed r past = ap is_picture (named-at r None (get_or_past places r None (omega arith)))
 
     shows : (r : ℕ) → ShowsReference c s.number r (slice_index_or s.references r None)
     shows r = elim (cases_lt r 16) [
@@ -320,7 +277,7 @@ module _ {PAD : ℕ} (sps : Sps) (pps : Pps) (es : List ℕ) (fs : List (Frame P
     numbered : (r : ℕ) (place : Option ℕ) → r < 16 → slice_index_or places r None ≡ place → is_picture (frame_named c s.number r) ≡ true
         → HasNumber c names s.number r (slice_index_or s.frame_numbers r 0)
     numbered r None inside e shown =
-        let wrong : false ≡ true = sym (ap is_picture (named-at r ∙ ap (λ x. option_map (frame_of context_parts) (option_map reference x)) e)) ∙ shown in
+        let wrong : false ≡ true = sym (ap is_picture (named-at r None e)) ∙ shown in
         cc
     numbered r (Some k) inside e shown =
         let found = frame-at r k inside e in
@@ -328,12 +285,12 @@ module _ {PAD : ℕ} (sps : Sps) (pps : Pps) (es : List ℕ) (fs : List (Frame P
         let there : k < names.count = omega (arith, slice_get_within fs k found.0 found.1, are.all, stand.each, length-map fs marked_frame) in
         record {
           frame = frame_of context_parts (reference k);
-          named = named-at r ∙ ap (λ x. option_map (frame_of context_parts) (option_map reference x)) e;
+          named = named-at r (Some k) e;
           entry = sym (are.each k there) ∙ ap names.entry (sym number);
           within = omega (arith, number, there);
         }
 
-    is-slice : IsSlice c names s
+    pub is-slice : IsSlice c names s
     is-slice = record {
       references = record { each = shows };
       numbers = λ r shown. elim (cases_lt r 16) [
@@ -345,10 +302,6 @@ module _ {PAD : ℕ} (sps : Sps) (pps : Pps) (es : List ℕ) (fs : List (Frame P
       offset_b = at.offset_b ∙ sym (ap (λ x. x.filter_offset_b) info);
     }
 
-  pub is-context : (number : ℕ) (places : List (Option ℕ)) (s : SliceContext PAD) → length places ≡ 16 → ArePlacesIn fs places → IsContextAt number fs h places s
-      → (list : List (Option Reference)) → list_of context_parts h ≡ Ok list → HasPlaces es fs list places → IsContextOf context_parts es h list s
-  is-context number places s long within at list is has = λ c names are info. is-slice number places s long within at list is has c names are info
-
 -- ---- refPicList0 of a slice by the places of its frames in the buffer
 
 -- each entry is what stands at that place of another list
@@ -356,10 +309,7 @@ abbrev AreThose : List (Option ℕ) → List (Option ℕ) → Type 0
 AreThose list places = (r : ℕ) → r < 16 → slice_index_or places r None ≡ unwrap_or (slice_get list r) None
 
 same-entries : (list places : List (Option ℕ)) → length places ≡ 16 → length list ≤ 16 → AreThose list places → (r : ℕ) → slice_index_or places r None ≡ slice_index_or list r None
-same-entries list places long short those r = elim (cases_lt r 16) [
-  | inl inside ↦ those r inside ∙ unwrap_or-slice_get list r None
-  | inr past ↦ get_or_past places r None (omega (arith, long, past)) ∙ sym (get_or_past list r None (omega (arith, short, past)))
-]
+same-entries list places long short those r = grind (arith, cases_lt, unwrap_or-slice_get, get_or_past)
 
 -- ---- they are places
 
@@ -393,7 +343,7 @@ module _ {PAD : ℕ} (sps : Sps) (pps : Pps) (es : List ℕ) (fs : List (Frame P
   placed_listed references = reference_list (record { frame_num = h.frame_num; max_frame_num = max_frame_num sps }) h.num_ref_idx_active (or_empty h.modifications) references
 
   pub no-list : is_p h ≡ false → IsListAt placed_parts es fs h (Ok (replicate 16 None))
-  no-list i = ([], ap (λ b. elim b [ true ↦ placed_listed (references_in placed_parts) | false ↦ Ok [] ]) i, λ r. sym (ap (option_map (reference_at es (map marked_frame fs))) (none-at 16 r)))
+  no-list i = ([], rw (i, list_of) refl, λ r. sym (ap (option_map (reference_at es (map marked_frame fs))) (none-at 16 r)))
 
   -- ---- of a P slice
 
@@ -403,7 +353,7 @@ module _ {PAD : ℕ} (sps : Sps) (pps : Pps) (es : List ℕ) (fs : List (Frame P
 
   long-list : (list : List (Option ℕ)) → is_p h ≡ true → list_of placed_parts h ≡ Ok (map (option_map (reference_at es (map marked_frame fs))) list) → length list ≡ h.num_ref_idx_active
   long-list list is e =
-      let at : placed_listed (references_in placed_parts) ≡ Ok (map (option_map (reference_at es (map marked_frame fs))) list) = sym (ap (λ b. elim b [ true ↦ placed_listed (references_in placed_parts) | false ↦ Ok [] ]) is) ∙ e in
+      let at : placed_listed (references_in placed_parts) ≡ Ok (map (option_map (reference_at es (map marked_frame fs))) list) = rw (is, list_of) at e in
       sym (length-map list (option_map (reference_at es (map marked_frame fs))))
       ∙ subst (λ r. IfOk r (λ xs. length xs ≡ h.num_ref_idx_active)) at (listed-length (current_of placed_parts h) h.num_ref_idx_active (or_empty h.modifications) (references_in placed_parts))
 
@@ -418,27 +368,16 @@ module _ {PAD : ℕ} (sps : Sps) (pps : Pps) (es : List ℕ) (fs : List (Frame P
 -- ---- slices that name no reference frames are decoded the same whichever there are
 
 pub list_of_intra : (p : PictureStart) (h : Header) → is_p h ≡ false → list_of p h ≡ Ok []
-list_of_intra p h intra =
-    ap (λ b. elim b [ true ↦ reference_list (current_of p h) h.num_ref_idx_active (or_empty h.modifications) (references_in p) | false ↦ Ok [] ]) intra
+list_of_intra p h intra = rw (intra, list_of) refl
 
 list_of_other : (p : PictureStart) (other : List StoredFrame) (s : Slice) (before : Progress) → is_p s.header ≡ false
     → with_reference_list p s before (list_of p s.header) ≡ with_reference_list (record p { frames = other }) s before (list_of (record p { frames = other }) s.header)
-list_of_other p other s before intra =
-    ap (with_reference_list p s before) (list_of_intra p s.header intra)
-    ∙ sym (ap (with_reference_list (record p { frames = other }) s before) (list_of_intra (record p { frames = other }) s.header intra))
+list_of_other p other s before intra = rw (list_of_intra p s.header intra, list_of_intra (record p { frames = other }) s.header intra) refl
 
 -- one slice
 pub with_slice-other : (p : PictureStart) (other : List StoredFrame) (s : Slice) (before : Progress) → is_p s.header ≡ false
     → with_slice p s before ≡ with_slice (record p { frames = other }) s before
-with_slice-other p other s before intra =
-    ap (λ last. elim before.fault [
-      | Some f ↦ before
-      | None ↦
-          if nat_lt (length before.mbs) (s.header).first_mb_in_slice then refused before s.unit faults.MissingMacroblocks
-          else if nat_lt (s.header).first_mb_in_slice (length before.mbs) then refused before s.unit faults.ArbitrarySliceOrder
-          else last
-    ])
-    (list_of_other p other s before intra)
+with_slice-other p other s before intra = let e = list_of_other p other s before intra in grind (arith, nat_tests)
 
 -- all of them
 pub progress-other : (p : PictureStart) (other : List StoredFrame) (slices : List Slice) → All (λ s. is_p s.header ≡ false) slices

@@ -28,30 +28,24 @@ IsSame4x4 s p mode = block4x4 (predict4x4 s (extended s (beside 4 s p)) mode) �
 -- what the three sides that meet at the corner are for a prediction that needs them
 pub with_corner : (P : (a l c : Bool) → Type 0) (a l c : Bool) → (a && l && c) ≡ true → P true true true → P a l c
 with_corner P true true true can holds = holds
-with_corner P true true false can holds = absurd cc
-with_corner P true false c can holds = absurd cc
-with_corner P false l c can holds = absurd cc
+with_corner P a l c can holds = absurd cc
 
 all4x4 : (a r l c : Bool) (p : Around) (mode : Mode4x4) → can_predict4x4 (sides a r l c) mode ≡ true → IsSame4x4 (sides a r l c) p mode
 all4x4 true r l c p Vertical can = refl
-all4x4 false r l c p Vertical can = absurd cc
 all4x4 a r true c p Horizontal can = refl
-all4x4 a r false c p Horizontal can = absurd cc
 all4x4 true r true c p Dc can = refl
 all4x4 true r false c p Dc can = refl
 all4x4 false r true c p Dc can = refl
 all4x4 false r false c p Dc can = refl
 all4x4 true true l c p DiagonalDownLeft can = refl
 all4x4 true false l c p DiagonalDownLeft can = refl
-all4x4 false r l c p DiagonalDownLeft can = absurd cc
 all4x4 a r l c p DiagonalDownRight can = with_corner (λ a l c. IsSame4x4 (sides a r l c) p DiagonalDownRight) a l c can refl
 all4x4 a r l c p VerticalRight can = with_corner (λ a l c. IsSame4x4 (sides a r l c) p VerticalRight) a l c can refl
 all4x4 a r l c p HorizontalDown can = with_corner (λ a l c. IsSame4x4 (sides a r l c) p HorizontalDown) a l c can refl
 all4x4 true true l c p VerticalLeft can = refl
 all4x4 true false l c p VerticalLeft can = refl
-all4x4 false r l c p VerticalLeft can = absurd cc
 all4x4 a r true c p HorizontalUp can = refl
-all4x4 a r false c p HorizontalUp can = absurd cc
+all4x4 a r l c p mode can = absurd cc
 
 abbrev IsSame16x16 : Sides → Around → Mode16x16 → ℕ → ℕ → Type 0
 IsSame16x16 s p mode x y = predict16x16 s (beside 16 s p) mode x y ≡ predict16x16 s p mode x y
@@ -62,14 +56,13 @@ test x n low = grind (arith, nat_tests)
 all16x16 : (a r l c : Bool) (p : Around) (mode : Mode16x16) → can_predict16x16 (sides a r l c) mode ≡ true → (x y : ℕ) → x < 16 → y < 16
     → IsSame16x16 (sides a r l c) p mode x y
 all16x16 true r l c p of16x16.Vertical can x y low high = rw (test x 16 low) refl
-all16x16 false r l c p of16x16.Vertical can x y low high = absurd cc
 all16x16 a r true c p of16x16.Horizontal can x y low high = rw (test y 16 high) refl
-all16x16 a r false c p of16x16.Horizontal can x y low high = absurd cc
 all16x16 true r true c p of16x16.Dc can x y low high = refl
 all16x16 true r false c p of16x16.Dc can x y low high = refl
 all16x16 false r true c p of16x16.Dc can x y low high = refl
 all16x16 false r false c p of16x16.Dc can x y low high = refl
 all16x16 a r l c p of16x16.Plane can x y low high = with_corner (λ a l c. IsSame16x16 (sides a r l c) p of16x16.Plane x y) a l c can refl
+all16x16 a r l c p mode can x y low high = absurd cc
 
 abbrev IsSameChroma : Sides → Around → ModeChroma → ℕ → ℕ → Type 0
 IsSameChroma s p mode x y = predict_chroma s (beside 8 s p) mode x y ≡ predict_chroma s p mode x y
@@ -95,28 +88,20 @@ all_chroma : (a r l c : Bool) (p : Around) (mode : ModeChroma) → can_predict_c
     → IsSameChroma (sides a r l c) p mode x y
 all_chroma a r l c p of_chroma.Dc can x y low high = dc_chroma a r l c p (x / 4) (y / 4) (omega (arith, low)) (omega (arith, high))
 all_chroma a r true c p of_chroma.Horizontal can x y low high = rw (test y 8 high) refl
-all_chroma a r false c p of_chroma.Horizontal can x y low high = absurd cc
 all_chroma true r l c p of_chroma.Vertical can x y low high = rw (test x 8 low) refl
-all_chroma false r l c p of_chroma.Vertical can x y low high = absurd cc
 all_chroma a r l c p of_chroma.Plane can x y low high = with_corner (λ a l c. IsSameChroma (sides a r l c) p of_chroma.Plane x y) a l c can refl
+all_chroma a r l c p mode can x y low high = absurd cc
 
 -- ---- where two pictures agree beside the block
-
-no_further : (n : ℕ) (b : Bool) → ((suc n == 0) && b) ≡ true → ⊥
-no_further n b e = let none : (suc n == 0) ≡ false = grind (arith, nat_tests) in let never : false ≡ true = rw none at e in absurd (cc)
 
 -- what holds on each side that is available holds beside the block
 pub on_each_side : (size : ℕ) (s : Sides) (P : ℤ → ℤ → Type 0) → ((x : ℕ) → x < size → s.above ≡ true → P (pos x) (negsuc 0))
     → ((x : ℕ) → size ≤ x → x < 8 → s.above_right ≡ true → P (pos x) (negsuc 0)) → ((y : ℕ) → y < size → s.left ≡ true → P (negsuc 0) (pos y))
     → (s.corner ≡ true → P (negsuc 0) (negsuc 0)) → (x y : ℤ) → is_beside size s x y ≡ true → P x y
-on_each_side size s P above right left corner (pos x) (pos y) is = absurd cc
-on_each_side size s P above right left corner (pos x) (negsuc (suc y)) is = absurd (no_further y _ is)
 on_each_side size s P above right left corner (pos x) (negsuc zero) is = grind (arith, nat_tests, test, nat_lt, and_parts, ltb-true, cases_lt)
-on_each_side size s P above right left corner (negsuc (suc x)) (pos y) is = absurd (no_further x _ is)
 on_each_side size s P above right left corner (negsuc zero) (pos y) is = grind (arith, nat_tests, and_parts, nat_lt, ltb-true)
-on_each_side size s P above right left corner (negsuc (suc x)) (negsuc y) is = absurd (no_further x _ is)
-on_each_side size s P above right left corner (negsuc zero) (negsuc (suc y)) is = absurd (no_further y _ is)
 on_each_side size s P above right left corner (negsuc zero) (negsuc zero) is = corner is
+on_each_side size s P above right left corner x y is = absurd (grind (arith, nat_tests, and_parts))
 
 abbrev pub AgreeBeside : (size : ℕ) → Sides → (p q : Around) → Type 0
 AgreeBeside size s p q = (x y : ℤ) → is_beside size s x y ≡ true → p x y ≡ q x y
@@ -137,12 +122,13 @@ pub agree4x4 : (s : Sides) (p q : Around) → AgreeBeside 4 s p q → (mode : Mo
     → intra4x4 s p mode x y ≡ intra4x4 s q mode x y
 agree4x4 s p q agree mode x y low high =
     if_can (can_predict4x4 s mode) (predict4x4 s (extended s p) mode x y) (predict4x4 s (extended s q) mode x y)
-    (λ can.
-    let one : (t : Around) → predict4x4 s (extended s (beside 4 s t)) mode x y ≡ predict4x4 s (extended s t) mode x y =
-    λ t. sym (sample4x4 (predict4x4 s (extended s (beside 4 s t)) mode) x y low high)
-    ∙ ap (λ l. slice_index l (4 * y + x)) (all4x4 s.above s.above_right s.left s.corner t mode can)
-    ∙ sample4x4 (predict4x4 s (extended s t) mode) x y low high in
-    sym (one p) ∙ ap (λ t. predict4x4 s (extended s t) mode x y) (same_beside 4 s p q agree) ∙ one q)
+    (λ can. cc (
+      sample4x4 (predict4x4 s (extended s p) mode) x y low high,
+      sample4x4 (predict4x4 s (extended s q) mode) x y low high,
+      all4x4 s.above s.above_right s.left s.corner p mode can,
+      all4x4 s.above s.above_right s.left s.corner q mode can,
+      same_beside 4 s p q agree,
+    ))
 
 pub agree16x16 : (s : Sides) (p q : Around) → AgreeBeside 16 s p q → (mode : Mode16x16) (x y : ℕ) → x < 16 → y < 16
     → intra16x16 s p mode x y ≡ intra16x16 s q mode x y
@@ -195,32 +181,22 @@ module _ (n : ℕ) (s t : Plane) (agree : AgreeFrom n s t) (p : Place) where
       (λ there. agree _ _ (omega (arith, ints)))
 
   pub block_same : n < top_of_mb p 0 → (k x y : ℕ) → x < 4 → y < 4 → block_from p k t x y ≡ block_from p k s x y
-  block_same below k x y h v =
-      ap (λ o. sum_of (unwrap_or o 0) (residual_at p 0 (block_x k + x) (block_y k + y)))
-      (agree4x4 (sides_of p.coded p.address k) _ _ (agree_beside 4 (left_of_mb p 0 + block_x k) (top_of_mb p 0 + block_y k) (sides_of p.coded p.address k) (omega (arith, below)))
-      (mode4x4_of (mode_number (slice_index_or p.modes k absent))) x y h v)
+  block_same below k x y h v = grind (arith, agree4x4, agree_beside)
 
   pub luma_same : n < top_of_mb p 0 → (m x y : ℕ) → x < 16 → y < 16 → luma_from p m t x y ≡ luma_from p m s x y
-  luma_same below m x y h v =
-      ap (λ o. sum_of (unwrap_or o 0) (residual_at p 0 x y))
-      (agree16x16 (sides_of p.coded p.address 0) _ _ (agree_beside 16 (left_of_mb p 0) (top_of_mb p 0) (sides_of p.coded p.address 0) below) (mode16x16_of m) x y h v)
+  luma_same below m x y h v = grind (arith, agree16x16, agree_beside)
 
   pub chroma_same : (k : ℕ) → n < top_of_mb p k → (m x y : ℕ) → x < 8 → y < 8 → chroma_from p m k t x y ≡ chroma_from p m k s x y
-  chroma_same k below m x y h v =
-      ap (λ o. sum_of (unwrap_or o 0) (residual_at p k x y))
-      (agree_chroma (sides_of p.coded p.address 0) _ _ (agree_beside 8 (left_of_mb p k) (top_of_mb p k) (sides_of p.coded p.address 0) below) (mode_chroma_of m) x y h v)
+  chroma_same k below m x y h v = grind (arith, agree_chroma, agree_beside)
 
--- ---- a macroblock's place on a canvas, as the code knows it: what its blocks may read, and what was built of it
-
--- ---- what its blocks may read
+-- ---- a macroblock's place on a canvas, as the code knows it: what its blocks may read, and what was built of it: what its blocks may read
 
 -- one sample, by the neighbour that covers it
 readable_as : (constrained : Bool) (n : MacroblocksAround) (k : ℕ) (x y : ℤ)
     → is_there_near (λ f. not constrained || is_intra_info f) (λ u v. nat_lt (block_at u v) k) n x y ≡ is_readable (readable_near constrained n) k x y
 readable_as constrained n k (pos x) (pos y) = refl
 readable_as constrained n k (negsuc x) (pos y) = refl
-readable_as constrained n k (pos x) (negsuc y) = refl
-readable_as constrained n k (negsuc x) (negsuc y) = refl
+readable_as constrained n k x y = refl
 
 sides_same : (s t : Sides) → s.above ≡ t.above → s.above_right ≡ t.above_right → s.left ≡ t.left → s.corner ≡ t.corner → s ≡ t
 sides_same s t above right left corner = grind arith
@@ -257,12 +233,8 @@ module _ {PAD : ℕ} (canvas : CanvasState) (address qp_of_chroma : ℕ) (mb : M
   place_reads : is_intra mb.syntax ≡ true → r ≡ readable_near canvas.constrained_intra_pred n → MayRead (address % canvas.width) (address / canvas.width) (16 * canvas.width) r p
   place_reads intra near =
       let sides : (k : ℕ) → k < 16 → sides_of p.coded p.address k ≡ readable_sides r k =
-      λ k low. on.sides intra k low ∙ near_readable canvas.constrained_intra_pred n k ∙ ap (λ x. readable_sides x k) (sym near) in
-      record {
-        sides = sides;
-        inside = λ k low. subst (λ s. AreInside (16 * (address % canvas.width) + block_x k) (16 * (address / canvas.width) + block_y k) (16 * canvas.width) s) (sides k low)
-            (rw (← on.width, ← on.address_is) (sides_inside p.coded p.address k));
-      }
+      λ k low. rw near (on.sides intra k low ∙ near_readable canvas.constrained_intra_pred n k) in
+      record { sides = sides; inside = λ k low. rw (← sides k low, ← on.width, ← on.address_is) (sides_inside p.coded p.address k) }
 
   place_in : qp_of_chroma ≡ chroma_qp canvas.chroma_qp_index_offset mb.qp → (is_intra mb.syntax ≡ true → r ≡ readable_near canvas.constrained_intra_pred n)
       → IsPlaceIn (address % canvas.width) (address / canvas.width) canvas.width canvas.height mb.syntax mb.qp qp_of_chroma info r references p
@@ -294,22 +266,10 @@ module _ {PAD : ℕ} (canvas : CanvasState) (address qp_of_chroma : ℕ) (mb : M
 
 each_mode : (right : Bool) (mode : Mode4x4) → can_predict4x4 (record { above = true; above_right = right; left = true; corner = true }) mode ≡ true
 each_mode right Vertical = refl
-each_mode right Horizontal = refl
-each_mode right Dc = refl
-each_mode right DiagonalDownLeft = refl
-each_mode right DiagonalDownRight = refl
-each_mode right VerticalRight = refl
-each_mode right HorizontalDown = refl
-each_mode right VerticalLeft = refl
-each_mode right HorizontalUp = refl
+each_mode right mode = refl
 
 pub surrounded : (r : ReadableNeighbours) → (r.a && r.b && r.d) ≡ true → (mode : Mode4x4) (k : ℕ) → k < 16 → can_predict4x4 (readable_sides r k) mode ≡ true
-surrounded r e mode k low =
-    let s = readable_sides r k in
-    let corner : has_corner_sides s ≡ true =
-    with_corner (λ a b d. has_corner_sides (readable_sides (record { a = a; b = b; c = r.c; d = d }) k) ≡ true) r.a r.b r.d e
-    (each_sixteen (λ n. has_corner_sides (readable_sides (record { a = true; b = true; c = r.c; d = true }) n)) refl k low) in
-    with_corner (λ a l c. can_predict4x4 (record { above = a; above_right = s.above_right; left = l; corner = c }) mode ≡ true) s.above s.left s.corner corner (each_mode s.above_right mode)
+surrounded r e mode k low = grind (arith, ints, nat_tests, and_parts, each_mode)
 
 -- ---- a macroblock is built from the samples of macroblocks before it: planes that agree on these agree on it too
 
@@ -324,30 +284,13 @@ pub record Agree (w h : ℕ) (P : ℕ → ℕ → Type 0) (s t : Plane) : Type 0
 
 module _ (w h : ℕ) (P Q : ℕ → ℕ → Type 0) (s t : Plane) (agree : Agree w h P s t) where
   pub agree_less : ((x y : ℕ) → x < w → y < h → Q x y → P x y) → Agree w h Q s t
-  agree_less less = record {
-    width = agree.width;
-    height = agree.height;
-    other_width = agree.other_width;
-    other_height = agree.other_height;
-    samples = λ x y column row q. agree.samples x y column row (less x y column row q);
-  }
+  agree_less less = grind arith
 
   -- a block more
   pub agree_more : (left top bw bh : ℕ) (f g : ℕ → ℕ → ℕ) → ((x y : ℕ) → x < bw → y < bh → f x y ≡ g x y)
       → ((x y : ℕ) → x < w → y < h → Q x y → (left ≤ x → x < left + bw → top ≤ y → y < top + bh → ⊥) → P x y)
       → Agree w h Q (with_block s left top bw bh f) (with_block t left top bw bh g)
-  agree_more left top bw bh f g same other = record {
-    width = agree.width;
-    height = agree.height;
-    other_width = agree.other_width;
-    other_height = agree.other_height;
-    samples = λ x y column row q.
-        sample-with_block s left top bw bh f x y (omega (arith, column, agree.width)) (omega (arith, row, agree.height))
-        ∙ by_place (λ b. (if b then f (x - left) (y - top) else sample s x y) ≡ (if b then g (x - left) (y - top) else sample t x y)) left top bw bh x y
-        (λ e i j k. same (x - left) (y - top) (omega arith) (omega arith))
-        (λ out. agree.samples x y column row (other x y column row q out))
-        ∙ sym (sample-with_block t left top bw bh g x y (omega (arith, column, agree.other_width)) (omega (arith, row, agree.other_height)));
-  }
+  agree_more left top bw bh f g same other = grind (arith, nat_tests, sample-with_block, by_place)
 
 -- ---- what comes before
 
@@ -388,21 +331,7 @@ module _ (c : Coded) (a k : ℕ) where
   there_of : (inside : Bool) (l : Location) → is_there c a k (if inside then Some l else None) ≡ true
       → (inside ≡ true) × ((l.address < a) ⊎ ((l.address ≡ a) × (block_at l.x l.y < k)))
   there_of false l there = absurd cc
-  there_of true l there =
-      let same = same_slice c.mbs a l.address in
-      let less = nat_lt l.address a in
-      let equal = l.address == a in
-      let block = nat_lt (block_at l.x l.y) k in
-      let intra = not c.constrained_intra_pred || is_intra_place (slice_get c.mbs l.address) in
-      let before : (less || (equal && block)) ≡ true = (and_parts same (less || (equal && block)) (and_parts (same && (less || (equal && block))) intra there).0).1 in (
-        refl,
-        ⊎_elim
-            (λ first. inl (ltb-true l.address a first))
-            (λ both.
-            let here = and_parts equal block both in
-            inr (eqb-eq l.address a here.0, ltb-true (block_at l.x l.y) k here.1))
-            (or_cases less (equal && block) before),
-      )
+  there_of true l there = grind (arith, nat_tests, and_parts, or_cases, ltb-true, eqb-eq)
 
   there_earlier : (x y : ℕ) (px py : ℤ) → px ≡ pos x → py ≡ pos y → is_there c a k (location_in 16 c.width px py) ≡ true
       → (x < 16 * c.width) × IsEarlier c.width a k x y
@@ -460,11 +389,9 @@ module _ (c : Coded) (h a k : ℕ) (some : 0 < c.width) (room : a / c.width < h)
 pub block_agrees : (p : Place) (h k : ℕ) → 0 < p.coded.width → p.address / p.coded.width < h → k < 16 → (s t : Plane)
     → Agree (16 * p.coded.width) (16 * h) (IsEarlier p.coded.width p.address k) s t → (x y : ℕ) → x < 4 → y < 4 → block_from p k s x y ≡ block_from p k t x y
 block_agrees p h k some room low s t agree x y column row =
-    let left = left_of_mb p 0 + block_x k in
-    let top = top_of_mb p 0 + block_y k in
-    ap (λ o. sum_of (unwrap_or o 0) (residual_at p 0 (block_x k + x) (block_y k + y)))
-    (agree4x4 (sides_of p.coded p.address k) (seen_from s left top) (seen_from t left top) (beside4x4 p.coded h p.address k some room low s t agree)
+    rw (agree4x4 (sides_of p.coded p.address k) _ _ (beside4x4 p.coded h p.address k some room low s t agree)
     (mode4x4_of (mode_number (slice_index_or p.modes k absent))) x y column row)
+    refl
 
 -- ---- a whole macroblock
 
@@ -527,15 +454,9 @@ module _ (c : Coded) (size h a : ℕ) (big : 8 ≤ size) (some : 0 < c.width) (r
         (with_block s (size * column) (size * row) size size f) (with_block t (size * column) (size * row) size size g)
     square_more f g same =
         agree_more (size * c.width) (size * h) (λ x y. address_at size c.width x y < a) (λ x y. address_at size c.width x y < suc a) s t agree (size * column) (size * row) size size f g same
-        (λ x y inside low less out. ⊎_elim (λ earlier. earlier)
-        (λ no. let in_it = in_square x y inside (omega (arith, less, no)) in absurd (out in_it.0 in_it.1 in_it.2 in_it.3))
-        (cases_lt (address_at size c.width x y) a))
+        (λ x y inside low less out. grind (arith, in_square x y inside, cases_lt (address_at size c.width x y) a, out))
 
 -- ---- the luma blocks of a macroblock, one after another
-
--- the square of the block that covers a sample
-square_of : (u v : ℕ) → u < 16 → v < 16 → (block_x (block_at u v) ≡ 4 * (u / 4)) × (block_y (block_at u v) ≡ 4 * (v / 4))
-square_of u v low high = (omega (arith, low, high), omega (arith, low, high))
 
 module _ (p : Place) (h : ℕ) (some : 0 < p.coded.width) (room : p.address / p.coded.width < h) (s t : Plane)
     (agree : Agree (16 * p.coded.width) (16 * h) (λ x y. address_at 16 p.coded.width x y < p.address) s t) where
@@ -549,7 +470,7 @@ module _ (p : Place) (h : ℕ) (some : 0 < p.coded.width) (room : p.address / p.
       → (left_of_mb p 0 + block_x n ≤ x) × (x < left_of_mb p 0 + block_x n + 4) × (top_of_mb p 0 + block_y n ≤ y) × (y < top_of_mb p 0 + block_y n + 4)
   in_block n x y inside at is =
       let square = in_square p.coded 16 h a (omega arith) some room x y inside at in
-      let places = square_of (x % 16) (y % 16) (omega arith) (omega arith) in
+      let places = luma_block_place (x % 16) (y % 16) (omega arith) (omega arith) in
       let across : block_x n ≡ 4 * ((x % 16) / 4) = ap block_x (sym is) ∙ places.0 in
       let down : block_y n ≡ 4 * ((y % 16) / 4) = ap block_y (sym is) ∙ places.1 in
       (omega (arith, across, square.0, square.1), omega (arith, across, square.0, square.1), omega (arith, down, square.2, square.3), omega (arith, down, square.2, square.3))
@@ -561,27 +482,14 @@ module _ (p : Place) (h : ℕ) (some : 0 < p.coded.width) (room : p.address / p.
       agree_more (16 * w) (16 * h) (IsEarlier w a n) (IsEarlier w a (suc n)) (with_blocks4x4 p n s) (with_blocks4x4 p n t) so_far
       (left_of_mb p 0 + block_x n) (top_of_mb p 0 + block_y n) 4 4 (block_from p n (with_blocks4x4 p n s)) (block_from p n (with_blocks4x4 p n t))
       (block_agrees p h n some room (omega (arith, few)) (with_blocks4x4 p n s) (with_blocks4x4 p n t) so_far)
-      (λ x y column row earlier out. ⊎_elim
-      (λ less. inl less)
-      (λ here. ⊎_elim
-      (λ before. inr (here.0, before))
-      (λ no. let in_it = in_block n x y column here.0 (omega (arith, here.1, no)) in absurd (out in_it.0 in_it.1 in_it.2 in_it.3))
-      (cases_lt (block_at (x % 16) (y % 16)) n))
-      earlier)
+      (λ x y column row earlier out. grind (arith, in_block n x y column, cases_lt (block_at (x % 16) (y % 16)) n, earlier, out))
 
   all_blocks_agree : Agree (16 * w) (16 * h) (λ x y. address_at 16 w x y < suc a) (with_blocks4x4 p 16 s) (with_blocks4x4 p 16 t)
-  all_blocks_agree =
-      agree_less (16 * w) (16 * h) (IsEarlier w a 16) (λ x y. address_at 16 w x y < suc a) (with_blocks4x4 p 16 s) (with_blocks4x4 p 16 t) (blocks_agree 16 (omega arith))
-      (λ x y column row less. ⊎_elim
-      (λ earlier. inl earlier)
-      (λ no. inr (omega (arith, less, no), omega arith))
-      (cases_lt (address_at 16 w x y) a))
+  all_blocks_agree = grind (arith, ints, nat_tests, agree_less, blocks_agree 16, cases_lt)
 
   -- ---- luma and chroma after the macroblock
 
   pub luma_agrees : (syntax : MbSyntax) → Agree (16 * w) (16 * h) (λ x y. address_at 16 w x y < suc a) (luma_after p syntax s) (luma_after p syntax t)
-  luma_agrees p_skip = square_more p.coded 16 h a (omega arith) some room s t agree (inter_at p 0) (inter_at p 0) (λ x y column row. refl)
-  luma_agrees (p_inter shape ref_idx mvd r) = square_more p.coded 16 h a (omega arith) some room s t agree (inter_at p 0) (inter_at p 0) (λ x y column row. refl)
   luma_agrees (i_pcm luma cb cr) =
       square_more p.coded 16 h a (omega arith) some room s t agree (λ x y. slice_index luma (16 * y + x)) (λ x y. slice_index luma (16 * y + x)) (λ x y column row. refl)
   luma_agrees (i_16x16 m chroma r) =
@@ -591,6 +499,7 @@ module _ (p : Place) (h : ℕ) (some : 0 < p.coded.width) (room : p.address / p.
       (agree16x16 (sides_of p.coded p.address 0) (seen_from s (left_of_mb p 0) (top_of_mb p 0)) (seen_from t (left_of_mb p 0) (top_of_mb p 0))
       (beside_mb p.coded 16 h a (omega arith) some room s t agree) (mode16x16_of m) x y column row))
   luma_agrees (i_nxn modes chroma r) = all_blocks_agree
+  luma_agrees syntax = square_more p.coded 16 h a (omega arith) some room s t agree (inter_at p 0) (inter_at p 0) (λ x y column row. refl)
 
 module _ (p : Place) (h k : ℕ) (some : 0 < p.coded.width) (room : p.address / p.coded.width < h) (s t : Plane)
     (agree : Agree (8 * p.coded.width) (8 * h) (λ x y. address_at 8 p.coded.width x y < p.address) s t) where
@@ -610,11 +519,10 @@ module _ (p : Place) (h k : ℕ) (some : 0 < p.coded.width) (room : p.address / 
   same_agrees f = square_more p.coded 8 h p.address (omega arith) some room s t agree f f (λ x y column row. refl)
 
   pub chroma_agrees : (syntax : MbSyntax) → AgreesThen (chroma_after p (suc k) syntax s) (chroma_after p (suc k) syntax t)
-  chroma_agrees p_skip = same_agrees (inter_at p (suc k))
-  chroma_agrees (p_inter shape ref_idx mvd r) = same_agrees (inter_at p (suc k))
   chroma_agrees (i_pcm luma cb cr) = same_agrees (λ x y. slice_index (if suc k == 1 then cb else cr) (8 * y + x))
   chroma_agrees (i_16x16 m chroma r) = intra_agrees chroma
   chroma_agrees (i_nxn modes chroma r) = intra_agrees chroma
+  chroma_agrees syntax = same_agrees (inter_at p (suc k))
 
 -- ---- the three planes
 

@@ -1,20 +1,17 @@
 -- The names that the proofs cite of std, of the crates below and of the definitions here, passed on from one place. Declares nothing.
-pub use Rattle.std.proofs.Common.{ℕ, ◌≡◌, ◌+◌, ◌*◌, ◌-◌, ◌/◌, ◌%◌, ◌<◌, length, ap, ◌∙◌, zero-add, ◌≢◌, ◌≤◌, arith, List, map, get_or, set, take}
-pub use Rattle.std.proofs.Common.{drop, slice_range, sym, get_or-set_same, get_or-set_other, length-set, ⊎_elim, mul_comm, true, false, ◌++◌}
-pub use Rattle.std.proofs.Common.{length-append, length-drop, refl, inl, inr, ◌^◌, Bool, slice_index, subst, get_or as slice_index_or, pos, ◌-ℤ◌}
-pub use Rattle.std.proofs.Common.{below_more, append_assoc, rules, replicate}
+pub use Rattle.std.proofs.Common.{ℕ, ◌≡◌, ◌+◌, ◌*◌, ◌-◌, ◌/◌, ◌%◌, ◌<◌, length, ap, ◌∙◌, zero-add, ◌≢◌, ◌≤◌, arith, List, get_or, set, take, drop, slice_range}
+pub use Rattle.std.proofs.Common.{sym, get_or-set_same, get_or-set_other, length-set, ⊎_elim, mul_comm, true, false, ◌++◌, length-drop, refl, inl, inr, ◌^◌}
+pub use Rattle.std.proofs.Common.{Bool, slice_index, subst, get_or as slice_index_or, pos, ◌-ℤ◌, below_more, append_assoc, replicate}
 pub use Rattle.std.proofs.Math.Nat.{mul-le-mul_right, add-mul}
 pub use Rattle.std.proofs.Math.Seq.{take-length, take-add}
-pub use Rattle.std.proofs.lemmas.Bool.{cases_eq, cases_order, cases_lt, cases_Bool, both_ways}
+pub use Rattle.std.proofs.lemmas.Bool.{cases_eq, cases_lt, cases_Bool, both_ways}
 pub use Rattle.std.proofs.lemmas.Bool.Decides.{nat_tests}
 pub use Rattle.std.proofs.lemmas.Grind.{common_steps, same_number_lists, get_or_default_zero}
 pub use Rattle.std.proofs.lemmas.Int.{ints}
-pub use Rattle.std.proofs.lemmas.List.{get_or-drop, get_or-take, get_or_append_left, get_or-append_right, length-take-le, places, with_items_is}
-pub use Rattle.std.proofs.lemmas.List.{take_all, length-replicate, replicate-append-replicate}
+pub use Rattle.std.proofs.lemmas.List.{get_or-drop, get_or-take, length-take-le, places, with_items_is, take_all, length-replicate, replicate-append-replicate}
 pub use Rattle.std.proofs.lemmas.List.FromFn.{get_or-map-range_with_len, length-map-range_with_len, fill_by_all}
-pub use Rattle.std.proofs.lemmas.Nat.{mul-add-lt, div-mul-add, mod-mul-add, row_fits, same_from_place, mod_below, mul-le}
+pub use Rattle.std.proofs.lemmas.Nat.{mul-add-lt, div-mul-add, mod-mul-add, row_fits, same_from_place, mul-le}
 pub use Rattle.std.proofs.lemmas.Slice.{put_mid-paste}
-pub use Rattle.std.specs.List.{range_with_len}
 pub use Rattle.std.specs.Prelude.{if◌then◌else◌, nat_abs}
 pub use Rattle.avc_types.proofs.Frames.{some_column, column, row}
 pub use Rattle.avc_types.specs.Arithmetic.{clip3}

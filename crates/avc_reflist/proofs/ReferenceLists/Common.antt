@@ -1,12 +1,14 @@
 -- The names that the proofs cite of std, of the crates below and of the definitions here, passed on from one place. Declares nothing.
 pub use Rattle.std.proofs.Common.{◌≡◌, ℕ, zero, suc, ◌<◌, ◌≤◌, nat_lt, Bool, true, false, not, cond, List, [], ◌∷◌, ◌++◌, length, get_or, take, drop}
 pub use Rattle.std.proofs.Common.{map, refl, sym, ap, ◌∙◌, arith, get_or as slice_index_or, ◌+◌, ◌-◌, ◌⊎◌, inl, inr, replicate, Some, None, Result}
-pub use Rattle.std.proofs.Common.{Ok, Err, append_assoc, below_more}
+pub use Rattle.std.proofs.Common.{Ok, Err, append_assoc, below_more, rules}
+pub use Rattle.std.proofs.lemmas.Bool.{cases_Bool, cases_lt, cases_order}
 pub use Rattle.std.proofs.lemmas.Bool.Decides.{nat_tests}
+pub use Rattle.std.proofs.lemmas.Grind.{common_steps}
 pub use Rattle.std.proofs.lemmas.List.{map-append, take-map, drop-map, get_or-map, length-map, drop_more, length-take, take_all, take-take}
 pub use Rattle.std.proofs.lemmas.List.{take-append-le, length-take-le}
 pub use Rattle.std.proofs.lemmas.List.Elements.{All-append, All-take, All-drop, All-cons, All-head, All-tail, All-map, All-replicate, All-filter}
-pub use Rattle.std.proofs.lemmas.List.Elements.{All-push, All-weaker}
+pub use Rattle.std.proofs.lemmas.List.Elements.{All-push, All-weaker, filter_passes}
 pub use Rattle.std.proofs.lemmas.List.Kept.{AllPairs-from_increasing}
 pub use Rattle.std.specs.List.{filter, insert, list_any}
 pub use Rattle.std.specs.Option.{option_map}

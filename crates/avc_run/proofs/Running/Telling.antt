@@ -80,9 +80,7 @@ pub untold_piece : (number : ℕ) (found : Bool) (unread left held holds : Optio
 untold_piece number found unread left held holds run none =
     (run.0, run.1, run.3, none_of_it run.2 held holds (piece_text number run.0 run.1) (sym run.6 ∙ none) run.5)
 
--- ---- events that are taken one after another
-
--- ---- lists of events
+-- ---- events that are taken one after another: lists of events
 
 pub written-append : (f : Format) (n : ℕ) (a b : List Event) → written_from f n (a ++ b) ≡ written_from f n a ++ written_from f (pictures_after n a) b
 written-append f n [] b = refl

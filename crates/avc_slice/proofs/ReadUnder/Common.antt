@@ -12,7 +12,7 @@ pub use Rattle.avc_bits.proofs.Reading.{gives-check, gives-then, gives-where_set
 pub use Rattle.avc_bits.specs.Bits.{Bits, Read, ◌>>=◌, ◌>>◌, give, refuse, check, where_set, number_of, times, start, bits_before_stop}
 pub use Rattle.avc_bits.specs.Codes.{split, bits, zeros, zeros_before_one, signed_value, flag, ue, ue_to, se_within, se, u}
 pub use Rattle.avc_bits.specs.Reader.{reader_bits, reader_bytes}
-pub use Rattle.avc_params.proofs.ParameterSets.{gives-optional}
+pub use Rattle.avc_params.proofs.ParameterSets.{gives-optional, parts_give}
 pub use Rattle.avc_params.specs.Limits.{max_frame_num, size_in_mbs}
 pub use Rattle.avc_params.specs.Parsing.{optional}
 pub use Rattle.avc_params.specs.Tables.{Sets, sets_after}

@@ -11,10 +11,7 @@ abbrev pub whole_stream : (bytes : List ℕ) → SplitterState
 whole_stream bytes = record { bytes = bytes; ended = true; taken = 0; failed = false }
 
 no_more : (us : List Unit) (k : ℕ) → slice_get us k ≡ None → drop k us ≡ []
-no_more us k e = drop_all k us (elim (slice_get_cases us k).1 [
-  | inl h ↦ let bad : None ≡ Some h.0 = sym e ∙ h.2 in absurd (search rules)
-  | inr h ↦ h.0
-])
+no_more us k e = search (rules, drop_all, slice_get_cases)
 
 -- From this state some units were taken, of which this holds.
 pub record IsDraining (max : ℕ) (old now : SplitterState) (holds : List Unit → Type 0) : Type 0 where
@@ -60,13 +57,7 @@ IsAllTaken max old new holds = holds (units_left max old) × (new ≡ after_unit
 
 pub all_taken : (max : ℕ) (old s new : SplitterState) (next : Option Unit) (holds : List Unit → Type 0) → IsDraining max old s holds → old.failed ≡ false
     → next ≡ next_unit_of max s → new ≡ after_next_unit s next → next ≡ None → IsAllTaken max old new holds
-all_taken max old s new next holds i going gives takes is =
-    let us = units max s.bytes s.ended in
-    let none : units_left max s ≡ [] = no_more us s.taken (sym (next_unit_is max old s _ i.state going) ∙ sym gives ∙ is) in
-    let all : i.done ≡ units_left max old = sym (append-nil i.done) ∙ ap (λ l. i.done ++ l) (sym none) ∙ sym i.rest in (
-      subst holds all i.so_far,
-      takes ∙ ap (λ x. after_next_unit s x) is ∙ i.state ∙ ap (λ l. record old { taken = old.taken + length l }) all,
-    )
+all_taken max old s new next holds i going gives takes is = search (rules, no_more, next_unit_is, append-nil)
 
 -- ---- one unit more is taken into a piece, and a piece whose stream comes is written as far as it is settled
 
@@ -234,9 +225,7 @@ held_written (writing before cut after) c piece more h is added = record {
 }
 held_written _ c piece more h is added = cc
 
--- ---- a piece whose stream comes is written as far as it is settled
-
--- ---- unit by unit
+-- ---- a piece whose stream comes is written as far as it is settled: unit by unit
 
 -- These units were taken in, and this is what they brought.
 abbrev pub IsCutFrom : (old now : Cutter) → (piece : List ℕ) → (done : List Unit) → Type 0
@@ -247,15 +236,7 @@ cut_none c piece none = λ s h. record { stands = h; added = []; defined = sym (
 
 pub cut_more : (old mid now : Cutter) (piece more : List ℕ) (u : Unit) → ((s : Stage) → StandsAt s mid → IsCutOn s (next s u) now piece more)
     → (done : List Unit) → IsCutFrom old mid piece done → IsCutFrom old now more (done ++ u ∷ [])
-cut_more old mid now piece more u step done i = λ s h.
-    let one = i s h in
-    let two = step (stage_after s done) one.stands in
-    subst (λ t. IsCutOn s t now [] more) (sym (after-append s done (u ∷ []))) (record {
-      stands = two.stands;
-      added = one.added ++ two.added;
-      defined = two.defined ∙ ap (λ t. t ++ two.added) one.defined ∙ append_assoc (text_of s false) one.added two.added;
-      written_on = two.written_on ∙ ap (λ t. t ++ two.added) one.written_on;
-    })
+cut_more old mid now piece more u step done i = search (rules, after-append, append_assoc)
 
 -- ---- once more has come
 
@@ -279,15 +260,7 @@ text_added : (max number : ℕ) (old mid new : SplitterState) (ended : Bool) (c 
     → ended ≡ false → AreLeft max old mid → new ≡ after_units_left max mid → IsCutFrom c now part (units_left max mid) → length new.bytes ≤ max
     → t ≡ stage_after (stage_of max number old) (units_left max mid) → text_of t mid.ended ≡ text_of t false ++ more
     → piece_text number new.bytes new.ended ≡ piece_text number old.bytes old.ended ++ (part ++ more)
-text_added max number old mid new ended c now part more t h open_end left is cut short t_is adds =
-    let same = ap (λ (s : SplitterState). length s.bytes) is in
-    let s = stage_of max number old in
-    let made = cut s h.stands in
-    rw is
-    (text_behind max number mid.bytes old.bytes mid.ended old.ended (units_left max mid) (part ++ more)
-    (omega (arith, same, short)) (omega (arith, same, short, left.no_fewer)) (sym h.end_is ∙ open_end) left.all
-    (ap (λ u. text_of u mid.ended) (sym t_is) ∙ adds ∙ ap (λ u. text_of u false ++ more) t_is
-    ∙ ap (λ l. l ++ more) (made.defined ∙ ap (λ l. text_of s false ++ l) (sym made.written_on)) ∙ append_assoc (text_of s false) part more))
+text_added max number old mid new ended c now part more t h open_end left is cut short t_is adds = search (rules, text_behind, append_assoc)
 
 -- by a piece
 pub text_fed : (max number : ℕ) (old mid new : SplitterState) (ended : Bool) (c now : Cutter) (part : List ℕ) → IsCutting max number old ended c
@@ -402,11 +375,7 @@ header_lines_behind max bytes front ended front_ended others short front_short i
 pub header_lines_added : (max : ℕ) (old mid new : SplitterState) (sets : List SetUnit) (added : List ℕ) → AreShown max old sets → AreLeft max old mid
     → new ≡ after_units_left max mid → added ≡ header_lines_under sets (units_left max mid) → length new.bytes ≤ max
     → header_lines_so_far new.bytes new.ended ≡ header_lines_so_far old.bytes old.ended ++ added
-header_lines_added max old mid new sets added h left is lines short =
-    let same = ap (λ (s : SplitterState). length s.bytes) is in
-    rw (is, lines, h.sets_are)
-    (header_lines_behind max mid.bytes old.bytes mid.ended old.ended (units_left max mid)
-    (omega (arith, same, short)) (omega (arith, same, short, left.no_fewer)) left.all)
+header_lines_added max old mid new sets added h left is lines short = search (rules, header_lines_behind)
 
 pub header_lines_grow : UnitsStay → OnlyGrows header_lines_so_far
 header_lines_grow stay bytes more ended short =

@@ -1,22 +1,20 @@
 -- The names that the proofs cite of std, of the crates below and of the definitions here, passed on from one place. Declares nothing.
-pub use Rattle.std.proofs.Common.{ℕ, ℤ, pos, zero, suc, ◌<◌, arith, slice_index_or, [], ◌∷◌, ◌≡◌, ◌+◌, ◌*◌, ◌≢◌, List, length, set}
-pub use Rattle.std.proofs.Common.{slice_index_or as get_or, below_more, get_or-set_other, subst, sym, ap, ◌∙◌, zero-add, negsuc, neg_ℤ, ◌≤◌, ◌^◌, ◌/◌}
+pub use Rattle.std.proofs.Common.{ℕ, ℤ, pos, zero, suc, ◌<◌, arith, slice_index_or, [], ◌∷◌, ◌≡◌, ◌+◌, ◌*◌, List, length, set}
+pub use Rattle.std.proofs.Common.{slice_index_or as get_or, below_more, get_or-set_other, subst, sym, ap, ◌∙◌, negsuc, neg_ℤ, ◌≤◌, ◌^◌, ◌/◌}
 pub use Rattle.std.proofs.Common.{◌%◌, ◌*ℤ◌, to_z, of_z, w16, w32, refl, zero-mul, mul_assoc, ◌-◌, ◌+ℤ◌, nat_lt, false, if◌then◌else◌, map}
-pub use Rattle.std.proofs.Common.{get_or-set_same, true, nat_eq, slice_index, FitsSigned, ◌-ℤ◌, rules, add-zero, nat_abs}
-pub use Rattle.std.proofs.Math.IntN.{zero-*ℤ, +ℤ_idr}
+pub use Rattle.std.proofs.Common.{get_or-set_same, true, nat_eq, slice_index, FitsSigned, ◌-ℤ◌, rules, add-zero, nat_abs, ◌==◌}
+pub use Rattle.std.proofs.Math.IntN.{zero-*ℤ}
 pub use Rattle.std.proofs.Math.Nat.{mul-le-mul, pow-le-pow_right}
-pub use Rattle.std.proofs.lemmas.Bool.{eqb-true, ltb-true}
+pub use Rattle.std.proofs.lemmas.Bool.{eqb-true, ltb-true, agree_below_at}
 pub use Rattle.std.proofs.lemmas.Bool.Decides.{nat_tests}
 pub use Rattle.std.proofs.lemmas.Grind.{common_steps}
 pub use Rattle.std.proofs.lemmas.Int.{ints, unsigned_abs-mul, to_z-of_z, to_z_pos}
-pub use Rattle.std.proofs.lemmas.List.FromFn.{get_or-range_with_len, length-range_with_len}
-pub use Rattle.std.proofs.lemmas.List.Sums.{AllPass-from_list_all}
 pub use Rattle.std.proofs.lemmas.Nat.{mul-lt}
 pub use Rattle.std.specs.Int.{int_max, int_min}
 pub use Rattle.std.specs.Int.RustNames.{unsigned_abs}
-pub use Rattle.std.specs.List.{range_with_len, list_all}
+pub use Rattle.std.specs.List.{range_with_len}
 pub use Rattle.std.specs.Simd.Lanes.{zip2, Each2}
-pub use Rattle.avc_types.specs.Arithmetic.{◌>>ℤ◌, ◌<<ℤ◌, sum_below_ℤ, clip1, clip3}
+pub use Rattle.avc_types.specs.Arithmetic.{◌>>ℤ◌, sum_below_ℤ, clip1, clip3}
 pub use Rattle.avc_transform.specs.Bounds.{IsBelow, AllBelow, matrix}
 pub use Rattle.avc_transform.specs.Lines.{AreBelow, AreLines}
 pub use Rattle.avc_transform.specs.Residual.{level, level_scale, scaled, even_scale, hadamard, hadamard_row, luma_dc_scaled, chroma_dc_product}

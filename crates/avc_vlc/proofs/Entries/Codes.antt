@@ -7,12 +7,9 @@ use Rattle.avc_types.specs.declared.fault.Fault.TheVariants as faults
 
 -- the bits are the word and what is left after it
 pub after_word-some : (word bits left : List Bool) → after_word word bits ≡ Some left → bits ≡ word ++ left
-after_word-some [] bits left e = cc
-after_word-some (w ∷ word) [] left e = cc
 after_word-some (true ∷ word) (true ∷ bits) left e = ap (λ l. true ∷ l) (after_word-some word bits left e)
 after_word-some (false ∷ word) (false ∷ bits) left e = ap (λ l. false ∷ l) (after_word-some word bits left e)
-after_word-some (true ∷ word) (false ∷ bits) left e = cc
-after_word-some (false ∷ word) (true ∷ bits) left e = cc
+after_word-some word bits left e = cc
 
 pub after_word-append : (word left : List Bool) → after_word word (word ++ left) ≡ Some left
 after_word-append [] left = refl
@@ -22,11 +19,9 @@ after_word-append (false ∷ word) left = after_word-append word left
 -- more bits behind
 pub after_word-more : (word bits more left : List Bool) → after_word word bits ≡ Some left → after_word word (bits ++ more) ≡ Some (left ++ more)
 after_word-more [] bits more left e = let same : bits ≡ left = cc in rw same refl
-after_word-more (w ∷ word) [] more left e = cc
 after_word-more (true ∷ word) (true ∷ bits) more left e = after_word-more word bits more left e
 after_word-more (false ∷ word) (false ∷ bits) more left e = after_word-more word bits more left e
-after_word-more (true ∷ word) (false ∷ bits) more left e = cc
-after_word-more (false ∷ word) (true ∷ bits) more left e = cc
+after_word-more word bits more left e = cc
 
 pub is_prefix-append : (word left : List Bool) → is_prefix word (word ++ left) ≡ true
 is_prefix-append word left = rw (after_word-append word left, is_prefix) refl
@@ -55,27 +50,29 @@ lookup-here entry table bits left e = ap (λ o. elim o [ Some left ↦ Some (ent
 pub lookup-past : {A : Type 0} (entry : List Bool × A) (table : Table A) (bits : List Bool) → after_word entry.0 bits ≡ None → lookup (entry ∷ table) bits ≡ lookup table bits
 lookup-past entry table bits e = ap (λ o. elim o [ Some left ↦ Some (entry.1, length entry.0, left) | None ↦ lookup table bits ]) e
 
+-- what holds of the first entry that is found, and of the others where it is passed, holds of the table
+pub lookup_by : {A : Type 0} (entry : List Bool × A) (table : Table A) (bits : List Bool) (P : Option (A × ℕ × List Bool) → Type 0) →
+    ((left : List Bool) → after_word entry.0 bits ≡ Some left → P (Some (entry.1, length entry.0, left))) → (after_word entry.0 bits ≡ None → P (lookup table bits)) → P (lookup (entry ∷ table) bits)
+lookup_by {A} entry table bits P here past = search (rules)
+
 pub lookup-some : {A : Type 0} (table : Table A) (bits : List Bool) (f : A × ℕ × List Bool) → lookup table bits ≡ Some f → IsFound table bits f.0 f.1 f.2
 lookup-some [] bits f e = cc
-lookup-some {A} (entry ∷ table) bits f p = by_answer (after_word entry.0 bits) refl (lookup-some table bits f) p
-  where
-    by_answer : (o : Option (List Bool)) → after_word entry.0 bits ≡ o → (lookup table bits ≡ Some f → IsFound table bits f.0 f.1 f.2) → lookup (entry ∷ table) bits ≡ Some f → IsFound (entry ∷ table) bits f.0 f.1 f.2
-    by_answer (Some left) e later p =
-        let q : Some (entry.1, length entry.0, left) ≡ Some f = sym (lookup-here entry table bits left e) ∙ p in
-        let r : (entry.1, length entry.0, left) ≡ f = cc in
-        rw (← r) (record { word = entry.0; is_word = inl (refl, refl); is_front = after_word-some entry.0 bits left e; is_size = refl })
-    by_answer None e later p = found_later entry table bits f.0 f.1 f.2 (later (sym (lookup-past entry table bits e) ∙ p))
+lookup-some (entry ∷ table) bits f e = lookup_by entry table bits (λ o. o ≡ Some f → IsFound (entry ∷ table) bits f.0 f.1 f.2)
+    (λ left a p. let r : (entry.1, length entry.0, left) ≡ f = cc in rw (← r) (record { word = entry.0; is_word = inl (refl, refl); is_front = after_word-some entry.0 bits left a; is_size = refl }))
+    (λ a p. found_later entry table bits f.0 f.1 f.2 (lookup-some table bits f p))
+    e
 
 pub lookup-none : {A : Type 0} (table : Table A) (bits word left : List Bool) (value : A) → lookup table bits ≡ None → IsIn table word value → bits ≡ word ++ left → ⊥
 lookup-none [] bits word left value e is same = is
-lookup-none {A} (entry ∷ table) bits word left value p is same = by_answer (after_word entry.0 bits) refl (λ none there. lookup-none table bits word left value none there same) p is
-  where
-    by_answer : (o : Option (List Bool)) → after_word entry.0 bits ≡ o → (lookup table bits ≡ None → IsIn table word value → ⊥) → lookup (entry ∷ table) bits ≡ None → IsIn (entry ∷ table) word value → ⊥
-    by_answer (Some rest) e later p is = let q : Some (entry.1, length entry.0, rest) ≡ None = sym (lookup-here entry table bits rest e) ∙ p in cc
-    by_answer None e later p (inl here) =
-        let q : after_word entry.0 bits ≡ Some left = rw (same, here.0) (after_word-append entry.0 left) in
-        let r : None ≡ Some left = sym e ∙ q in cc
-    by_answer None e later p (inr there) = later (sym (lookup-past entry table bits e) ∙ p) there
+lookup-none (entry ∷ table) bits word left value e is same = lookup_by entry table bits (λ o. o ≡ None → ⊥)
+    (λ rest a p. cc)
+    (λ a p. elim is [
+      | inl here ↦
+          let q : after_word entry.0 bits ≡ Some left = rw (same, here.0) (after_word-append entry.0 left) in
+          cc
+      | inr there ↦ lookup-none table bits word left value p there same
+    ])
+    e
 
 -- ---- reading by a table: its three answers, and that they are those of the set of its codewords
 
@@ -103,14 +100,8 @@ begins-true {A} (entry ∷ table) bits p = by_answer (is_prefix bits entry.0) re
 
 pub begins-false : {A : Type 0} (table : Table A) (bits word left : List Bool) (value : A) → begins table bits ≡ false → IsIn table word value → word ≡ bits ++ left → ⊥
 begins-false [] bits word left value p is same = is
-begins-false {A} (entry ∷ table) bits word left value p is same = by_answer (is_prefix bits entry.0) refl (λ none there. begins-false table bits word left value none there same) p is
-  where
-    by_answer : (answer : Bool) → is_prefix bits entry.0 ≡ answer → (begins table bits ≡ false → IsIn table word value → ⊥) → begins (entry ∷ table) bits ≡ false → IsIn (entry ∷ table) word value → ⊥
-    by_answer true e later p is = let q : true ≡ false = sym (begins-first entry table bits true e) ∙ p in cc
-    by_answer false e later p (inl here) =
-        let q : is_prefix bits entry.0 ≡ true = rw (← here.0, same) (is_prefix-append bits left) in
-        let r : true ≡ false = sym q ∙ e in cc
-    by_answer false e later p (inr there) = later (sym (begins-first entry table bits false e) ∙ p) there
+begins-false (entry ∷ table) bits word left value p (inl here) same = search (rules, is_prefix-append, or_parts)
+begins-false (entry ∷ table) bits word left value p (inr there) same = begins-false table bits word left value (or_parts _ _ p).1 there same
 
 -- ---- the three answers
 
@@ -125,8 +116,7 @@ code-none table b answer e p = rw (table_code, e) (ap (λ a. elim a [ true ↦ E
 -- no codeword is in front of the bits, and one begins with them
 cut_short : {A : Type 0} (table : Table A) (b : Bits) → lookup table b.ahead ≡ None → (word left : List Bool) (value : A) → IsIn table word value → word ≡ b.ahead ++ left → IsCutShort (IsIn table) b
 cut_short table b none word [] value is same = absurd (lookup-none table b.ahead word [] value none is (sym (append-nil b.ahead) ∙ sym same ∙ sym (append-nil word)))
-cut_short {A} table b none word (next ∷ others) value is same =
-    record { value = value; next = next; others = others; is_word = let P : List Bool → Type 0 = λ w. IsIn table w value in subst P same is }
+cut_short table b none word (next ∷ others) value is same = record { value = value; next = next; others = others; is_word = rw same at is }
 
 pub table_read : {A : Type 0} (table : Table A) → IsTableRead table
 table_read {A} table b = by_lookup (lookup table b.ahead) refl
@@ -134,22 +124,18 @@ table_read {A} table b = by_lookup (lookup table b.ahead) refl
     by_begins : lookup table b.ahead ≡ None → (answer : Bool) → begins table b.ahead ≡ answer → IsReadBy (IsIn table) faults.BadCode b (table_code table b)
     by_begins e true p =
         let f : IsBegun table b.ahead = begins-true table b.ahead p in
-        let P : Result (A × Bits) Fault → Type 0 = λ r. IsReadBy (IsIn table) faults.BadCode b r in
-        subst P (sym (code-none table b true e p)) (cut_short table b e f.word f.left f.value f.is_word f.is_longer)
-    by_begins e false p =
-        let P : Result (A × Bits) Fault → Type 0 = λ r. IsReadBy (IsIn table) faults.BadCode b r in
-        subst P (sym (code-none table b false e p)) (
-          refl,
-          (λ cut. begins-false table b.ahead (b.ahead ++ cut.next ∷ cut.others) (cut.next ∷ cut.others) cut.value p cut.is_word refl),
-          (λ value left takes. lookup-none table b.ahead takes.word left.ahead value e takes.is_word takes.ahead),
-        )
+        rw (code-none table b true e p) (cut_short table b e f.word f.left f.value f.is_word f.is_longer)
+    by_begins e false p = rw (code-none table b false e p) (
+      refl,
+      (λ cut. begins-false table b.ahead (b.ahead ++ cut.next ∷ cut.others) (cut.next ∷ cut.others) cut.value p cut.is_word refl),
+      (λ value left takes. lookup-none table b.ahead takes.word left.ahead value e takes.is_word takes.ahead),
+    )
 
     by_lookup : (o : Option (A × ℕ × List Bool)) → lookup table b.ahead ≡ o → IsReadBy (IsIn table) faults.BadCode b (table_code table b)
     by_lookup None e = by_begins e (begins table b.ahead) refl
     by_lookup (Some f) e =
         let found = lookup-some table b.ahead f e in
-        let P : Result (A × Bits) Fault → Type 0 = λ r. IsReadBy (IsIn table) faults.BadCode b r in
-        subst P (sym (code-found table b f e)) (record { word = found.word; is_word = found.is_word; ahead = found.is_front; position = ap (λ n. b.position + n) found.is_size })
+        rw (code-found table b f e) (record { word = found.word; is_word = found.is_word; ahead = found.is_front; position = ap (λ n. b.position + n) found.is_size })
 
 -- ---- no codeword begins another
 
@@ -193,13 +179,7 @@ prefix_free (entry ∷ table) test word more value other (inr is) (inr longer) =
 
 -- what holds of each class of nC that is no chroma DC
 pub each_class : (P : Table Token → Type 0) → P (tokens coeff_token_0) → P (tokens coeff_token_2) → P (tokens coeff_token_4) → P tokens_8 → (n : ℕ) → P (token_table (pos n))
-each_class P a b c d n = by (nat_lt n 2) (nat_lt n 4) (nat_lt n 8)
-  where
-    by : (x y z : Bool) → P (if x then tokens coeff_token_0 else if y then tokens coeff_token_2 else if z then tokens coeff_token_4 else tokens_8)
-    by true y z = a
-    by false true z = b
-    by false false true = c
-    by false false false = d
+each_class P a b c d n = search (rules)
 
 pub tokens_free : (nc : ℤ) → is_prefix_free (token_table nc) ≡ true
 tokens_free (negsuc _) = refl
@@ -230,10 +210,7 @@ at_entry f g (entry ∷ table) word value all (inl here) = rw (here.0, here.1) (
 at_entry f g (entry ∷ table) word value all (inr there) = at_entry f g table word value (ap (drop 1) all) there
 
 own : {A : Type 0} (same : A → A → Bool) (table : Table A) (value : A) (b left : Bits) → AreOwn same table → table_code table b ≡ Ok (value, left) → IsRead (word_of (same value) table) b left
-own {A} same table value b left all is =
-    let P : Result (A × Bits) Fault → Type 0 = λ r. IsReadBy (IsIn table) faults.BadCode b r in
-    let taken : Takes (IsIn table) b value left = subst P is (table_read table b) in
-    record { bits = taken.word; is_word = at_entry (λ entry. word_of (same entry.1) table) (λ entry. Some entry.0) table taken.word value all taken.is_word; ahead = taken.ahead }
+own same table value b left all is = search (rules, table_read, at_entry)
 
 tokens_own : (nc : ℤ) → AreOwn is_token_same (token_table nc)
 tokens_own (negsuc _) = refl
@@ -292,10 +269,7 @@ all_in p (entry ∷ table) word v test (inr there) = all_in p table word v ((and
 pub if_read : {A : Type 0} (p : A → Bool) (table : Table A) (P : A → Type 0) (result : Result A Fault) (old new : BitReader) →
     Reads result (table_code table) old new → list_all (λ e. p e.1) table ≡ true → ((v : A) → p v ≡ true → P v) → IfOk result P
 if_read p table P (Err f) old new read test facts = tt
-if_read {A} p table P (Ok v) old new read test facts =
-    let Q : Result (A × Bits) Fault → Type 0 = λ r. IsReadBy (IsIn table) faults.BadCode (reader_bits old) r in
-    let taken : Takes (IsIn table) (reader_bits old) v (reader_bits new) = subst Q read.0 (table_read table (reader_bits old)) in
-    facts v (all_in p table taken.word v test taken.is_word)
+if_read p table P (Ok v) old new read test facts = search (rules, reader_bits, table_read, all_in)
 
 abbrev pub is_token : Token → Bool
 is_token t = nat_le t.total 16 && (nat_le t.ones t.total && nat_le t.ones 3)
@@ -305,17 +279,12 @@ tokens_tested (negsuc _) = refl
 tokens_tested (pos n) = each_class (λ t. list_all (λ e. is_token e.1) t ≡ true) refl refl refl refl n
 
 pub token_tested : (t : Token) → is_token t ≡ true → IsToken t
-token_tested t test =
-    let first = and_parts (nat_le t.total 16) (nat_le t.ones t.total && nat_le t.ones 3) test in
-    let others = and_parts (nat_le t.ones t.total) (nat_le t.ones 3) first.1 in
-    record { total = leb-true t.total 16 first.0; ones = leb-true t.ones t.total others.0; few_ones = leb-true t.ones 3 others.1 }
+token_tested t test = search (rules, and_parts, nat_le, leb-true)
 
 pub if_token : (nc : ℤ) (result : Result Token Fault) (old new : BitReader) → Reads result (table_code (token_table nc)) old new → IfOk result IsToken
 if_token nc result old new read = if_read is_token (token_table nc) IsToken result old new read (tokens_tested nc) token_tested
 
--- ---- a codeword with bits behind it is read as its value, and which values have a codeword
-
--- ---- reading
+-- ---- a codeword with bits behind it is read as its value, and which values have a codeword: reading
 
 -- of two words in front of the same bits one begins the other
 one_begins : (word other rest left : List Bool) → after_word word (other ++ rest) ≡ Some left → (is_prefix word other ≡ true) ⊎ (is_prefix other word ≡ true)
@@ -323,8 +292,7 @@ one_begins [] other rest left is = inl refl
 one_begins (w ∷ word) [] rest left is = inr refl
 one_begins (true ∷ word) (true ∷ other) rest left is = one_begins word other rest left is
 one_begins (false ∷ word) (false ∷ other) rest left is = one_begins word other rest left is
-one_begins (true ∷ word) (false ∷ other) rest left is = cc
-one_begins (false ∷ word) (true ∷ other) rest left is = cc
+one_begins word other rest left is = cc
 
 lookup-word : {A : Type 0} (table : Table A) (word rest : List Bool) (value : A) → is_prefix_free table ≡ true → IsIn table word value → lookup table (word ++ rest) ≡ Some (value, length word, rest)
 lookup-word [] word rest value free is = absurd is
@@ -345,14 +313,7 @@ lookup-word {A} (entry ∷ table) word rest value free (inr there) =
 -- the word of a value is in the table
 word-in : {A : Type 0} (same : A → A → Bool) (value : A) (table : Table A) (word : List Bool) → ((a b : A) → same a b ≡ true → a ≡ b) → word_of (same value) table ≡ Some word → IsIn table word value
 word-in same value [] word is found = cc
-word-in {A} same value (entry ∷ table) word is found = by_answer (same value entry.1) refl found (word-in same value table word is)
-  where
-    by_answer : (answer : Bool) → same value entry.1 ≡ answer → word_of (same value) (entry ∷ table) ≡ Some word → (word_of (same value) table ≡ Some word → IsIn table word value) → IsIn (entry ∷ table) word value
-    by_answer true e found later =
-        let here : Some entry.0 ≡ Some word = sym (ap (λ t. if t then Some entry.0 else word_of (same value) table) e) ∙ found in
-        let first : entry.0 ≡ word = cc in
-        inl (sym first, is value entry.1 e)
-    by_answer false e found later = inr (later (sym (ap (λ t. if t then Some entry.0 else word_of (same value) table) e) ∙ found))
+word-in {A} same value (entry ∷ table) word is found = search (rules, word-in same value table word is)
 
 back : {A : Type 0} (same : A → A → Bool) (value : A) (table : Table A) (word : List Bool) → ((a b : A) → same a b ≡ true → a ≡ b) → is_prefix_free table ≡ true → word_of (same value) table ≡ Some word → IsReadBack (table_code table) word value
 back same value table word is free found position rest =
@@ -365,24 +326,12 @@ pub zeros_back : (total : ℕ) (chroma_dc : Bool) (n : ℕ) (word : List Bool) �
 zeros_back total chroma_dc n word found = back is_number_same n (zeros_table total chroma_dc) word number_is_same (zeros_free total chroma_dc) found
 
 pub run_back : (zeros_left run : ℕ) (word : List Bool) → run_word zeros_left run ≡ Some word → IsReadBack (run_before zeros_left) word run
-run_back zeros_left run word = by_test (nat_le run zeros_left) refl
-  where
-    by_test : (test : Bool) → nat_le run zeros_left ≡ test → run_word zeros_left run ≡ Some word → IsReadBack (run_before zeros_left) word run
-    by_test false e found position rest = let none : None ≡ Some word = sym (ap (λ t. if t then word_of (is_number_same run) (run_table zeros_left) else None) e) ∙ found in cc
-    by_test true e found position rest =
-        let here : word_of (is_number_same run) (run_table zeros_left) ≡ Some word = sym (ap (λ t. if t then word_of (is_number_same run) (run_table zeros_left) else None) e) ∙ found in
-        let first = back is_number_same run (run_table zeros_left) word number_is_same (runs_free zeros_left) here position rest in
-        let after : Bits = record { position = position + length word; ahead = rest } in
-        rw first (ap (λ t. (check t faults.BadCode >> give run) after) e)
+run_back zeros_left run word = search (rules, nat_le)
 
 -- ---- which values have a word
 
-all_at : {X : Type 0} (p : X → Bool) (xs : List X) (i : ℕ) (d : X) → list_all p xs ≡ true → i < length xs → p (get_or xs i d) ≡ true
-all_at p xs i d all within = by_answer (p (get_or xs i d)) refl
-  where
-    by_answer : (answer : Bool) → p (get_or xs i d) ≡ answer → p (get_or xs i d) ≡ true
-    by_answer true e = e
-    by_answer false e = let q : true ≡ false = sym all ∙ list_all_at p xs i d within e in cc
+pub all_at : {X : Type 0} (p : X → Bool) (xs : List X) (i : ℕ) (d : X) → list_all p xs ≡ true → i < length xs → p (get_or xs i d) ≡ true
+all_at p xs i d all within = true_from_ne_false (p (get_or xs i d)) (λ e. let q = list_all_at p xs i d within e in cc)
 
 range_at : (p : ℕ → Bool) (a n i : ℕ) → list_all p (range_with_len a n) ≡ true → i < n → p (a + i) ≡ true
 range_at p a n i all small =
@@ -416,10 +365,7 @@ token_at table most t all small few is =
 
 pub token_whole : (nc : ℤ) (t : Token) → IsToken t → (nc <ℤ pos 0 → t.total ≤ 4) → IsSome (token_word nc t)
 token_whole (negsuc n) t is few = token_at (tokens coeff_token_chroma_dc) 4 t refl (omega arith) (few (omega (arith, ints))) is
-token_whole (pos n) t is few =
-    let at = λ (table : Table Token) (all : tokens_whole table 16 ≡ true). token_at table 16 t all (omega arith) is.total is in
-    each_class (λ table. IsSome (word_of (is_token_same t) table))
-    (at (tokens coeff_token_0) refl) (at (tokens coeff_token_2) refl) (at (tokens coeff_token_4) refl) (at tokens_8 refl) n
+token_whole (pos n) t is few = search (rules, token_at, each_class)
 
 pub zeros_whole : (total n : ℕ) → 1 ≤ total → total ≤ 15 → total + n ≤ 16 → IsSome (zeros_word total false n)
 zeros_whole total n some most within = pair_at (λ t z. is_some (zeros_word t false z)) 1 15 16 16 total n refl some (omega arith) (omega arith) within

@@ -1,8 +1,7 @@
 -- The names that the proofs cite of std, of the crates below and of the definitions here, passed on from one place. Declares nothing.
-pub use Rattle.std.proofs.Common.{◌≡◌, ℕ, zero, suc, ◌+◌, ◌-◌, ◌*◌, ◌/◌, ◌^◌, ◌<◌, ◌≤◌, ◌==◌, Bool, true, false, List, [], ◌∷◌, ◌++◌, length, take}
-pub use Rattle.std.proofs.Common.{drop, Option, Result, Ok, Err, if◌then◌else◌, IfErr, refl, sym, ap, ◌∙◌, subst, arith, get_or, append_assoc}
-pub use Rattle.std.proofs.Common.{length-append, append-nil, length-drop, length-take-le, drop-drop, map, take-append-drop, drop_of_length-le, rules}
-pub use Rattle.std.proofs.Common.{length-take}
+pub use Rattle.std.proofs.Common.{◌≡◌, ℕ, zero, suc, ◌+◌, ◌-◌, ◌*◌, ◌/◌, ◌^◌, ◌<◌, ◌≤◌, ◌==◌, Bool, true, false, List, [], ◌∷◌, ◌++◌, length, take, drop}
+pub use Rattle.std.proofs.Common.{Option, Result, Ok, Err, if◌then◌else◌, IfErr, refl, sym, ap, ◌∙◌, subst, arith, get_or, append_assoc, length-append}
+pub use Rattle.std.proofs.Common.{append-nil, length-drop, length-take-le, drop-drop, map, take-append-drop, drop_of_length-le, rules, length-take}
 pub use Rattle.std.proofs.KnownBytes.{Appends-trans}
 pub use Rattle.std.proofs.Math.Nat.{mul-le-mul_right, mul-le-mul}
 pub use Rattle.std.proofs.Math.Seq.{take-add, take-append-add, drop-append-add, take-append_seam}

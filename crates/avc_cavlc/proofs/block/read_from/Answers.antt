@@ -1,7 +1,6 @@
 use Rattle.avc_cavlc.proofs.Levels.{◌≡◌, ◌+◌, ◌≤◌, pos, Ok, length, take, drop, get_or, arith, sym, ap, subst, ◌∙◌, to_z, of_z, w8, replicate, ints}
 use Rattle.avc_cavlc.proofs.Levels.{length-take-le, take-replicate, drop-replicate, total_coeff, reader_bits, reader_bytes, coeff_token, IsSmall}
-use Rattle.avc_cavlc.proofs.Levels.{no_coefficients, small_none, zeros_part, no_zeros, some_zeros, no_levels, some_levels, ReadsShorter, shorter}
-use Rattle.avc_cavlc.proofs.Levels.{shorter_count}
+use Rattle.avc_cavlc.proofs.Levels.{no_coefficients, small_none, zeros_part, no_zeros, some_zeros, no_levels, some_levels, ReadsShorter, shorter, shorter_count}
 use Rattle.avc_cavlc.proofs.block.read_from.Goals.{then-total-max-2, else-total-max-2+in_ok-zeros}
 use Rattle.avc_cavlc.proofs.block.read_from.Goals as goal
 
@@ -30,15 +29,8 @@ zeros_read : (c : goal.In_ok-read_placed) → zeros_part c.args.max c.in_ok-toke
 zeros_read c =
     let b = reader_bits c.read_levels.new.reader in
     elim c.if-total-max-2.branch [
-      | then-total-max-2 w ↦
-          no_zeros c.args.max c.in_ok-token.token b (omega arith)
-          ∙ ap (λ n. Ok (n, b)) (sym w.zeros-is)
-          ∙ ap (λ r. Ok (c.if-total-max-2.zeros, reader_bits r)) (sym w.reader-is)
-      | else-total-max-2+in_ok-zeros w ↦
-          some_zeros c.args.max c.in_ok-token.token b (omega arith) (omega arith)
-          ∙ w.in_ok-zeros.ensures.read.0
-          ∙ ap (λ n. Ok (n, reader_bits w.read_total_zeros.new.reader)) (sym w.zeros-is)
-          ∙ ap (λ r. Ok (c.if-total-max-2.zeros, reader_bits r)) (sym w.reader-is)
+      | then-total-max-2 w ↦ rw (w.zeros-is, w.reader-is) (no_zeros c.args.max c.in_ok-token.token b (omega arith))
+      | else-total-max-2+in_ok-zeros w ↦ rw (some_zeros c.args.max c.in_ok-token.token b (omega arith) (omega arith), w.zeros-is, w.reader-is) w.in_ok-zeros.ensures.read.0
     ]
 
 bytes_read : (c : goal.In_ok-read_placed) → reader_bytes c.if-total-max-2.reader ≡ reader_bytes c.read_levels.new.reader

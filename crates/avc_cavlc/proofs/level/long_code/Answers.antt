@@ -1,4 +1,4 @@
-use Rattle.avc_cavlc.proofs.Levels.{◌<◌, ◌^◌, ℕ, subst, sym, ap, ◌∙◌, u, reader_bits, level_code_most, level_long}
+use Rattle.avc_cavlc.proofs.Levels.{sym, ap, ◌∙◌, u, reader_bits, level_code_most, level_long}
 use Rattle.avc_cavlc.proofs.level.long_code.Goals as goal
 
 pub returns-clause-read : goal.returns-clause-read
@@ -10,5 +10,4 @@ returns-clause-read c =
 
 pub returns-clause-most : goal.returns-clause-most
 returns-clause-most c =
-    let P : ℕ → Type 0 = λ n. c.in_ok-suffix.suffix < 2 ^ n in
-    rw c.level_code.ensures (level_code_most c.in_ok-prefix.prefix c.args.suffix_length c.in_ok-suffix.suffix c.args.above_one c.in_ok-prefix.ensures.most c.requires.length (subst P c.suffix_size-size.ensures.value c.in_ok-suffix.ensures.below) c.requires.first)
+    rw c.level_code.ensures (level_code_most c.in_ok-prefix.prefix c.args.suffix_length c.in_ok-suffix.suffix c.args.above_one c.in_ok-prefix.ensures.most c.requires.length (rw c.suffix_size-size.ensures.value at c.in_ok-suffix.ensures.below) c.requires.first)

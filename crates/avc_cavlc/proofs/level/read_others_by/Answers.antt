@@ -1,19 +1,12 @@
-use Rattle.avc_cavlc.proofs.Levels.{◌≡◌, ◌-◌, false, take, Err, arith, rules, to_z, of_z, w16, nat_abs, ap, refl, ◌∙◌, sym, ints, reader_bits}
-use Rattle.avc_cavlc.proofs.Levels.{levels_after, level_fault, level_read, raised_first, raised_next}
+use Rattle.avc_cavlc.proofs.Levels.{◌≡◌, ◌-◌, false, take, Err, arith, rules, refl, ◌∙◌, reader_bits, levels_after, level_fault, level_read}
 use Rattle.avc_cavlc.proofs.level.read_others_by.Goals as goal
 
 pub levels-init : goal.levels-init
 levels-init c =
-    let l = c.level_of_code.result in
-    let value = c.level_of_code.ensures.value in
-    let size = c.level_of_code.ensures.size in
-    let back : to_z w16 (of_z w16 l) ≡ l = omega (arith, ints, size.most) in
-    let next = c.raised-bits.ensures.value ∙ raised_first c.args.suffix_length c.max.result c.size_of_code.result l c.max.ensures (c.size_of_code.ensures.value ∙ ap nat_abs (sym value)) in
-    let read = rw (← value) at c.in_ok-code.ensures.read.0 in
     let is =
-    level_read c.args.values.now c.args.total c.args.ones c.args.suffix_length c.raised-bits.result c.args.above_one (reader_bits c.args.reader.now) (reader_bits c.read_level_code.new.reader) _ l
-    (record { long = c.told-values; read = refl; size = c.requires.ones }) c.requires.some c.requires.few read size next in
-    rw back (record {
+    level_read c.args.values.now c.args.total c.args.ones c.args.suffix_length c.raised-bits.result c.max.result c.size_of_code.result c.in_ok-code.code c.args.above_one (reader_bits c.args.reader.now) (reader_bits c.read_level_code.new.reader) _ c.level_of_code.result
+    (record { long = c.told-values; read = refl; size = c.requires.ones }) c.requires.some c.requires.few c.in_ok-code.ensures.read.0 c.level_of_code.ensures.value c.level_of_code.ensures.size c.max.ensures c.size_of_code.ensures.value c.raised-bits.ensures.value in
+    record {
       long = is.long;
       read = is.read;
       bytes = c.in_ok-code.ensures.read.1;
@@ -21,21 +14,15 @@ levels-init c =
       some = c.raised-bits.ensures.some;
       few = c.raised-bits.ensures.few;
       room = λ is_far. omega (arith, c.requires.room is_far, c.in_ok-code.ensures.short);
-    })
+    }
 
 pub levels-preserved : goal.levels-preserved
 levels-preserved c =
     let so_far = c.levels.invariant in
-    let l = c.level_of_code-in-levels.result in
-    let value = c.level_of_code-in-levels.ensures.value in
-    let size = c.level_of_code-in-levels.ensures.size in
-    let back : to_z w16 (of_z w16 l) ≡ l = omega (arith, ints, size.most) in
-    let next = c.raised-bits-in-levels.ensures.value ∙ raised_next c.levels.bits c.size_of_code-in-levels.result l so_far.some (c.size_of_code-in-levels.ensures.value ∙ ap nat_abs (sym value)) in
-    let read = rw (← value) at c.in_ok-code-2.ensures.read.0 in
     let is =
-    level_read c.levels.values c.args.total c.levels.k c.levels.bits c.raised-bits-in-levels.result false (reader_bits c.levels.reader) (reader_bits c.read_level_code-in-levels.new.reader) _ l
-    (record { long = so_far.long; read = so_far.read; size = so_far.size }) (omega arith) c.requires.few read size next in
-    rw back (record {
+    level_read c.levels.values c.args.total c.levels.k c.levels.bits c.raised-bits-in-levels.result c.levels.bits c.size_of_code-in-levels.result c.in_ok-code-2.code false (reader_bits c.levels.reader) (reader_bits c.read_level_code-in-levels.new.reader) _ c.level_of_code-in-levels.result
+    (record { long = so_far.long; read = so_far.read; size = so_far.size }) (omega arith) c.requires.few c.in_ok-code-2.ensures.read.0 c.level_of_code-in-levels.ensures.value c.level_of_code-in-levels.ensures.size (omega (arith, so_far.some)) c.size_of_code-in-levels.ensures.value c.raised-bits-in-levels.ensures.value in
+    record {
       long = is.long;
       read = is.read;
       bytes = c.in_ok-code-2.ensures.read.1 ∙ so_far.bytes;
@@ -43,7 +30,7 @@ levels-preserved c =
       some = c.raised-bits-in-levels.ensures.some;
       few = c.raised-bits-in-levels.ensures.few;
       room = λ is_far. omega (arith, so_far.room is_far, c.in_ok-code-2.ensures.short);
-    })
+    }
 
 pub returns-in_err-code-clause-read : goal.returns-in_err-code-clause-read
 returns-in_err-code-clause-read c =

@@ -1,6 +1,5 @@
-use Rattle.avc_cavlc.proofs.Levels.{◌≡◌, ◌∷◌, [], take, set, Ok, Err, arith, rules, to_z, of_z, w16, ap, subst, ◌∙◌, sym, ◌==◌, ◌/◌, ◌%◌, All, times}
-use Rattle.avc_cavlc.proofs.Levels.{skip, reader_bits, IsLevel, trailing_one, one_of_sign, ones_read, ones_fault, ones_put, ones_levels, three_ones}
-use Rattle.avc_cavlc.proofs.Levels.{one_back}
+use Rattle.avc_cavlc.proofs.Levels.{◌≡◌, take, set, Ok, Err, arith, rules, to_z, of_z, w16, ap, subst, ◌∙◌, sym, ◌==◌, ◌/◌, ◌%◌, All, times, skip, reader_bits}
+use Rattle.avc_cavlc.proofs.Levels.{IsLevel, trailing_one, ones_read, ones_fault, ones_put, ones_levels, three_ones, one_back}
 use Rattle.avc_cavlc.proofs.level.read_trailing_ones.Goals as goal
 
 pub returns-in_err-skip-clause-read : goal.returns-in_err-skip-clause-read
@@ -10,10 +9,9 @@ returns-in_err-skip-clause-read c =
 
 put : (c : goal.After-one_at-3) → take c.args.ones (set (set (set c.args.values.now 0 (to_z w16 (of_z w16 c.one_at.result))) 1 (to_z w16 (of_z w16 c.one_at-2.result))) 2 (to_z w16 (of_z w16 c.one_at-3.result))) ≡ take c.args.ones (three_ones c.peek-signs.result)
 put c =
-    ones_put c.args.ones c.args.values.now _ _ _ c.requires.few (omega (arith, c.told-values))
-    ∙ ap (λ x. take c.args.ones (x ∷ to_z w16 (of_z w16 c.one_at-2.result) ∷ to_z w16 (of_z w16 c.one_at-3.result) ∷ [])) (one_back c.one_at.result (c.peek-signs.result / 4 % 2 == 1) c.one_at.ensures)
-    ∙ ap (λ x. take c.args.ones (one_of_sign (c.peek-signs.result / 4 % 2 == 1) ∷ x ∷ to_z w16 (of_z w16 c.one_at-3.result) ∷ [])) (one_back c.one_at-2.result (c.peek-signs.result / 2 % 2 == 1) c.one_at-2.ensures)
-    ∙ ap (λ x. take c.args.ones (one_of_sign (c.peek-signs.result / 4 % 2 == 1) ∷ one_of_sign (c.peek-signs.result / 2 % 2 == 1) ∷ x ∷ [])) (one_back c.one_at-3.result (c.peek-signs.result / 1 % 2 == 1) c.one_at-3.ensures)
+    let signs = c.peek-signs.result in
+    rw (one_back c.one_at.result (signs / 4 % 2 == 1) c.one_at.ensures, one_back c.one_at-2.result (signs / 2 % 2 == 1) c.one_at-2.ensures, one_back c.one_at-3.result (signs / 1 % 2 == 1) c.one_at-3.ensures)
+    (ones_put c.args.ones c.args.values.now _ _ _ c.requires.few (omega (arith, c.told-values)))
 
 pub returns-clause-read : goal.returns-clause-read
 returns-clause-read c = (

@@ -13,8 +13,6 @@ values-preserved c =
     let inside : at < length c.values.block = omega (arith, c.values.invariant.long, c.values.invariant.place) in
     let after : at + 1 ≡ c.values.place = omega (arith, c.values.invariant.place) in
     let there : drop at (set c.values.block at v) ≡ v ∷ drop c.values.place c.values.block = drop-set c.values.block at v inside ∙ ap (λ k. v ∷ drop k c.values.block) after in
-    let counted : total_coeff (v ∷ drop c.values.place c.values.block) ≡ total_coeff (drop c.values.place c.values.block) + 1 = coefficient_more 0 v (drop c.values.place c.values.block) is in
-    let count : total_coeff (drop at (set c.values.block at v)) ≡ total_coeff (drop c.values.place c.values.block) + 1 = ap total_coeff there ∙ counted in
     rw back (record {
       long = omega (arith, length-set {A = ℤ}, c.values.invariant.long);
       place = omega (arith, c.values.invariant.place);
@@ -23,6 +21,6 @@ values-preserved c =
           ∙ last_first (drop c.values.place c.values.block) (drop (c.values.k + 1) values) v
           ∙ ap (λ l. reverse l ++ drop c.values.place c.values.block) (sym value.here)
           ∙ c.values.invariant.behind;
-      count = omega (arith, count, c.values.invariant.count);
+      count = omega (arith, ap total_coeff there, coefficient_more 0 v (drop c.values.place c.values.block) is, c.values.invariant.count);
       small = small_more c.values.block at v c.values.invariant.small is inside;
     })

@@ -1,7 +1,7 @@
 use Rattle.avc_cavlc.proofs.Levels.{◌≡◌, refl, ◌≤◌, ◌+◌, ◌-◌, ◌++◌, ◌∷◌, ℤ, suc, pos, Ok, Err, arith, rules, length, take, drop, set, get_or, to_z}
 use Rattle.avc_cavlc.proofs.Levels.{of_z, w16, ap, ◌∙◌, sym, length-set, replicate, reverse, ints, drop-replicate, length-replicate, length-take-le}
-use Rattle.avc_cavlc.proofs.Levels.{length-drop, take-take, take-replicate, take-append-drop, reader_bits, run, total_coeff, placed_before}
-use Rattle.avc_cavlc.proofs.Levels.{placed_by_runs, run_coded, run_more, run_fault, first_runs, no_runs, open_first, open_more, done_more}
+use Rattle.avc_cavlc.proofs.Levels.{length-drop, take-append-drop, reader_bits, run, total_coeff}
+use Rattle.avc_cavlc.proofs.Levels.{placed_by_runs, run_coded, run_more, run_fault, first_runs, no_runs, open_first, open_front, open_more, done_more}
 use Rattle.avc_cavlc.proofs.Levels.{no_coefficients, coefficient_more, front_none, small_none, small_more, value_at}
 use Rattle.avc_cavlc.proofs.runs.read_placed.Goals.{then-values-test+else-k-total, else-values-test}
 use Rattle.avc_cavlc.proofs.runs.read_placed.Goals as goal
@@ -20,9 +20,7 @@ values-init c =
       some = omega arith;
       place = omega arith;
       is_open = open_first first 16 c.requires.room;
-      read = first_runs 16 values c.args.total c.args.zeros b long (λ e. absurd (omega arith))
-          ∙ ap (λ l. placed_before l values c.args.total c.args.zeros b) (sym behind)
-          ∙ ap (λ n. placed_before (drop first (replicate 16 (pos 0))) values n c.args.zeros b) all;
+      read = rw (behind, ← all) (first_runs 16 values c.args.total c.args.zeros b long (λ e. absurd (omega arith)));
       bytes = refl;
       count = ap total_coeff behind ∙ no_coefficients (16 - first);
       small = λ i. small_none 16 i;
@@ -65,10 +63,8 @@ values-preserved c =
       some = omega arith;
       place = omega (arith, c.in_ok-zeros.ensures.most, c.values.invariant.place);
       is_open = open_more c.values.place at zeros next c.values.block v c.values.invariant.is_open place gap;
-      read = c.values.invariant.read
-          ∙ run_more done (drop c.values.k values) (drop (c.values.k + 1) values) v n (c.args.total - c.values.k) c.values.zeros_left zeros b (reader_bits c.read_run_before.new.reader) left value.here coded
-          ∙ ap (λ l. placed_before l (drop (c.values.k + 1) values) n (c.values.zeros_left - zeros) (reader_bits c.read_run_before.new.reader)) (sym behind)
-          ∙ ap (λ k. placed_before (drop next (set c.values.block at v)) (drop (c.values.k + 1) values) k (c.values.zeros_left - zeros) (reader_bits c.read_run_before.new.reader)) fewer;
+      read = rw (behind, ← fewer)
+          (c.values.invariant.read ∙ run_more done (drop c.values.k values) (drop (c.values.k + 1) values) v n (c.args.total - c.values.k) c.values.zeros_left zeros b (reader_bits c.read_run_before.new.reader) left value.here coded);
       bytes = c.in_ok-zeros.ensures.read.1 ∙ c.values.invariant.bytes;
       count = ap total_coeff behind ∙ coefficient_more zeros v done is ∙ ap (λ k. k + 1) c.values.invariant.count;
       small = small_more c.values.block at v c.values.invariant.small is (omega (arith, c.values.invariant.is_open.within));
@@ -80,10 +76,7 @@ none c more = elim c.values-test.branch [ then-values-test+else-k-total w ↦ ab
 
 front : (c : goal.After-place_others) → take c.values.zeros_left c.place_others.new.block ≡ replicate c.values.zeros_left (pos 0)
 front c =
-    c.place_others.ensures.front
-    ∙ sym (take-take c.values.zeros_left c.values.place c.values.block (omega (arith, c.values.invariant.place)))
-    ∙ ap (take c.values.zeros_left) c.values.invariant.is_open.front
-    ∙ take-replicate c.values.zeros_left c.values.place (pos 0) (omega (arith, c.values.invariant.place))
+    c.place_others.ensures.front ∙ open_front c.values.place c.values.zeros_left c.values.block c.values.invariant.is_open (omega (arith, c.values.invariant.place))
 
 pub returns-clause-read : goal.returns-clause-read
 returns-clause-read c =
@@ -93,11 +86,8 @@ returns-clause-read c =
     let long : length (drop c.values.k values) ≡ c.args.total - c.values.k = length-drop c.values.k values ∙ ap (λ n. n - c.values.k) (length-take-le c.args.total c.args.values.now (omega arith)) in
     let behind : drop c.values.zeros_left c.place_others.new.block ≡ reverse (drop c.values.k values) ++ drop c.values.place c.values.block =
     c.place_others.ensures.behind ∙ ap (λ k. reverse (drop c.values.k values) ++ drop k c.values.block) (sym c.values.invariant.place) in (
-      c.values.invariant.read
-          ∙ no_runs (drop c.values.place c.values.block) (drop c.values.k values) (c.args.total - c.values.k) c.values.zeros_left b long (omega (arith, c.values.invariant.some)) (none c)
-          ∙ ap (λ l. Ok (replicate c.values.zeros_left (pos 0) ++ l, b)) (sym behind)
-          ∙ ap (λ l. Ok (l ++ drop c.values.zeros_left c.place_others.new.block, b)) (sym (front c))
-          ∙ ap (λ l. Ok (l, b)) (take-append-drop c.values.zeros_left c.place_others.new.block),
+      rw (← behind, ← front c, take-append-drop c.values.zeros_left c.place_others.new.block) at
+          (c.values.invariant.read ∙ no_runs (drop c.values.place c.values.block) (drop c.values.k values) (c.args.total - c.values.k) c.values.zeros_left b long (omega (arith, c.values.invariant.some)) (none c)),
       c.values.invariant.bytes,
     )
 

@@ -2,9 +2,7 @@
 pub mod EdgeLines
 unfoldable pub use EdgeLines.*
 
--- ---- what the lines of one edge leave of a plane: each sample of it, and the block that they change
-
--- ---- sizes
+-- ---- what the lines of one edge leave of a plane: each sample of it, and the block that they change: sizes
 
 -- a plane of this size, with so many samples
 pub record IsSized (w h n : ℕ) (s : Plane) : Type 0 where
@@ -114,13 +112,7 @@ eight F z = grind (arith, same_line)
 six : (G : Plane → ℕ → ℕ → Plane) (z : ℕ) (l : Line) (s : Plane) →
     G (G (G (G (G (G s (z + 4 - 3) l.p2) (z + 4 - 2) l.p1) (z + 4 - 1) l.p0) (z + 4) l.q0) (z + 4 + 1) l.q1) (z + 4 + 2) l.q2
     ≡ G (G (G (G (G (G s (z + 1) l.p2) (z + 2) l.p1) (z + 3) l.p0) (z + 4) l.q0) (z + 5) l.q1) (z + 6) l.q2
-six G z l s =
-    let a : z + 4 - 3 ≡ z + 1 = omega arith in
-    let b : z + 4 - 2 ≡ z + 2 = omega arith in
-    let c : z + 4 - 1 ≡ z + 3 = omega arith in
-    let d : z + 4 + 1 ≡ z + 5 = omega arith in
-    let e : z + 4 + 2 ≡ z + 6 = omega arith in
-    rw (a, b, c, d, e) refl
+six G z l s = search (rules)
 
 -- the samples of the line whose p3 is at (left, top)
 abbrev pub seen : Plane → Bool → (left top k : ℕ) → ℕ
@@ -129,12 +121,8 @@ seen s v left top k = sample s (place v left k) (place (not v) top k)
 line_shown : (setting : Setting) (v : Bool) (left top : ℕ) (s : Plane) → line_filtered setting v (from_p3 v left) (from_p3 (not v) top) s
     ≡ with_samples s (sets s.samples (λ k. place (not v) top k * s.width + place v left k) (sample_of (filtered setting (line_of (seen s v left top)))) 6)
 unfolding sets
-line_shown setting true left top s =
-    ap (λ l. with_line s true (left + 4) top (filtered setting l)) (eight (λ n. sample s n top) left)
-    ∙ six (λ t n u. with_sample t n top u) left (filtered setting (line_of (seen s true left top))) s
-line_shown setting false left top s =
-    ap (λ l. with_line s false left (top + 4) (filtered setting l)) (eight (λ n. sample s left n) top)
-    ∙ six (λ t n u. with_sample t left n u) top (filtered setting (line_of (seen s false left top))) s
+line_shown setting true left top s = grind (arith, eight, sample, six)
+line_shown setting false left top s = grind (arith, eight, sample, six)
 
 -- the sample at (p, q) after a line is u, if the line's new sample there is u, and u stands there where the line puts none
 line_value : (setting : Setting) (v : Bool) (left top w h : ℕ) (s : Plane) → IsSized w h (w * h) s → ((k : ℕ) → k < 8 → (place v left k < w) × (place (not v) top k < h)) →
@@ -284,9 +272,7 @@ edge_as_block v setting left top n s long f columns rows lines =
     absurd (out (omega (arith, h.0, d.column)) (omega (arith, h.1, d.column)) (omega (arith, h.2, d.row)) (omega (arith, h.3, d.row))))
     (λ none. refl))
 
--- ---- what edges read and change of the samples of a plane
-
--- ---- changes of a plane
+-- ---- what edges read and change of the samples of a plane: changes of a plane
 
 -- g changes samples of a plane of w columns in the rows from `first` on, up to `end`, and reads none from there on.
 pub record IsLocal (w first end : ℕ) (g : Plane → Plane) : Type 0 where

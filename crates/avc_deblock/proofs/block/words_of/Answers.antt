@@ -2,8 +2,7 @@ use Rattle.avc_deblock.proofs.FilteredPictures.{◌+◌, ◌*◌, arith, word_is
 use Rattle.avc_deblock.proofs.block.words_of.Goals as goal
 
 pub returns-clause-first : goal.returns-clause-first
-returns-clause-first c k low =
-    omega (arith, word_is c.args.t.now (omega arith) c.requires k low, c.requires (4 * k) (omega arith))
+returns-clause-first c k low = grind (arith, word_is)
 
 pub returns-clause-second : goal.returns-clause-second
 returns-clause-second c k low =

@@ -1,5 +1,4 @@
-use Rattle.avc_deblock.proofs.FilteredPictures.{true, ◌+◌, ◌*◌, sym, ap, ◌∙◌, slice_index, sample, filtered, filtered_across, same_samples}
-use Rattle.avc_deblock.proofs.FilteredPictures.{edge_as_block}
+use Rattle.avc_deblock.proofs.FilteredPictures.{true, ◌+◌, ◌*◌, sym, ap, ◌∙◌, slice_index, sample, filtered, filtered_across, same_samples, edge_as_block}
 use Rattle.avc_deblock.proofs.kernels.strong_vertical.Goals as goal
 
 pub returns : goal.returns

@@ -1,5 +1,4 @@
-use Rattle.avc_deblock.proofs.FilteredPictures.{ℕ, ℤ, ◌+◌, pos, ◌+ℤ◌, ◌-ℤ◌, ◌==◌, if◌then◌else◌, arith, ap, ◌∙◌, clip1, Line, line, slope, held}
-use Rattle.avc_deblock.proofs.FilteredPictures.{weak_chroma_is}
+use Rattle.avc_deblock.proofs.FilteredPictures.{ℕ, ℤ, ◌+◌, pos, ◌+ℤ◌, ◌-ℤ◌, ◌==◌, if◌then◌else◌, arith, ap, ◌∙◌, clip1, Line, line, slope, held, weak_chroma_is}
 use Rattle.avc_deblock.proofs.line.weak_chroma_line.Goals as goal
 
 pub returns : goal.returns

@@ -1,5 +1,4 @@
-use Rattle.avc_deblock.proofs.FilteredPictures.{◌≡◌, false, ◌<◌, ◌+◌, ℕ, length, slice_index, ◌==◌, if◌then◌else◌, Setting, filtered, line_inside}
-use Rattle.avc_deblock.proofs.FilteredPictures.{IsWeak}
+use Rattle.avc_deblock.proofs.FilteredPictures.{◌≡◌, false, ◌<◌, ◌+◌, ℕ, length, slice_index, ◌==◌, if◌then◌else◌, Setting, filtered, line_inside, IsWeak}
 use Rattle.avc_deblock.proofs.lines.weak_chroma_lines.Given as goal
 
 abbrev pub invariant-loop-i : goal.invariant-loop-i

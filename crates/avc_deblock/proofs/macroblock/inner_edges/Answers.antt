@@ -16,11 +16,4 @@ returns-then-filters-clause-room g c column row h =
     c.edge_between-then-filters-2.ensures.room column row (c.edge_between-then-filters.ensures.room column row (c.edge_between.ensures.room column row h))
 
 pub returns-then-filters-clause-lines : goal.returns-then-filters-clause-lines
-returns-then-filters-clause-lines g c =
-    let s = planes_of c.args.planes.now in
-    let place = c.args.place in
-    let q = c.args.q.now in
-    let next : ℕ → Planes → Planes = λ (n : ℕ) (t : Planes). edge_by_info c.args.is_vertical place.column place.row n place.chroma_qp_index_offset q q t in
-    c.edge_between-then-filters-2.ensures.lines
-    ∙ ap (next 3) (c.edge_between-then-filters.ensures.lines ∙ ap (next 2) c.edge_between.ensures.lines)
-    ∙ ap (λ (b : Bool). if b then next 3 (next 2 (next 1 s)) else s) (sym c.if-filters.true)
+returns-then-filters-clause-lines g c = grind (arith, planes_of)

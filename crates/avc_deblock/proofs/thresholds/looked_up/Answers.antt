@@ -7,8 +7,4 @@ swizzle c =
     (Each1-from_get_or (λ (j : ℕ). j < 16) c.args.places.now 0 (λ i low. c.requires i (omega arith)))
 
 pub returns : goal.returns
-returns c k low =
-    let table = c.args.table.now in
-    let places = c.args.places.now in
-    get_or-swz_l_below w8 16 table 0 places k (omega arith) (c.requires k low)
-    ∙ ap (λ (n : ℕ). get_or table n 0) (omega arith)
+returns c k low = grind (arith, get_or-swz_l_below, w8)

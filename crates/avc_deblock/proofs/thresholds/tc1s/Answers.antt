@@ -5,6 +5,4 @@ pub returns-clause-value : goal.returns-clause-value
 returns-clause-value c k low = c.looked_up.ensures k low ∙ c.each_tc1.ensures.value (slice_index c.args.strengths.now k) (c.requires.strengths k low)
 
 pub returns-clause-small : goal.returns-clause-small
-returns-clause-small c k low =
-    let few = c.requires.strengths k low in
-    subst (λ (n : ℕ). n ≤ 26) (sym (c.looked_up.ensures k low)) (c.each_tc1.ensures.small (slice_index c.args.strengths.now k) (omega arith))
+returns-clause-small c k low = grind (arith)

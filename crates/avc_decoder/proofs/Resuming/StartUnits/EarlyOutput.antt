@@ -33,452 +33,7 @@ refusals_in-append [] b = refl
 refusals_in-append (Picture p ∷ a) b = refusals_in-append a b
 refusals_in-append (Refused unit f ∷ a) b = ap (λ l. (unit, f) ∷ l) (refusals_in-append a b)
 
--- ---- a step of decoding, in each mode
-
--- what a sequence with this history has handed out at its end: all its pictures, or without those that were dropped
-abbrev pub shown_by : Output → History → (dropped : Bool) → List Decoded
-shown_by output h dropped = elim dropped [ true ↦ gone output h | false ↦ all_of output h ]
-
--- the same of sequences, one after another
-abbrev pub all_in : Output → List EndedSequence → List Decoded
-all_in output ended = flat_map (λ s. shown_by output s.history s.dropped) ended
-
-shown_ended : (output : Output) (h : History) (dropped : Bool) → all_in output (ended_sequence h dropped) ≡ shown_by output h dropped
-shown_ended output [] true = refl
-shown_ended output [] false = refl
-shown_ended output (e ∷ older) dropped = append-nil (shown_by output (e ∷ older) dropped)
-
-abbrev pub IsSoundSequence : EndedSequence → Type 0
-IsSoundSequence s = IsSound s.history
-
-ended_sound : (h : History) (dropped : Bool) → IsSound h → All IsSoundSequence (ended_sequence h dropped)
-ended_sound [] dropped s = All-nil IsSoundSequence
-ended_sound (e ∷ older) dropped s = All-cons IsSoundSequence (record { history = e ∷ older; dropped = dropped }) [] s (All-nil IsSoundSequence)
-
--- Each picture of the phase's histories could come, and each entry was marked.
-abbrev pub Sound : Phase → Type 0
-Sound waiting = Prim.Unit {0}
-Sound (running h None) = IsSound h
-Sound (running h (Some o)) = IsSoundOpen o
-
-sound_in : (p : Phase) → Sound p → IsSound (history_in p)
-sound_in waiting s = none_sound
-sound_in (running h None) s = s
-sound_in (running h (Some o)) s = (base_grows o s.before).sound
-
-pub stopped_sound : (p q : Phase) → Sound p → All IsSoundSequence (stopped p q)
-stopped_sound p q s =
-    if_either (All IsSoundSequence) (is_running p && is_waiting q) _ [] (ended_sound (history_in p) false (sound_in p s)) (All-nil IsSoundSequence)
-
--- From this phase these sequences end with a step with these outcomes, one in each mode. The phase and the refusals are the same
--- in each mode. What had gone out of the phase's history, and then what goes out with the step, is what the sequences hand out that
--- end, and then what has gone out of the history that decoding goes on with.
-pub record Goes (p : Phase) (hs : List EndedSequence) (x : Output → Outcome) : Type 0 where
-  pub same_phase : (output : Output) → (x output).phase ≡ (x Full).phase
-  pub same_refusals : (output : Output) → refusals_in (x output).events ≡ refusals_in (x Full).events
-  pub hands_out : (output : Output) →
-      gone output (history_in p) ++ pictures_in (x output).events ≡ all_in output hs ++ gone output (history_in (x Full).phase)
-  pub each_sound : All IsSoundSequence hs
-  pub sound : Sound (x Full).phase
-
--- a step with which only this phase's sequence ends, if it stops decoding
-abbrev pub Turns : (p : Phase) → (Output → Outcome) → Type 0
-Turns p x = Goes p (stopped p (x Full).phase) x
-
--- one list after another
-pub in_turn : {A : Type 0} (a b c d e f : List A) → a ++ b ≡ c ++ d → d ++ e ≡ f → a ++ (b ++ e) ≡ c ++ f
-in_turn a b c d e f first second =
-    sym (append_assoc a b e) ∙ ap (λ l. l ++ e) first ∙ append_assoc c d e ∙ ap (λ l. c ++ l) second
-
--- two steps
-pub followed : (p q : Phase) (hs hs' : List EndedSequence) (x y : Output → Outcome) → (x Full).phase ≡ q → Goes p hs x → Goes q hs' y
-    → Goes p (hs ++ hs') (λ output. followed_by (x output) (y output))
-followed p q hs hs' x y is g k = record {
-  same_phase = k.same_phase;
-  same_refusals = λ output.
-      refusals_in-append (x output).events (y output).events
-      ∙ ap₂ (λ a b. a ++ b) (g.same_refusals output) (k.same_refusals output)
-      ∙ sym (refusals_in-append (x Full).events (y Full).events);
-  hands_out = λ output.
-      let out = gone output (history_in p) in
-      let next = gone output (history_in q) in
-      let end = gone output (history_in (y Full).phase) in
-      ap (λ l. out ++ l) (pictures_in-append (x output).events (y output).events)
-      ∙ in_turn out (pictures_in (x output).events) (all_in output hs) next (pictures_in (y output).events) (all_in output hs' ++ end)
-      (g.hands_out output ∙ ap (λ (r : Phase). all_in output hs ++ gone output (history_in r)) is) (k.hands_out output)
-      ∙ sym (append_assoc (all_in output hs) (all_in output hs') end)
-      ∙ ap (λ l. l ++ end) (sym (flat_map-append (λ s. shown_by output s.history s.dropped) hs hs'));
-  each_sound = All-append IsSoundSequence hs hs' g.each_sound k.each_sound;
-  sound = k.sound;
-}
-
--- ---- what a step may be
-
--- these events, which bring the same refusals in each mode, and then this phase
-pub turning : (p q : Phase) (events : Output → List Event) (read : ℕ) → ((output : Output) → refusals_in (events output) ≡ refusals_in (events Full))
-    → ((output : Output) → gone output (history_in p) ++ pictures_in (events output) ≡ all_in output (stopped p q) ++ gone output (history_in q))
-    → Sound p → Sound q → Turns p (λ output. record { events = events output; phase = q; read = read })
-turning p q events read refusals out s t =
-    record { same_phase = λ output. refl; same_refusals = refusals; hands_out = out; each_sound = stopped_sound p q s; sound = t }
-
--- nothing goes out, and the history stays
-pub still : (p q : Phase) → stopped p q ≡ [] → history_in q ≡ history_in p → Sound p → Sound q → Turns p (λ output. no_change q)
-still p q none same =
-    turning p q (λ _. []) 0 (λ _. refl)
-    (λ output. append-nil (gone output (history_in p)) ∙ ap (gone output) (sym same)
-    ∙ ap (λ hs. all_in output hs ++ gone output (history_in q)) (sym none))
-
-not_stopped : (p : Phase) → stopped p p ≡ []
-not_stopped waiting = refl
-not_stopped (running h o) = refl
-
-not_stopped_on : (p : Phase) (h : History) (o : Option OpenPicture) → stopped p (running h o) ≡ []
-not_stopped_on waiting h o = refl
-not_stopped_on (running h' o') h o = refl
-
-pub turns_not : (p : Phase) → Sound p → Turns p (λ output. no_change p)
-turns_not p s = still p p (not_stopped p) refl s s
-
-turns_refused : (p : Phase) (unit : ℕ) (f : Fault) → Sound p
-    → Turns p (λ output. record { events = Refused unit f ∷ []; phase = p; read = 0 })
-turns_refused p unit f s = turning p p (λ _. Refused unit f ∷ []) 0 (λ _. refl) (turns_not p s).hands_out s s
-
--- all that is held goes out, and then these events
-pub held_go_out : (p : Phase) (es : List Event) → pictures_in es ≡ [] → (output : Output)
-    → gone output (history_in p) ++ pictures_in (pictures (held_pictures output (history_in p)) ++ es)
-    ≡ all_in output (stopped p waiting) ++ gone output []
-held_go_out p es none output =
-    ap (λ l. gone output (history_in p) ++ l)
-    (pictures_after (held_pictures output (history_in p)) es
-    ∙ ap (λ l. held_pictures output (history_in p) ++ l) none
-    ∙ append-nil (held_pictures output (history_in p)))
-    ∙ by_phase p
-  where
-    by_history : (h : History) → gone output h ++ held_pictures output h ≡ all_in output (ended_sequence h false) ++ []
-    by_history h = gone_and_held output h ∙ sym (shown_ended output h false) ∙ sym (append-nil (all_in output (ended_sequence h false)))
-
-    by_phase : (q : Phase)
-        → gone output (history_in q) ++ held_pictures output (history_in q) ≡ all_in output (stopped q waiting) ++ gone output []
-    by_phase waiting = refl
-    by_phase (running h None) = by_history h
-    by_phase (running h (Some o)) = by_history (history_of o)
-
--- a fault
-failed : (p : Phase) (unit : ℕ) (f : Fault) (read : ℕ) → Sound p → Turns p (λ output. failed_at output (history_in p) unit f read)
-failed p unit f read s =
-    turning p waiting (λ output. (failed_at output (history_in p) unit f read).events) read
-    (λ output. refusals_after (held_pictures output (history_in p)) (Refused unit f ∷ [])
-    ∙ sym (refusals_after (held_pictures Full (history_in p)) (Refused unit f ∷ [])))
-    (held_go_out p (Refused unit f ∷ []) refl) s tt
-
--- pictures go out, and decoding goes on
-shown : (p : Phase) (h : History) (o : Option OpenPicture) (read : ℕ) → Sound p → Sound (running h o)
-    → Follows (history_in p) (history_in (running h o))
-    → Turns p (λ output. record {
-      events = pictures (output_pictures output (history_in p) (history_in (running h o)));
-      phase = running h o;
-      read = read;
-    })
-shown p h o read s t f =
-    let old = history_in p in
-    let new = history_in (running h o) in
-    turning p (running h o) (λ output. pictures (output_pictures output old new)) read
-    (λ output. no_refusals (output_pictures output old new) ∙ sym (no_refusals (output_pictures Full old new)))
-    (λ output. ap (λ l. gone output old ++ l) (pictures_alone (output_pictures output old new)) ∙ gone_later output old new f
-    ∙ ap (λ hs. all_in output hs ++ gone output new) (sym (not_stopped_on p h o))) s t
-
-one_slice : (p : Phase) (already : ℕ) (o : OpenPicture) → Sound p → IsSoundOpen o → Follows (history_in p) (history_of o)
-    → Turns p (λ output. with_slice output (history_in p) already o)
-one_slice p already o s t f = by_fault (first_fault o false)
-  where
-    by_fault : (found : Option (ℕ × Fault)) → Turns p (λ output. slice_outcome output found (history_in p) o (history_of o) (read_of o - already))
-    by_fault (Some found) = failed p found.0 found.1 (read_of o - already) s
-    by_fault None = shown p o.before (Some o) (read_of o - already) s t f
-
-first_of_picture : (p : Phase) (named : Option (Pps × Sps)) (s : Slice) → Sound p → HasItsMarking s.header
-    → Turns p (λ output. after_first_slice output named (history_in p) s)
-first_of_picture p None s sound marking =
-    still p (running (history_in p) None) (not_stopped_on p (history_in p) None) refl sound (sound_in p sound)
-first_of_picture p (Some named) s sound marking =
-    let o : OpenPicture = record { before = history_in p; sps = named.1; pps = named.0; last = s; earlier = [] } in
-    let before = sound_in p sound in
-    one_slice p 0 o sound (record { before = before; idr = marking }) (base_grows o before).follows
-
--- ---- the steps
-
-abbrev is_open : Phase → Bool
-is_open waiting = false
-is_open (running h None) = false
-is_open (running h (Some o)) = true
-
-pub next_turns : (sets : Sets) (unit : ℕ) (p : Phase) (n : Next) → Sound p → Allows n (is_open p)
-    → Turns p (λ output. after_next output sets unit p n)
-next_turns sets unit p Nothing s a = turns_not p s
-next_turns sets unit p (Refusal f) s a = turns_refused p unit f s
-next_turns sets unit p (FaultOfOpen f) s a = failed p unit f 0 s
-next_turns sets unit p (FaultOfOwn f) s a = failed p unit f 0 s
-next_turns sets unit waiting (Begins t) s a = first_of_picture waiting (sets_named sets t.header) t s a
-next_turns sets unit (running h None) (Begins t) s a = first_of_picture (running h None) (sets_named sets t.header) t s a
-next_turns sets unit (running h (Some o)) (Begins t) s a = absurd a
-next_turns sets unit (running h (Some o)) (Continues t) s a =
-    one_slice (running h (Some o)) (read_of o) (record o { last = t; earlier = o.last ∷ o.earlier }) s
-    (record { before = s.before; idr = s.idr }) (record { more = []; is = refl })
-next_turns sets unit p (Continues t) s a = turns_not p s
-
--- where the open picture is closed
-pub closed_goes : (h : History) (o : OpenPicture) (r : Result History (ℕ × Fault)) → IsSoundOpen o
-    → ((full : History) → r ≡ Ok full → IsSoundlyClosed o full)
-    → Goes (running h (Some o)) (ended_by_closing o r) (λ output. closed_outcome output o r)
-closed_goes h o (Err found) s closed = failed (running h (Some o)) found.0 found.1 0 s
-closed_goes h o (Ok full) s closed = record {
-  same_phase = λ output. refl;
-  same_refusals = λ output. no_refusals (out output) ∙ sym (no_refusals (out Full));
-  hands_out = λ output.
-      ap (λ l. gone output base ++ l) (pictures_alone (out output))
-      ∙ goes_out output (is_idr hd) (no_output_of_prior_pics hd.marking) (closed full refl).follows;
-  each_sound =
-      either (All IsSoundSequence) (is_idr hd) _ [] (λ _. ended_sound base _ (base_grows o s.before).sound) (λ _. All-nil IsSoundSequence);
-  sound = (closed full refl).sound;
-}
-  where
-    hd : Header
-    hd = first_header o
-
-    base : History
-    base = history_of o
-
-    out : Output → List Decoded
-    out output = output_at_closing output hd base full
-
-    -- by whether it is an IDR picture, and drops what is held
-    ended : (idr drops : Bool) → List EndedSequence
-    ended idr drops = elim idr [ true ↦ ended_sequence base drops | false ↦ [] ]
-
-    by_drops : (output : Output) (drops : Bool) → gone output base ++ (if drops then [] else held_pictures output base) ≡ shown_by output base drops
-    by_drops output true = append-nil (gone output base)
-    by_drops output false = gone_and_held output base
-
-    goes_out : (output : Output) (idr drops : Bool) → Follows (elim idr as (λ _. History) [ true ↦ [] | false ↦ base ]) full
-        → gone output base
-        ++ ((elim idr [ true ↦ (if drops then [] else held_pictures output base) | false ↦ [] ])
-        ++ output_pictures output (elim idr [ true ↦ [] | false ↦ base ]) full)
-        ≡ all_in output (ended idr drops) ++ gone output full
-    goes_out output true drops f =
-        sym (append_assoc (gone output base) (if drops then [] else held_pictures output base) (gone output full))
-        ∙ ap (λ l. l ++ gone output full) (by_drops output drops ∙ sym (shown_ended output base drops))
-    goes_out output false drops f = gone_later output base full f
-
--- ---- early output and full output hand out the same: what goes out of a stream that has ended are the pictures of its sequences
-
--- ---- a unit
-
--- where it closes the open picture, with what closing the open picture gives
-abbrev after_closed : (sets : Sets) (unit : ℕ) → Step → OpenPicture → Result History (ℕ × Fault) → Output → Outcome
-after_closed sets unit what o r output = after_closing output sets unit what (closed_outcome output o r)
-
-closing_goes : (sets : Sets) (unit : ℕ) (what : Step) (h : History) (o : OpenPicture) (r : Result History (ℕ × Fault))
-    → IsSoundOpen o → Allows what.next false → ((full : History) → r ≡ Ok full → IsSoundlyClosed o full)
-    → Goes (running h (Some o))
-    (ended_by_closing o r ++ stopped (closed_outcome Full o r).phase (after_closed sets unit what o r Full).phase)
-    (after_closed sets unit what o r)
-closing_goes sets unit what h o (Ok full) s a closed =
-    let q = running full None in
-    let next : Output → Outcome = λ output. after_next output sets unit q what.next in
-    followed (running h (Some o)) q (ended_by_closing o (Ok full)) (stopped q (next Full).phase)
-    (λ output. closed_outcome output o (Ok full)) next refl
-    (closed_goes h o (Ok full) s closed) (next_turns sets unit q what.next (closed full refl).sound a)
-closing_goes sets unit what h o (Err found) s a closed = by_even what.even_after_fault
-  where
-    failed : Output → Outcome
-    failed output = closed_outcome output o (Err found)
-
-    next : Output → Outcome
-    next output = after_next output sets unit waiting what.next
-
-    with_even : Bool → Output → Outcome
-    with_even b output = elim (true && not b) [ true ↦ failed output | false ↦ followed_by (failed output) (next output) ]
-
-    ended : List EndedSequence
-    ended = ended_by_closing o (Err found)
-
-    by_even : (b : Bool) → Goes (running h (Some o)) (ended ++ stopped waiting (with_even b Full).phase) (with_even b)
-    by_even true =
-        followed (running h (Some o)) waiting ended (stopped waiting (next Full).phase) failed next refl
-        (closed_goes h o (Err found) s closed) (next_turns sets unit waiting what.next tt a)
-    by_even false = subst (λ ss. Goes (running h (Some o)) ss failed) (sym (append-nil ended)) (closed_goes h o (Err found) s closed)
-
-unit_goes : (sets : Sets) (unit : ℕ) (what : Step) (p : Phase) → Sound p → Fits (open_facts_in p) what.closes what.next
-    → Goes p (ended_at_closing what.closes p ++ stopped (phase_after_closing Full what.closes p) (in_phase Full sets unit what p).phase)
-    (λ output. in_phase output sets unit what p)
-unit_goes sets unit what waiting s fit = next_turns sets unit waiting what.next s fit
-unit_goes sets unit what (running h None) s fit = next_turns sets unit (running h None) what.next s fit
-unit_goes sets unit what (running h (Some o)) s fit = by_closes what.closes fit
-  where
-    p : Phase
-    p = running h (Some o)
-
-    by_closes : (b : Bool) → Allows what.next (not b)
-        → let x : Output → Outcome = λ output. elim b [
-          | true ↦ after_closing output sets unit what (closed_picture output o)
-          | false ↦ after_next output sets unit p what.next
-        ] in
-        Goes p (ended_at_closing b p ++ stopped (phase_after_closing Full b p) (x Full).phase) x
-    by_closes true a = closing_goes sets unit what h o (closing_result o) s a (λ full e. closed_sound o full s e)
-    by_closes false a = next_turns sets unit p what.next s a
-
--- ---- the end
-
--- the end as a step
-abbrev ended : Phase → Output → Outcome
-ended p output = record { events = at_end output p; phase = waiting; read = 0 }
-
-held_at_end : (h : History) → IsSound h → Goes (running h None) (ended_sequence h false) (ended (running h None))
-held_at_end h s =
-    turning (running h None) waiting (λ output. pictures (held_pictures output h)) 0
-    (λ output. no_refusals (held_pictures output h) ∙ sym (no_refusals (held_pictures Full h)))
-    (λ output. ap (λ es. gone output h ++ pictures_in es) (sym (append-nil (pictures (held_pictures output h))))
-    ∙ held_go_out (running h None) [] refl output) s tt
-
--- What all events up to the end give: in each mode the same refusals, and the pictures of these sequences.
-record Ends (p : Phase) (hs : List EndedSequence) (es : Output → List Event) : Type 0 where
-  same_refusals : (output : Output) → refusals_in (es output) ≡ refusals_in (es Full)
-  hands_out : (output : Output) → gone output (history_in p) ++ pictures_in (es output) ≡ all_in output hs
-  each_sound : All IsSoundSequence hs
-
-ends_by : (p : Phase) (hs : List EndedSequence) (x : Output → Outcome) → (x Full).phase ≡ waiting → Goes p hs x
-    → Ends p hs (λ output. (x output).events)
-ends_by p hs x is g = record {
-  same_refusals = g.same_refusals;
-  hands_out = λ output.
-      g.hands_out output
-      ∙ ap (λ (q : Phase). all_in output hs ++ gone output (history_in q)) is
-      ∙ append-nil (all_in output hs);
-  each_sound = g.each_sound;
-}
-
-end_by : (h : History) (o : OpenPicture) (r : Result History (ℕ × Fault)) → IsSoundOpen o
-    → ((full : History) → r ≡ Ok full → IsSoundlyClosed o full)
-    → Ends (running h (Some o)) (ended_by_closing o r ++ stopped (closed_outcome Full o r).phase waiting)
-    (λ output. events_and_held output (closed_outcome output o r))
-end_by h o (Ok full) s closed =
-    let p = running h (Some o) in
-    let q = running full None in
-    let x : Output → Outcome = λ output. closed_outcome output o (Ok full) in
-    let here = ended_by_closing o (Ok full) in
-    let last = ended_sequence full false in
-    ends_by p (here ++ last) (λ output. followed_by (x output) (ended q output)) refl
-    (followed p q here last x (ended q) refl (closed_goes h o (Ok full) s closed) (held_at_end full (closed full refl).sound))
-end_by h o (Err found) s closed =
-    let p = running h (Some o) in
-    let x : Output → Outcome = λ output. closed_outcome output o (Err found) in
-    let here = ended_by_closing o (Err found) in
-    ends_by p (here ++ []) (λ output. followed_by (x output) (ended waiting output)) refl
-    (followed p waiting here [] x (ended waiting) refl (closed_goes h o (Err found) s closed) (turns_not waiting tt))
-
-at_end_ends : (p : Phase) → Sound p
-    → Ends p (ended_at_closing true p ++ stopped (phase_after_closing Full true p) waiting) (λ output. at_end output p)
-at_end_ends waiting s = ends_by waiting [] (ended waiting) refl (turns_not waiting tt)
-at_end_ends (running h None) s = ends_by (running h None) (ended_sequence h false) (ended (running h None)) refl (held_at_end h s)
-at_end_ends (running h (Some o)) s = end_by h o (closing_result o) s (λ full e. closed_sound o full s e)
-
--- ---- all units
-
-known : (p : Phase) → is_running p ≡ false → open_facts_in p ≡ None
-known waiting e = refl
-known (running h o) e = cc
-
--- the events of units in a mode
-abbrev events_of : (units : List SetUnit) (p : Phase) → List Piece → Output → List Event
-events_of units p us output = events_from (state_of output units p) us true
-
--- one step, and then the others
-one_unit_more : (units : List SetUnit) (p : Phase) (us : List Piece) (hs hs' : List EndedSequence) (x : Output → Outcome) → Goes p hs x
-    → Ends (x Full).phase hs' (events_of units (x Full).phase us)
-    → Ends p (hs ++ hs') (λ output. (x output).events ++ events_of units (x output).phase us output)
-one_unit_more units p us hs hs' x g e = record {
-  same_refusals = λ output.
-      same_phases output
-      ∙ refusals_in-append (x output).events (others output)
-      ∙ ap₂ (λ a b. a ++ b) (g.same_refusals output) (e.same_refusals output)
-      ∙ sym (refusals_in-append (x Full).events (others Full));
-  hands_out = λ output.
-      let out = gone output (history_in p) in
-      let next = gone output (history_in (x Full).phase) in
-      ap (λ (q : Phase). out ++ pictures_in ((x output).events ++ events_of units q us output)) (g.same_phase output)
-      ∙ ap (λ l. out ++ l) (pictures_in-append (x output).events (others output))
-      ∙ in_turn out (pictures_in (x output).events) (all_in output hs) next (pictures_in (others output)) (all_in output hs')
-      (g.hands_out output) (e.hands_out output)
-      ∙ sym (flat_map-append (λ s. shown_by output s.history s.dropped) hs hs');
-  each_sound = All-append IsSoundSequence hs hs' g.each_sound e.each_sound;
-}
-  where
-    others : Output → List Event
-    others output = events_of units (x Full).phase us output
-
-    same_phases : (output : Output)
-        → refusals_in ((x output).events ++ events_of units (x output).phase us output)
-        ≡ refusals_in ((x output).events ++ others output)
-    same_phases output = ap (λ (q : Phase). refusals_in ((x output).events ++ events_of units q us output)) (g.same_phase output)
-
--- the units' events, and those of the end
-all_end : HeadersKeepIdrRules → (us : List Piece) (units : List SetUnit) (p : Phase) → Sound p
-    → Ends p (sequences_from (state_of Full units p) us) (events_of units p us)
-all_end rules [] units p s = at_end_ends p s
-all_end rules (u ∷ us) units p s =
-    let sets = sets_after units in
-    let what = step sets (is_running p) (open_facts_in p) u in
-    let x : Output → Outcome = λ output. in_phase output sets u.index what p in
-    let after = units ++ set_units (u ∷ []) in
-    let brings = brings_step sets (is_running p) (open_facts_in p) u (known p) in
-    let goes = unit_goes sets u.index what p s (fits rules sets u (open_facts_in p) what.closes what.next brings.brings) in
-    let hs = sequences_from (state_of Full after (x Full).phase) us in
-    one_unit_more after p us (ended_by_unit (state_of Full units p) u) hs x goes
-    (all_end rules us after (x Full).phase goes.sound)
-
--- ---- the law
-
-same_sequence : EarlyOutputKeepsHistories → (s : EndedSequence) → IsSoundSequence s → IsNotDropped s → IsReorderedWithin s
-    → shown_by Early s.history s.dropped ≡ shown_by Full s.history s.dropped
-same_sequence keeps s sound all within =
-    let h = s.history in
-    ap (shown_by Early h) all ∙ ap (pictures_at h) (keeps h sound.each sound.marked within) ∙ sym (ap (shown_by Full h) all)
-
-same_sequences : EarlyOutputKeepsHistories → (ss : List EndedSequence)
-    → All IsSoundSequence ss → All IsNotDropped ss → All IsReorderedWithin ss → all_in Early ss ≡ all_in Full ss
-same_sequences keeps [] sound all within = refl
-same_sequences keeps (s ∷ ss) sound all within =
-    ap₂ (λ a b. a ++ b)
-    (same_sequence keeps s (All-head IsSoundSequence s ss sound) (All-head IsNotDropped s ss all) (All-head IsReorderedWithin s ss within))
-    (same_sequences keeps ss (All-tail IsSoundSequence s ss sound) (All-tail IsNotDropped s ss all) (All-tail IsReorderedWithin s ss within))
-
-pub early_output : HeadersKeepIdrRules → EarlyOutputKeepsHistories → EarlyOutputKeepsPictures
-early_output rules keeps max bytes kept within =
-    let all = all_end rules (units max bytes true) [] waiting tt in
-    record {
-      pictures =
-          all.hands_out Early
-          ∙ same_sequences keeps (sequences max bytes) all.each_sound kept within
-          ∙ sym (all.hands_out Full);
-      refusals = all.same_refusals Early;
-    }
-
 -- ---- each picture that is handed out is whole
-
--- ---- histories
-
--- a closed picture has the size of its parameter set
-abbrev Good : Entry → Type 0
-Good (decoded_picture sps h planes) = IsSps sps × IsSized (width_in_mbs sps) (height_in_mbs sps) planes
-Good (missing_frame sps frame_num) = Prim.Unit {0}
-
-abbrev AllGood : History → Type 0
-AllGood [] = Prim.Unit {0}
-AllGood (e ∷ h) = Good e × AllGood h
-
-good_earlier : (hd : Header) (h : History) → AllGood h → AllGood (earlier_in_sequence hd h)
-good_earlier hd h g = either AllGood (is_idr hd) [] h (λ _. tt) (λ _. g)
-
--- ---- pictures
 
 abbrev WholeEvent : Event → Type 0
 WholeEvent (Picture p) = IsWhole p
@@ -536,57 +91,169 @@ pictures_whole : (h : History) (places : List ℕ) → AllGood h → AllWhole (p
 pictures_whole h [] g = tt
 pictures_whole h (place ∷ places) g = shown_whole (entry_at h place) (pictures_at h places) (good_at h place g) (pictures_whole h places g)
 
--- ---- the open picture
+-- ---- a step of decoding, in each mode
 
-abbrev GoodOpen : OpenPicture → Type 0
-GoodOpen o = AllGood o.before × IsSps o.sps
+-- what a sequence with this history has handed out at its end: all its pictures, or without those that were dropped
+abbrev pub shown_by : Output → History → (dropped : Bool) → List Decoded
+shown_by output h dropped = elim dropped [ true ↦ gone output h | false ↦ all_of output h ]
 
-good_history_of : (o : OpenPicture) → GoodOpen o → AllGood (history_of o)
-good_history_of o g = base_keeps AllGood o (λ n x p marked. (tt, p)) g.0
+-- the same of sequences, one after another
+abbrev pub all_in : Output → List EndedSequence → List Decoded
+all_in output ended = flat_map (λ s. shown_by output s.history s.dropped) ended
 
-good_closing : PicturesAreSized → (o : OpenPicture) → GoodOpen o → (h : History) → closing_result o ≡ Ok h → AllGood h
-good_closing sized o g h e =
-    let base = history_of o in
-    let closed = closing_is o.sps (first_header o) (picture_planes o base) base h (has_closed o h e).closed in
-    subst AllGood (sym closed.0)
-    ((g.1, sized (start_on o base) (slices_of o)), good_earlier (first_header o) base (good_history_of o g))
+shown_ended : (output : Output) (h : History) (dropped : Bool) → all_in output (ended_sequence h dropped) ≡ shown_by output h dropped
+shown_ended output [] true = refl
+shown_ended output [] false = refl
+shown_ended output (e ∷ older) dropped = append-nil (shown_by output (e ∷ older) dropped)
 
-abbrev GoodPhase : Phase → Type 0
-GoodPhase waiting = Prim.Unit {0}
-GoodPhase (running h None) = AllGood h
-GoodPhase (running h (Some o)) = AllGood h × GoodOpen o
+abbrev pub IsSoundSequence : EndedSequence → Type 0
+IsSoundSequence s = IsSound s.history
 
-abbrev GoodOutcome : Outcome → Type 0
-GoodOutcome o = AllWhole o.events × GoodPhase o.phase
+ended_sound : (h : History) (dropped : Bool) → IsSound h → All IsSoundSequence (ended_sequence h dropped)
+ended_sound [] dropped s = All-nil IsSoundSequence
+ended_sound (e ∷ older) dropped s = All-cons IsSoundSequence (record { history = e ∷ older; dropped = dropped }) [] s (All-nil IsSoundSequence)
 
-failed_good : (output : Output) (h : History) (unit : ℕ) (f : Fault) (read : ℕ) → AllGood h → GoodOutcome (failed_at output h unit f read)
-failed_good output h unit f read g = (whole-append (pictures (held_pictures output h)) (Refused unit f ∷ []) (pictures_whole h (all_held output h) g) (tt, tt), tt)
+-- Each picture of the phase's histories could come, and each entry was marked.
+abbrev pub Sound : Phase → Type 0
+Sound waiting = Prim.Unit {0}
+Sound (running h None) = IsSound h
+Sound (running h (Some o)) = IsSoundOpen o
 
-closed_whole : (output : Output) (hd : Header) (base h : History) → AllGood base → AllGood h → AllWhole (pictures (output_at_closing output hd base h))
-closed_whole output hd base h b g =
-    let Whole : List Decoded → Type 0 = λ out. AllWhole (pictures out) in
-    let held = held_pictures output base in
-    let dropped : Whole (if no_output_of_prior_pics hd.marking then [] else held) =
-    if_either Whole (no_output_of_prior_pics hd.marking) [] held tt (pictures_whole base (all_held output base) b) in
-    let first = either Whole (is_idr hd) (if no_output_of_prior_pics hd.marking then [] else held) [] (λ _. dropped) (λ _. tt) in
-    let places = new_output output (earlier_in_sequence hd base) h in
-    subst AllWhole (sym (map-append (λ p. Picture p) _ (pictures_at h places))) (whole-append _ _ first (pictures_whole h places g))
+sound_in : (p : Phase) → Sound p → IsSound (history_in p)
+sound_in waiting s = none_sound
+sound_in (running h None) s = s
+sound_in (running h (Some o)) s = (base_grows o s.before).sound
 
-closed_good : PicturesAreSized → (output : Output) (o : OpenPicture) → GoodOpen o → GoodOutcome (closed_picture output o)
-closed_good sized output o g = by_closing (closing_result o) (good_closing sized o g)
+pub stopped_sound : (p q : Phase) → Sound p → All IsSoundSequence (stopped p q)
+stopped_sound p q s =
+    if_either (All IsSoundSequence) (is_running p && is_waiting q) _ [] (ended_sound (history_in p) false (sound_in p s)) (All-nil IsSoundSequence)
+
+-- From this phase these sequences end with a step with these outcomes, one in each mode. The phase and the refusals are the same
+-- in each mode. What had gone out of the phase's history, and then what goes out with the step, is what the sequences hand out that
+-- end, and then what has gone out of the history that decoding goes on with. Each picture that goes out is whole.
+pub record Goes (p : Phase) (hs : List EndedSequence) (x : Output → Outcome) : Type 0 where
+  pub same_phase : (output : Output) → (x output).phase ≡ (x Full).phase
+  pub same_refusals : (output : Output) → refusals_in (x output).events ≡ refusals_in (x Full).events
+  pub hands_out : (output : Output) →
+      gone output (history_in p) ++ pictures_in (x output).events ≡ all_in output hs ++ gone output (history_in (x Full).phase)
+  pub each_sound : All IsSoundSequence hs
+  pub sound : Sound (x Full).phase
+  pub whole : Sizes → (output : Output) → AllWhole (x output).events
+
+-- a step with which only this phase's sequence ends, if it stops decoding
+abbrev pub Turns : (p : Phase) → (Output → Outcome) → Type 0
+Turns p x = Goes p (stopped p (x Full).phase) x
+
+-- one list after another
+pub in_turn : {A : Type 0} (a b c d e f : List A) → a ++ b ≡ c ++ d → d ++ e ≡ f → a ++ (b ++ e) ≡ c ++ f
+in_turn a b c d e f first second =
+    sym (append_assoc a b e) ∙ ap (λ l. l ++ e) first ∙ append_assoc c d e ∙ ap (λ l. c ++ l) second
+
+-- two steps
+pub followed : (p q : Phase) (hs hs' : List EndedSequence) (x y : Output → Outcome) → (x Full).phase ≡ q → Goes p hs x → Goes q hs' y
+    → Goes p (hs ++ hs') (λ output. followed_by (x output) (y output))
+followed p q hs hs' x y is g k = record {
+  same_phase = k.same_phase;
+  same_refusals = λ output.
+      refusals_in-append (x output).events (y output).events
+      ∙ ap₂ (λ a b. a ++ b) (g.same_refusals output) (k.same_refusals output)
+      ∙ sym (refusals_in-append (x Full).events (y Full).events);
+  hands_out = λ output.
+      let out = gone output (history_in p) in
+      let next = gone output (history_in q) in
+      let end = gone output (history_in (y Full).phase) in
+      ap (λ l. out ++ l) (pictures_in-append (x output).events (y output).events)
+      ∙ in_turn out (pictures_in (x output).events) (all_in output hs) next (pictures_in (y output).events) (all_in output hs' ++ end)
+      (g.hands_out output ∙ ap (λ (r : Phase). all_in output hs ++ gone output (history_in r)) is) (k.hands_out output)
+      ∙ sym (append_assoc (all_in output hs) (all_in output hs') end)
+      ∙ ap (λ l. l ++ end) (sym (flat_map-append (λ s. shown_by output s.history s.dropped) hs hs'));
+  each_sound = All-append IsSoundSequence hs hs' g.each_sound k.each_sound;
+  sound = k.sound;
+  whole = λ l output. whole-append (x output).events (y output).events (g.whole l output) (k.whole l output);
+}
+
+-- ---- what a step may be
+
+-- these events, which bring the same refusals in each mode, and then this phase
+pub turning : (p q : Phase) (events : Output → List Event) (read : ℕ) → ((output : Output) → refusals_in (events output) ≡ refusals_in (events Full))
+    → ((output : Output) → gone output (history_in p) ++ pictures_in (events output) ≡ all_in output (stopped p q) ++ gone output (history_in q))
+    → Sound p → Sound q → (Sizes → (output : Output) → AllWhole (events output)) → Turns p (λ output. record { events = events output; phase = q; read = read })
+turning p q events read refusals out s t whole =
+    record { same_phase = λ output. refl; same_refusals = refusals; hands_out = out; each_sound = stopped_sound p q s; sound = t; whole = whole }
+
+-- nothing goes out, and the history stays
+pub still : (p q : Phase) → stopped p q ≡ [] → history_in q ≡ history_in p → Sound p → Sound q → Turns p (λ output. no_change q)
+still p q none same s t =
+    turning p q (λ _. []) 0 (λ _. refl)
+    (λ output. append-nil (gone output (history_in p)) ∙ ap (gone output) (sym same)
+    ∙ ap (λ hs. all_in output hs ++ gone output (history_in q)) (sym none)) s t (λ _ _. tt)
+
+not_stopped_on : (p : Phase) (h : History) (o : Option OpenPicture) → stopped p (running h o) ≡ []
+not_stopped_on waiting h o = refl
+not_stopped_on (running h' o') h o = refl
+
+pub turns_not : (p : Phase) → Sound p → Turns p (λ output. no_change p)
+turns_not waiting s = still waiting waiting refl refl s s
+turns_not p s = still p p refl refl s s
+
+turns_refused : (p : Phase) (unit : ℕ) (f : Fault) → Sound p
+    → Turns p (λ output. record { events = Refused unit f ∷ []; phase = p; read = 0 })
+turns_refused p unit f s = turning p p (λ _. Refused unit f ∷ []) 0 (λ _. refl) (turns_not p s).hands_out s s (λ _ _. (tt, tt))
+
+-- all that is held goes out, and then these events
+pub held_go_out : (p : Phase) (es : List Event) → pictures_in es ≡ [] → (output : Output)
+    → gone output (history_in p) ++ pictures_in (pictures (held_pictures output (history_in p)) ++ es)
+    ≡ all_in output (stopped p waiting) ++ gone output []
+held_go_out p es none output =
+    ap (λ l. gone output (history_in p) ++ l)
+    (pictures_after (held_pictures output (history_in p)) es
+    ∙ ap (λ l. held_pictures output (history_in p) ++ l) none
+    ∙ append-nil (held_pictures output (history_in p)))
+    ∙ by_phase p
   where
-    by_closing : (r : Result History (ℕ × Fault)) → ((h : History) → r ≡ Ok h → AllGood h) → GoodOutcome (closed_outcome output o r)
-    by_closing (Ok h) good = (closed_whole output (first_header o) (history_of o) h (good_history_of o g) (good h refl), good h refl)
-    by_closing (Err found) good = failed_good output (history_of o) found.0 found.1 0 (good_history_of o g)
+    by_history : (h : History) → gone output h ++ held_pictures output h ≡ all_in output (ended_sequence h false) ++ []
+    by_history h = gone_and_held output h ∙ sym (shown_ended output h false) ∙ sym (append-nil (all_in output (ended_sequence h false)))
 
-with_slice_good : (output : Output) (before : History) (already : ℕ) (o : OpenPicture) → AllGood before → GoodOpen o → GoodOutcome (with_slice output before already o)
-with_slice_good output before already o b g = by_fault (first_fault o false)
+    by_phase : (q : Phase)
+        → gone output (history_in q) ++ held_pictures output (history_in q) ≡ all_in output (stopped q waiting) ++ gone output []
+    by_phase waiting = refl
+    by_phase (running h None) = by_history h
+    by_phase (running h (Some o)) = by_history (history_of o)
+
+-- a fault
+failed : (p : Phase) (unit : ℕ) (f : Fault) (read : ℕ) → Sound p → Turns p (λ output. failed_at output (history_in p) unit f read)
+failed p unit f read s =
+    turning p waiting (λ output. (failed_at output (history_in p) unit f read).events) read
+    (λ output. refusals_after (held_pictures output (history_in p)) (Refused unit f ∷ [])
+    ∙ sym (refusals_after (held_pictures Full (history_in p)) (Refused unit f ∷ [])))
+    (held_go_out p (Refused unit f ∷ []) refl) s tt
+    (λ l output. whole-append (pictures (held_pictures output (history_in p))) (Refused unit f ∷ [])
+    (pictures_whole (history_in p) (all_held output (history_in p)) ((sound_in p s).good l)) (tt, tt))
+
+-- pictures go out, and decoding goes on
+shown : (p : Phase) (h : History) (o : Option OpenPicture) (read : ℕ) → Sound p → Sound (running h o)
+    → Follows (history_in p) (history_in (running h o))
+    → Turns p (λ output. record {
+      events = pictures (output_pictures output (history_in p) (history_in (running h o)));
+      phase = running h o;
+      read = read;
+    })
+shown p h o read s t f =
+    let old = history_in p in
+    let new = history_in (running h o) in
+    turning p (running h o) (λ output. pictures (output_pictures output old new)) read
+    (λ output. no_refusals (output_pictures output old new) ∙ sym (no_refusals (output_pictures Full old new)))
+    (λ output. ap (λ l. gone output old ++ l) (pictures_alone (output_pictures output old new)) ∙ gone_later output old new f
+    ∙ ap (λ hs. all_in output hs ++ gone output new) (sym (not_stopped_on p h o))) s t
+    (λ l output. pictures_whole new (new_output output old new) ((sound_in (running h o) t).good l))
+
+one_slice : (p : Phase) (already : ℕ) (o : OpenPicture) → Sound p → IsSoundOpen o → Follows (history_in p) (history_of o)
+    → Turns p (λ output. with_slice output (history_in p) already o)
+one_slice p already o s t f = by_fault (first_fault o false)
   where
-    by_fault : (f : Option (ℕ × Fault)) → GoodOutcome (slice_outcome output f before o (history_of o) (read_of o - already))
-    by_fault (Some found) = failed_good output before found.0 found.1 (read_of o - already) b
-    by_fault None = (pictures_whole (history_of o) (new_output output before (history_of o)) (good_history_of o g), (g.0, g))
-
--- ---- one unit
+    by_fault : (found : Option (ℕ × Fault)) → Turns p (λ output. slice_outcome output found (history_in p) o (history_of o) (read_of o - already))
+    by_fault (Some found) = failed p found.0 found.1 (read_of o - already) s
+    by_fault None = shown p o.before (Some o) (read_of o - already) s t f
 
 abbrev GoodNamed : Option (Pps × Sps) → Type 0
 GoodNamed None = Prim.Unit {0}
@@ -603,64 +270,240 @@ good_named keeps units hd = by_pps ((sets_after units).pps hd.pic_parameter_set_
     by_pps None = tt
     by_pps (Some pps) = by_sps pps ((sets_after units).sps pps.seq_parameter_set_id) (λ sps same. (keeps units pps.seq_parameter_set_id sps same).within)
 
-begun_good : (output : Output) (named : Option (Pps × Sps)) (before : History) (s : Slice) → GoodNamed named → AllGood before → GoodOutcome (after_first_slice output named before s)
-begun_good output None before s n b = (tt, b)
-begun_good output (Some named) before s n b =
-    with_slice_good output before 0 (record { before = before; sps = named.1; pps = named.0; last = s; earlier = [] }) b (b, n)
+first_of_picture : (p : Phase) (named : Option (Pps × Sps)) (s : Slice) → Sound p → HasItsMarking s.header → (Sizes → GoodNamed named)
+    → Turns p (λ output. after_first_slice output named (history_in p) s)
+first_of_picture p None s sound marking good =
+    still p (running (history_in p) None) (not_stopped_on p (history_in p) None) refl sound (sound_in p sound)
+first_of_picture p (Some named) s sound marking good =
+    let o : OpenPicture = record { before = history_in p; sps = named.1; pps = named.0; last = s; earlier = [] } in
+    let before = sound_in p sound in
+    one_slice p 0 o sound (record { before = before; idr = marking; limits = good }) (base_grows o before).follows
 
-good_base : (p : Phase) → GoodPhase p → AllGood (base_in p)
-good_base (running h (Some o)) g = g.0
-good_base p g = g
+-- ---- the steps
 
-good_history_in : (p : Phase) → GoodPhase p → AllGood (history_in p)
-good_history_in (running h (Some o)) g = good_history_of o g.1
-good_history_in p g = g
+abbrev is_open : Phase → Bool
+is_open waiting = false
+is_open (running h None) = false
+is_open (running h (Some o)) = true
 
-continued_good : (output : Output) (p : Phase) (s : Slice) → GoodPhase p → GoodOutcome (after_next_slice output p s)
-continued_good output (running h (Some o)) s g =
-    with_slice_good output (history_of o) (read_of o) (record o { last = s; earlier = o.last ∷ o.earlier }) (good_history_of o g.1) g.1
-continued_good output p s g = (tt, g)
+pub next_turns : (units : List SetUnit) (unit : ℕ) (p : Phase) (n : Next) → Sound p → Allows n (is_open p)
+    → Turns p (λ output. after_next output (sets_after units) unit p n)
+next_turns units unit p Nothing s a = turns_not p s
+next_turns units unit p (Refusal f) s a = turns_refused p unit f s
+next_turns units unit p (FaultOfOpen f) s a = failed p unit f 0 s
+next_turns units unit p (FaultOfOwn f) s a = failed p unit f 0 s
+next_turns units unit (running h (Some o)) (Begins t) s a = absurd a
+next_turns units unit waiting (Begins t) s a = first_of_picture waiting (sets_named (sets_after units) t.header) t s a (λ l. good_named l.1 units t.header)
+next_turns units unit (running h None) (Begins t) s a =
+    first_of_picture (running h None) (sets_named (sets_after units) t.header) t s a (λ l. good_named l.1 units t.header)
+next_turns units unit (running h (Some o)) (Continues t) s a =
+    one_slice (running h (Some o)) (read_of o) (record o { last = t; earlier = o.last ∷ o.earlier }) s
+    (record { before = s.before; idr = s.idr; limits = s.limits }) (record { more = []; is = refl })
+next_turns units unit p (Continues t) s a = turns_not p s
 
-after_next_good : SpsInForceKeepsLimits → (output : Output) (units : List SetUnit) (unit : ℕ) (p : Phase) (next : Next) → GoodPhase p → GoodOutcome (after_next output (sets_after units) unit p next)
-after_next_good keeps output units unit p Nothing g = (tt, g)
-after_next_good keeps output units unit p (Refusal f) g = ((tt, tt), g)
-after_next_good keeps output units unit p (FaultOfOpen f) g = failed_good output (history_in p) unit f 0 (good_history_in p g)
-after_next_good keeps output units unit p (FaultOfOwn f) g = failed_good output (history_in p) unit f 0 (good_history_in p g)
-after_next_good keeps output units unit p (Begins s) g = begun_good output (sets_named (sets_after units) s.header) (base_in p) s (good_named keeps units s.header) (good_base p g)
-after_next_good keeps output units unit p (Continues s) g = continued_good output p s g
+-- where the open picture is closed
+pub closed_goes : (h : History) (o : OpenPicture) (r : Result History (ℕ × Fault)) → IsSoundOpen o
+    → ((full : History) → r ≡ Ok full → IsSoundlyClosed o full)
+    → Goes (running h (Some o)) (ended_by_closing o r) (λ output. closed_outcome output o r)
+closed_goes h o (Err found) s closed = failed (running h (Some o)) found.0 found.1 0 s
+closed_goes h o (Ok full) s closed = record {
+  same_phase = λ output. refl;
+  same_refusals = λ output. no_refusals (out output) ∙ sym (no_refusals (out Full));
+  hands_out = λ output.
+      ap (λ l. gone output base ++ l) (pictures_alone (out output))
+      ∙ goes_out output (is_idr hd) (no_output_of_prior_pics hd.marking) (closed full refl).follows;
+  each_sound =
+      either (All IsSoundSequence) (is_idr hd) _ [] (λ _. ended_sound base _ (base_grows o s.before).sound) (λ _. All-nil IsSoundSequence);
+  sound = (closed full refl).sound;
+  whole = λ l output.
+      let Whole : List Decoded → Type 0 = λ out. AllWhole (pictures out) in
+      let held = pictures_whole base (all_held output base) ((base_grows o s.before).sound.good l) in
+      let dropped = if_either Whole (no_output_of_prior_pics hd.marking) [] (held_pictures output base) tt held in
+      let first = either Whole (is_idr hd) (if no_output_of_prior_pics hd.marking then [] else held_pictures output base) [] (λ _. dropped) (λ _. tt) in
+      let places = new_output output (earlier_in_sequence hd base) full in
+      subst AllWhole (sym (map-append (λ p. Picture p) _ (pictures_at full places)))
+      (whole-append _ _ first (pictures_whole full places ((closed full refl).sound.good l)));
+}
+  where
+    hd : Header
+    hd = first_header o
 
-after_closing_good : SpsInForceKeepsLimits → (output : Output) (units : List SetUnit) (unit : ℕ) (what : Step) (o : Outcome) → GoodOutcome o → GoodOutcome (after_closing output (sets_after units) unit what o)
-after_closing_good keeps output units unit what o g =
-    let next = after_next_good keeps output units unit o.phase what.next g.1 in
-    either GoodOutcome (is_waiting o.phase && not what.even_after_fault) _ _ (λ _. g) (λ _. (whole-append o.events _ g.0 next.0, next.1))
+    base : History
+    base = history_of o
 
-in_phase_good : PicturesAreSized → SpsInForceKeepsLimits → (output : Output) (units : List SetUnit) (unit : ℕ) (what : Step) (p : Phase) → GoodPhase p → GoodOutcome (in_phase output (sets_after units) unit what p)
-in_phase_good sized keeps output units unit what (running h (Some o)) g =
-    either GoodOutcome what.closes _ _
-    (λ _. after_closing_good keeps output units unit what (closed_picture output o) (closed_good sized output o g.1))
-    (λ _. after_next_good keeps output units unit (running h (Some o)) what.next g)
-in_phase_good sized keeps output units unit what p g = after_next_good keeps output units unit p what.next g
+    out : Output → List Decoded
+    out output = output_at_closing output hd base full
+
+    -- by whether it is an IDR picture, and drops what is held
+    ended : (idr drops : Bool) → List EndedSequence
+    ended idr drops = elim idr [ true ↦ ended_sequence base drops | false ↦ [] ]
+
+    by_drops : (output : Output) (drops : Bool) → gone output base ++ (if drops then [] else held_pictures output base) ≡ shown_by output base drops
+    by_drops output true = append-nil (gone output base)
+    by_drops output false = gone_and_held output base
+
+    goes_out : (output : Output) (idr drops : Bool) → Follows (elim idr as (λ _. History) [ true ↦ [] | false ↦ base ]) full
+        → gone output base
+        ++ ((elim idr [ true ↦ (if drops then [] else held_pictures output base) | false ↦ [] ])
+        ++ output_pictures output (elim idr [ true ↦ [] | false ↦ base ]) full)
+        ≡ all_in output (ended idr drops) ++ gone output full
+    goes_out output true drops f =
+        sym (append_assoc (gone output base) (if drops then [] else held_pictures output base) (gone output full))
+        ∙ ap (λ l. l ++ gone output full) (by_drops output drops ∙ sym (shown_ended output base drops))
+    goes_out output false drops f = gone_later output base full f
+
+-- ---- early output and full output hand out the same: what goes out of a stream that has ended are the pictures of its sequences: a unit
+
+rests_after : (o : OpenPicture) (r : Result History (ℕ × Fault)) → is_open (closed_outcome Full o r).phase ≡ false
+rests_after o (Ok full) = refl
+rests_after o (Err found) = refl
+
+-- it closes the open picture, and then comes a step with which no picture is open
+closing_then : (h : History) (o : OpenPicture) (r : Result History (ℕ × Fault)) (next : Phase → Output → Outcome) → IsSoundOpen o
+    → ((full : History) → r ≡ Ok full → IsSoundlyClosed o full) → ((q : Phase) → is_open q ≡ false → Sound q → Turns q (next q))
+    → let q = (closed_outcome Full o r).phase in
+    Goes (running h (Some o)) (ended_by_closing o r ++ stopped q (next q Full).phase) (λ output. followed_by (closed_outcome output o r) (next q output))
+closing_then h o r next s closed turns =
+    let q = (closed_outcome Full o r).phase in
+    let g = closed_goes h o r s closed in
+    followed (running h (Some o)) q (ended_by_closing o r) (stopped q (next q Full).phase) (λ output. closed_outcome output o r) (next q) refl g
+    (turns q (rests_after o r) g.sound)
+
+closing_goes : (units : List SetUnit) (unit : ℕ) (what : Step) (h : History) (o : OpenPicture) (r : Result History (ℕ × Fault))
+    → IsSoundOpen o → Allows what.next false → ((full : History) → r ≡ Ok full → IsSoundlyClosed o full)
+    → let x : Output → Outcome = λ output. after_closing output (sets_after units) unit what (closed_outcome output o r) in
+    Goes (running h (Some o)) (ended_by_closing o r ++ stopped (closed_outcome Full o r).phase (x Full).phase) x
+closing_goes units unit what h o r s a closed = by_result r closed
+  where
+    next : Phase → Output → Outcome
+    next q output = after_next output (sets_after units) unit q what.next
+
+    turns : (q : Phase) → is_open q ≡ false → Sound q → Turns q (next q)
+    turns q none sound = next_turns units unit q what.next sound (subst (Allows what.next) (sym none) a)
+
+    by_silent : (found : ℕ × Fault) (silent : Bool) → ((full : History) → Err found ≡ Ok full → IsSoundlyClosed o full)
+        → let x : Output → Outcome = λ output. unless_silent silent (closed_outcome output o (Err found)) (next waiting output) in
+        Goes (running h (Some o)) (ended_by_closing o (Err found) ++ stopped waiting (x Full).phase) x
+    by_silent found true closed =
+        let g = closed_goes h o (Err found) s closed in
+        subst (λ ss. Goes (running h (Some o)) ss (λ output. closed_outcome output o (Err found))) (sym (append-nil (ended_by_closing o (Err found)))) g
+    by_silent found false closed = closing_then h o (Err found) next s closed turns
+
+    by_result : (r : Result History (ℕ × Fault)) → ((full : History) → r ≡ Ok full → IsSoundlyClosed o full)
+        → let x : Output → Outcome = λ output. after_closing output (sets_after units) unit what (closed_outcome output o r) in
+        Goes (running h (Some o)) (ended_by_closing o r ++ stopped (closed_outcome Full o r).phase (x Full).phase) x
+    by_result (Ok full) closed = closing_then h o (Ok full) next s closed turns
+    by_result (Err found) closed = by_silent found (not what.even_after_fault) closed
+
+unit_goes : (units : List SetUnit) (unit : ℕ) (what : Step) (p : Phase) → Sound p → Fits (open_facts_in p) what.closes what.next
+    → Goes p (ended_at_closing what.closes p ++ stopped (phase_after_closing Full what.closes p) (in_phase Full (sets_after units) unit what p).phase)
+    (λ output. in_phase output (sets_after units) unit what p)
+unit_goes units unit what waiting s fit = next_turns units unit waiting what.next s fit
+unit_goes units unit what (running h None) s fit = next_turns units unit (running h None) what.next s fit
+unit_goes units unit what (running h (Some o)) s fit = by_closes what.closes fit
+  where
+    p : Phase
+    p = running h (Some o)
+
+    by_closes : (b : Bool) → Allows what.next (not b)
+        → let x : Output → Outcome = λ output. chosen b (after_closing output (sets_after units) unit what (closed_picture output o))
+        (after_next output (sets_after units) unit p what.next) in
+        Goes p (ended_at_closing b p ++ stopped (phase_after_closing Full b p) (x Full).phase) x
+    by_closes true a = closing_goes units unit what h o (closing_result o) s a (λ full e. closed_sound o full s e)
+    by_closes false a = next_turns units unit p what.next s a
+
+-- ---- the end
+
+-- all events up to the end as a step
+abbrev to_end : (Output → List Event) → Output → Outcome
+to_end events output = record { events = events output; phase = waiting; read = 0 }
+
+held_goes : (q : Phase) → is_open q ≡ false → Sound q → Turns q (to_end (λ output. held_after output q))
+held_goes waiting none s = turns_not waiting tt
+held_goes (running h None) none s =
+    turning (running h None) waiting (λ output. pictures (held_pictures output h)) 0
+    (λ output. no_refusals (held_pictures output h) ∙ sym (no_refusals (held_pictures Full h)))
+    (λ output. ap (λ es. gone output h ++ pictures_in es) (sym (append-nil (pictures (held_pictures output h))))
+    ∙ held_go_out (running h None) [] refl output) s tt (λ l output. pictures_whole h (all_held output h) (s.good l))
+held_goes (running h (Some o)) none s = cc none
+
+end_by : (h : History) (o : OpenPicture) (r : Result History (ℕ × Fault)) → IsSoundOpen o
+    → ((full : History) → r ≡ Ok full → IsSoundlyClosed o full)
+    → Goes (running h (Some o)) (ended_by_closing o r ++ stopped (closed_outcome Full o r).phase waiting)
+    (to_end (λ output. events_and_held output (closed_outcome output o r)))
+end_by h o (Ok full) s closed = closing_then h o (Ok full) (λ q. to_end (λ output. held_after output q)) s closed held_goes
+end_by h o (Err found) s closed = closing_then h o (Err found) (λ q. to_end (λ output. held_after output q)) s closed held_goes
+
+at_end_goes : (p : Phase) → Sound p
+    → Goes p (ended_at_closing true p ++ stopped (phase_after_closing Full true p) waiting) (to_end (λ output. at_end output p))
+at_end_goes waiting s = turns_not waiting tt
+at_end_goes (running h None) s = held_goes (running h None) refl s
+at_end_goes (running h (Some o)) s = end_by h o (closing_result o) s (λ full e. closed_sound o full s e)
 
 -- ---- all units
 
-held_after_whole : (output : Output) (p : Phase) → GoodPhase p → AllWhole (held_after output p)
-held_after_whole output waiting g = tt
-held_after_whole output (running h o) g = pictures_whole h (all_held output h) (good_base (running h o) g)
+known : (p : Phase) → is_running p ≡ false → open_facts_in p ≡ None
+known waiting e = refl
+known (running h o) e = cc
 
-at_end_whole : PicturesAreSized → (output : Output) (p : Phase) → GoodPhase p → AllWhole (at_end output p)
-at_end_whole sized output waiting g = tt
-at_end_whole sized output (running h None) g = pictures_whole h (all_held output h) g
-at_end_whole sized output (running h (Some o)) g =
-    let c = closed_good sized output o g.1 in
-    whole-append (closed_picture output o).events (held_after output (closed_picture output o).phase) c.0 (held_after_whole output (closed_picture output o).phase c.1)
+-- the events of units in a mode
+abbrev events_of : (units : List SetUnit) (p : Phase) → List Piece → Output → List Event
+events_of units p us output = events_from (state_of output units p) us true
 
-events_whole : PicturesAreSized → SpsInForceKeepsLimits → (s : State) (us : List StreamUnit) (ended : Bool) → GoodPhase s.phase → AllWhole (events_from s us ended)
-events_whole sized keeps s [] true g = at_end_whole sized s.output s.phase g
-events_whole sized keeps s [] false g = tt
-events_whole sized keeps s (u ∷ us) ended g =
-    let o = after_unit s u in
-    let good = in_phase_good sized keeps s.output s.sets u.index (step (sets_after s.sets) (is_running s.phase) (open_facts_in s.phase) u) s.phase g in
-    whole-append o.events (events_from (state_after s u o) us ended) good.0 (events_whole sized keeps (state_after s u o) us ended good.1)
+-- one step, and then the others
+one_unit_more : (units : List SetUnit) (p : Phase) (us : List Piece) (hs hs' : List EndedSequence) (x : Output → Outcome) → Goes p hs x
+    → Goes (x Full).phase hs' (to_end (events_of units (x Full).phase us))
+    → Goes p (hs ++ hs') (to_end (λ output. (x output).events ++ events_of units (x output).phase us output))
+one_unit_more units p us hs hs' x g e =
+    let k = followed p (x Full).phase hs hs' x (to_end (events_of units (x Full).phase us)) refl g e in
+    record {
+      same_phase = λ output. refl;
+      same_refusals = λ output. rw (g.same_phase output) (k.same_refusals output);
+      hands_out = λ output. rw (g.same_phase output) (k.hands_out output);
+      each_sound = k.each_sound;
+      sound = tt;
+      whole = λ l output. rw (g.same_phase output) (k.whole l output);
+    }
+
+-- the units' events, and those of the end
+all_end : (us : List Piece) (units : List SetUnit) (p : Phase) → Sound p → Goes p (sequences_from (state_of Full units p) us) (to_end (events_of units p us))
+all_end [] units p s = at_end_goes p s
+all_end (u ∷ us) units p s =
+    let sets = sets_after units in
+    let what = step sets (is_running p) (open_facts_in p) u in
+    let x : Output → Outcome = λ output. in_phase output sets u.index what p in
+    let after = units ++ set_units (u ∷ []) in
+    let brings = brings_step sets (is_running p) (open_facts_in p) u (known p) in
+    let goes = unit_goes units u.index what p s (fits sets u (open_facts_in p) what.closes what.next brings.brings) in
+    one_unit_more after p us (ended_by_unit (state_of Full units p) u) (sequences_from (state_of Full after (x Full).phase) us) x goes
+    (all_end us after (x Full).phase goes.sound)
+
+-- ---- the law
+
+same_sequence : EarlyOutputKeepsHistories → (s : EndedSequence) → IsSoundSequence s → IsNotDropped s → IsReorderedWithin s
+    → shown_by Early s.history s.dropped ≡ shown_by Full s.history s.dropped
+same_sequence keeps s sound all within =
+    let h = s.history in
+    ap (shown_by Early h) all ∙ ap (pictures_at h) (keeps h sound.each sound.marked within) ∙ sym (ap (shown_by Full h) all)
+
+same_sequences : EarlyOutputKeepsHistories → (ss : List EndedSequence)
+    → All IsSoundSequence ss → All IsNotDropped ss → All IsReorderedWithin ss → all_in Early ss ≡ all_in Full ss
+same_sequences keeps [] sound all within = refl
+same_sequences keeps (s ∷ ss) sound all within =
+    ap₂ (λ a b. a ++ b)
+    (same_sequence keeps s (All-head IsSoundSequence s ss sound) (All-head IsNotDropped s ss all) (All-head IsReorderedWithin s ss within))
+    (same_sequences keeps ss (All-tail IsSoundSequence s ss sound) (All-tail IsNotDropped s ss all) (All-tail IsReorderedWithin s ss within))
+
+pub early_output : EarlyOutputKeepsHistories → EarlyOutputKeepsPictures
+early_output keeps max bytes kept within =
+    let all = all_end (units max bytes true) [] waiting tt in
+    record {
+      pictures =
+          all.hands_out Early
+          ∙ ap (λ out. out ++ []) (same_sequences keeps (sequences max bytes) all.each_sound kept within)
+          ∙ sym (all.hands_out Full);
+      refusals = all.same_refusals Early;
+    }
 
 one_whole : (es : List Event) (k : ℕ) (p : Decoded) → AllWhole es → slice_get es k ≡ Some (Picture p) → IsWhole p
 one_whole [] k p w e = cc
@@ -668,5 +511,14 @@ one_whole (x ∷ es) zero p w e = subst WholeEvent (let same : x ≡ Picture p =
 one_whole (x ∷ es) (suc k) p w e = one_whole es k p w.1 e
 
 pub are_whole : PicturesAreSized → SpsInForceKeepsLimits → PicturesAreWhole
-are_whole sized keeps output max bytes ended k p e =
-    one_whole (events output max bytes ended) k p (events_whole sized keeps (first_state output) (units max bytes ended) ended tt) e
+are_whole sized keeps output max bytes ended k p = by_end ended
+  where
+    at_end_whole : (bs : List ℕ) → AllWhole (events output max bs true)
+    at_end_whole bs = (all_end (units max bs true) [] waiting tt).whole (sized, keeps) output
+
+    by_end : (ended : Bool) → slice_get (events output max bytes ended) k ≡ Some (Picture p) → IsWhole p
+    by_end true e = one_whole (events output max bytes true) k p (at_end_whole bytes) e
+    by_end false e =
+        let more = events_grow units_stay_first output max bytes [] true in
+        one_whole (events output max (bytes ++ []) true) k p (at_end_whole (bytes ++ []))
+        (ap (λ es. slice_get es k) more.1 ∙ get-front (events output max bytes false) more.0 k (Picture p) e)

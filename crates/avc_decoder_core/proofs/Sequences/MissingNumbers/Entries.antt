@@ -4,9 +4,7 @@ unfoldable pub use Frames.*
 use Rattle.avc_dpb.specs.Contents.{Stores}
 use Rattle.avc_decoder_core.specs.History.{marking_entry}
 
--- ---- what goes out entry after entry
-
--- ---- all places of a history are below its length
+-- ---- what goes out entry after entry: all places of a history are below its length
 
 pub length-arrivals : (history : History) → length (arrivals history) ≡ length history
 length-arrivals [] = refl
@@ -368,9 +366,7 @@ output_is output e h m prior out prior_is out_is =
     ∙ ap (filter_map shown) (sym (goes_out_in_turn output (length (arrivals h)) (arrival e h) (buffer_of output h)))
     ∙ pictures_are (e ∷ h) m.references (bumped_output (buffer_of output h) (buffer_of output (e ∷ h)))
 
--- ---- what the state of a frame buffer says of its frames, and the state once an entry's frame is stored
-
--- ---- the frames of a state
+-- ---- what the state of a frame buffer says of its frames, and the state once an entry's frame is stored: the frames of a state
 
 pub few_frames : (h : History) (c : Contents) (idx : Option ℕ) (previous : ℕ) → IsStateAfter h c idx previous → length c.frames ≤ 16
 few_frames h c idx previous s = grind (arith, length-map, holds_at_most)

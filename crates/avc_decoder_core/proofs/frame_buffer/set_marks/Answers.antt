@@ -1,5 +1,4 @@
-use Rattle.avc_decoder_core.proofs.Sequences.{◌<◌, ◌≤◌, length, take, sym, ap, subst, arith, no_marks_set, marks_more, all_marks_set}
-use Rattle.avc_decoder_core.proofs.Sequences.{length-all_marks}
+use Rattle.avc_decoder_core.proofs.Sequences.{◌<◌, ◌≤◌, length, take, sym, ap, subst, arith, no_marks_set, marks_more, all_marks_set, length-all_marks}
 use Rattle.avc_decoder_core.proofs.frame_buffer.set_marks.Goals as goal
 
 pub loop-place-init : goal.loop-place-init

@@ -30,14 +30,11 @@ sums-requires-clause-b_small c =
 pub returns-clause-value : goal.returns-clause-value
 returns-clause-value c k h =
     let a = c.args in
-    let here : slice_index c.multiples-here.result k ≡ a.w.here * slice_index a.here.now k = share c.multiples-here.result _ a.here.now k a.w.here (c.multiples-here.ensures.at k h) (lane_of_row a.here.now _ _ k c.widened.ensures.value c.as_slice.ensures h) in
-    let right : slice_index c.multiples-right.result k ≡ a.w.right * slice_index a.right.now k = share c.multiples-right.result _ a.right.now k a.w.right (c.multiples-right.ensures.at k h) (lane_of_row a.right.now _ _ k c.widened-2.ensures.value c.as_slice-2.ensures h) in
-    let below : slice_index c.multiples-below.result k ≡ a.w.below * slice_index a.below.now k = share c.multiples-below.result _ a.below.now k a.w.below (c.multiples-below.ensures.at k h) (lane_of_row a.below.now _ _ k c.widened-3.ensures.value c.as_slice-3.ensures h) in
-    let across : slice_index c.multiples-across.result k ≡ a.w.across * slice_index a.across.now k = share c.multiples-across.result _ a.across.now k a.w.across (c.multiples-across.ensures.at k h) (lane_of_row a.across.now _ _ k c.widened-4.ensures.value c.as_slice-4.ensures h) in
-    let row = c.sums-row.ensures.at k h in
-    let next = c.sums-next.ensures.at k h in
-    let all = c.sums.ensures.at k h in
-    omega (arith, here, right, below, across, row, next, all)
+    let here = share c.multiples-here.result _ a.here.now k a.w.here (c.multiples-here.ensures.at k h) (lane_of_row a.here.now _ _ k c.widened.ensures.value c.as_slice.ensures h) in
+    let right = share c.multiples-right.result _ a.right.now k a.w.right (c.multiples-right.ensures.at k h) (lane_of_row a.right.now _ _ k c.widened-2.ensures.value c.as_slice-2.ensures h) in
+    let below = share c.multiples-below.result _ a.below.now k a.w.below (c.multiples-below.ensures.at k h) (lane_of_row a.below.now _ _ k c.widened-3.ensures.value c.as_slice-3.ensures h) in
+    let across = share c.multiples-across.result _ a.across.now k a.w.across (c.multiples-across.ensures.at k h) (lane_of_row a.across.now _ _ k c.widened-4.ensures.value c.as_slice-4.ensures h) in
+    omega (arith, here, right, below, across, c.sums-row.ensures.at k h, c.sums-next.ensures.at k h, c.sums.ensures.at k h)
 
 pub returns-clause-small : goal.returns-clause-small
 returns-clause-small c k h =

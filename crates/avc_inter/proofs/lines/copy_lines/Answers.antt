@@ -1,40 +1,28 @@
-use Rattle.avc_inter.proofs.SixRows.{◌+◌, ◌*◌, length, slice_index, arith, ap, strided_more, strided_rows, begins, line_of_four, room_of_four}
+use Rattle.avc_inter.proofs.SixRows.{◌+◌, slice_index, arith, ap, strided_more, strided_to, begins, line_of_four, room_of_four}
 use Rattle.avc_inter.proofs.lines.copy_lines.Goals as goal
 
 pub overflow_mul-source-in-loop-four : goal.overflow_mul-source-in-loop-four
-overflow_mul-source-in-loop-four g c =
-    omega (arith, begins g.row.W g.row.H c.args.from.first c.args.from.stride (length c.args.p.now) c.loop-four.four c.requires.source c.loop-four-test.true)
+overflow_mul-source-in-loop-four g c = omega (arith, begins _ _ _ _ _ _ c.requires.source c.loop-four-test.true)
 
 pub overflow_add-source : goal.overflow_add-source
-overflow_add-source g c =
-    omega (arith, begins g.row.W g.row.H c.args.from.first c.args.from.stride (length c.args.p.now) c.loop-four.four c.requires.source c.loop-four-test.true)
+overflow_add-source g c = omega (arith, begins _ _ _ _ _ _ c.requires.source c.loop-four-test.true)
 
 pub overflow_mul-target-in-loop-four : goal.overflow_mul-target-in-loop-four
-overflow_mul-target-in-loop-four g c =
-    omega (arith, begins g.row.W g.row.H c.args.to.first c.args.to.stride (length c.args.out.now) c.loop-four.four c.requires.room c.loop-four-test.true)
+overflow_mul-target-in-loop-four g c = omega (arith, begins _ _ _ _ _ _ c.requires.room c.loop-four-test.true)
 
 pub overflow_add-target : goal.overflow_add-target
-overflow_add-target g c =
-    omega (arith, begins g.row.W g.row.H c.args.to.first c.args.to.stride (length c.args.out.now) c.loop-four.four c.requires.room c.loop-four-test.true)
+overflow_add-target g c = omega (arith, begins _ _ _ _ _ _ c.requires.room c.loop-four-test.true)
 
 pub copy_near-requires-clause-source : goal.copy_near-requires-clause-source
-copy_near-requires-clause-source g c =
-    room_of_four g.row.W g.row.H c.args.from.first c.args.from.stride (length c.args.p.now) c.loop-four.four c.requires.source c.loop-four-test.true
+copy_near-requires-clause-source g c = room_of_four _ _ _ _ _ _ c.requires.source c.loop-four-test.true
 
 pub copy_near-requires-clause-room : goal.copy_near-requires-clause-room
-copy_near-requires-clause-room g c y low =
-    omega (arith, c.loop-four.invariant.long, room_of_four g.row.W g.row.H c.args.to.first c.args.to.stride (length c.args.out.now) c.loop-four.four c.requires.room c.loop-four-test.true y low)
+copy_near-requires-clause-room g c y low = omega (arith, c.loop-four.invariant.long, room_of_four _ _ _ _ _ _ c.requires.room c.loop-four-test.true y low)
 
 pub loop-four-preserved : goal.loop-four-preserved
 loop-four-preserved g c =
-    strided_more g.row.W 4 c.loop-four.four c.args.to.first c.args.to.stride
-    (λ x y. slice_index c.args.p.now (c.args.from.first + y * c.args.from.stride + x))
-    (λ x y. slice_index c.args.p.now (c.args.from.first + c.loop-four.four * (4 * c.args.from.stride) + y * c.args.from.stride + x))
-    c.args.out.now c.loop-four.out c.copy_near.new.out c.requires.apart c.loop-four.invariant c.copy_near.ensures
+    strided_more _ _ _ _ _ _ _ _ _ _ c.requires.apart c.loop-four.invariant c.copy_near.ensures
     (λ r x low column. ap (λ k. slice_index c.args.p.now (k + x)) (line_of_four c.args.from.first c.loop-four.four r c.args.from.stride))
 
 pub returns : goal.returns
-returns g c =
-    strided_rows g.row.W (4 * c.loop-four.four) g.row.H c.args.to.first c.args.to.stride
-    (λ x y. slice_index c.args.p.now (c.args.from.first + y * c.args.from.stride + x)) c.args.out.now c.loop-four.out
-    (omega (arith, c.if-this-ne0.false, c.loop-four-test.false, c.loop-four.auto.four-end)) c.loop-four.invariant
+returns g c = strided_to (omega (arith, c.if-this-ne0.false, c.loop-four-test.false, c.loop-four.auto.four-end)) c.loop-four.invariant

@@ -3,5 +3,4 @@ use Rattle.avc_inter.proofs.lines.copy_near.Goals as goal
 
 pub returns : goal.returns
 returns g c =
-    set_in_rest g.row.W g.row.H c.args.from.first c.args.from.stride c.args.to.first c.args.to.stride c.args.p.now c.args.out.now c.copy_each.new.out c.requires.some
-    c.requires.source c.requires.room c.copy_each.ensures
+    set_in_rest _ _ _ _ _ _ c.args.p.now c.args.out.now c.copy_each.new.out c.requires.some c.requires.source c.requires.room c.copy_each.ensures

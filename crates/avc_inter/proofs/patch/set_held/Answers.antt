@@ -1,8 +1,8 @@
-use Rattle.avc_inter.proofs.SixRows.{◌∙◌, sample, clamped, back_moved, whole_is}
+use Rattle.avc_inter.proofs.SixRows.{◌+◌, ◌*◌, arith, ap, slice_index, ◌∙◌, wide_of, block_of_same, moved_at}
 use Rattle.avc_inter.proofs.patch.set_held.Goals as goal
 
 pub returns : goal.returns
 returns g c =
-    let p = c.args.plane.now in
-    c.set_rows.ensures
-    ∙ whole_is (clamped p.width p.height (sample p)) c.args.left _ c.args.top _ g.row.W g.row.H c.fetch_held.new.patch c.fetch_held.ensures (back_moved c.args.left c.requires.left) (back_moved c.args.top c.requires.top)
+    c.set_rows.ensures ∙ block_of_same g.row.W g.row.H (λ x y. slice_index c.fetch_held.new.patch (0 + y * g.row.W + x)) _ (λ i j column row.
+    ap (slice_index c.fetch_held.new.patch) (omega arith) ∙ c.fetch_held.ensures.at i j column row
+    ∙ moved_at (wide_of c.args.plane.now) c.args.left c.args.top i j c.requires.left c.requires.top)

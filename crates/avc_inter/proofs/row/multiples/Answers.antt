@@ -1,5 +1,5 @@
 use Rattle.avc_inter.proofs.SixRows.{ℕ, ◌≡◌, ◌≤◌, ◌*◌, arith, Fits, w16, ap, ◌∙◌, length, map, replicate, get_or, List, mul-le-mul, length-map}
-use Rattle.avc_inter.proofs.SixRows.{Each1-weaker, Each2-splat, zip2_splat, zip2, multiples_small, get_or-multiples}
+use Rattle.avc_inter.proofs.SixRows.{Each1-weaker, Each2-splat, zip2_splat, zip2, multiples_small, get_or-map}
 use Rattle.avc_inter.proofs.row.multiples.Goals as goal
 
 pub overflow_mul-result : goal.overflow_mul-result
@@ -12,6 +12,6 @@ returns c =
     let is : zip2 (λ x y. x * y) c.args.a (replicate 16 c.args.by) ≡ map (λ x. x * c.args.by) c.args.a = zip2_splat (λ x y. x * y) _ 16 c.args.by (omega arith) in
     record {
       long = ap length is ∙ length-map c.args.a (λ x. x * c.args.by) ∙ omega arith;
-      at = λ k h. ap (λ (v : List ℕ). get_or v k 0) is ∙ get_or-multiples c.args.by c.args.a k;
+      at = λ k h. ap (λ (v : List ℕ). get_or v k 0) is ∙ get_or-map (λ x. x * c.args.by) c.args.a k 0 0 (omega arith);
       small = λ m p. rw is (multiples_small m c.args.by _ p);
     }

@@ -1,4 +1,4 @@
-use Rattle.avc_inter.proofs.SixRows.{ℕ, ◌≤◌, ◌-ℤ◌, ◌≡◌, arith, ap, ◌∙◌, FitsSigned, w16, to_z, of_z, pos, [], length, length-zip2, Each1-get_or, ints}
+use Rattle.avc_inter.proofs.SixRows.{ℕ, ◌≤◌, ◌-ℤ◌, ◌≡◌, arith, ap, ◌∙◌, FitsSigned, w16, to_z, of_z, pos, length, length-zip2, Each1-get_or, ints}
 use Rattle.avc_inter.proofs.SixRows.{fit, are, value}
 use Rattle.avc_inter.proofs.row.narrow_differences.Goals as goal
 

@@ -22,15 +22,10 @@ returns c =
     let i = lane src _ at (at + 4) k (at + k + 4) c.widened-4.ensures.value h (omega arith) in
     let g = lane src _ at (at + 2) k (at + k + 2) c.widened-5.ensures.value h (omega arith) in
     let m = lane src _ at (at + 3) k (at + k + 3) c.widened-6.ensures.value h (omega arith) in
-    let outer = c.sums-outer.ensures.at k h in
-    let middle = c.sums-middle.ensures.at k h in
-    let inner = c.sums-inner.ensures.at k h in
-    let twenty = c.multiples.ensures.at k h in
-    let five = c.multiples-2.ensures.at k h in
-    let sum = c.sums.ensures.at k h in
-    c.differences.ensures.at k h
-    ∙ six_taps_apart (slice_index src (at + k)) (slice_index src (at + k + 1)) (slice_index src (at + k + 2)) (slice_index src (at + k + 3)) (slice_index src (at + k + 4)) (slice_index src (at + k + 5))
-    (slice_index c.sums.result k) (slice_index c.multiples-2.result k) (omega arith) (omega arith) in
+    c.differences.ensures.at k h ∙ six_taps_apart (slice_index src (at + k)) (slice_index src (at + k + 1)) (slice_index src (at + k + 2))
+    (slice_index src (at + k + 3)) (slice_index src (at + k + 4)) (slice_index src (at + k + 5)) (slice_index c.sums.result k) (slice_index c.multiples-2.result k)
+    (omega (arith, c.sums-outer.ensures.at k h, c.sums-inner.ensures.at k h, c.multiples.ensures.at k h, c.sums.ensures.at k h))
+    (omega (arith, c.sums-middle.ensures.at k h, c.multiples-2.ensures.at k h)) in
     record {
       long = through diff ∙ c.differences.ensures.long;
       at = λ k h. get_or-through_bits w32 diff k (c.differences.ensures.fits k h) ∙ all k h;

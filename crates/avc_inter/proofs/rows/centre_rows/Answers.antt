@@ -1,24 +1,16 @@
-use Rattle.avc_inter.proofs.SixRows.{◌+◌, ◌*◌, ◌/◌, length, arith, refl, ap, strided_rows, centre_along, sixteen_more, room_more, begins_more}
+use Rattle.avc_inter.proofs.SixRows.{flat, ◌+◌, ◌*◌, arith, row_first, row_room, rows_done, sixteen_more}
 use Rattle.avc_inter.proofs.rows.centre_rows.Goals as goal
 
 pub overflow_add-to : goal.overflow_add-to
-overflow_add-to g c =
-    omega (arith, c.loop-y.invariant.long, begins_more g.row.L c.requires.lanes g.row.W c.args.to.first c.args.to.stride c.loop-y.y c.requires.columns c.requires.apart c.args.count (length c.args.out.now) c.loop-y-test.true c.requires.room)
+overflow_add-to g c = omega (arith, row_first _ _ _ c.requires.lanes c.loop-y-test.true c.requires.room c.loop-y.invariant)
 
 pub put_rows-requires-clause-room : goal.put_rows-requires-clause-room
-put_rows-requires-clause-room g c r low =
-    omega (arith, c.loop-y.invariant.long, room_more g.row.L c.requires.lanes g.row.W c.args.to.first c.args.to.stride c.loop-y.y c.requires.columns c.requires.apart c.args.count (length c.args.out.now) c.loop-y-test.true c.requires.room r low)
+put_rows-requires-clause-room g c r low = row_room _ _ _ _ c.requires.lanes c.loop-y-test.true c.requires.room c.loop-y.invariant low
 
 pub loop-y-preserved : goal.loop-y-preserved
 loop-y-preserved g c =
-    sixteen_more g.row.L c.requires.lanes g.row.W c.args.to.first c.args.to.stride c.loop-y.y c.requires.columns c.requires.apart
-    (λ k. centre_along c.args.m.now k g.row.L)
-    (λ x y. centre_along c.args.m.now (g.row.L * y + x) g.row.L)
-    c.centre_row-row.result c.args.out.now c.loop-y.out c.put_rows.new.out c.loop-y.invariant c.put_rows.ensures
-    (λ k low. c.centre_row-row.ensures k low)
-    (λ x v column. refl)
+    sixteen_more c.loop-y.y c.centre_row-row.result c.requires.lanes c.requires.columns c.requires.apart c.loop-y.invariant c.put_rows.ensures
+    (λ r x low column. cc (c.centre_row-row.ensures (g.row.L * r + x) low, flat g.row.L c.requires.lanes c.loop-y.y r x))
 
 pub returns : goal.returns
-returns g c =
-    strided_rows g.row.W (16 / g.row.L * c.loop-y.y) (16 / g.row.L * c.args.count) c.args.to.first c.args.to.stride
-    (λ x y. centre_along c.args.m.now (g.row.L * y + x) g.row.L) c.args.out.now c.loop-y.out (ap (λ n. 16 / g.row.L * n) (omega (arith, c.loop-y-test.false, c.loop-y.auto.y-end))) c.loop-y.invariant
+returns g c = rows_done _ _ _ c.loop-y.invariant c.loop-y-test.false c.loop-y.auto.y-end

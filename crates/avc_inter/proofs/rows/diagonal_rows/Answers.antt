@@ -1,53 +1,43 @@
-use Rattle.avc_inter.proofs.SixRows.{◌+◌, ◌*◌, ◌/◌, length, arith, ap, ◌∙◌, mean_of_two, strided_rows, half_along, place_of, row_begins, row_within}
-use Rattle.avc_inter.proofs.SixRows.{half_in_row, same_mean, place_at, sixteen_more, room_more, begins_more}
+use Rattle.avc_inter.proofs.SixRows.{◌+◌, ◌*◌, arith, row_first, row_room, rows_done, sixteen_more, place_in, row_begins, row_within}
 use Rattle.avc_inter.proofs.rows.diagonal_rows.Goals as goal
 
 pub overflow_mul-y : goal.overflow_mul-y
-overflow_mul-y g c =
-    omega (arith, row_begins g.row.L c.args.stride c.requires.lanes (16 * c.args.count) (c.args.at + c.args.across + 5) c.loop-y.y c.args.p.now c.requires.across (omega (arith, c.loop-y-test.true)))
+overflow_mul-y g c = omega (arith, row_begins _ _ c.requires.lanes _ (c.args.at + c.args.across + 5) _ _ c.requires.across c.loop-y-test.true)
 
 pub overflow_add-at-in-loop-y : goal.overflow_add-at-in-loop-y
-overflow_add-at-in-loop-y g c =
-    omega (arith, row_begins g.row.L c.args.stride c.requires.lanes (16 * c.args.count) (c.args.at + c.args.across + 5) c.loop-y.y c.args.p.now c.requires.across (omega (arith, c.loop-y-test.true)))
+overflow_add-at-in-loop-y g c = omega (arith, row_begins _ _ c.requires.lanes _ (c.args.at + c.args.across + 5) _ _ c.requires.across c.loop-y-test.true)
 
 pub overflow_mul-y-in-loop-y : goal.overflow_mul-y-in-loop-y
-overflow_mul-y-in-loop-y g c =
-    omega (arith, row_begins g.row.L c.args.stride c.requires.lanes (16 * c.args.count) (c.args.at + c.args.down + 5 * c.args.stride) c.loop-y.y c.args.p.now c.requires.down (omega (arith, c.loop-y-test.true)))
+overflow_mul-y-in-loop-y g c = omega (arith, row_begins _ _ c.requires.lanes _ (c.args.at + c.args.down + 5 * c.args.stride) _ _ c.requires.down c.loop-y-test.true)
 
 pub overflow_add-at-in-loop-y-3 : goal.overflow_add-at-in-loop-y-3
-overflow_add-at-in-loop-y-3 g c =
-    omega (arith, row_begins g.row.L c.args.stride c.requires.lanes (16 * c.args.count) (c.args.at + c.args.down + 5 * c.args.stride) c.loop-y.y c.args.p.now c.requires.down (omega (arith, c.loop-y-test.true)))
+overflow_add-at-in-loop-y-3 g c = omega (arith, row_begins _ _ c.requires.lanes _ (c.args.at + c.args.down + 5 * c.args.stride) _ _ c.requires.down c.loop-y-test.true)
 
 pub half_row-b-requires-clause-samples : goal.half_row-b-requires-clause-samples
-half_row-b-requires-clause-samples g c =
-    row_within g.row.L c.args.stride c.requires.lanes (16 * c.args.count) (c.args.at + c.args.across) (5) c.loop-y.y c.args.p.now c.requires.across (omega (arith, c.loop-y-test.true))
+half_row-b-requires-clause-samples g c k low = row_within _ _ c.requires.lanes _ (c.args.at + c.args.across) (5) _ k _ c.requires.across c.loop-y-test.true low
 
 pub half_row-h-requires-clause-samples : goal.half_row-h-requires-clause-samples
-half_row-h-requires-clause-samples g c =
-    row_within g.row.L c.args.stride c.requires.lanes (16 * c.args.count) (c.args.at + c.args.down) (5 * c.args.stride) c.loop-y.y c.args.p.now c.requires.down (omega (arith, c.loop-y-test.true))
+half_row-h-requires-clause-samples g c k low = row_within _ _ c.requires.lanes _ (c.args.at + c.args.down) (5 * c.args.stride) _ k _ c.requires.down c.loop-y-test.true low
 
 pub overflow_mul-y-in-loop-y-2 : goal.overflow_mul-y-in-loop-y-2
-overflow_mul-y-in-loop-y-2 g c =
-    omega (arith, c.loop-y.invariant.long, begins_more g.row.L c.requires.lanes g.row.W c.args.to.first c.args.to.stride c.loop-y.y c.requires.columns c.requires.apart c.args.count (length c.args.out.now) c.loop-y-test.true c.requires.room)
+overflow_mul-y-in-loop-y-2 g c = omega (arith, row_first _ _ _ c.requires.lanes c.loop-y-test.true c.requires.room c.loop-y.invariant)
 
 pub overflow_add-to : goal.overflow_add-to
-overflow_add-to g c =
-    omega (arith, c.loop-y.invariant.long, begins_more g.row.L c.requires.lanes g.row.W c.args.to.first c.args.to.stride c.loop-y.y c.requires.columns c.requires.apart c.args.count (length c.args.out.now) c.loop-y-test.true c.requires.room)
+overflow_add-to g c = omega (arith, row_first _ _ _ c.requires.lanes c.loop-y-test.true c.requires.room c.loop-y.invariant)
 
 pub put_rows-requires-clause-room : goal.put_rows-requires-clause-room
-put_rows-requires-clause-room g c r low =
-    omega (arith, c.loop-y.invariant.long, room_more g.row.L c.requires.lanes g.row.W c.args.to.first c.args.to.stride c.loop-y.y c.requires.columns c.requires.apart c.args.count (length c.args.out.now) c.loop-y-test.true c.requires.room r low)
+put_rows-requires-clause-room g c r low = row_room _ _ _ _ c.requires.lanes c.loop-y-test.true c.requires.room c.loop-y.invariant low
 
 pub loop-y-preserved : goal.loop-y-preserved
 loop-y-preserved g c =
-    sixteen_more g.row.L c.requires.lanes g.row.W c.args.to.first c.args.to.stride c.loop-y.y c.requires.columns c.requires.apart
-    (λ k. mean_of_two (half_along c.args.p.now (c.args.across + (c.args.at + place_of g.row.L c.args.stride k)) 1) (half_along c.args.p.now (c.args.down + (c.args.at + place_of g.row.L c.args.stride k)) c.args.stride))
-    (λ x y. mean_of_two (half_along c.args.p.now (c.args.across + (c.args.at + (y * c.args.stride + x))) 1) (half_along c.args.p.now (c.args.down + (c.args.at + (y * c.args.stride + x))) c.args.stride))
-    c.means_of-row.result c.args.out.now c.loop-y.out c.put_rows.new.out c.loop-y.invariant c.put_rows.ensures
-    (λ k low. c.means_of-row.ensures k low ∙ same_mean _ _ _ _ (c.half_row-b.ensures k low ∙ half_in_row g.row.L c.args.stride c.requires.lanes c.args.p.now c.args.at c.args.across 1 c.loop-y.y k) (c.half_row-h.ensures k low ∙ half_in_row g.row.L c.args.stride c.requires.lanes c.args.p.now c.args.at c.args.down c.args.stride c.loop-y.y k))
-    (λ x v column. ap (λ q. mean_of_two (half_along c.args.p.now (c.args.across + (c.args.at + q)) 1) (half_along c.args.p.now (c.args.down + (c.args.at + q)) c.args.stride)) (place_at g.row.L c.args.stride c.requires.lanes v x column))
+    sixteen_more c.loop-y.y c.means_of-row.result c.requires.lanes c.requires.columns c.requires.apart c.loop-y.invariant c.put_rows.ensures
+    (λ r x low column. cc (
+      c.means_of-row.ensures (g.row.L * r + x) low,
+      c.half_row-b.ensures (g.row.L * r + x) low,
+      c.half_row-h.ensures (g.row.L * r + x) low,
+      place_in _ c.args.stride c.requires.lanes c.args.at c.args.across c.loop-y.y r x column,
+      place_in _ c.args.stride c.requires.lanes c.args.at c.args.down c.loop-y.y r x column,
+    ))
 
 pub returns : goal.returns
-returns g c =
-    strided_rows g.row.W (16 / g.row.L * c.loop-y.y) (16 / g.row.L * c.args.count) c.args.to.first c.args.to.stride
-    (λ x y. mean_of_two (half_along c.args.p.now (c.args.across + (c.args.at + (y * c.args.stride + x))) 1) (half_along c.args.p.now (c.args.down + (c.args.at + (y * c.args.stride + x))) c.args.stride)) c.args.out.now c.loop-y.out (ap (λ n. 16 / g.row.L * n) (omega (arith, c.loop-y-test.false, c.loop-y.auto.y-end))) c.loop-y.invariant
+returns g c = rows_done _ _ _ c.loop-y.invariant c.loop-y-test.false c.loop-y.auto.y-end

@@ -24,15 +24,10 @@ returns c =
           let i = lane_of_row a.i.now _ _ k c.widened-4.ensures.value c.as_slice-4.ensures h in
           let g = lane_of_row a.g.now _ _ k c.widened-5.ensures.value c.as_slice-5.ensures h in
           let m = lane_of_row a.h.now _ _ k c.widened-6.ensures.value c.as_slice-6.ensures h in
-          let outer = c.sums-outer.ensures.at k h in
-          let middle = c.sums-middle.ensures.at k h in
-          let inner = c.sums-inner.ensures.at k h in
-          let twenty = c.multiples.ensures.at k h in
-          let five = c.multiples-2.ensures.at k h in
-          let sum = c.sums.ensures.at k h in
-          back k h
-          ∙ six_taps_apart (slice_index a.e.now k) (slice_index a.f.now k) (slice_index a.g.now k) (slice_index a.h.now k) (slice_index a.i.now k) (slice_index a.j.now k)
-          (slice_index c.sums.result k) (slice_index c.multiples-2.result k) (omega arith) (omega arith);
+          back k h ∙ six_taps_apart (slice_index a.e.now k) (slice_index a.f.now k) (slice_index a.g.now k)
+          (slice_index a.h.now k) (slice_index a.i.now k) (slice_index a.j.now k) (slice_index c.sums.result k) (slice_index c.multiples-2.result k)
+          (omega (arith, c.sums-outer.ensures.at k h, c.sums-inner.ensures.at k h, c.multiples.ensures.at k h, c.sums.ensures.at k h))
+          (omega (arith, c.sums-middle.ensures.at k h, c.multiples-2.ensures.at k h));
       small = λ k h. is_sum (slice_index c.sums.result k) (slice_index c.multiples-2.result k) _
           (Each1-get_or (λ x. x ≤ 10710) c.sums.result k 0 (omega arith) sum_small) (Each1-get_or (λ x. x ≤ 2550) c.multiples-2.result k 0 (omega arith) five_small) (back k h);
     }

@@ -1,41 +1,28 @@
-use Rattle.avc_inter.proofs.SixRows.{◌+◌, ◌*◌, ◌/◌, length, arith, ap, slice_index, ◌∙◌, strided_rows, place_of, row_begins, row_there, whole_in_row}
-use Rattle.avc_inter.proofs.SixRows.{place_at, sixteen_more, room_more, begins_more}
+use Rattle.avc_inter.proofs.SixRows.{row_there, ◌+◌, ◌*◌, arith, row_first, row_room, rows_done, sixteen_more, place_in, row_begins}
 use Rattle.avc_inter.proofs.rows.whole_rows.Goals as goal
 
 pub overflow_mul-y : goal.overflow_mul-y
-overflow_mul-y g c =
-    omega (arith, row_begins g.row.L c.args.stride c.requires.lanes (16 * c.args.count) (c.args.at + c.args.by) c.loop-y.y c.args.p.now c.requires.samples (omega (arith, c.loop-y-test.true)))
+overflow_mul-y g c = omega (arith, row_begins _ _ c.requires.lanes _ (c.args.at + c.args.by) _ _ c.requires.samples c.loop-y-test.true)
 
 pub overflow_add-at-in-loop-y : goal.overflow_add-at-in-loop-y
-overflow_add-at-in-loop-y g c =
-    omega (arith, row_begins g.row.L c.args.stride c.requires.lanes (16 * c.args.count) (c.args.at + c.args.by) c.loop-y.y c.args.p.now c.requires.samples (omega (arith, c.loop-y-test.true)))
+overflow_add-at-in-loop-y g c = omega (arith, row_begins _ _ c.requires.lanes _ (c.args.at + c.args.by) _ _ c.requires.samples c.loop-y-test.true)
 
 pub sixteen-row-requires-clause-samples : goal.sixteen-row-requires-clause-samples
-sixteen-row-requires-clause-samples g c =
-    row_there g.row.L c.args.stride c.requires.lanes (16 * c.args.count) (c.args.at + c.args.by) c.loop-y.y c.args.p.now c.requires.samples (omega (arith, c.loop-y-test.true))
+sixteen-row-requires-clause-samples g c k low = row_there _ _ c.requires.lanes _ (c.args.at + c.args.by) _ k _ c.requires.samples c.loop-y-test.true low
 
 pub overflow_mul-y-in-loop-y : goal.overflow_mul-y-in-loop-y
-overflow_mul-y-in-loop-y g c =
-    omega (arith, c.loop-y.invariant.long, begins_more g.row.L c.requires.lanes g.row.W c.args.to.first c.args.to.stride c.loop-y.y c.requires.columns c.requires.apart c.args.count (length c.args.out.now) c.loop-y-test.true c.requires.room)
+overflow_mul-y-in-loop-y g c = omega (arith, row_first _ _ _ c.requires.lanes c.loop-y-test.true c.requires.room c.loop-y.invariant)
 
 pub overflow_add-to : goal.overflow_add-to
-overflow_add-to g c =
-    omega (arith, c.loop-y.invariant.long, begins_more g.row.L c.requires.lanes g.row.W c.args.to.first c.args.to.stride c.loop-y.y c.requires.columns c.requires.apart c.args.count (length c.args.out.now) c.loop-y-test.true c.requires.room)
+overflow_add-to g c = omega (arith, row_first _ _ _ c.requires.lanes c.loop-y-test.true c.requires.room c.loop-y.invariant)
 
 pub put_rows-requires-clause-room : goal.put_rows-requires-clause-room
-put_rows-requires-clause-room g c r low =
-    omega (arith, c.loop-y.invariant.long, room_more g.row.L c.requires.lanes g.row.W c.args.to.first c.args.to.stride c.loop-y.y c.requires.columns c.requires.apart c.args.count (length c.args.out.now) c.loop-y-test.true c.requires.room r low)
+put_rows-requires-clause-room g c r low = row_room _ _ _ _ c.requires.lanes c.loop-y-test.true c.requires.room c.loop-y.invariant low
 
 pub loop-y-preserved : goal.loop-y-preserved
 loop-y-preserved g c =
-    sixteen_more g.row.L c.requires.lanes g.row.W c.args.to.first c.args.to.stride c.loop-y.y c.requires.columns c.requires.apart
-    (λ k. slice_index c.args.p.now (c.args.by + (c.args.at + place_of g.row.L c.args.stride k)))
-    (λ x y. slice_index c.args.p.now (c.args.by + (c.args.at + (y * c.args.stride + x))))
-    c.sixteen-row.result c.args.out.now c.loop-y.out c.put_rows.new.out c.loop-y.invariant c.put_rows.ensures
-    (λ k low. c.sixteen-row.ensures k low ∙ whole_in_row g.row.L c.args.stride c.requires.lanes c.args.p.now c.args.at c.args.by c.loop-y.y k)
-    (λ x v column. ap (λ q. slice_index c.args.p.now (c.args.by + (c.args.at + q))) (place_at g.row.L c.args.stride c.requires.lanes v x column))
+    sixteen_more c.loop-y.y c.sixteen-row.result c.requires.lanes c.requires.columns c.requires.apart c.loop-y.invariant c.put_rows.ensures
+    (λ r x low column. cc (c.sixteen-row.ensures (g.row.L * r + x) low, place_in _ c.args.stride c.requires.lanes c.args.at c.args.by c.loop-y.y r x column))
 
 pub returns : goal.returns
-returns g c =
-    strided_rows g.row.W (16 / g.row.L * c.loop-y.y) (16 / g.row.L * c.args.count) c.args.to.first c.args.to.stride
-    (λ x y. slice_index c.args.p.now (c.args.by + (c.args.at + (y * c.args.stride + x)))) c.args.out.now c.loop-y.out (ap (λ n. 16 / g.row.L * n) (omega (arith, c.loop-y-test.false, c.loop-y.auto.y-end))) c.loop-y.invariant
+returns g c = rows_done _ _ _ c.loop-y.invariant c.loop-y-test.false c.loop-y.auto.y-end

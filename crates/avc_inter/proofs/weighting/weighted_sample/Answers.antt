@@ -1,5 +1,4 @@
-use Rattle.avc_inter.proofs.SixRows.{ℕ, ℤ, suc, ◌≡◌, ◌+◌, ◌-◌, ◌^◌, pos, ◌+ℤ◌, ◌*ℤ◌, arith, ap, sym, ◌∙◌, to_z, of_z, w32, ints, ◌>>ℤ◌, clip1}
-use Rattle.avc_inter.proofs.SixRows.{weighted}
+use Rattle.avc_inter.proofs.SixRows.{ℕ, ℤ, suc, ◌≡◌, ◌+◌, ◌-◌, ◌^◌, pos, ◌+ℤ◌, ◌*ℤ◌, arith, ap, sym, ◌∙◌, to_z, of_z, w32, ints, ◌>>ℤ◌, clip1, weighted}
 use Rattle.avc_inter.proofs.weighting.weighted_sample.Goals as goal
 
 weighted_is : (v d e : ℕ) (w o p p' s t : ℤ) → d ≡ suc e → p ≡ pos v *ℤ w → p' ≡ p → s ≡ (p' +ℤ pos (2 ^ e) >>ℤ (e + 1)) → t ≡ s +ℤ o → clip1 t ≡ weighted d w o v

@@ -7,7 +7,7 @@ plane_row-row-requires g c =
     let narrow : g.row.W ≤ 16 = c.requires.narrow.1 in
     let wide : g.row.W * 4 < 9223372036854775808 = omega arith in
     let size : g.row.W * 1 < 9223372036854775808 = omega arith in
-    (wide, (size, (record { low = omega (arith, ints); high = omega (arith, ints) }, λ x column. c.rises-rises.ensures.small x column)))
+    (wide, (size, (omega (arith, ints), λ x column. c.rises-rises.ensures.small x column)))
 
 pub loop-y-preserved : goal.loop-y-preserved
 loop-y-preserved g c =
@@ -23,14 +23,14 @@ loop-y-preserved g c =
     let across_here = across *ℤ (pos x -ℤ pos middle) in
     let sum : row_height +ℤ across_here ≡ height +ℤ across_here +ℤ down *ℤ (pos y -ℤ pos middle) +ℤ pos 16 = omega (arith, ints) in
     c.plane_row-row.ensures x column ∙ ap (λ (z : ℤ). clip1 (row_height +ℤ z >>ℤ 5)) (c.rises-rises.ensures.value x column) ∙ ap (λ (z : ℤ). clip1 (z >>ℤ 5)) sum in
-    strided_line g.row.W y c.args.at.first c.args.at.stride (λ x y. plane_sample middle height across down x y) c.args.rows.now c.loop-y.rows c.put_line.new.rows
+    strided_line _ _ _ _ (λ x y. plane_sample middle height across down x y) _ _ _
     c.requires.apart c.loop-y.invariant c.put_line.auto.rows (λ x column. c.put_line.ensures.here x column ∙ value x column) c.put_line.ensures.before c.put_line.ensures.behind
 
 pub returns : goal.returns
 returns g c =
-    let height : to_z w32 (of_z w32 c.args.height) ≡ c.args.height = omega (arith, ints, c.requires.height.low, c.requires.height.high) in
-    let across : to_z w32 (of_z w32 c.args.across) ≡ c.args.across = omega (arith, ints, c.requires.across.low, c.requires.across.high) in
-    let down : to_z w32 (of_z w32 c.args.down) ≡ c.args.down = omega (arith, ints, c.requires.down.low, c.requires.down.high) in
-    strided_same g.row.W g.row.W c.args.at.first c.args.at.stride _ (λ x y. plane_sample (g.row.W / 2 - 1) c.args.height c.args.across c.args.down x y) c.args.rows.now c.loop-y.rows
-    (strided_rows g.row.W c.loop-y.y g.row.W c.args.at.first c.args.at.stride _ c.args.rows.now c.loop-y.rows (omega (arith, c.loop-y-test.false, c.loop-y.auto.y-end)) c.loop-y.invariant)
+    let height : to_z w32 (of_z w32 c.args.height) ≡ c.args.height = omega (arith, ints) in
+    let across : to_z w32 (of_z w32 c.args.across) ≡ c.args.across = omega (arith, ints) in
+    let down : to_z w32 (of_z w32 c.args.down) ≡ c.args.down = omega (arith, ints) in
+    strided_same _ _ _ _ _ (λ x y. plane_sample (g.row.W / 2 - 1) c.args.height c.args.across c.args.down x y) _ _
+    (strided_rows _ _ g.row.W _ _ _ _ _ (omega (arith, c.loop-y-test.false, c.loop-y.auto.y-end)) c.loop-y.invariant)
     (λ x y column row. same_plane (g.row.W / 2 - 1) x y _ _ _ _ _ _ height across down)

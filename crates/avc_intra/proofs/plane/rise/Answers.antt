@@ -7,6 +7,6 @@ returns-clause-value c =
     let steps = pos c.args.place -ℤ pos c.args.middle in
     let first : to_z w32 (of_z w32 slope) ≡ slope = omega (arith, ints) in
     let second : to_z w32 (of_z w32 (to_z w32 c.args.place -ℤ to_z w32 c.args.middle)) ≡ steps = omega (arith, ints) in
-    let few : IsWithin 16 steps = record { low = omega (arith, ints); high = omega (arith, ints) } in
+    let few : IsWithin 16 steps = omega (arith, ints) in
     let small : IsWithin 80000 (slope *ℤ steps) = IsWithin-mul 5000 16 slope steps c.requires.slope few in
     rw (first, second) (omega (arith, ints))

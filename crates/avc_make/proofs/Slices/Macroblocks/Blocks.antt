@@ -16,9 +16,7 @@ at_place xs k d x within is = rw is (drop_more xs k d within)
 pub is_some_given : {A : Type 0} (given : Option A) (word : A → List Bool) (o : Option (List Bool)) → option_map word given ≡ o → is_some o ≡ true → is_some given ≡ true
 is_some_given given word o is some = grind arith
 
--- ---- what is coded
-
--- ---- trailing ones
+-- ---- what is coded: trailing ones
 
 pub ones_more : (most left : ℕ) (values others : List ℤ) (l : ℤ) → left ≡ suc most → values ≡ l ∷ others → nat_abs l ≡ 1 → ones_first left values ≡ suc (ones_first most others)
 ones_more most left values others l is_left is one = rw (is_left, is, eq-eqb (nat_abs l) 1 one) refl
@@ -120,10 +118,7 @@ prefix_some : (sl code power : ℕ) → sl ≢ 0 → 2 ^ sl ≡ power → 0 < po
 prefix_some sl code power some same positive is = grind (arith, nat_tests, div-lt_iff_lt-mul, mod-add-div, mod-lt)
 
 pub prefix_is : (sl code : ℕ) → IsCode sl code → IsPrefix sl code (prefix_of sl code)
-prefix_is sl code is = elim (cases_eq sl 0) [
-  | inl none ↦ rw none (prefix_zero code (rw none at is))
-  | inr some ↦ prefix_some sl code (2 ^ sl) some refl (pow_pos sl) is
-]
+prefix_is sl code is = search (rules, cases_eq, prefix_zero, prefix_some, pow_pos)
 
 -- what has a prefix has a codeword, and no other prefix
 pub prefix_code : (sl code prefix : ℕ) → IsPrefix sl code prefix → IsCode sl code
@@ -174,11 +169,7 @@ small_codes sl above_one (l ∷ values) all =
     (small_code sl above_one l (All-head IsSmall l values all), small_codes (next_suffix_length sl l) false values (All-tail IsSmall l values all))
 
 pub small_writable : SmallAreWritable
-small_writable levels all =
-    let values = values_of (coded levels) in
-    let ones = ones_first 3 values in
-    let each = coded_all IsSmall levels (All-weaker IsSmall (λ l. nat_abs l ≢ 0 → IsSmall l) (λ l small some. small) levels all) in
-    small_codes (first_length (length (coded levels)) ones) (nat_lt ones 3) (drop ones values) (All-drop IsSmall ones values each)
+small_writable levels all = search (rules, coded_all, All-weaker, small_codes, All-drop)
 
 -- ---- residual blocks read from their bits
 
@@ -198,10 +189,7 @@ back-one l one = absurd (omega arith)
 back-ones : (most : ℕ) (values : List ℤ) → GivesBack (times (ones_first most values) trailing_one) (sign_bits (ones_first most values) values) (take (ones_first most values) values)
 back-ones zero values = back-give
 back-ones (suc most) [] = back-give
-back-ones (suc most) (l ∷ values) = elim (cases_eq (nat_abs l) 1) [
-  | inl one ↦ let is = eq-eqb (nat_abs l) 1 one in rw is (back-bind _ (back-one l one) (back-last _ (back-ones most values)))
-  | inr other ↦ let is = ne_eqb (nat_abs l) 1 other in rw is back-give
-]
+back-ones (suc most) (l ∷ values) = search (rules, cases_eq, eq-eqb, back-bind, back-one, back-last, ne_eqb, back-give, back-ones most values)
 
 level_back : (above_one : Bool) (l : ℤ) → IsNonzero l → (above_one ≡ true → 2 ≤ nat_abs l) → level_of_code (code_of_level above_one l + (if above_one then 2 else 0)) ≡ l
 level_back above_one l some above = grind (arith, nat_tests)
@@ -304,18 +292,8 @@ Fills before levels = all_after (after_zeros before levels) ++ replicate (before
 
 fills : (before : ℕ) (levels : List ℤ) → Fills before levels
 fills before [] = let all : before + 0 - 0 ≡ before = omega arith in ap (λ n. replicate n (pos 0)) all ∙ sym (append-nil (replicate before (pos 0)))
-fills before (l ∷ levels) = elim (cases_eq (nat_abs l) 0) [
-  | inl none ↦
-      let sum : before + suc (length levels) ≡ before + 1 + length levels = omega arith in
-      rw (is_zero l none, sum) (fills (before + 1) levels ∙ replicate_more before levels)
-  | inr some ↦
-      let others = all_after (after_zeros 0 levels) in
-      let here = replicate before (pos 0) ++ l ∷ [] in
-      let size : length (here ++ others) ≡ before + 1 + length others =
-      length-append here others ∙ ap (λ n. n + length others) (length-append (replicate before (pos 0)) (l ∷ []) ∙ ap (λ n. n + 1) (length-replicate before (pos 0))) in
-      let left : before + suc (length levels) - length (here ++ others) ≡ 0 + length levels - length others = omega (arith, size) in
-      rw (ne_eqb (nat_abs l) 0 some, left) (append_assoc here others (replicate (0 + length levels - length others) (pos 0)) ∙ ap (λ t. here ++ t) (fills 0 levels) ∙ append_assoc (replicate before (pos 0)) (l ∷ []) levels)
-]
+fills before (l ∷ levels) =
+    search (rules, cases_eq, replicate_more, length-append, length-replicate, ne_eqb, append_assoc, fills (before + 1) levels, fills 0 levels)
 
 placed_back : (most : ℕ) (levels : List ℤ) → length levels ≡ most → placed most (values_of (coded levels)) (runs_of (coded levels)) ≡ levels
 placed_back most levels is =
@@ -436,24 +414,10 @@ split_at_one : (bits : List Bool) → leading bits < length bits → bits ≡ (r
 unfolding leading
 split_at_one [] some = absurd (omega arith)
 split_at_one (true ∷ bits) some = refl
-split_at_one (false ∷ bits) some =
-    let one : suc (leading bits) + 1 ≡ suc (leading bits + 1) = omega arith in
-    rw one (ap (λ t. false ∷ t) (split_at_one bits (omega arith)))
+split_at_one (false ∷ bits) some = search (rules, split_at_one bits (omega arith))
 
 prefix_took : (limit n : ℕ) (f : Fault) (b left : Bits) → zeros_before_one limit f b ≡ Ok (n, left) → (n ≤ limit) × (b.ahead ≡ (replicate n false ++ true ∷ []) ++ left.ahead)
-prefix_took limit n f b left is = elim (cases_lt limit (leading b.ahead)) [
-  | inl many ↦ let over = before_many limit f b many in cc
-  | inr few ↦ elim (cases_lt (leading b.ahead) (length b.ahead)) [
-    | inl some ↦
-        let both = pair_is (leading b.ahead) n (passed b (leading b.ahead + 1)) left (sym (before_found limit f b few some) ∙ is) in (
-          omega (arith, both.0),
-          split_at_one b.ahead some
-              ∙ ap (λ t. (replicate (leading b.ahead) false ++ true ∷ []) ++ t) (ap (λ (c : Bits). c.ahead) both.1)
-              ∙ ap (λ m. (replicate m false ++ true ∷ []) ++ left.ahead) both.0,
-        )
-    | inr none ↦ let cut = before_short limit f b few none in cc
-  ]
-]
+prefix_took limit n f b left is = search (rules, cases_lt, before_many, pair_is, before_found, split_at_one, before_short)
 
 took-prefix : (limit : ℕ) (f : Fault) → Took (zeros_before_one limit f) (λ n w. (n ≤ limit) × (w ≡ replicate n false ++ true ∷ []))
 took-prefix limit f = record {
@@ -544,12 +508,9 @@ ones_count : (most : ℕ) (ones others : List ℤ) → All IsOne ones → length
 ones_count zero [] others each few above = refl
 ones_count zero (l ∷ ones) others each few above = absurd (omega arith)
 ones_count (suc most) [] [] each few above = refl
-ones_count (suc most) [] (l ∷ others) each few above =
-    let two : 2 ≤ nat_abs l = above (omega arith) refl in
-    ap (λ t. if t then suc (ones_first most others) else 0) (ne_eqb (nat_abs l) 1 (omega arith))
+ones_count (suc most) [] (l ∷ others) each few above = search (rules, ne_eqb)
 ones_count (suc most) (l ∷ ones) others each few above =
-    ap (λ t. if t then suc (ones_first most (ones ++ others)) else 0) (eq-eqb (nat_abs l) 1 (All-head IsOne l ones each))
-    ∙ ap (λ n. suc n) (ones_count most ones others (All-tail IsOne l ones each) (omega arith) (λ less. above (omega arith)))
+    search (rules, eq-eqb, All-head, All-tail, ones_count most ones others (All-tail IsOne l ones each) (omega arith) (λ less. above (omega arith)))
 
 record AreValues (total ones : ℕ) (values : List ℤ) (word : List Bool) : Type 0 where
   count : length values ≡ total
@@ -617,10 +578,7 @@ HasLevel p = IsNonzero p.0
 
 found_back : (found : List (ℤ × ℕ)) (n : ℕ) → All HasLevel found → after_zeros 0 (flat_map after found ++ replicate n (pos 0)) ≡ found
 found_back [] n all = rw (← (append-nil (replicate n (pos 0)))) (zeros_on n 0 [])
-found_back (p ∷ found) n all =
-    let some : (nat_abs p.0 == 0) ≡ false = ne_eqb (nat_abs p.0) 0 (omega (arith, All-head HasLevel p found all)) in
-    let same : 0 + p.1 ≡ p.1 = omega arith in
-    simp (append_assoc, zeros_on, same, some, found_back found n (All-tail HasLevel p found all))
+found_back (p ∷ found) n all = search (rules, ne_eqb, All-head, append_assoc, zeros_on, All-tail, found_back found n (All-tail HasLevel p found all))
 
 all_zip : (values : List ℤ) (zero_runs : List ℕ) → All IsNonzero values → All HasLevel (zip values zero_runs)
 all_zip (l ∷ values) (z ∷ zero_runs) all =

@@ -1,5 +1,4 @@
-use Rattle.avc_marking.proofs.KeptFrames.{◌≡◌, ℕ, ◌<◌, ◌≤◌, List, length, drop, IfSome, option_map, StandAt, references_at, reference_at}
-use Rattle.avc_marking.proofs.KeptFrames.{first_in_window}
+use Rattle.avc_marking.proofs.KeptFrames.{◌≡◌, ℕ, ◌<◌, ◌≤◌, List, length, drop, IfSome, option_map, StandAt, references_at, reference_at, first_in_window}
 use Rattle.avc_marking.proofs.window.first_in_window.Given as goal
 
 abbrev pub invariant-loop-place : goal.invariant-loop-place

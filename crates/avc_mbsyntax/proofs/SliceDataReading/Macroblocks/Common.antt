@@ -1,20 +1,20 @@
 -- The names that the proofs cite of std, of the crates below and of the definitions here, passed on from one place. Declares nothing.
-pub use Rattle.std.proofs.Common.{◌≡◌, ◌≢◌, ℕ, zero, suc, ◌+◌, ◌-◌, ◌/◌, ◌^◌, append-nil, append_assoc, ◌<◌, ◌≤◌, min, ℤ, pos, Bool, true, false}
-pub use Rattle.std.proofs.Common.{List, [], ◌∷◌, ◌++◌, length, take, get_or, set, length-set, map, refl, ap, ◌∙◌, sym, arith, inl, inr, Ok, Err, ◌%◌}
-pub use Rattle.std.proofs.Common.{subst, Result, Some, None, IfSome, length-append, rules, to_z, of_z, w8}
+pub use Rattle.std.proofs.lemmas.List.{set-get_or, get_or-replicate, get_or-set_other, get_or_past, length-replicate, map-append, replicate_more, take_all}
+pub use Rattle.std.proofs.lemmas.List.{take_more, take_more_set}
+pub use Rattle.std.proofs.lemmas.Result.{MatchResult-weaker}
+pub use Rattle.std.proofs.Common.{◌≡◌, ◌≢◌, ℕ, zero, suc, ◌+◌, ◌-◌, ◌/◌, ◌^◌, append-nil, append_assoc, ◌<◌, ◌≤◌, min, ℤ, pos, Bool, true, false, List, [], ◌∷◌}
+pub use Rattle.std.proofs.Common.{◌++◌, length, take, get_or, set, length-set, map, refl, ap, ◌∙◌, sym, arith, inl, inr, Ok, Err, ◌%◌, subst, Result, Some}
+pub use Rattle.std.proofs.Common.{None, IfSome, length-append, rules, to_z, of_z, w8}
 pub use Rattle.std.proofs.Math.Nat.{div-eq_of_lt}
 pub use Rattle.std.proofs.lemmas.Bool.{cases_lt, le-ltb, ne_eqb, lt-leb, eqb-false, lt-ltb, ltb-false, eq-eqb}
 pub use Rattle.std.proofs.lemmas.Bool.Decides.{nat_tests}
 pub use Rattle.std.proofs.lemmas.Int.{ints}
-pub use Rattle.std.proofs.lemmas.List.{get_or-replicate, get_or-set_other, get_or_past, length-replicate, map-append, replicate_more, take_all}
-pub use Rattle.std.proofs.lemmas.List.{take_more, take_more_set}
 pub use Rattle.std.proofs.lemmas.List.Elements.{All-replicate}
 pub use Rattle.std.proofs.lemmas.Nat.{pow_pos}
 pub use Rattle.std.specs.List.{All, range_with_len}
 pub use Rattle.std.specs.Option.{option_copied}
 pub use Rattle.std.specs.Prelude.{Option, replicate, ◌==◌, ◌||◌, nat_le, if◌then◌else◌, not, IfOk, nat_lt}
-pub use Rattle.avc_bits.proofs.Reading.{u_reads, Gives, gives-any, gives-bind, gives-check, gives-give, gives-then, times_more, times_fault}
-pub use Rattle.avc_bits.proofs.Reading.{gives-each}
+pub use Rattle.avc_bits.proofs.Reading.{u_reads, Gives, gives-any, gives-bind, gives-check, gives-give, gives-then, times_more, times_fault, gives-each}
 pub use Rattle.avc_bits.proofs.Reading.Numbers.{number-bits_of}
 pub use Rattle.avc_bits.specs.Bits.{Bits, Read, ◌>>=◌, give, check, ◌>>◌, bits_of, number_of, times, more_data, start}
 pub use Rattle.avc_bits.specs.Codes.{ue_to, IsReadBy, IsU, Takes, flag, te, te_to, u, skip, ue}
@@ -37,14 +37,14 @@ pub use Rattle.avc_types.specs.declared.mb.BlockLevels.{BlockLevels}
 pub use Rattle.avc_vlc.specs.Reading.{Table, table_code, token_table, tokens_8, total_zeros}
 pub use Rattle.avc_vlc.specs.declared.token.Token.{Token}
 pub use Rattle.avc_mbsyntax.specs.Ranges.{AreSmall, IsResidual, IsSyntax}
-pub use Rattle.avc_mbsyntax.specs.Reading.{block_where, is_coded, no_levels, after_pattern, cb_side, cr_side, i_16x16_mb, luma_dc_levels}
-pub use Rattle.avc_mbsyntax.specs.Reading.{luma_pattern_of, luma_side, qp_after, qp_delta, qp_delta_where, residual_blocks, with_residual, i_mb}
-pub use Rattle.avc_mbsyntax.specs.Reading.{i_pcm_mb, block_mode, rem_mode, ref_idx_l0, macroblock}
+pub use Rattle.avc_mbsyntax.specs.Reading.{block_where, is_coded, no_levels, after_pattern, cb_side, cr_side, i_16x16_mb, luma_dc_levels, luma_pattern_of}
+pub use Rattle.avc_mbsyntax.specs.Reading.{luma_side, qp_after, qp_delta, qp_delta_where, residual_blocks, with_residual, i_mb, i_pcm_mb, block_mode, rem_mode}
+pub use Rattle.avc_mbsyntax.specs.Reading.{ref_idx_l0, macroblock}
 unfoldable pub use Rattle.avc_mbsyntax.specs.Reading.{blocks}
 pub use Rattle.avc_mbsyntax.specs.Rest.{after_skipped, one_more, rest_at, IsStage, Follows}
 unfoldable pub use Rattle.avc_mbsyntax.specs.Rest.{rest_of}
-pub use Rattle.avc_mbsyntax.specs.SliceData.{SliceMbs, SliceStart, after, after_run, context, data_from, ended, from_run, i_data, left_total_coeffs}
-pub use Rattle.avc_mbsyntax.specs.SliceData.{p_data, skipped, stopped, up_total_coeffs, where_room}
+pub use Rattle.avc_mbsyntax.specs.SliceData.{SliceMbs, SliceStart, after, after_run, context, data_from, ended, from_run, i_data, left_total_coeffs, p_data}
+pub use Rattle.avc_mbsyntax.specs.SliceData.{skipped, stopped, up_total_coeffs, where_room}
 pub use Rattle.avc_mbsyntax.specs.Stages.{stage_after}
 pub use Rattle.avc_mbsyntax.specs.Steps.{HasNoLevels, ReadsInto, is_ref0, context_of}
 pub use Rattle.avc_mbsyntax.specs.declared.context.Context.{Context}

@@ -1,6 +1,5 @@
-use Rattle.avc_mbsyntax.proofs.SliceDataReading.{◌≡◌, ◌∙◌, true, Ok, arith, rules, ap, refl, subst, sym, ◌==◌, All, option_copied, All-replicate}
-use Rattle.avc_mbsyntax.proofs.SliceDataReading.{reader_bits, small_none, AreSmall, no_levels, all_read, block_fault, block_read, no_chroma}
-use Rattle.avc_mbsyntax.proofs.SliceDataReading.{none_read}
+use Rattle.avc_mbsyntax.proofs.SliceDataReading.{◌≡◌, ◌∙◌, true, Ok, arith, rules, ap, refl, subst, sym, ◌==◌, All, option_copied, All-replicate, reader_bits}
+use Rattle.avc_mbsyntax.proofs.SliceDataReading.{small_none, AreSmall, no_levels, all_read, block_fault, block_read, no_chroma, none_read}
 use Rattle.avc_mbsyntax.proofs.blocks.read_chroma_blocks.Goals as goal
 
 pub returns-then-chroma_pattern-ne2-clause-read : goal.returns-then-chroma_pattern-ne2-clause-read

@@ -1,6 +1,5 @@
-use Rattle.avc_mbsyntax.proofs.SliceDataReading.{◌≡◌, ◌∙◌, true, false, Ok, arith, rules, ap, refl, subst, sym, All, option_copied, All-replicate}
-use Rattle.avc_mbsyntax.proofs.SliceDataReading.{reader_bits, small_none, AreSmall, is_coded, no_levels, all_read, block_fault, block_passed}
-use Rattle.avc_mbsyntax.proofs.SliceDataReading.{block_read, no_luma, none_read}
+use Rattle.avc_mbsyntax.proofs.SliceDataReading.{◌≡◌, ◌∙◌, true, false, Ok, arith, rules, ap, refl, subst, sym, All, option_copied, All-replicate, reader_bits}
+use Rattle.avc_mbsyntax.proofs.SliceDataReading.{small_none, AreSmall, is_coded, no_levels, all_read, block_fault, block_passed, block_read, no_luma, none_read}
 use Rattle.avc_mbsyntax.proofs.blocks.read_luma_blocks.Goals as goal
 
 pub returns-then-luma_pattern-eq0-clause-small : goal.returns-then-luma_pattern-eq0-clause-small

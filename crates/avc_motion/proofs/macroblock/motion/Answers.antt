@@ -1,6 +1,5 @@
-use Rattle.avc_motion.proofs.MacroblockMotion.{Ok, take, ◌≡◌, ◌∙◌, sym, ap, rules, [], length, subst, MbSyntax, p_skip, p_inter, parts_of, partitions}
-use Rattle.avc_motion.proofs.MacroblockMotion.{info_of, motion_near, motion_of, motion_or_fault, near_in, syntax_of, residual_of, result_map}
-use Rattle.avc_motion.proofs.MacroblockMotion.{skipped_is, inter_is}
+use Rattle.avc_motion.proofs.MacroblockMotion.{Ok, take, ◌≡◌, ◌∙◌, sym, ap, [], length, subst, MbSyntax, p_skip, p_inter, parts_of, partitions, info_of}
+use Rattle.avc_motion.proofs.MacroblockMotion.{motion_near, motion_of, motion_or_fault, near_in, syntax_of, residual_of, result_map, skipped_is, inter_is}
 use Rattle.avc_motion.proofs.macroblock.motion.Goals as goal
 
 pub returns-in-PSkip-clause-motion : goal.returns-in-PSkip-clause-motion

@@ -1,5 +1,4 @@
-use Rattle.avc_motion.proofs.MacroblockMotion.{if◌then◌else◌, ◌≡◌, ◌*◌, ◌∙◌, ap, arith, rules, slice_index_or, length-set, get_or-set_other, absent}
-use Rattle.avc_motion.proofs.MacroblockMotion.{is_in_part, set_more}
+use Rattle.avc_motion.proofs.MacroblockMotion.{if◌then◌else◌, ◌≡◌, ◌*◌, ◌∙◌, ap, arith, rules, slice_index_or, absent, is_in_part, set_more}
 use Rattle.avc_motion.proofs.parts.fill_blocks.Goals as goal
 
 pub loop-k-preserved : goal.loop-k-preserved
@@ -9,14 +8,6 @@ loop-k-preserved c =
     let old = c.args.mine.now in
     let part = c.args.part in
     let m = c.args.motion in
-    let v = c.pick.result in
-    let had = c.loop-k.invariant in
-    let value : v ≡ (if is_in_part part i then m else slice_index_or mine i absent) = search rules in
-    record {
-      long = length-set _ _ _ ∙ had.long;
-      from = omega (arith, had.from);
-      done = set_more (λ j. if is_in_part part j then m else slice_index_or old j absent) mine v (4 * c.args.quarter) i (omega (arith, had.long))
-          (value ∙ ap (λ x. if is_in_part part i then m else x) (had.left i (omega arith))) had.done;
-      before = λ j h. get_or-set_other mine i j v absent (λ e. absurd (omega (arith, e, h, had.from))) ∙ had.before j h;
-      left = λ j h. get_or-set_other mine i j v absent (λ e. absurd (omega (arith, e, h))) ∙ had.left j (omega (arith, h));
-    }
+    let value : c.pick.result ≡ (if is_in_part part i then m else slice_index_or mine i absent) = search rules in
+    set_more (λ j. if is_in_part part j then m else slice_index_or old j absent) old mine c.pick.result (4 * c.args.quarter) i (omega arith)
+    (value ∙ ap (λ x. if is_in_part part i then m else x) (c.loop-k.invariant.left i (omega arith))) c.loop-k.invariant

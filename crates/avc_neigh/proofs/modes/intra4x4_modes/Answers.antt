@@ -1,16 +1,11 @@
-use Rattle.avc_neigh.proofs.Found.{◌≡◌, ◌<◌, ◌∙◌, [], Option, None, get_or, length, take, refl, sym, ap, arith, length-set, ℕ, get_or_default}
-use Rattle.avc_neigh.proofs.Found.{info_of, chosen_mode, modes_end, modes_more, modes_near, modes_step, prediction_near, same_modes, small_mode}
+use Rattle.avc_neigh.proofs.Found.{◌≡◌, ◌<◌, ◌∙◌, Option, None, get_or, length, take, refl, ap, arith, length-set, ℕ, get_or_default}
+use Rattle.avc_neigh.proofs.Found.{info_of, chosen_mode, modes_end, modes_more, modes_step, prediction_near}
 use Rattle.avc_neigh.specs.declared.neighbour_info.NearMode.TheVariants.{Absent as absent}
 use Rattle.avc_neigh.proofs.modes.intra4x4_modes.Goals as goal
 
 pub returns-clause-modes : goal.returns-clause-modes
-returns-clause-modes c = λ p known a constrained near.
-    let n = info_of c.args.neighbours.now in
-    sym (
-    same_modes n p known a near [] c.args.coded.now (omega (arith, c.told-coded))
-    ∙ ap (λ b. modes_near n b [] c.args.coded.now) constrained
-    ∙ c.loop-k.invariant.done
-    ∙ modes_end n c.args.constrained_intra_pred c.loop-k.k c.loop-k.modes c.args.coded.now c.loop-k-test.false c.loop-k.invariant.long c.told-coded)
+returns-clause-modes c =
+    modes_end _ _ c.loop-k.k _ c.args.coded.now c.loop-k-test.false c.loop-k.invariant.long c.told-coded c.loop-k.invariant.done
 
 pub returns-clause-within : goal.returns-clause-within
 returns-clause-within c = λ a b k d h.
@@ -33,7 +28,6 @@ loop-k-preserved c =
           ∙ modes_step n c.args.constrained_intra_pred c.loop-k.k c.loop-k.modes c.args.coded.now c.chosen.result x below c.loop-k.invariant.long c.told-coded
           (get_or_default c.args.coded.now c.loop-k.k None x many) chosen;
       within = λ a b.
-          let all = c.loop-k.invariant.within a b in
-          modes_more c.loop-k.k c.loop-k.modes c.chosen.result (omega (arith, c.loop-k.invariant.long)) all
-          (small_mode n c.args.constrained_intra_pred c.loop-k.k c.loop-k.modes x c.chosen.result below all a b (c.requires c.loop-k.k None many) chosen);
+          modes_more n c.args.constrained_intra_pred c.loop-k.k c.loop-k.modes x c.chosen.result below c.loop-k.invariant.long
+          (c.loop-k.invariant.within a b) a b (c.requires c.loop-k.k None many) chosen;
     }

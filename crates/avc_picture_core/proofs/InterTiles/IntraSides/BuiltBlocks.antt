@@ -7,13 +7,7 @@ unfoldable pub use Common.*
 -- a block set to the same samples is the same
 pub with_block_same : (s : Plane) (left top w h : ℕ) (f g : ℕ → ℕ → ℕ) → ((x y : ℕ) → x < w → y < h → f x y ≡ g x y)
     → with_block s left top w h f ≡ with_block s left top w h g
-with_block_same s left top w h f g same =
-    plane_of_same s.width s.height (λ x y. if is_inside left top w h x y then f (x - left) (y - top) else sample s x y)
-    (λ x y. if is_inside left top w h x y then g (x - left) (y - top) else sample s x y)
-    (λ x y column row. by_place
-    (λ t. (if t then f (x - left) (y - top) else sample s x y) ≡ (if t then g (x - left) (y - top) else sample s x y)) left top w h x y
-    (λ a b c d. same (x - left) (y - top) (omega arith) (omega arith))
-    (λ none. refl))
+with_block_same s left top w h f g same = grind (arith, nat_tests, plane_of_same, by_place)
 
 -- a prediction that is to be had
 pub predicted : (can : Bool) (v : ℕ) → can ≡ true → unwrap_or (if can then Some v else None) 0 ≡ v
@@ -36,26 +30,13 @@ unchanged v z small none = rw none (grind (arith, ints, nat_tests))
 pub block_of_its_own : (s : Plane) (left top w h : ℕ) (f : ℕ → ℕ → ℕ) → length s.samples ≡ s.width * s.height
     → ((x y : ℕ) → x < w → y < h → left + x < s.width → top + y < s.height → f x y ≡ sample s (left + x) (top + y))
     → s ≡ with_block s left top w h f
-block_of_its_own s left top w h f long same =
-    no_line s left top w f long
-    ∙ plane_of_same s.width s.height (λ x y. if is_inside left top w 0 x y then f (x - left) (y - top) else sample s x y)
-    (λ x y. if is_inside left top w h x y then f (x - left) (y - top) else sample s x y)
-    (λ x y column row.
-    ap (λ t. if t then f (x - left) (y - top) else sample s x y) (outside left top w 0 x y (λ a b c d. omega arith))
-    ∙ by_place (λ t. sample s x y ≡ (if t then f (x - left) (y - top) else sample s x y)) left top w h x y
-    (λ a b c d.
-    sym (same (x - left) (y - top) (omega arith) (omega arith) (omega arith) (omega arith)
-    ∙ ap (λ u. sample s u (top + (y - top))) (omega arith)
-    ∙ ap (λ v. sample s x v) (omega arith)))
-    (λ none. refl))
+block_of_its_own s left top w h f long same = grind (arith, nat_tests, no_line s left top w f long, plane_of_same, by_place, outside)
 
 -- a residual of 0 changes nothing
 pub no_residual_added : (s : Plane) (left top w h : ℕ) (f : ℕ → ℕ → ℤ) → length s.samples ≡ s.width * s.height
     → ((x y : ℕ) → x < s.width → y < s.height → sample s x y ≤ 255) → ((x y : ℕ) → x < w → y < h → f x y ≡ pos 0)
     → s ≡ with_residual s left top w h f
-no_residual_added s left top w h f long small none =
-    block_of_its_own s left top w h (λ x y. sum_of (sample s (left + x) (top + y)) (f x y)) long
-    (λ x y column row within below. unchanged (sample s (left + x) (top + y)) (f x y) (small (left + x) (top + y) within below) (none x y column row))
+no_residual_added s left top w h f long small none = grind (arith, block_of_its_own, unchanged)
 
 -- the same residual under other words
 pub residual_same : (s : Plane) (left top w h : ℕ) (f g : ℕ → ℕ → ℤ) → ((x y : ℕ) → x < w → y < h → f x y ≡ g x y)
@@ -104,12 +85,7 @@ by_tile b f x y = f (x / 4) (y / 4) (b x y) (x % 4) (y % 4)
 
 pub in_tile : (size : ℕ) (b : ℕ → ℕ → ℕ) (f : ℕ → ℕ → ℕ → ℕ → ℕ → ℤ) (k l t : ℕ) → IsTile size b k l t → (i j : ℕ) → i < 4 → j < 4
     → by_tile b f (l + i) (t + j) ≡ f (l / 4) (t / 4) k i j
-in_tile size b f k l t tile i j column row =
-    let u : (l + i) / 4 ≡ l / 4 = omega (arith, tile.column) in
-    let v : (t + j) / 4 ≡ t / 4 = omega (arith, tile.row) in
-    let x : (l + i) % 4 ≡ i = omega (arith, tile.column) in
-    let y : (t + j) % 4 ≡ j = omega (arith, tile.row) in
-    rw (u, v, x, y, tile.number i j column row) refl
+in_tile size b f k l t tile i j column row = grind (arith, tile.column, tile.row, tile.number i j)
 
 module _ (s : Plane) (left top size : ℕ) (b : ℕ → ℕ → ℕ) (f : ℕ → ℕ → ℕ → ℕ → ℕ → ℤ) where
   abbrev chosen : ℕ → ℕ → Bool → ℕ
@@ -139,44 +115,33 @@ module _ (s : Plane) (left top size : ℕ) (b : ℕ → ℕ → ℕ) (f : ℕ �
     added u v q =
         if q then sum_of (sample cur (left + l + (u - (left + l))) (top + t + (v - (top + t)))) (g (u - (left + l)) (v - (top + t))) else sample cur u v
 
-    here : (x y : ℕ) → l ≤ x → x < l + 4 → t ≤ y → y < t + 4 → (b x y ≡ k) × (g (x - l) (y - t) ≡ by_tile b f x y)
-    here x y p q r w =
-        let across : l + (x - l) ≡ x = omega arith in
-        let down : t + (y - t) ≡ y = omega arith in
-        let same = value (x - l) (y - t) ∙ sym (in_tile size b f k l t tile (x - l) (y - t) (omega arith) (omega arith)) in (
-          ap (λ u. b u y) (sym across) ∙ ap (b (l + (x - l))) (sym down) ∙ tile.number (x - l) (y - t) (omega arith) (omega arith),
-          same ∙ ap (λ u. by_tile b f u (t + (y - t))) across ∙ ap (by_tile b f x) down,
-        )
+    here : (u v : ℕ) → left + l ≤ u → u < left + l + 4 → top + t ≤ v → v < top + t + 4
+        → (b (u - left) (v - top) ≡ k) × (g (u - (left + l)) (v - (top + t)) ≡ by_tile b f (u - left) (v - top))
+    here u v p q r w =
+        let i = u - (left + l) in
+        let j = v - (top + t) in
+        let x : u - left ≡ l + i = omega arith in
+        let y : v - top ≡ t + j = omega arith in
+        rw (x, y) (tile.number i j (omega arith) (omega arith), value i j ∙ sym (in_tile size b f k l t tile i j (omega arith) (omega arith)))
 
     within : (u v : ℕ) → u < s.width → v < s.height → left + l ≤ u → u < left + l + 4 → top + t ≤ v → v < top + t + 4
         → added u v true ≡ put (k + 1) u v (is_inside left top size size u v)
     within u v column row p q r w =
-        let x = u - left in
-        let y = v - top in
-        let h = here x y (omega arith) (omega arith) (omega arith) (omega arith) in
+        let h = here u v p q r w in
         let number = h.0 in
-        let no : nat_lt (b x y) k ≡ false = grind (arith, nat_tests) in
-        let yes : nat_lt (b x y) (k + 1) ≡ true = grind (arith, nat_tests) in
-        let it = inside left top size size u v (omega arith) (omega (arith, tile.across)) (omega arith) (omega (arith, tile.down)) in
-        let before : sample cur u v ≡ sample s (left + x) (top + y) =
-        sample-with_block s left top size size (λ i j. chosen i j (nat_lt (b i j) k)) u v column row ∙ ap (put k u v) it ∙ ap (chosen x y) no in
-        let value = sample s (left + x) (top + y) in
-        ap (λ i. sum_of (sample cur i (top + t + (v - (top + t)))) (g (u - (left + l)) (v - (top + t)))) (omega arith)
-        ∙ ap (λ j. sum_of (sample cur u j) (g (u - (left + l)) (v - (top + t)))) (omega arith)
-        ∙ ap (λ n. sum_of n (g (u - (left + l)) (v - (top + t)))) before
-        ∙ ap (λ i. sum_of value (g i (v - (top + t)))) (omega arith)
-        ∙ ap (λ j. sum_of value (g (x - l) j)) (omega arith)
-        ∙ ap (sum_of value) h.1
-        ∙ sym (ap (put (k + 1) u v) it ∙ ap (chosen x y) yes)
+        let no : nat_lt (b (u - left) (v - top)) k ≡ false = grind (arith, nat_tests) in
+        let yes : nat_lt (b (u - left) (v - top)) (k + 1) ≡ true = grind (arith, nat_tests) in
+        let it : is_inside left top size size u v ≡ true =
+        inside left top size size u v (omega arith) (omega (arith, tile.across)) (omega arith) (omega (arith, tile.down)) in
+        let i : left + l + (u - (left + l)) ≡ u = omega arith in
+        let j : top + t + (v - (top + t)) ≡ v = omega arith in
+        let x : left + (u - left) ≡ u = omega arith in
+        let y : top + (v - top) ≡ v = omega arith in
+        rw (i, j, sample-with_block s left top size size (λ x y. chosen x y (nat_lt (b x y) k)) u v column row, it, no, yes, h.1, x, y) refl
 
     -- a sample that is not of block k is of a block before it, or behind it
     same_test : (x y : ℕ) → b x y ≢ k → nat_lt (b x y) k ≡ nat_lt (b x y) (k + 1)
-    same_test x y other = elim (cases_lt (b x y) k) [
-      | inl less ↦ let a : nat_lt (b x y) k ≡ true = grind (arith, nat_tests) in let c : nat_lt (b x y) (k + 1) ≡ true = grind (arith, nat_tests) in a ∙ sym c
-      | inr from ↦
-          let past : k < b x y = omega (arith, other, from) in
-          let a : nat_lt (b x y) k ≡ false = grind (arith, nat_tests) in let c : nat_lt (b x y) (k + 1) ≡ false = grind (arith, nat_tests) in a ∙ sym c
-    ]
+    same_test x y other = grind (arith, nat_tests)
 
     without : (u v : ℕ) → u < s.width → v < s.height → (left + l ≤ u → u < left + l + 4 → top + t ≤ v → v < top + t + 4 → ⊥)
         → added u v false ≡ put (k + 1) u v (is_inside left top size size u v)
@@ -215,26 +180,13 @@ module _ (s : Plane) (size column row left top : ℕ) (b : ℕ → ℕ → ℕ) 
       → cur ≡ with_residual s (size * column) (size * row) size size (by_tile b f)
   added_all cur k before few = before.done ∙ all_before s (size * column) (size * row) size b f k few
 
--- ---- the 4x4 blocks of a macroblock, and what their residuals add
-
--- ---- the blocks of a macroblock
+-- ---- the 4x4 blocks of a macroblock, and what their residuals add: the blocks of a macroblock
 
 luma_number : (k x y : ℕ) → k < 16 → block_x k ≤ x → x < block_x k + 4 → block_y k ≤ y → y < block_y k + 4 → block_at x y ≡ k
 luma_number k x y few p q r s = grind (arith, ints, nat_tests)
 
-luma_block_place : (x y : ℕ) → x < 16 → y < 16 → (block_x (block_at x y) ≡ 4 * (x / 4)) × (block_y (block_at x y) ≡ 4 * (y / 4))
-luma_block_place x y column row =
-    parts (y / 8) (x / 8) ((y / 4) % 2) ((x / 4) % 2) (omega arith) (omega arith) (omega arith) (omega arith) x y (omega arith) (omega arith) where
-      parts : (p q r s : ℕ) → p < 2 → q < 2 → r < 2 → s < 2 → (x y : ℕ) → 4 * (x / 4) ≡ 8 * q + 4 * s → 4 * (y / 4) ≡ 8 * p + 4 * r
-          → (block_x (8 * p + 4 * q + 2 * r + s) ≡ 4 * (x / 4)) × (block_y (8 * p + 4 * q + 2 * r + s) ≡ 4 * (y / 4))
-      parts p q r s a b c d x y across down =
-          let half : (8 * p + 4 * q + 2 * r + s) / 4 ≡ 2 * p + q = omega arith in
-          let low : ((8 * p + 4 * q + 2 * r + s) / 4) % 2 ≡ q = omega (arith, half) in
-          let two : (8 * p + 4 * q + 2 * r + s) / 2 ≡ 4 * p + 2 * q + r = omega arith in
-          let middle : ((8 * p + 4 * q + 2 * r + s) / 2) % 2 ≡ r = omega (arith, two) in
-          let odd : (8 * p + 4 * q + 2 * r + s) % 2 ≡ s = omega arith in
-          let eighth : (8 * p + 4 * q + 2 * r + s) / 8 ≡ p = omega arith in
-          (omega (arith, low, odd, across), omega (arith, middle, eighth, down))
+pub luma_block_place : (x y : ℕ) → x < 16 → y < 16 → (block_x (block_at x y) ≡ 4 * (x / 4)) × (block_y (block_at x y) ≡ 4 * (y / 4))
+luma_block_place x y column row = (omega (arith, column, row), omega (arith, column, row))
 
 luma_within : (k x y : ℕ) → x < 16 → y < 16 → block_at x y ≡ k → (block_x k ≤ x) × (x < block_x k + 4) × (block_y k ≤ y) × (y < block_y k + 4)
 luma_within k x y column row is = grind (arith, ints, nat_tests, luma_block_place)
@@ -279,40 +231,20 @@ residual_by_dc qp dc blocks u v k x y = residual4x4_with_dc qp (dc u v) (slice_i
 abbrev weight : ℤ → ℕ
 weight l = cond (not (nat_abs l == 0)) 1 0
 
-some_weight : (n : ℕ) → ◌≡◌ {A = ℕ} (cond (not (suc n == 0)) 1 0) 0 → ⊥
-some_weight n e =
-    let some : (suc n == 0) ≡ false = grind (arith, nat_tests) in
-    let one : ◌≡◌ {A = ℕ} (cond (not (suc n == 0)) 1 0) 1 = ap (λ t. cond (not t) 1 0) some in
-    omega (arith, one, e)
-
 zero_level : (l : ℤ) → weight l ≡ 0 → l ≡ pos 0
 zero_level (pos zero) e = refl
-zero_level (pos (suc n)) e = absurd (some_weight n e)
-zero_level (negsuc n) e = absurd (some_weight n e)
+zero_level l e = absurd (grind (arith, ints, nat_tests))
 
 -- where none of the levels counts, each of them is 0
 pub no_level : (levels : List ℤ) → total_coeff levels ≡ 0 → (i : ℕ) → level levels i ≡ pos 0
 no_level [] e i = refl
-no_level (l ∷ ls) e zero =
-    let both : sum_by weight (l ∷ ls) ≡ (0 + weight l) + sum_by weight ls = sum_by-append weight (l ∷ []) ls in
-    zero_level l (omega (arith, both, e))
-no_level (l ∷ ls) e (suc i) =
-    let both : sum_by weight (l ∷ ls) ≡ (0 + weight l) + sum_by weight ls = sum_by-append weight (l ∷ []) ls in
-    no_level ls (omega (arith, both, e)) i
+no_level (l ∷ ls) e zero = zero_level l (omega (arith, sum_by-append weight (l ∷ []) ls, e))
+no_level (l ∷ ls) e (suc i) = no_level ls (omega (arith, sum_by-append weight (l ∷ []) ls, e)) i
 
 -- ---- a chroma component whose levels are all 0
 
-nothing_times : (a b l : ℤ) → l ≡ pos 0 → a *ℤ l *ℤ b ≡ pos 0
-nothing_times a b l none = rw (none, *ℤ-zero, zero-*ℤ) refl
-
-nothing_in_all : (a b c d : ℤ) → a ≡ pos 0 → b ≡ pos 0 → c ≡ pos 0 → d ≡ pos 0
-    → ◌≡◌ {A = ℤ} (pos 0 +ℤ (pos 0 +ℤ a +ℤ b) +ℤ (pos 0 +ℤ c +ℤ d)) (pos 0)
-nothing_in_all a b c d ea eb ec ed = rw (ea, eb, ec, ed) refl
-
 no_chroma_product : (dc : List ℤ) (x y : ℕ) → ((i : ℕ) → level dc i ≡ pos 0) → chroma_dc_product dc x y ≡ pos 0
-no_chroma_product dc x y none =
-    let term = λ (u v : ℕ). nothing_times (hadamard2 v y) (hadamard2 x u) (level dc (2 * v + u)) (none (2 * v + u)) in
-    nothing_in_all _ _ _ _ (term 0 0) (term 1 0) (term 0 1) (term 1 1)
+no_chroma_product dc x y none = simp (none, *ℤ-zero, zero-*ℤ)
 
 no_chroma_dc : (qp : ℕ) (dc : List ℤ) (x y : ℕ) → ((i : ℕ) → level dc i ≡ pos 0) → chroma_dc qp dc x y ≡ pos 0
 no_chroma_dc qp dc x y none =
@@ -334,6 +266,10 @@ no_chroma qp dc ac x y no_dc no_ac column row =
 abbrev sixteen : List ℕ
 sixteen = range_with_len 0 16
 
+-- block k has the sides of its mode
+abbrev pub can_nxn : ReadableNeighbours → List NearMode → ℕ → Bool
+can_nxn r modes k = can_predict4x4 (readable_sides r k) (mode4x4_of (mode_number (slice_index_or modes k absent)))
+
 pub all_sixteen : (p : ℕ → Bool) → ((k : ℕ) → k < 16 → p k ≡ true) → list_all p (range_with_len 0 16) ≡ true
 all_sixteen p f =
     list_all-from_AllPass p sixteen (All-from_get_or (λ x. p x ≡ true) sixteen 0 (λ k low. subst (λ n. p n ≡ true) (sym (get_or-range_with_len 0 16 k 0 low ∙ zero-add k)) (f k low)))
@@ -346,13 +282,26 @@ pub one_false : (p : ℕ → Bool) (k : ℕ) → k < 16 → p k ≡ false → li
 one_false p k low not = list_all_at p sixteen k 0 low (subst (λ n. p n ≡ false) (sym (get_or-range_with_len 0 16 k 0 low ∙ zero-add k)) not)
 
 pub same_sixteen : (p q : ℕ → Bool) → ((k : ℕ) → k < 16 → p k ≡ q k) → list_all p (range_with_len 0 16) ≡ list_all q (range_with_len 0 16)
-same_sixteen p q same = elim (cases_Bool (list_all p (range_with_len 0 16))) [
-  | inl each ↦ each ∙ sym (all_sixteen q (λ k low. sym (same k low) ∙ each_sixteen p each k low))
-  | inr some ↦ elim (cases_Bool (list_all q (range_with_len 0 16))) [
-    | inl all ↦ all_sixteen p (λ k low. same k low ∙ each_sixteen q all k low) ∙ sym all
-    | inr none ↦ some ∙ sym none
-  ]
-]
+same_sixteen p q same =
+    let at : (k : ℕ) → nat_lt k 16 ≡ true → p k ≡ q k = λ k low. same k (ltb-true k 16 low) in
+    rw (
+      at 0 refl,
+      at 1 refl,
+      at 2 refl,
+      at 3 refl,
+      at 4 refl,
+      at 5 refl,
+      at 6 refl,
+      at 7 refl,
+      at 8 refl,
+      at 9 refl,
+      at 10 refl,
+      at 11 refl,
+      at 12 refl,
+      at 13 refl,
+      at 14 refl,
+      at 15 refl,
+    ) refl
 
 -- ---- predictions laid into a plane, weighted where there are weights
 

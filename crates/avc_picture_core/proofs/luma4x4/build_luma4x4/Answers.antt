@@ -1,6 +1,5 @@
-use Rattle.avc_picture_core.proofs.InterTiles.{get_or_default, ◌≡◌, ◌+◌, ◌*◌, [], suc, slice_index_or, ap, sym, ◌∙◌, arith, rules, block_x, block_y}
-use Rattle.avc_picture_core.proofs.InterTiles.{absent, mode4x4_of, residual4x4, mode_number, with_block4x4, with_blocks4x4, AreInside, nxn_block}
-use Rattle.avc_picture_core.proofs.InterTiles.{nxn_residual}
+use Rattle.avc_picture_core.proofs.InterTiles.{get_or_default, ◌≡◌, ◌+◌, ◌*◌, [], suc, slice_index_or, ap, sym, ◌∙◌, arith, rules, block_x, block_y, absent}
+use Rattle.avc_picture_core.proofs.InterTiles.{mode4x4_of, residual4x4, mode_number, with_block4x4, with_blocks4x4, AreInside, nxn_block, nxn_residual}
 use Rattle.avc_types.specs.MacroblockFields.{residual_of}
 use Rattle.avc_picture_core.proofs.luma4x4.build_luma4x4.Goals as goal
 

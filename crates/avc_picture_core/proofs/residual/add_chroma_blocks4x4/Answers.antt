@@ -1,12 +1,9 @@
-use Rattle.avc_picture_core.proofs.InterTiles.{get_or_default, ints, to_z, of_z, w32, ◌≡◌, ◌*◌, ◌/◌, ◌%◌, pos, [], ap, ◌∙◌, refl, slice_index_or}
-use Rattle.avc_picture_core.proofs.InterTiles.{arith, residual4x4_with_dc, chroma_dc, chroma_number, chroma_tile, residual_by_dc, added_all}
-use Rattle.avc_picture_core.proofs.InterTiles.{added_more, added_none}
+use Rattle.avc_picture_core.proofs.InterTiles.{rules, get_or_default, ints, to_z, of_z, w32, ◌≡◌, ◌*◌, ◌/◌, ◌%◌, pos, [], ap, ◌∙◌, refl, slice_index_or, arith}
+use Rattle.avc_picture_core.proofs.InterTiles.{residual4x4_with_dc, chroma_dc, chroma_number, chroma_tile, residual_by_dc, added_all, added_more, added_none}
 use Rattle.avc_picture_core.proofs.residual.add_chroma_blocks4x4.Goals as goal
 
 pub loop-k-init : goal.loop-k-init
-loop-k-init g c =
-    added_none c.args.plane.now 8 c.args.place.column c.args.place.row _ _ chroma_number (residual_by_dc c.args.qp (chroma_dc c.args.qp c.args.dc.now) c.args.ac.now)
-    c.holds_bytes.ensures.all c.first_column-column.ensures c.first_row-row.ensures
+loop-k-init g c = search (rules, added_none)
 
 pub loop-k-preserved : goal.loop-k-preserved
 loop-k-preserved g c =
@@ -29,6 +26,4 @@ loop-k-preserved g c =
     (chroma_tile k c.loop-k-test.true) (λ i j. rw (back, value, mine) refl) c.add_block4x4_with_dc.ensures
 
 pub returns : goal.returns
-returns g c =
-    added_all c.args.plane.now 8 c.args.place.column c.args.place.row _ _ chroma_number (residual_by_dc c.args.qp (chroma_dc c.args.qp c.args.dc.now) c.args.ac.now)
-    c.loop-k.plane c.loop-k.k c.loop-k.invariant (λ x y column row. omega (arith, c.loop-k-test.false))
+returns g c = search (rules, added_all)

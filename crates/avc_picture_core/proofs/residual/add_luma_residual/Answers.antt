@@ -3,9 +3,7 @@ use Rattle.avc_picture_core.proofs.InterTiles.{residual_by_levels, added_all, ad
 use Rattle.avc_picture_core.proofs.residual.add_luma_residual.Goals as goal
 
 pub loop-k-init : goal.loop-k-init
-loop-k-init g c =
-    added_none c.args.plane.now 16 c.args.place.column c.args.place.row _ _ block_at (residual_by_levels c.args.qp c.args.levels.now.luma) c.holds_bytes.ensures.all
-    c.first_column-column.ensures c.first_row-row.ensures
+loop-k-init g c = search (rules, added_none)
 
 pub loop-k-preserved : goal.loop-k-preserved
 loop-k-preserved g c =

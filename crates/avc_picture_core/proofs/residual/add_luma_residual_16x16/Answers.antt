@@ -1,12 +1,9 @@
-use Rattle.avc_picture_core.proofs.InterTiles.{get_or_default, ints, to_z, of_z, w32, rules, ◌≡◌, ◌+◌, ◌/◌, pos, [], ap, ◌∙◌, refl, slice_index_or}
-use Rattle.avc_picture_core.proofs.InterTiles.{arith, block_at, residual4x4_with_dc, luma_dc, luma_tile, residual_by_dc, added_all, added_more}
-use Rattle.avc_picture_core.proofs.InterTiles.{added_none}
+use Rattle.avc_picture_core.proofs.InterTiles.{get_or_default, ints, to_z, of_z, w32, rules, ◌≡◌, ◌+◌, ◌/◌, pos, [], ap, ◌∙◌, refl, slice_index_or, arith}
+use Rattle.avc_picture_core.proofs.InterTiles.{block_at, residual4x4_with_dc, luma_dc, luma_tile, residual_by_dc, added_all, added_more, added_none}
 use Rattle.avc_picture_core.proofs.residual.add_luma_residual_16x16.Goals as goal
 
 pub loop-k-init : goal.loop-k-init
-loop-k-init g c =
-    added_none c.args.plane.now 16 c.args.place.column c.args.place.row _ _ block_at (residual_by_dc c.args.qp (luma_dc c.args.qp c.args.dc.now) c.args.levels.now.luma)
-    c.holds_bytes.ensures.all c.first_column-column.ensures c.first_row-row.ensures
+loop-k-init g c = search (rules, added_none)
 
 pub loop-k-preserved : goal.loop-k-preserved
 loop-k-preserved g c =

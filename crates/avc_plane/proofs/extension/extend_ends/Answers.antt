@@ -1,5 +1,4 @@
 use Rattle.avc_plane.proofs.PlaneMaps.{◌≡◌, ℕ, ◌+◌, ◌-◌, ◌*◌, ◌<◌, slice_index, arith, ap, ◌∙◌, inl, inr, row_fits, mul-le, cases_lt, below_more}
-use Rattle.avc_plane.proofs.PlaneMaps.{nearest_before, nearest_inside, nearest_after}
 use Rattle.avc_plane.proofs.extension.extend_ends.Goals as goal
 
 pub loop-y-preserved : goal.loop-y-preserved
@@ -35,14 +34,13 @@ returns c x y column row =
     let height = c.args.height in
     let stride = c.args.width + 2 * pad in
     let old = c.loop-y.invariant in
-    let source = λ (v : ℕ). slice_index c.args.stored.now ((v + pad) * stride + x) in
     let fits = λ (a m : ℕ) (less : a < m). row_fits a stride m stride less (omega arith) in
     elim (cases_lt y pad) [
-      | inl above ↦ old.above x y column (omega arith) ∙ ap (λ v. slice_index c.args.stored.now (v * stride + x)) (omega (arith, nearest_before pad height y above))
+      | inl above ↦ old.above x y column (omega arith) ∙ ap (λ v. slice_index c.args.stored.now (v * stride + x)) (omega arith)
       | inr from ↦ elim (cases_lt y (pad + height)) [
         | inl inside ↦ old.between (y * stride + x) (omega (arith, mul-le pad stride y stride from (omega arith))) (omega (arith, fits y (pad + height) inside))
-            ∙ ap (λ v. slice_index c.args.stored.now (v * stride + x)) (omega (arith, nearest_inside pad height y from inside))
+            ∙ ap (λ v. slice_index c.args.stored.now (v * stride + x)) (omega arith)
         | inr after ↦ ap (λ v. slice_index c.loop-y.stored (v * stride + x)) (omega arith) ∙ old.below x (y - (pad + height)) column (omega arith)
-            ∙ ap (λ v. slice_index c.args.stored.now (v * stride + x)) (omega (arith, nearest_after pad height y after))
+            ∙ ap (λ v. slice_index c.args.stored.now (v * stride + x)) (omega arith)
       ]
     ]

@@ -6,9 +6,7 @@ use Rattle.avc_plane.proofs.plane.zeros.Goals as goal
 lengthened : (zeros : List ℕ) (len m n : ℕ) → zeros ≡ replicate m 0 → len ≡ length zeros → m ≤ n → take n zeros ++ replicate (n - len) 0 ≡ replicate n 0
 lengthened zeros len m n so_far counted longer =
     let long : length zeros ≡ m = ap length so_far ∙ length-replicate m 0 in
-    ap (λ xs. xs ++ replicate (n - len) 0) (take_all n zeros (omega (arith, long)) ∙ so_far)
-    ∙ replicate-append-replicate m (n - len) 0
-    ∙ ap (λ k. replicate k 0) (omega (arith, long, counted))
+    rw (take_all n zeros (omega arith), so_far, replicate-append-replicate {A = ℕ} m (n - len) 0) (ap (λ k. replicate k 0) (omega arith))
 
 pub loop-piece-init : goal.loop-piece-init
 loop-piece-init c = c.in_ok-zeros.ensures.items

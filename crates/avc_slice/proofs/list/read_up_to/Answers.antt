@@ -1,5 +1,4 @@
-use Rattle.avc_slice.proofs.ReadUnder.{common_steps, rules, arith, refl, ◌≡◌, ◌-◌, ◌+◌, suc, ◌∙◌, starts, one_more, stops, ends, overflows, no_code}
-use Rattle.avc_slice.proofs.ReadUnder.{no_item, same_left}
+use Rattle.avc_slice.proofs.ReadUnder.{common_steps, rules, arith, refl, ◌≡◌, ◌-◌, ◌+◌, ◌∙◌, starts, one_more, stops, overflows, no_code, no_item}
 use Rattle.avc_slice.proofs.list.read_up_to.Goals as goal
 
 pub loop-init : goal.loop-init
@@ -17,26 +16,22 @@ returns-in_err-code g c =
 
 pub returns-then-code-ending : goal.returns-then-code-ending
 returns-then-code-ending g c =
-    let one_left : c.args.room - c.loop.counter ≡ suc (c.args.room - (c.loop.counter + 1)) = omega (arith, c.loop-test.true) in (
-      stops _ _ _ _ _ _ _ _ _ _ (same_left _ _ _ _ _ _ _ _ _ one_left c.loop.invariant.read) c.in_ok-code.ensures.read.0 c.if-code-ending.true,
-      c.in_ok-code.ensures.read.1 ∙ c.loop.invariant.bytes,
-    )
+    (stops _ _ _ _ _ _ _ _ _ _ c.loop.invariant.read c.in_ok-code.ensures.read.0 c.if-code-ending.true, c.in_ok-code.ensures.read.1 ∙ c.loop.invariant.bytes)
 
 pub returns-in_err-read_item : goal.returns-in_err-read_item
 returns-in_err-read_item g c =
-    let one_left : c.args.room - c.loop.counter ≡ suc (c.args.room - (c.loop.counter + 1)) = omega (arith, c.loop-test.true) in
-    let fault = no_item _ _ _ _ _ _ _ _ _ _ _ (same_left _ _ _ _ _ _ _ _ _ one_left c.loop.invariant.read) c.in_ok-code.ensures.read.0 c.if-code-ending.false c.in_err-read_item.ensures.read in
+    let fault = no_item _ _ _ _ _ (c.args.room - c.loop.counter) (c.args.room - (c.loop.counter + 1)) _ _ _ _ _ (omega (arith, c.loop-test.true)) c.loop.invariant.read c.in_ok-code.ensures.read.0
+    c.if-code-ending.false c.in_err-read_item.ensures.read in
     search rules
 
 pub loop-preserved : goal.loop-preserved
-loop-preserved g c =
-    let one_left : c.args.room - c.loop.counter ≡ suc (c.args.room - (c.loop.counter + 1)) = omega (arith, c.loop-test.true) in
-    record {
-      within = omega arith;
-      long = grind (arith, common_steps);
-      read = rw c.push.ensures (one_more _ _ _ _ _ _ _ _ _ _ _ _ (same_left _ _ _ _ _ _ _ _ _ one_left c.loop.invariant.read) c.in_ok-code.ensures.read.0 c.if-code-ending.false c.in_ok-read_item.ensures.read.0);
-      bytes = c.in_ok-read_item.ensures.read.1 ∙ c.in_ok-code.ensures.read.1 ∙ c.loop.invariant.bytes;
-    }
+loop-preserved g c = record {
+  within = omega arith;
+  long = grind (arith, common_steps);
+  read = rw c.push.ensures (one_more _ _ _ _ _ (c.args.room - c.loop.counter) (c.args.room - (c.loop.counter + 1)) _ _ _ _ _ _ (omega (arith, c.loop-test.true))
+      c.loop.invariant.read c.in_ok-code.ensures.read.0 c.if-code-ending.false c.in_ok-read_item.ensures.read.0);
+  bytes = c.in_ok-read_item.ensures.read.1 ∙ c.in_ok-code.ensures.read.1 ∙ c.loop.invariant.bytes;
+}
 
 pub returns-in_err-code-2 : goal.returns-in_err-code-2
 returns-in_err-code-2 g c =
@@ -45,12 +40,8 @@ returns-in_err-code-2 g c =
 
 pub returns-then-code-ending-2 : goal.returns-then-code-ending-2
 returns-then-code-ending-2 g c =
-    let none_left : c.args.room - c.loop.counter ≡ 0 = omega arith in (
-      ends _ _ _ _ _ _ _ _ _ (same_left _ _ _ _ _ _ _ _ _ none_left c.loop.invariant.read) c.in_ok-code-2.ensures.read.0 c.if-code-ending-2.true,
-      c.in_ok-code-2.ensures.read.1 ∙ c.loop.invariant.bytes,
-    )
+    (stops _ _ _ _ _ _ _ _ _ _ c.loop.invariant.read c.in_ok-code-2.ensures.read.0 c.if-code-ending-2.true, c.in_ok-code-2.ensures.read.1 ∙ c.loop.invariant.bytes)
 
 pub returns-else-code-ending-2 : goal.returns-else-code-ending-2
 returns-else-code-ending-2 g c =
-    let none_left : c.args.room - c.loop.counter ≡ 0 = omega arith in
-    overflows _ _ _ _ _ _ _ _ _ (same_left _ _ _ _ _ _ _ _ _ none_left c.loop.invariant.read) c.in_ok-code-2.ensures.read.0 c.if-code-ending-2.false
+    overflows _ _ _ _ _ (c.args.room - c.loop.counter) _ _ _ _ (omega arith) c.loop.invariant.read c.in_ok-code-2.ensures.read.0 c.if-code-ending-2.false

@@ -19,11 +19,7 @@ piece_made index u whole = record {
 same_units : (few many index : ℕ) (us : List PlacedUnit) → few ≤ many → All (IsShort few) us → numbered many index us ≡ numbered few index us
 same_units few many index [] le short = refl
 same_units few many index (u ∷ us) le short =
-    let here = (All-head (IsShort few) u us short).few in
-    let fits : nat_le (length u.bytes) few ≡ true = grind (arith, nat_tests, here) in
-    let fits_too : nat_le (length u.bytes) many ≡ true = grind (arith, nat_tests, here, le) in
-    ap (λ v. v ∷ numbered many (index + 1) us) (ap (piece_made index u) (fits_too ∙ sym fits))
-    ∙ ap (λ vs. unit_of few index u ∷ vs) (same_units few many (index + 1) us le (All-tail (IsShort few) u us short))
+    search (rules, All-head, IsShort, nat_le, All-tail, same_units few many (index + 1) us le (All-tail (IsShort few) u us short))
 
 -- So they are all there, where the greatest length is that of the stream or more.
 pub whole_units : (many : ℕ) (bytes : List ℕ) (ended : Bool) → length bytes ≤ many → units many bytes ended ≡ units (length bytes) bytes ended
@@ -45,20 +41,13 @@ abbrev behind : (others reversed : List Unit) → List Unit
 behind others reversed = reverse (drop (length (reverse others)) reversed)
 
 pub through_slice : (us : List Unit) (u : Unit) → is_slice u ≡ true → through_slices (us ++ u ∷ []) ≡ us ++ u ∷ []
-through_slice us u is =
-    ap (λ r. behind (take_while is_other r) r) (reverse-append us (u ∷ []))
-    ∙ ap (λ t. behind t (u ∷ reverse us)) (stops is_other u (reverse us) (ap not is))
-    ∙ ap reverse (sym (reverse-append us (u ∷ [])))
-    ∙ reverse-reverse (us ++ u ∷ [])
+through_slice us u is = search (rules, take_while, reverse-append, reverse, stops, reverse-reverse)
 
 one_less : (t r : List Unit) (u : Unit) → behind (u ∷ t) (u ∷ r) ≡ behind t r
 one_less t r u = ap (λ n. reverse (drop n (u ∷ r))) (length-reverse (u ∷ t) ∙ ap suc (sym (length-reverse t)))
 
 pub through_other : (us : List Unit) (u : Unit) → is_slice u ≡ false → through_slices (us ++ u ∷ []) ≡ through_slices us
-through_other us u is =
-    ap (λ r. behind (take_while is_other r) r) (reverse-append us (u ∷ []))
-    ∙ ap (λ t. behind t (u ∷ reverse us)) (goes_on is_other u (reverse us) (ap not is))
-    ∙ one_less (take_while is_other (reverse us)) (reverse us) u
+through_other us u is = search (rules, take_while, reverse-append, reverse, goes_on, one_less)
 
 front_and_rest : {X : Type 0} (p : X → Bool) (xs : List X) → take_while p xs ++ drop (length (take_while p xs)) xs ≡ xs
 front_and_rest p [] = refl
@@ -132,23 +121,9 @@ pub rest_written : (after : List Unit) (n kept : ℕ) (old one both : List ℕ) 
     → one ≡ old ++ flat_map written (take kept (take n after)) → both ≡ one ++ flat_map written (filter (λ u. not (is_left_out u)) (take (length (take n after) - kept) (drop kept (take n after))))
     → both ≡ old ++ flat_map written (rest_of_piece after)
 rest_written after n kept old one both is low is_kept first second =
-    let others = take n after in
-    let front : through_slices others ≡ take kept others = through_is_front others ∙ ap (λ k. take k others) (sym is_kept) in
-    let rest : after_slices others ≡ drop kept others = after_is_rest others ∙ ap (λ k. drop k others) (sym is_kept) in
-    let all : rest_of_piece after ≡ take kept others ++ filter stays (drop kept others) =
-    rest_cut after (omega (arith, is, low))
-    ∙ ap (λ m. through_slices (take m after) ++ filter stays (after_slices (take m after))) (sym is)
-    ∙ ap (λ t. t ++ filter stays (after_slices others)) front
-    ∙ ap (λ t. take kept others ++ filter stays t) rest in
-    second ∙ ap (λ us. one ++ flat_map written (filter stays us)) (part_from kept others)
-    ∙ ap (λ t. t ++ flat_map written (filter stays (drop kept others))) first
-    ∙ append_assoc old (flat_map written (take kept others)) (flat_map written (filter stays (drop kept others)))
-    ∙ ap (λ t. old ++ t) (sym (flat_map-append written (take kept others) (filter stays (drop kept others))))
-    ∙ ap (λ us. old ++ flat_map written us) (sym all)
+    search (rules, through_is_front, after_is_rest, filter, rest_cut, written, part_from, append_assoc, flat_map-append)
 
--- ---- one piece unit by unit is what the definition says
-
--- ---- stages
+-- ---- one piece unit by unit is what the definition says: stages
 
 pub after-append : (s : Stage) (us vs : List Unit) → stage_after s (us ++ vs) ≡ stage_after (stage_after s us) vs
 after-append s [] vs = refl
@@ -375,10 +350,7 @@ pub record AreLeft (max : ℕ) (old new : SplitterState) : Type 0 where
 left_behind : (max : ℕ) (old new : SplitterState) (others : List Unit) → IsDrained max old
     → units max new.bytes new.ended ≡ units max old.bytes old.ended ++ others → new.taken ≡ old.taken → new.failed ≡ old.failed → length old.bytes ≤ length new.bytes
     → AreLeft max old new
-left_behind max old new others d is count fails no_fewer =
-    let front = units max old.bytes old.ended in
-    let back : units_left max new ≡ others = rw (count, d.taken, is) (drop-append_seam front others) in
-    record { all = is ∙ ap (λ l. front ++ l) (sym back); taken = count ∙ d.taken; going = fails ∙ d.going; no_fewer = no_fewer }
+left_behind max old new others d is count fails no_fewer = search (rules, drop-append_seam)
 
 abbrev splitter_at : (bytes : List ℕ) (ended : Bool) (taken : ℕ) (failed : Bool) → SplitterState
 splitter_at bytes ended taken failed = record { bytes = bytes; ended = ended; taken = taken; failed = failed }
@@ -407,10 +379,7 @@ left_by_finish stay max old new d is = rw is (finished stay max old.bytes old.en
 
 -- and nothing is left once these were taken
 pub drained : (max : ℕ) (old mid new : SplitterState) → AreLeft max old mid → new ≡ after_units_left max mid → IsDrained max new
-drained max old mid new left is = rw is (record {
-  going = left.going;
-  taken = omega (arith, left.taken, ap (λ l. length l) left.all, length-append (units max old.bytes old.ended) (units_left max mid));
-})
+drained max old mid new left is = search (rules, length-append)
 
 -- The lines of units that come to others come behind theirs.
 lines_behind : (bytes front : List ℕ) (ended front_ended : Bool) (others : List Unit) → units 1 bytes ended ≡ units 1 front front_ended ++ others
@@ -427,9 +396,7 @@ pub unit_lines_grow : UnitsStay → OnlyGrows unit_lines_so_far
 unit_lines_grow stay bytes more ended short =
     let later = stay 1 bytes more ended in (_, lines_behind (bytes ++ more) bytes ended false later.0 later.1)
 
--- ---- the units whose parameter sets are in force, after one unit more; and pieces, one after the other
-
--- ---- ids
+-- ---- the units whose parameter sets are in force, after one unit more; and pieces, one after the other: ids
 
 first_by : {A B : Type 0} (first : Read A) (rest : A → Read B) (id : Option ℕ) (b : Bits) (set : B) (r : Result (A × Bits) Fault) → first b ≡ r → whole (first >>= rest) id b ≡ Ok set
     → (head : A) × (read_value first b ≡ Some head)
@@ -457,10 +424,7 @@ sps_id_is law rbsp set is =
     id ∙ ap Some (sym kept.id_is)
 
 pub pps_id_is : PpsInForceKeepsLimits → (rbsp : List ℕ) (set : Pps) → pps_of rbsp ≡ Ok set → pps_id rbsp ≡ Some set.pic_parameter_set_id
-pps_id_is law rbsp set is =
-    let head = first_by (ue_to 255) pps_after (pps_id rbsp) (start rbsp) set _ refl is in
-    let kept = law (OfPps rbsp ∷ []) head.0 set (pps_alone rbsp head.0 head.1 ∙ ap accepted is) in
-    head.1 ∙ ap Some (sym kept.id_is)
+pps_id_is law rbsp set is = search (rules, first_by, pps_id, start, OfPps, pps_alone, accepted)
 
 abbrev id_in : {A : Type 0} → SetFault → Result A SetFault → Option ℕ
 id_in why (Ok x) = why.id
@@ -557,10 +521,7 @@ sets_next us i u old new low at h sps_put pps_put =
     subst (λ before. HasSets before new) front (sets_more (take i us) u old new h sps_put pps_put)
 
 kept_none : (count : ℕ) (kept : List (Option (List ℕ))) → kept ≡ replicate count None → AreKept count (λ id. []) kept
-kept_none count kept is = record {
-  long = ap length is ∙ length-replicate count None;
-  each = λ id low. ap (λ ps. kept_bytes (stored ps id)) is ∙ ap kept_bytes (get_or-replicate count id None None low);
-}
+kept_none count kept is = search (rules, length-replicate, get_or-replicate)
 
 pub sets_none : (sets : SetsInForce) → sets.sps.items ≡ replicate 32 None → sets.pps.items ≡ replicate 256 None → HasSets [] sets
 sets_none sets sps_are pps_are = record { sps = kept_none 32 _ sps_are; pps = kept_none 256 _ pps_are }
@@ -631,10 +592,7 @@ pieces_first before u after = by_start (is_start u) (flat_map written (piece bef
 
 pub pieces_more : (us : List Unit) (i : ℕ) (u : Unit) (all more : List (List ℕ)) → i < length us → u ≡ get_or us i u → all ++ pieces_from (take i us) (drop i us) ≡ pieces_from [] us
     → more ≡ all ++ pieces_at us i → more ++ pieces_from (take (i + 1) us) (drop (i + 1) us) ≡ pieces_from [] us
-pieces_more us i u all more low at sum is =
-    let here : drop i us ≡ u ∷ drop (i + 1) us = drop_more us i u low ∙ ap (λ v. v ∷ drop (i + 1) us) (sym at) in
-    let front : take (i + 1) us ≡ take i us ++ u ∷ [] = take_more us i u low ∙ ap (λ y. take i us ++ y ∷ []) (sym at) in
-    rw (is, front, append_assoc, here) (rw (here, pieces_first (take i us) u (drop (i + 1) us)) at sum)
+pieces_more us i u all more low at sum is = search (rules, drop_more, take_more, append_assoc, pieces_first)
 
 one_piece : (before here : List Unit) (starts : List Bool) (b : Bool) → b ∷ starts ≡ map is_start here → pieces_in before here ≡ elim b [ true ↦ piece_in before here ∷ [] | false ↦ [] ]
 one_piece before [] starts b e = cc

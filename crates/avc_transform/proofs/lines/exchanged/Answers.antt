@@ -1,12 +1,12 @@
-use Rattle.avc_transform.proofs.Residuals.{ℕ, ◌<◌, arith, ◌∙◌, below_four, cast_back}
+use Rattle.avc_transform.proofs.Residuals.{ℕ, ◌<◌, arith, ◌∙◌, below_four, cast_small}
 use Rattle.avc_transform.proofs.lines.exchanged.Goals as goal
 
 pub returns-clause-values : goal.returns-clause-values
 returns-clause-values c = λ f l.
-    let z = λ (k : ℕ) (h : k < 4). cast_back _ (c.requires.zeroth k h) ∙ l.zeroth k h in
-    let a = λ (k : ℕ) (h : k < 4). cast_back _ (c.requires.first k h) ∙ l.first k h in
-    let b = λ (k : ℕ) (h : k < 4). cast_back _ (c.requires.second k h) ∙ l.second k h in
-    let d = λ (k : ℕ) (h : k < 4). cast_back _ (c.requires.third k h) ∙ l.third k h in
+    let z = λ (k : ℕ) (h : k < 4). cast_small (omega arith) (c.requires.zeroth k h) ∙ l.zeroth k h in
+    let a = λ (k : ℕ) (h : k < 4). cast_small (omega arith) (c.requires.first k h) ∙ l.first k h in
+    let b = λ (k : ℕ) (h : k < 4). cast_small (omega arith) (c.requires.second k h) ∙ l.second k h in
+    let d = λ (k : ℕ) (h : k < 4). cast_small (omega arith) (c.requires.third k h) ∙ l.third k h in
     record {
       zeroth = below_four _ (z 0 (omega arith)) (a 0 (omega arith)) (b 0 (omega arith)) (d 0 (omega arith));
       first = below_four _ (z 1 (omega arith)) (a 1 (omega arith)) (b 1 (omega arith)) (d 1 (omega arith));

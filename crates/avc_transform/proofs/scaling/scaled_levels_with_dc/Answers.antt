@@ -1,26 +1,28 @@
-use Rattle.avc_transform.proofs.Residuals.{ℕ, ◌<◌, ◌^◌, ◌∙◌, arith, w32, pos, slice_index_or, ints, to_z-of_z, IsBelow, level, below_four}
-use Rattle.avc_transform.proofs.Residuals.{each_of_four, AllBelow-more, cast_small, small_cast, level_back, level_small, scaled_of, IsBelow-more}
+use Rattle.avc_transform.proofs.Residuals.{ℕ, ℤ, ◌≡◌, ◌+◌, ◌-◌, ◌<◌, ◌==◌, ◌^◌, ◌∙◌, sym, if◌then◌else◌, arith, nat_tests, w32, to_z-of_z, AllBelow, level}
+use Rattle.avc_transform.proofs.Residuals.{List, [], ◌∷◌, w16, to_z, of_z, zigzag, below_four, AllBelow-more, cast_small, small_cast, level_back}
+use Rattle.avc_transform.proofs.Residuals.{scaled_of, scaled_line, IsBelow-more}
 use Rattle.avc_transform.proofs.scaling.scaled_levels_with_dc.Goals as goal
 
-pub scaled-ac-requires-clause-levels : goal.scaled-ac-requires-clause-levels
-scaled-ac-requires-clause-levels c =
-    let small = λ (n : ℕ) (h : n < 15). level_small (level c.args.levels.now n) (c.requires.small n h) in
-    each_of_four (IsBelow (2 ^ 12)) _ _ _ _ (record { low = omega (arith, ints); high = omega (arith, ints) }) (small 1 (omega arith)) (small 2 (omega arith)) (small 8 (omega arith))
+-- four of the levels, as sixteen bits
+small_levels : (l : List ℤ) → AllBelow 15 (2 ^ 12) l → (a b d e : ℕ) → a < 15 → b < 15 → d < 15 → e < 15 →
+    AllBelow 4 (2 ^ 12)
+    (to_z w16 (of_z w16 (level l a)) ∷ to_z w16 (of_z w16 (level l b)) ∷ to_z w16 (of_z w16 (level l d)) ∷ to_z w16 (of_z w16 (level l e)) ∷ [])
+small_levels l all a b d e ha hb hd he =
+    below_four _
+    (rw (level_back _ (all a ha)) (all a ha)) (rw (level_back _ (all b hb)) (all b hb))
+    (rw (level_back _ (all d hd)) (all d hd)) (rw (level_back _ (all e he)) (all e he))
 
 pub scaled-requires-clause-levels : goal.scaled-requires-clause-levels
-scaled-requires-clause-levels c =
-    let small = λ (n : ℕ) (h : n < 15). level_small (level c.args.levels.now n) (c.requires.small n h) in
-    each_of_four (IsBelow (2 ^ 12)) _ _ _ _ (small 0 (omega arith)) (small 3 (omega arith)) (small 7 (omega arith)) (small 9 (omega arith))
+scaled-requires-clause-levels c = small_levels c.args.levels.now c.requires.small 0 3 7 9 (omega arith) (omega arith) (omega arith) (omega arith)
 
 pub scaled-requires-2-clause-levels : goal.scaled-requires-2-clause-levels
-scaled-requires-2-clause-levels c =
-    let small = λ (n : ℕ) (h : n < 15). level_small (level c.args.levels.now n) (c.requires.small n h) in
-    each_of_four (IsBelow (2 ^ 12)) _ _ _ _ (small 4 (omega arith)) (small 6 (omega arith)) (small 10 (omega arith)) (small 13 (omega arith))
+scaled-requires-2-clause-levels c = small_levels c.args.levels.now c.requires.small 4 6 10 13 (omega arith) (omega arith) (omega arith) (omega arith)
 
 pub scaled-requires-3-clause-levels : goal.scaled-requires-3-clause-levels
-scaled-requires-3-clause-levels c =
-    let small = λ (n : ℕ) (h : n < 15). level_small (level c.args.levels.now n) (c.requires.small n h) in
-    each_of_four (IsBelow (2 ^ 12)) _ _ _ _ (small 5 (omega arith)) (small 11 (omega arith)) (small 12 (omega arith)) (small 14 (omega arith))
+scaled-requires-3-clause-levels c = small_levels c.args.levels.now c.requires.small 5 11 12 14 (omega arith) (omega arith) (omega arith) (omega arith)
+
+not_first : (x y : ℕ) (dc v : ℤ) → 0 < x → (if (x + y) == 0 then dc else v) ≡ v
+not_first x y dc v some = grind (arith, nat_tests)
 
 pub returns-clause-values : goal.returns-clause-values
 returns-clause-values c =
@@ -29,9 +31,6 @@ returns-clause-values c =
     let even = c.column_scales-scales.ensures.even in
     let odd = c.column_scales-scales.ensures.odd in
     let a = c.scaled-ac.ensures.values in
-    let b = c.scaled.ensures.values in
-    let d = c.scaled-2.ensures.values in
-    let e = c.scaled-3.ensures.values in
     let back = λ (n : ℕ) (h : n < 15). level_back (level l n) (c.requires.small n h) in
     let cast = λ (k : ℕ) (h : k < 4). cast_small (omega arith) (c.scaled-ac.ensures.small k h) in
     record {
@@ -40,30 +39,22 @@ returns-clause-values c =
           (cast 1 (omega arith) ∙ scaled_of qp (level l 1) 0 1 (a 1 (omega arith)) (back 1 (omega arith)) (even 1 (omega arith)))
           (cast 2 (omega arith) ∙ scaled_of qp (level l 2) 0 2 (a 2 (omega arith)) (back 2 (omega arith)) (even 2 (omega arith)))
           (cast 3 (omega arith) ∙ scaled_of qp (level l 8) 0 3 (a 3 (omega arith)) (back 8 (omega arith)) (even 3 (omega arith)));
-      first = below_four _
-          (scaled_of qp (level l 0) 1 0 (b 0 (omega arith)) (back 0 (omega arith)) (odd 0 (omega arith)))
-          (scaled_of qp (level l 3) 1 1 (b 1 (omega arith)) (back 3 (omega arith)) (odd 1 (omega arith)))
-          (scaled_of qp (level l 7) 1 2 (b 2 (omega arith)) (back 7 (omega arith)) (odd 2 (omega arith)))
-          (scaled_of qp (level l 9) 1 3 (b 3 (omega arith)) (back 9 (omega arith)) (odd 3 (omega arith)));
-      second = below_four _
-          (scaled_of qp (level l 4) 2 0 (d 0 (omega arith)) (back 4 (omega arith)) (even 0 (omega arith)))
-          (scaled_of qp (level l 6) 2 1 (d 1 (omega arith)) (back 6 (omega arith)) (even 1 (omega arith)))
-          (scaled_of qp (level l 10) 2 2 (d 2 (omega arith)) (back 10 (omega arith)) (even 2 (omega arith)))
-          (scaled_of qp (level l 13) 2 3 (d 3 (omega arith)) (back 13 (omega arith)) (even 3 (omega arith)));
-      third = below_four _
-          (scaled_of qp (level l 5) 3 0 (e 0 (omega arith)) (back 5 (omega arith)) (odd 0 (omega arith)))
-          (scaled_of qp (level l 11) 3 1 (e 1 (omega arith)) (back 11 (omega arith)) (odd 1 (omega arith)))
-          (scaled_of qp (level l 12) 3 2 (e 2 (omega arith)) (back 12 (omega arith)) (odd 2 (omega arith)))
-          (scaled_of qp (level l 14) 3 3 (e 3 (omega arith)) (back 14 (omega arith)) (odd 3 (omega arith)));
+      first = λ k h. scaled_line qp 1 (λ k. level l (zigzag 1 k - 1)) _ _ _ c.scaled.ensures.values
+          (below_four _ (back 0 (omega arith)) (back 3 (omega arith)) (back 7 (omega arith)) (back 9 (omega arith))) odd k h
+          ∙ sym (not_first 1 k _ _ (omega arith));
+      second = λ k h. scaled_line qp 2 (λ k. level l (zigzag 2 k - 1)) _ _ _ c.scaled-2.ensures.values
+          (below_four _ (back 4 (omega arith)) (back 6 (omega arith)) (back 10 (omega arith)) (back 13 (omega arith))) even k h
+          ∙ sym (not_first 2 k _ _ (omega arith));
+      third = λ k h. scaled_line qp 3 (λ k. level l (zigzag 3 k - 1)) _ _ _ c.scaled-3.ensures.values
+          (below_four _ (back 5 (omega arith)) (back 11 (omega arith)) (back 12 (omega arith)) (back 14 (omega arith))) odd k h
+          ∙ sym (not_first 3 k _ _ (omega arith));
     }
 
 pub returns-clause-small : goal.returns-clause-small
 returns-clause-small c =
-    let ac = c.scaled-ac.result in
-    let small = λ (k : ℕ) (h : k < 4). small_cast (omega arith) (IsBelow-more (2 ^ 25) (2 ^ 27) (slice_index_or ac k (pos 0)) (omega arith) (c.scaled-ac.ensures.small k h)) in
+    let small = λ (k : ℕ) (h : k < 4). IsBelow-more _ (2 ^ 27) _ (omega arith) (small_cast (omega arith) (c.scaled-ac.ensures.small k h)) in
     record {
-      zeroth = each_of_four (IsBelow (2 ^ 27)) _ _ _ _
-          (rw (to_z-of_z w32 c.args.dc c.ranges.dc) c.requires.dc) (small 1 (omega arith)) (small 2 (omega arith)) (small 3 (omega arith));
+      zeroth = below_four _ (rw (to_z-of_z w32 c.args.dc c.ranges.dc) c.requires.dc) (small 1 (omega arith)) (small 2 (omega arith)) (small 3 (omega arith));
       first = AllBelow-more _ (omega arith) c.scaled.ensures.small;
       second = AllBelow-more _ (omega arith) c.scaled-2.ensures.small;
       third = AllBelow-more _ (omega arith) c.scaled-3.ensures.small;

@@ -2,7 +2,7 @@ use Rattle.avc_types.proofs.Frames.{◌≡◌, arith, length, ◌∙◌, length-
 use Rattle.avc_types.proofs.rows.copy_sixteen.Goals as goal
 
 pub returns-clause-before : goal.returns-clause-before
-returns-clause-before c k below = get_or-put_chunk_below c.args.to c.args.rows.now (chunk c.args.from 16 c.args.samples.now) k 0 below
+returns-clause-before c k below = grind (arith, get_or-put_chunk_below)
 
 pub returns-clause-here : goal.returns-clause-here
 returns-clause-here c i below =

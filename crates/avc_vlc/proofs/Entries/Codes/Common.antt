@@ -1,11 +1,11 @@
 -- The names that the proofs cite of std, of the crates below and of the definitions here, passed on from one place. Declares nothing.
-pub use Rattle.std.proofs.Common.{◌≡◌, ℕ, List, [], ◌∷◌, ◌++◌, length, Bool, true, false, refl, ap, ◌∙◌, sym, inl, inr, Some, ◌+◌, subst, arith}
-pub use Rattle.std.proofs.Common.{length-append, append-nil, Ok, Err, zero, suc, ◌-◌, ℤ, pos, negsuc, nat_le, map, drop, get_or, ◌<◌, ◌≤◌, ◌<ℤ◌}
-pub use Rattle.std.proofs.Common.{append_assoc, ◌^◌, ◌*◌, ◌/◌, ◌%◌, eqb, take, min, lit<, ◌≤ℤ◌, rules}
+pub use Rattle.std.proofs.Common.{◌≡◌, ℕ, List, [], ◌∷◌, ◌++◌, length, Bool, true, false, refl, ap, ◌∙◌, sym, inl, inr, Some, ◌+◌, subst, arith, length-append}
+pub use Rattle.std.proofs.Common.{append-nil, Ok, Err, zero, suc, ◌-◌, ℤ, pos, negsuc, nat_le, map, drop, get_or, ◌<◌, ◌≤◌, ◌<ℤ◌, append_assoc, ◌^◌, ◌*◌, ◌/◌}
+pub use Rattle.std.proofs.Common.{◌%◌, eqb, take, min, lit<, ◌≤ℤ◌, rules}
 pub use Rattle.std.proofs.Math.Nat.{div-lt_iff_lt-mul, div-eq_of_lt, div-eq_of_lt-le, pow-succ', mod-lt, mod-eq_of_lt, pow-le-pow_right}
 pub use Rattle.std.proofs.Math.Pow.{mod-mod-pow}
 pub use Rattle.std.proofs.Math.Seq.{take-append_seam}
-pub use Rattle.std.proofs.lemmas.Bool.{and_parts, leb-true, le-ltb, cases_lt, or_parts, ltb-true, lt-ltb, lt-leb, le-leb}
+pub use Rattle.std.proofs.lemmas.Bool.{and_parts, true_from_ne_false, leb-true, le-ltb, cases_lt, or_parts, ltb-true, lt-ltb, lt-leb, le-leb}
 pub use Rattle.std.proofs.lemmas.Int.{ints}
 pub use Rattle.std.proofs.lemmas.List.{get_or-map, get_or-replicate, take-take, take-append-le, take_all}
 pub use Rattle.std.proofs.lemmas.List.Folds.{list_all_at}
@@ -25,12 +25,11 @@ pub use Rattle.avc_bits.specs.Reader.{Reads, reader_bits}
 pub use Rattle.avc_bits.specs.declared.reader.BitReader.{BitReader}
 pub use Rattle.avc_types.specs.declared.fault.Fault.{Fault}
 pub use Rattle.avc_types.specs.declared.fault.Fault.TheVariants.{BadCode}
-pub use Rattle.avc_vlc.specs.Indexing.{begins, goes_on, word_entry, entry_from, Agree, Decides, AreFronts, AreIndexed, IsIndexed, index, entry_of}
-pub use Rattle.avc_vlc.specs.Indexing.{place_bits, six_bit_entry, IsAhead, IsWritten, entry_word, holds, place_word, word_at}
+pub use Rattle.avc_vlc.specs.Indexing.{begins, goes_on, word_entry, entry_from, Agree, Decides, AreFronts, AreIndexed, IsIndexed, index, entry_of, IsPlaceOf}
+pub use Rattle.avc_vlc.specs.Indexing.{IsFrontOf, place_bits, six_bit_entry, IsAhead, IsWritten, entry_word, holds, place_word, word_at}
 pub use Rattle.avc_vlc.specs.Laws.{IsTableRead, IsRead, IsReadBack}
-pub use Rattle.avc_vlc.specs.Reading.{Table, IsIn, after_word, is_prefix, lookup, is_prefix_free, table_code, tokens, tokens_8, token_table}
-pub use Rattle.avc_vlc.specs.Reading.{row_table, row_at, zeros_table, run_table, coeff_token, run_before, total_zeros, IsToken, token, pattern_at}
-pub use Rattle.avc_vlc.specs.Reading.{coded_block_pattern}
+pub use Rattle.avc_vlc.specs.Reading.{Table, IsIn, after_word, is_prefix, lookup, is_prefix_free, table_code, tokens, tokens_8, token_table, row_table, row_at}
+pub use Rattle.avc_vlc.specs.Reading.{zeros_table, run_table, coeff_token, run_before, total_zeros, IsToken, token, pattern_at, coded_block_pattern}
 pub use Rattle.avc_vlc.specs.Tables.{coeff_token_0, coeff_token_2, coeff_token_4, total_zeros_4x4, total_zeros_chroma_dc, run_before_codes}
 pub use Rattle.avc_vlc.specs.Tables.{coeff_token_chroma_dc, cbp_intra, cbp_inter}
 pub use Rattle.avc_vlc.specs.Writing.{is_number_same, is_token_same, run_word, token_word, word_of, zeros_word, number_is_same, token_is_same}

@@ -1,5 +1,4 @@
-use Rattle.avc_annexb.proofs.Written.{◌≡◌, ◌∷◌, ◌++◌, [], ap, sym, ◌∙◌, append_assoc, arith, get_or, take, drop, length, ◌-◌, on_ok_weaker}
-use Rattle.avc_annexb.proofs.Written.{first_and_rest}
+use Rattle.avc_annexb.proofs.Written.{◌≡◌, ◌∷◌, ◌++◌, [], ap, sym, ◌∙◌, append_assoc, arith, get_or, take, drop, length, ◌-◌, on_ok_weaker, first_and_rest}
 use Rattle.avc_annexb.proofs.scanner.Scanner.run.Goals as goal
 
 pub returns-in_ok-start_code-in-1-clause-ok : goal.returns-in_ok-start_code-in-1-clause-ok

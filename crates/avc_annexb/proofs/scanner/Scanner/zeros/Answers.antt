@@ -1,5 +1,4 @@
-use Rattle.avc_annexb.proofs.Written.{◌++◌, ℕ, None, arith, length-append, replicate, length-replicate, on_ok_weaker, closed_unit, scanned_few}
-use Rattle.avc_annexb.proofs.Written.{scanned_many}
+use Rattle.avc_annexb.proofs.Written.{◌++◌, ℕ, None, arith, length-append, replicate, length-replicate, on_ok_weaker, closed_unit, scanned_few, scanned_many}
 use Rattle.avc_annexb.proofs.scanner.Scanner.zeros.Goals as goal
 
 pub returns-clause-ok : goal.returns-clause-ok

@@ -1,8 +1,5 @@
-use Rattle.avc_bits.proofs.Reading.{arith, refl, reader_bits, length-ahead, short_ue_from}
+use Rattle.avc_bits.proofs.Reading.{arith, refl, reader_bits, short_ue_from}
 use Rattle.avc_bits.proofs.reader.BitReader.any_ue.Goals as goal
-
-pub after-requires : goal.after-requires
-after-requires c = omega (arith, length-ahead c.args.self.now)
 
 pub overflow_sub-result-then-length-front : goal.overflow_sub-result-then-length-front
 overflow_sub-result-then-length-front c =

@@ -1,8 +1,5 @@
-use Rattle.avc_bits.proofs.Reading.{arith, reader_bits, length-ahead, times_short, bytes_from}
+use Rattle.avc_bits.proofs.Reading.{arith, reader_bits, bytes_from}
 use Rattle.avc_bits.proofs.reader.BitReader.take_bytes.Goals as goal
-
-pub returns-then-left-count-clause-read : goal.returns-then-left-count-clause-read
-returns-then-left-count-clause-read c = times_short c.args.count (reader_bits c.args.self.now) (omega (arith, length-ahead c.args.self.now))
 
 pub returns-clause-read : goal.returns-clause-read
 returns-clause-read c =

@@ -1,11 +1,5 @@
-use Rattle.avc_bits.proofs.Reading.{arith, reader_bits, length-ahead, before_many, before_short, before_from}
+use Rattle.avc_bits.proofs.Reading.{arith, reader_bits, length-ahead, before_from}
 use Rattle.avc_bits.proofs.reader.BitReader.zeros_before_one.Goals as goal
-
-pub returns-then-zeros-limit-clause-read : goal.returns-then-zeros-limit-clause-read
-returns-then-zeros-limit-clause-read c = before_many c.args.limit c.args.fault (reader_bits c.args.self.now) (omega arith)
-
-pub returns-then-left_within-zeros-clause-read : goal.returns-then-left_within-zeros-clause-read
-returns-then-left_within-zeros-clause-read c = before_short c.args.limit c.args.fault (reader_bits c.args.self.now) (omega arith) (omega (arith, length-ahead c.args.self.now))
 
 pub returns-clause-read : goal.returns-clause-read
 returns-clause-read c = (

@@ -342,9 +342,7 @@ tc1_small k = at_most 26 tc1s k refl
 pub no_tc0 : (n : ℕ) → n < 52 → tc0_of 0 n ≡ 0
 no_tc0 n low = same_below 52 (tc0_of 0) (λ (k : ℕ). 0) refl n low
 
--- ---- the limits of an edge and the settings of its lines
-
--- ---- rows of sixteen
+-- ---- the limits of an edge and the settings of its lines: rows of sixteen
 
 some : (n : ℕ) → (suc n == 0) ≡ false
 some n = grind (arith, nat_tests)

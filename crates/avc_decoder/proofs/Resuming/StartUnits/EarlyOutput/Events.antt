@@ -7,9 +7,7 @@ use Rattle.avc_decoder.specs.Machine as machine
 use Rattle.avc_decoder.specs.declared.calls.Reply.TheVariants as replies
 use Rattle.avc_types.specs.declared.fault.Fault.TheVariants as faults
 
--- ---- the events of a stream's units, one after another, and the state after them
-
--- ---- the state
+-- ---- the events of a stream's units, one after another, and the state after them: the state
 
 -- in this mode and phase, after these units with parameter sets
 abbrev pub state_of : Output → List SetUnit → Phase → State
@@ -71,6 +69,12 @@ pub drop_none : {A : Type 0} (xs : List A) (n : ℕ) → ◌≡◌ {A = Option A
 drop_none [] zero e = refl
 drop_none (y ∷ ys) (suc n) e = drop_none ys n e
 drop_none _ _ e = cc e
+
+-- what stands in front stays
+pub get-front : {A : Type 0} (xs ys : List A) (k : ℕ) (x : A) → slice_get xs k ≡ Some x → slice_get (xs ++ ys) k ≡ Some x
+get-front [] ys k x e = cc
+get-front (y ∷ xs) ys zero x e = e
+get-front (y ∷ xs) ys (suc k) x e = get-front xs ys k x e
 
 -- ---- want of memory
 

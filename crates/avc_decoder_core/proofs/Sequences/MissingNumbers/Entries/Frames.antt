@@ -156,9 +156,7 @@ pub no_entry : (rs : List Reference) (n p : ℕ) → p < n → Each (λ r. r.ent
 no_entry [] n p low h = refl
 no_entry (r ∷ rs) n p low h = grind (arith, nat_tests, no_entry rs n p low h.1)
 
--- ---- the frames of a history, as the buffer stores them
-
--- ---- of an entry
+-- ---- the frames of a history, as the buffer stores them: of an entry
 
 pub mark_is : (e : Option Entry) (m : Option Mark) → (frame_of e m).mark ≡ m
 mark_is e m = grind arith
@@ -234,9 +232,7 @@ last_mark new [] n (suc k) (m ∷ marked) d last marks = absurd (omega (arith, l
 last_mark new (p ∷ ps) n zero (m ∷ marked) d last marks = absurd (omega (arith, last))
 last_mark new (p ∷ ps) n (suc k) (m ∷ marked) d last marks = last_mark new ps n k marked d (omega (arith, last)) (cc)
 
--- ---- an entry comes: the marks and the buffer of the longer history
-
--- ---- the marks
+-- ---- an entry comes: the marks and the buffer of the longer history: the marks
 
 pub marks_then : (e : Entry) (h : History) (m : Marks) → marks_of h ≡ Ok m → marks_of (e ∷ h) ≡ marks_after (marking_entry e) (length h) (marking_entry e).marking m
 marks_then e h m is = grind (arith, length-map)
@@ -346,14 +342,7 @@ placed_by_room P false entry a b own h = each_append (λ s. P s.entry) b.frames 
 -- what holds of the places before, and of the entry's own
 pub each_after_frame : (P : ℕ → Type 0) (output : Output) (entry : ℕ) (a : Arrival) (b : Buffer) → P entry → Stored_each P b.frames →
     Stored_each P (after_frame output entry a b).frames
-each_after_frame P output entry a b own h =
-    let needed : Buffer = record b { frames = needed_frames a.references b.frames } in
-    let roomy = after_making_room (must_bump a) a.references needed in
-    let placed = after_placing entry a b in
-    bumped_while P (holds_too_many output a) a.references (count_by (λ s. s.needed_for_output) placed.frames) placed
-    (placed_by_room P (is_full a.capacity roomy) entry a roomy own
-    (bumped_while P (must_bump a) a.references (count_by (λ s. s.needed_for_output) needed.frames) needed
-    (each_filter (λ s. P s.entry) _ b.frames h)))
+each_after_frame P output entry a b own h = search (rules, bumped_while, placed_by_room, is_full, each_filter)
 
 pub each_prior : (P : ℕ → Type 0) (prior : PriorPictures) (b : Buffer) → Stored_each P b.frames → Stored_each P (after_prior_pictures prior b).frames
 each_prior P remain b h = h
@@ -402,9 +391,7 @@ all_marks_set c now ms n all is = is ∙ ap (λ fs. record c { frames = fs }) (a
 pub length-all_marks : (c now : Contents) (ms : List MarkedFrame) → now ≡ with_all_marks c ms → length now.frames ≡ length c.frames
 length-all_marks c now ms is = ap (λ v. length v.frames) is ∙ length-with_marks c.frames ms
 
--- ---- where the buffer's frames pass the test for a settled window
-
--- ---- the reference frames among the buffer's frames
+-- ---- where the buffer's frames pass the test for a settled window: the reference frames among the buffer's frames
 
 -- those of these frames, where `at` is the frame of each place
 abbrev references_in : (at : ℕ → Frame 32) → List Stored → List Reference

@@ -1,9 +1,8 @@
-use Rattle.avc_decoder_core.proofs.Sequences.{◌≡◌, ◌∷◌, ◌∙◌, ap, ap₂, sym, subst, false, Err, None, Some, Option, List, to_z, of_z, w32, rules}
-use Rattle.avc_decoder_core.proofs.Sequences.{option_map, PictureError, Faulty, Output, padded_planes_of, order_count_state, HistoryEntry}
-use Rattle.avc_decoder_core.proofs.Sequences.{OpenPicture, Inside, history_of, FrameBufferState, Refuses, output_at_closing, SequenceState}
-use Rattle.avc_decoder_core.proofs.Sequences.{OpenPictureStart, History, decoded_picture, marks_of, pasts, sequence_sps, with_picture}
-use Rattle.avc_decoder_core.proofs.Sequences.{IsSequenceState, IsStateOf, open_picture_of, IsRefusedOn, IsStoredOn, can_store, closing_refused}
-use Rattle.avc_decoder_core.proofs.Sequences.{current_is, is_closed, open_is, refused_on, set_then, stored_on, unchanged}
+use Rattle.avc_decoder_core.proofs.Sequences.{◌≡◌, ◌∷◌, ◌∙◌, ap, ap₂, sym, subst, false, Err, None, Some, Option, List, to_z, of_z, w32, rules, option_map}
+use Rattle.avc_decoder_core.proofs.Sequences.{PictureError, Faulty, Output, padded_planes_of, order_count_state, HistoryEntry, OpenPicture, Inside, history_of}
+use Rattle.avc_decoder_core.proofs.Sequences.{FrameBufferState, Refuses, output_at_closing, SequenceState, OpenPictureStart, History, decoded_picture, marks_of}
+use Rattle.avc_decoder_core.proofs.Sequences.{pasts, sequence_sps, with_picture, IsSequenceState, IsStateOf, open_picture_of, IsRefusedOn, IsStoredOn}
+use Rattle.avc_decoder_core.proofs.Sequences.{can_store, closing_refused, current_is, is_closed, open_is, refused_on, set_then, stored_on, unchanged}
 use Rattle.avc_decoder_core.proofs.sequence.Sequence.close.Goals as goal
 
 -- the state on which the picture stands

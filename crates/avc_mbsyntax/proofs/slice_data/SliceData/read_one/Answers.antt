@@ -1,6 +1,5 @@
-use Rattle.avc_mbsyntax.proofs.SliceDataReading.{◌≡◌, ◌<◌, ◌-◌, false, ap, sym, subst, ◌∙◌, arith, length, Ok, ◌==◌, option_copied, more_data}
-use Rattle.avc_mbsyntax.proofs.SliceDataReading.{reader_bits, IsSyntax, macroblock, context, IsStage, rest_of, context_is, is_open, one_longer}
-use Rattle.avc_mbsyntax.proofs.SliceDataReading.{one_read, stage_is}
+use Rattle.avc_mbsyntax.proofs.SliceDataReading.{◌≡◌, ◌<◌, ◌-◌, false, ap, sym, subst, ◌∙◌, arith, length, Ok, ◌==◌, option_copied, more_data, reader_bits}
+use Rattle.avc_mbsyntax.proofs.SliceDataReading.{IsSyntax, macroblock, context, IsStage, rest_of, context_is, is_open, one_longer, one_read, stage_is}
 use Rattle.avc_mbsyntax.specs.SliceData.{placed}
 use Rattle.avc_mbsyntax.proofs.slice_data.SliceData.read_one.Goals as goal
 

@@ -1,5 +1,4 @@
-use Rattle.avc_mbsyntax.proofs.SliceDataReading.{◌≡◌, false, ap, sym, subst, ◌∙◌, rules, reader_bits, stopped, Follows, one_more, rest_at, rest_of}
-use Rattle.avc_mbsyntax.proofs.SliceDataReading.{i_start}
+use Rattle.avc_mbsyntax.proofs.SliceDataReading.{◌≡◌, false, ap, sym, subst, ◌∙◌, rules, reader_bits, stopped, Follows, one_more, rest_at, rest_of, i_start}
 use Rattle.avc_mbsyntax.proofs.slice_data.SliceData.start.Goals as goal
 
 pub returns-in_err-read_one : goal.returns-in_err-read_one

@@ -17,21 +17,13 @@ map_twice f g [] = refl
 map_twice f g (x ∷ xs) = ap (λ ys. g (f x) ∷ ys) (map_twice f g xs)
 
 module _ {Y : Type 0} (of_mb : PicMb → Y) (of_info : NeighbourInfo → Y) where
-  one_more : (y z : Y) (ys zs rest : List Y) → y ≡ z → ys ≡ zs ++ rest → y ∷ ys ≡ z ∷ zs ++ rest
-  one_more y z ys zs rest e f = ap (λ x. x ∷ ys) e ∙ ap (λ xs. z ∷ xs) f
-
   pub tells_more : (mbs : List PicMb) (info : List NeighbourInfo) (m : PicMb) (f : NeighbourInfo) → slice_get mbs (length info) ≡ Some m
       → of_mb m ≡ of_info f → InfoTell of_mb of_info mbs info → InfoTell of_mb of_info mbs (info ++ f ∷ [])
-  tells_more [] [] m f is same told = cc
-  tells_more [] (g ∷ info) m f is same told = cc
-  tells_more (x ∷ mbs) [] m f is same told =
-      (map of_mb mbs, one_more (of_mb x) (of_info f) (map of_mb mbs) [] (map of_mb mbs) (ap of_mb (same_Some x m is) ∙ same) refl)
+  tells_more [] info m f is same told = cc
+  tells_more (x ∷ mbs) [] m f is same told = (map of_mb mbs, cc)
   tells_more (x ∷ mbs) (g ∷ info) m f is same told =
-      let rest = tells_more mbs info m f is same (told.0, ap (drop 1) told.1) in (
-        rest.0,
-        one_more (of_mb x) (of_info g) (map of_mb mbs) (map of_info (info ++ f ∷ [])) rest.0
-            (ap (λ ys. slice_index_or ys 0 (of_mb x)) told.1) rest.1,
-      )
+      let rest = tells_more mbs info m f is same (told.0, ap (drop 1) told.1) in
+      (rest.0, cc (told.1, rest.1))
 
   -- Whatever follows from what they tell, they tell.
   pub tells_mapped : {Z : Type 0} (g : Y → Z) (mbs : List PicMb) (info : List NeighbourInfo) → InfoTell of_mb of_info mbs info
@@ -58,30 +50,11 @@ module _ {Y : Type 0} (of_mb : PicMb → Y) (of_info : NeighbourInfo → Y) wher
 near_same : (told : NeighbourInfo → Bool) (mine mine' : ℕ → ℕ → Bool) → ((x y : ℕ) → mine x y ≡ mine' x y) → (n : Around) (x y : ℤ)
     → is_there_near told mine n x y ≡ is_there_near told mine' n x y
 near_same told mine mine' same n (pos x) (pos y) = ap (λ b. if nat_lt x 16 then b else false) (same x y)
-near_same told mine mine' same n (negsuc x) (pos y) = refl
-near_same told mine mine' same n (pos x) (negsuc y) = refl
-near_same told mine mine' same n (negsuc x) (negsuc y) = refl
+near_same told mine mine' same n x y = refl
 
 and_true : (a b c : Bool) → c ≡ true → (a && (b || c)) ≡ a
-and_true true true c e = refl
 and_true true false c e = e
-and_true false b c e = refl
-
-same_of_four : {S : Type 0} (f : Bool → Bool → Bool → Bool → S) (a a' r r' l l' c c' : Bool) → a ≡ a' → r ≡ r' → l ≡ l' → c ≡ c'
-    → f a r l c ≡ f a' r' l' c'
-same_of_four f a a' r r' l l' c c' p q s t = rw (p, q, s, t) refl
-
-asked_above : (k : ℕ) → k < 16 → IsAsked (pos (block_x k)) (pos (block_y k) -ℤ pos 1)
-asked_above k h = record { left = omega (arith, ints, h); right = omega (arith, ints, h); top = omega (arith, ints, h); bottom = omega (arith, ints, h) }
-
-asked_above_right : (k : ℕ) → k < 16 → IsAsked (pos (block_x k) +ℤ pos 4) (pos (block_y k) -ℤ pos 1)
-asked_above_right k h = record { left = omega (arith, ints, h); right = omega (arith, ints, h); top = omega (arith, ints, h); bottom = omega (arith, ints, h) }
-
-asked_left : (k : ℕ) → k < 16 → IsAsked (pos (block_x k) -ℤ pos 1) (pos (block_y k))
-asked_left k h = record { left = omega (arith, ints, h); right = omega (arith, ints, h); top = omega (arith, ints, h); bottom = omega (arith, ints, h) }
-
-asked_corner : (k : ℕ) → k < 16 → IsAsked (pos (block_x k) -ℤ pos 1) (pos (block_y k) -ℤ pos 1)
-asked_corner k h = record { left = omega (arith, ints, h); right = omega (arith, ints, h); top = omega (arith, ints, h); bottom = omega (arith, ints, h) }
+and_true a b c e = refl
 
 module _ (c : Coded) (a : ℕ) (m : PicMb) (is : slice_get c.mbs a ≡ Some m) (row : PictureInfo) (width : row.width ≡ c.width)
     (wide : 0 < c.width) (has : HasNeighbourInfo c a row.info) where
@@ -135,11 +108,10 @@ module _ (c : Coded) (a : ℕ) (m : PicMb) (is : slice_get c.mbs a ≡ Some m) (
     sides_are h =
         let x = pos (block_x k) in
         let y = pos (block_y k) in
-        same_of_four (λ above right left corner. record { above = above; above_right = right; left = left; corner = corner }) _ _ _ _ _ _ _ _
-        (at_place x (y -ℤ pos 1) (asked_above k h))
-        (at_place (x +ℤ pos 4) (y -ℤ pos 1) (asked_above_right k h))
-        (at_place (x -ℤ pos 1) y (asked_left k h))
-        (at_place (x -ℤ pos 1) (y -ℤ pos 1) (asked_corner k h))
+        let above = at_place x (y -ℤ pos 1) (grind (arith, ints)) in
+        let right = at_place (x +ℤ pos 4) (y -ℤ pos 1) (grind (arith, ints)) in
+        let left = at_place (x -ℤ pos 1) y (grind (arith, ints)) in
+        rw (above, right, left, at_place (x -ℤ pos 1) (y -ℤ pos 1) (grind (arith, ints))) refl
 
 -- ---- the motion and the modes of a picture's macroblocks, over one macroblock more
 
@@ -153,7 +125,7 @@ module _ {X : Type 0} (before : ℕ → List X) (last : ℕ → X) (none : befor
   entry_of_next : (n i : ℕ) (d : X) → i < n → slice_index_or (before (suc n)) i d ≡ slice_index_or (before n) i d
   entry_of_next n i d h = grind (arith, get_or_append_left, grown_long)
 
-  grown_entry : (n m i : ℕ) (d : X) → i < n → n ≤ m → slice_index_or (before m) i d ≡ slice_index_or (before n) i d
+  pub grown_entry : (n m i : ℕ) (d : X) → i < n → n ≤ m → slice_index_or (before m) i d ≡ slice_index_or (before n) i d
   grown_entry n zero i d h k = absurd (omega (arith, h, k))
   grown_entry n (suc m) i d h k = elim (cases_lt m n) [
     | inl high ↦ ap (λ j. slice_index_or (before j) i d) (omega (arith, k, high))
@@ -166,29 +138,16 @@ module _ {X : Type 0} (before : ℕ → List X) (last : ℕ → X) (none : befor
       ap (λ xs. slice_index_or xs n d) (more n) ∙ get_or-append_right (before n) (last n ∷ []) n n d (grown_long n) (omega arith)
       ∙ ap (λ j. slice_index_or (last n ∷ []) j d) none_left
 
-module _ (c : Coded) where
-  pub motion_stays : (n m i : ℕ) → i < n → n ≤ m → slice_index_or (motion_before c m) i [] ≡ slice_index_or (motion_before c n) i []
-  motion_stays n m i h k = grown_entry (motion_before c) _ refl (λ j. refl) n m i [] h k
+module _ (c : Coded) (n : ℕ) (m : PicMb) (is : slice_get c.mbs n ≡ Some m) where
+  pub motion_last : slice_index_or (motion_before c (suc n)) n [] ≡ motion_of c (motion_before c n) n m.mb.syntax
+  motion_last = grown_last (motion_before c) _ refl (λ j. refl) n [] ∙ rw is refl
 
-  pub modes_stay : (n m i : ℕ) → i < n → n ≤ m → slice_index_or (modes_before c m) i [] ≡ slice_index_or (modes_before c n) i []
-  modes_stay n m i h k = grown_entry (modes_before c) _ refl (λ j. refl) n m i [] h k
-
-  module _ (n : ℕ) (m : PicMb) (is : slice_get c.mbs n ≡ Some m) where
-    pub motion_more : motion_before c (suc n) ≡ motion_before c n ++ motion_of c (motion_before c n) n m.mb.syntax ∷ []
-    motion_more = rw is refl
-
-    pub modes_more : modes_before c (suc n) ≡ modes_before c n ++ modes_of c (modes_before c n) n m.mb.syntax ∷ []
-    modes_more = rw is refl
-
-    pub motion_last : slice_index_or (motion_before c (suc n)) n [] ≡ motion_of c (motion_before c n) n m.mb.syntax
-    motion_last = grown_last (motion_before c) _ refl (λ j. refl) n [] ∙ rw is refl
-
-    pub modes_last : slice_index_or (modes_before c (suc n)) n [] ≡ modes_of c (modes_before c n) n m.mb.syntax
-    modes_last = grown_last (modes_before c) _ refl (λ j. refl) n [] ∙ rw is refl
+  pub modes_last : slice_index_or (modes_before c (suc n)) n [] ≡ modes_of c (modes_before c n) n m.mb.syntax
+  modes_last = grown_last (modes_before c) _ refl (λ j. refl) n [] ∙ rw is refl
 
 -- ---- total_coeff of the neighbours of the macroblock that comes next
 
-module _ (c : Coded) (names : Names) (m : MbsState) (holds : HoldsFirst c names m) (kept : PartsAgree m) (s : SliceStart)
+module _ {c : Coded} {names : Names} {m : MbsState} (holds : HoldsFirst c names m) (kept : PartsAgree m) (s : SliceStart)
     (width : s.width ≡ c.width) (slice : ℕ) (number : s.slice ≡ slice) where
   abbrev first_beside : List PicMb
   first_beside = take m.next c.mbs
@@ -208,15 +167,11 @@ module _ (c : Coded) (names : Names) (m : MbsState) (holds : HoldsFirst c names 
   wide : 0 < m.row.width
   wide = subst (λ w. 0 < w) (sym kept.row_width) kept.wide
 
-  moved : (near : List PicMb → (width slice a : ℕ) → Option Mb) → option_map (λ x. total_coeffs_of x.syntax) (near first_beside m.row.width slice (next_address m.row))
-      ≡ option_map (λ x. total_coeffs_of x.syntax) (near first_beside s.width s.slice (length first_beside))
-  moved near = rw (row_width, number, first_beside_long) refl
-
   pub left_is : option_map (λ f. f.total_coeffs) (mb_a m.row slice) ≡ left_total_coeffs s first_beside
-  left_is = sym (total_coeffs_found first_beside m.row slice wide slices counts).0 ∙ moved left_of
+  left_is = rw (row_width, number, first_beside_long) (sym (total_coeffs_found first_beside m.row slice wide slices counts).0)
 
   pub up_is : option_map (λ f. f.total_coeffs) (mb_b m.row slice) ≡ up_total_coeffs s first_beside
-  up_is = sym (total_coeffs_found first_beside m.row slice wide slices counts).1 ∙ moved above
+  up_is = rw (row_width, number, first_beside_long) (sym (total_coeffs_found first_beside m.row slice wide slices counts).1)
 
 -- ---- the blocks of a quarter of a macroblock are predicted from one reference index
 
@@ -239,40 +194,24 @@ AreOf shape (p ∷ ps) = IsOf shape p × AreOf shape ps
 abbrev part_at : (x y width height p : ℕ) → Part
 part_at x y width height p = record { x = x; y = y; width = width; height = height; partition = p }
 
--- block k lies in the part
-part_in : (p : Part) (k : ℕ) → is_in_part p k ≡ true → (p.x ≤ block_x k) × (block_x k < p.x + p.width) × (p.y ≤ block_y k) × (block_y k < p.y + p.height)
-part_in p k e = bounds p.x p.y p.width p.height (block_x k) (block_y k) e
-
-part_of_quarter : (x y width height q u v k : ℕ) → u + width ≤ 8 → v + height ≤ 8 → x ≡ quarter_x q + u → y ≡ quarter_y q + v → k < 16
-    → (x ≤ block_x k) × (block_x k < x + width) × (y ≤ block_y k) × (block_y k < y + height) → q ≡ k / 4
-part_of_quarter x y width height q u v k wide high at_x at_y h i = omega (arith, h, wide, high, at_x, at_y, i.0, i.1, i.2, i.3)
-
 module _ (shape : PMbType) where
   both_of : (ps qs : List Part) → AreOf shape ps → AreOf shape qs → AreOf shape (ps ++ qs)
   both_of [] qs e f = f
   both_of (p ∷ ps) qs e f = (e.0, both_of ps qs e.1 f)
 
   module _ (q : ℕ) (is : (k : ℕ) → k < 16 → q ≡ k / 4 → q ≡ partition_of shape (k / 4)) where
-    one_of : (x y width height u v : ℕ) → u + width ≤ 8 → v + height ≤ 8 → x ≡ quarter_x q + u → y ≡ quarter_y q + v
+    -- a part in the quarter
+    one_of : (x y width height : ℕ) → (quarter_x q ≤ x) × (x + width ≤ quarter_x q + 8) × (quarter_y q ≤ y) × (y + height ≤ quarter_y q + 8)
         → IsOf shape (record { x = x; y = y; width = width; height = height; partition = q })
-    one_of x y width height u v wide high at_x at_y k h e =
-        is k h (part_of_quarter x y width height q u v k wide high at_x at_y h (part_in (part_at x y width height q) k e))
+    one_of x y width height in_quarter k h e =
+        let i = bounds x y width height (block_x k) (block_y k) e in
+        is k h (omega (arith, i.0, i.1, i.2, i.3, in_quarter.0, in_quarter.1, in_quarter.2, in_quarter.3))
 
     quarter_of : (s : SubMbType) → AreOf shape (parts_of_quarter s (quarter_x q) (quarter_y q) q)
-    quarter_of Sub8x8 = (one_of _ _ 8 8 0 0 (omega arith) (omega arith) (omega arith) (omega arith), tt)
-    quarter_of Sub8x4 = (
-      one_of _ _ 8 4 0 0 (omega arith) (omega arith) (omega arith) (omega arith),
-      (one_of _ _ 8 4 0 4 (omega arith) (omega arith) (omega arith) (omega arith), tt),
-    )
-    quarter_of Sub4x8 = (
-      one_of _ _ 4 8 0 0 (omega arith) (omega arith) (omega arith) (omega arith),
-      (one_of _ _ 4 8 4 0 (omega arith) (omega arith) (omega arith) (omega arith), tt),
-    )
-    quarter_of Sub4x4 =
-        let a = one_of (quarter_x q) (quarter_y q) 4 4 0 0 (omega arith) (omega arith) (omega arith) (omega arith) in
-        let b = one_of (quarter_x q + 4) (quarter_y q) 4 4 4 0 (omega arith) (omega arith) (omega arith) (omega arith) in
-        let c = one_of (quarter_x q) (quarter_y q + 4) 4 4 0 4 (omega arith) (omega arith) (omega arith) (omega arith) in
-        (a, (b, (c, (one_of (quarter_x q + 4) (quarter_y q + 4) 4 4 4 4 (omega arith) (omega arith) (omega arith) (omega arith), tt))))
+    quarter_of Sub8x8 = (one_of _ _ _ _ (grind arith), tt)
+    quarter_of Sub8x4 = (one_of _ _ _ _ (grind arith), (one_of _ _ _ _ (grind arith), tt))
+    quarter_of Sub4x8 = (one_of _ _ _ _ (grind arith), (one_of _ _ _ _ (grind arith), tt))
+    quarter_of Sub4x4 = (one_of _ _ _ _ (grind arith), (one_of _ _ _ _ (grind arith), (one_of _ _ _ _ (grind arith), (one_of _ _ _ _ (grind arith), tt))))
 
   quarters_of : ((q k : ℕ) → k < 16 → q ≡ k / 4 → q ≡ partition_of shape (k / 4)) → (subs : List SubMbType) (q : ℕ)
       → AreOf shape (parts_of_quarters subs q)
@@ -281,11 +220,9 @@ module _ (shape : PMbType) where
 
 -- a part of which each block is looked at
 part_of : (shape : PMbType) (p : Part) → list_all (λ k. not (is_in_part p k) || (p.partition == partition_of shape (k / 4))) (range_with_len 0 16) ≡ true → IsOf shape p
-part_of shape p all k h e = told (is_in_part p k) (each_sixteen (λ n. not (is_in_part p n) || (p.partition == partition_of shape (n / 4))) all k h) e
-  where
-    told : (b : Bool) → (not b || (p.partition == partition_of shape (k / 4))) ≡ true → b ≡ true → p.partition ≡ partition_of shape (k / 4)
-    told true test e = grind (arith, nat_tests)
-    told false test e = absurd cc
+part_of shape p all k h e =
+    let test = each_sixteen (λ n. not (is_in_part p n) || (p.partition == partition_of shape (n / 4))) all k h in
+    grind (arith, nat_tests)
 
 parts_are_of : (shape : PMbType) → AreOf shape (parts_of shape)
 parts_are_of P16x16 = (λ k h e. refl, tt)
@@ -311,16 +248,14 @@ module _ (near : Near) (shape : PMbType) (refs : List ℕ) where
   filled_from : (mine : List Motion) (p : Part) (d : Mvd) → AllFrom mine → IsOf shape p
       → AllFrom (with_part mine p (motion_of_part near shape (slice_index refs p.partition) mine p d))
   filled_from mine p d from is k h =
-      subst (IsFrom (slice_index refs (partition_of shape (k / 4)))) (sym (at-with_part mine p (motion_of_part near shape (slice_index refs p.partition) mine p d) k h))
-      (from_either (slice_index refs (partition_of shape (k / 4))) (is_in_part p k) (motion_of_part near shape (slice_index refs p.partition) mine p d)
-      (slice_index_or mine k absent_motion) (λ t. ap (slice_index refs) (is k h t)) (from k h))
+      rw (at-with_part mine p (motion_of_part near shape (slice_index refs p.partition) mine p d) k h)
+      (from_either _ (is_in_part p k) _ _ (λ t. ap (slice_index refs) (is k h t)) (from k h))
 
   parts_from : (mine : List Motion) (ps : List Part) (ms : List Mvd) → AllFrom mine → AreOf shape ps
       → AllFrom (motion_of_parts near shape refs mine ps ms)
-  parts_from mine [] ms from is = from
-  parts_from mine (p ∷ ps) [] from is = from
   parts_from mine (p ∷ ps) (d ∷ ms) from is =
       parts_from (with_part mine p (motion_of_part near shape (slice_index refs p.partition) mine p d)) ps ms (filled_from mine p d from is.0) is.1
+  parts_from mine ps ms from is = from
 
   none_from : AllFrom no_motion
   none_from k h = subst (IsFrom (slice_index refs (partition_of shape (k / 4)))) (sym (get_or-replicate 16 k absent_motion absent_motion h)) tt
@@ -330,19 +265,14 @@ module _ (near : Near) (shape : PMbType) (refs : List ℕ) where
 
 -- the reference index of a quarter of an inter macroblock
 abbrev pub quarter_reference : MbSyntax → ℕ → ℕ
-quarter_reference p_skip q = 0
 quarter_reference (p_inter shape refs mvds r) q = slice_index refs (partition_of shape q)
-quarter_reference (i_pcm luma cb cr) q = 0
-quarter_reference (i_nxn modes chroma r) q = 0
-quarter_reference (i_16x16 mode chroma r) q = 0
+quarter_reference s q = 0
 
 pub one_reference : (near : Near) (s : MbSyntax) → is_intra s ≡ false → (k : ℕ) → k < 16
     → IsFrom (quarter_reference s (k / 4)) (slice_index_or (motion_by near s) k absent_motion)
 one_reference near p_skip e k h = grind (arith, nat_tests, get_or-replicate)
 one_reference near (p_inter shape refs mvds r) e k h = inter_from near shape refs mvds k h
-one_reference near (i_pcm luma cb cr) e k h = cc
-one_reference near (i_nxn modes chroma r) e k h = cc
-one_reference near (i_16x16 mode chroma r) e k h = cc
+one_reference near s e k h = cc
 
 -- ---- what the deblocking filter is told of the first macroblocks, over one macroblock more
 
@@ -357,9 +287,8 @@ picture_of c a slice i frame e n = rw (e, n) refl
 -- a block that has a picture, with the number of its quarter
 number_from : (c : Coded) (slice : ℕ) (numbers : List ℕ) (r : ℕ) (m : Motion) → is_picture (reference_of c slice m) ≡ true → IsFrom r m
     → number_of numbers m ≡ slice_index_or numbers r 0
-number_from c slice numbers r absent_motion there from = cc
-number_from c slice numbers r intra_motion there from = cc
 number_from c slice numbers r (inter_motion i v) there from = ap (λ j. slice_index_or numbers j 0) from
+number_from c slice numbers r m there from = cc
 
 module _ {PAD : ℕ} (c : Coded) (names : Names) (s : SliceContext PAD) (slice : IsSlice c names s) (a : ℕ) (mb : Mb)
     (is : slice_get c.mbs a ≡ Some (record { slice = s.number; mb = mb })) (motion : List Motion) (long : length motion ≡ 16)
@@ -380,8 +309,6 @@ module _ {PAD : ℕ} (c : Coded) (names : Names) (s : SliceContext PAD) (slice :
 
     block_has : (k : ℕ) → k < 16 → (m : Motion) → block k ≡ m → is_picture (reference_of c s.number m) ≡ true → IsFrom (r (k / 4)) m
         → HasMotion c names a f k m
-    block_has k h absent_motion e there from = cc
-    block_has k h intra_motion e there from = cc
     block_has k h (inter_motion i v) e there from =
         let n = slice.numbers i there in
         let number : slice_index f.pictures (k / 4) ≡ slice_index_or s.frame_numbers i 0 = quarter_number k h ∙ ap (λ j. slice_index_or s.frame_numbers j 0) (sym from) in
@@ -391,6 +318,7 @@ module _ {PAD : ℕ} (c : Coded) (names : Names) (s : SliceContext PAD) (slice :
           picture = picture_of c a s.number i n.frame (ap (λ x. x.slice) mb_is) n.named ∙ ap Some (n.entry ∙ ap names.entry (sym number));
           named = subst (λ j. j < names.count) (sym number) n.within;
         }
+    block_has k h m e there from = cc
 
     block_motion : (k : ℕ) → k < 16 → HasMotion c names a f k (block k)
     block_motion k h = block_has k h (block k) refl (pictures k h) (one k h)
@@ -418,10 +346,6 @@ bit_small : (b : Bool) → bool_byte b < 2
 bit_small true = omega arith
 bit_small false = omega arith
 
-bit_is : (b : Bool) → (bool_byte b == 1) ≡ b
-bit_is true = refl
-bit_is false = refl
-
 half : (x b p : ℕ) → b < 2 → (2 * x + b) / (2 * p) ≡ x / p
 half x b p h = sym (div-div-eq-div-mul (2 * x + b) 2 p) ∙ ap (λ n. n / p) (omega arith)
 
@@ -429,7 +353,8 @@ pub upper_bit : (x b j : ℕ) → b < 2 → has_bit (2 * x + b) (suc j) ≡ has_
 upper_bit x b j h = ap (λ n. n % 2 == 1) (ap (λ n. (2 * x + b) / n) (pow-succ' 2 j) ∙ half x b (2 ^ j) h)
 
 pub lowest_bit : (x : ℕ) (b : Bool) → has_bit (2 * x + bool_byte b) 0 ≡ b
-lowest_bit x b = ap (λ n. n == 1) (omega (arith, bit_small b)) ∙ bit_is b
+lowest_bit x true = grind (arith, nat_tests)
+lowest_bit x false = grind (arith, nat_tests)
 
 pub mask_small : (x i : ℕ) (b : Bool) → x < 2 ^ i → 2 * x + bool_byte b < 2 ^ (i + 1)
 mask_small x i b h = omega (arith, bit_small b, pow-succ' 2 i, ap (λ k. 2 ^ k) (add-one i))
@@ -440,21 +365,13 @@ pub mask_more : (f : ℕ → Bool) (x i : ℕ) → i < 16 → ((j : ℕ) → j <
 mask_more f x i h done zero k = lowest_bit x (f (15 - i)) ∙ ap f (omega arith)
 mask_more f x i h done (suc j) k = grind (arith, nat_tests, upper_bit, bit_small)
 
-zero_or_one : (b : Bool) → (cond (not b) 1 0 == 0) ≡ b
-zero_or_one true = refl
-zero_or_one false = refl
-
 is_zero : (z : ℤ) → (cond (not (nat_abs z == 0)) 1 0 == 0) ≡ (z ==ℤ pos 0)
-is_zero (pos n) = zero_or_one (n == 0)
-is_zero (negsuc n) = zero_or_one (suc n == 0) ∙ grind (arith, nat_tests)
-
-not_both : (a b : Bool) → not (a && b) ≡ (not a || not b)
-not_both true b = refl
-not_both false b = refl
+is_zero (pos n) = grind (arith, nat_tests)
+is_zero (negsuc n) = grind (arith, nat_tests)
 
 some_level : (levels : List ℤ) → not (list_all (λ z. cond (not (nat_abs z == 0)) 1 0 == 0) levels) ≡ list_any (λ level. not (level ==ℤ pos 0)) levels
 some_level [] = refl
-some_level (z ∷ levels) = grind (arith, nat_tests, not_both, is_zero, some_level levels)
+some_level (z ∷ levels) = grind (arith, nat_tests, is_zero, some_level levels)
 
 -- A block has a level that is not 0 where it has some of them.
 pub counted_or_not : (levels : List ℤ) → not (total_coeff levels == 0) ≡ list_any (λ level. not (level ==ℤ pos 0)) levels
@@ -466,29 +383,15 @@ pub macroblock_fault_is : (c : Coded) (a : ℕ) (m : PicMb) → slice_get c.mbs 
     → macroblock_fault c a ≡ fault_of (place_of c (modes_before c (suc a)) (motion_before c (suc a)) a m)
 macroblock_fault_is c a m is = ap (fault_at c a) is
 
-err_of : (b : Bool) (motion : List Motion) (f : Fault) (r : Option Fault) → Err f ≡ (if b then Ok motion else Err VectorRange)
-    → (if not b then Some VectorRange else r) ≡ Some f
-err_of true motion f r e = cc
-err_of false motion f r e = cc
-
-none_of : (b : Bool) (motion found : List Motion) (r : Option Fault) → Ok found ≡ (if b then Ok motion else Err VectorRange)
-    → (if not b then Some VectorRange else r) ≡ r
-none_of true motion found r e = refl
-none_of false motion found r e = cc
-
-found_is : (b : Bool) (motion found : List Motion) → Ok found ≡ (if b then Ok motion else Err VectorRange) → motion ≡ found
-found_is true motion found e = cc
-found_is false motion found e = cc
-
 module _ (p : Place) (motion : List Motion) (is : p.motion ≡ motion) where
   pub out_of_range : (f : Fault) → Err f ≡ motion_or_fault motion → fault_of p ≡ Some f
-  out_of_range f e = grind (arith, err_of)
+  out_of_range f e = grind (arith, nat_tests)
 
   pub in_range : (found : List Motion) → Ok found ≡ motion_or_fault motion → fault_of p ≡ refusal p
-  in_range found e = grind (arith, none_of)
+  in_range found e = grind (arith, nat_tests)
 
   pub motion_found : (found : List Motion) → Ok found ≡ motion_or_fault motion → p.motion ≡ found
-  motion_found found e = is ∙ found_is (list_all is_in_range motion) motion found e
+  motion_found found e = grind (arith, nat_tests)
 
 no_first : (b : Bool) (x : Option Fault) → (if not b then Some RefMissing else x) ≡ None → b ≡ true
 no_first true x e = refl
@@ -502,9 +405,7 @@ each_picture : (p : Place) (s : MbSyntax) → is_intra s ≡ false → has_refer
     → is_picture (reference_of p.coded p.slice (slice_index_or p.motion k absent_motion)) ≡ true
 each_picture p p_skip inter e k h = list_all_each (λ m. is_picture (reference_of p.coded p.slice m)) p.motion absent_motion e k h
 each_picture p (p_inter shape refs mvds r) inter e k h = list_all_each (λ m. is_picture (reference_of p.coded p.slice m)) p.motion absent_motion e k h
-each_picture p (i_pcm luma cb cr) inter e k h = cc
-each_picture p (i_nxn modes chroma r) inter e k h = cc
-each_picture p (i_16x16 mode chroma r) inter e k h = cc
+each_picture p s inter e k h = cc
 
 -- The blocks of an inter macroblock that is not refused have their pictures.
 pub has_pictures : (p : Place) → refusal p ≡ None → is_intra p.mb.syntax ≡ false → (k : ℕ) → k < length p.motion
@@ -515,23 +416,16 @@ has_pictures p e inter k h = each_picture p p.mb.syntax inter (no_first (has_ref
 
 pub in_range_of : (n : ℕ) (s : MbSyntax) → IsSyntax n s → IsInRange s
 in_range_of n p_skip is = tt
-in_range_of n (i_pcm luma cb cr) is = tt
-in_range_of n (i_nxn modes chroma r) is = (is.1, is.2)
-in_range_of n (i_16x16 mode chroma r) is = is
-in_range_of n (p_inter shape refs mvds r) is = is.1
+in_range_of n s is = search rules
 
 -- the modes of a neighbour
-modes_where : (b : Bool) (o : Option NeighbourInfo) → HasModes o → HasModes (if b then o else None)
-modes_where true o h = h
-modes_where false o h = tt
-
-modes_unless : (b : Bool) (o : Option NeighbourInfo) → HasModes o → HasModes (if b then None else o)
-modes_unless true o h = tt
-modes_unless false o h = h
+modes_if : (b : Bool) (o o' : Option NeighbourInfo) → HasModes o → HasModes o' → HasModes (if b then o else o')
+modes_if true o o' h h' = h
+modes_if false o o' h h' = h'
 
 modes_in_slice : (slice : ℕ) (o : Option NeighbourInfo) → HasModes o → HasModes (of_slice slice o)
 modes_in_slice slice None h = tt
-modes_in_slice slice (Some f) h = modes_where (f.slice == slice) (Some f) h
+modes_in_slice slice (Some f) h = modes_if (f.slice == slice) (Some f) None h tt
 
 modes_of_entry : (info : List NeighbourInfo) (k : ℕ) (o : Option NeighbourInfo) → HaveModes info → slice_get info k ≡ o → HasModes o
 modes_of_entry info k None h e = tt
@@ -540,11 +434,11 @@ modes_of_entry info k (Some f) h e =
 
 modes_back : (info : List NeighbourInfo) (n : ℕ) → HaveModes info → HasModes (back info n)
 modes_back info n h =
-    modes_unless (nat_lt (length info) n) (slice_get info (length info - n)) (modes_of_entry info (length info - n) _ h refl)
+    modes_if (nat_lt (length info) n) None (slice_get info (length info - n)) tt (modes_of_entry info (length info - n) _ h refl)
 
 pub modes_left : (row : PictureInfo) (slice : ℕ) → HaveModes row.info → HasModes (mb_a row slice)
 modes_left row slice h =
-    modes_unless (next_address row % row.width == 0) (of_slice slice (back row.info 1)) (modes_in_slice slice (back row.info 1) (modes_back row.info 1 h))
+    modes_if (next_address row % row.width == 0) None (of_slice slice (back row.info 1)) tt (modes_in_slice slice (back row.info 1) (modes_back row.info 1 h))
 
 pub modes_above : (row : PictureInfo) (slice : ℕ) → HaveModes row.info → HasModes (mb_b row slice)
 modes_above row slice h = modes_in_slice slice (back row.info row.width) (modes_back row.info row.width h)
@@ -554,147 +448,114 @@ pub ruleset asked = (in_range_of, modes_left, modes_above)
 
 -- ---- what holds of the macroblocks so far, before the first and over one more
 
-all_of_one : (f : NeighbourInfo) → All IsMode f.modes → HaveModes (f ∷ [])
-all_of_one f h zero d below = h
-all_of_one f h (suc k) d below = absurd (omega (arith, below))
-
 module _ (old : MbsState) (kept : PartsAgree old) (canvas : CanvasState) (width : canvas.width ≡ old.canvas.width)
     (height : canvas.height ≡ old.canvas.height) (info : NeighbourInfo) (modes : All IsMode info.modes) (f : MbInfo)
     (room : old.next < old.canvas.width * old.canvas.height) where
-  same_area : canvas.width * canvas.height ≡ old.canvas.width * old.canvas.height
-  same_area = ap (λ w. w * canvas.height) width ∙ ap (λ h. old.canvas.width * h) height
-
   pub kept_more : (row : PictureInfo) → row ≡ with_info old.row info
       → PartsAgree (record { canvas = canvas; row = row; filter_info = old.filter_info ++ f ∷ []; next = old.next + 1 })
-  kept_more row e = record {
-    wide = omega (arith, width, kept.wide);
-    high = omega (arith, height, kept.high);
-    row_width = ap (λ r. r.width) e ∙ kept.row_width ∙ sym width;
-    count = ap (λ r. length r.info) e ∙ length-append old.row.info (info ∷ []) ∙ ap (λ k. k + 1) kept.count;
-    within = omega (arith, room, same_area);
-    modes = subst (λ r. HaveModes r.info) (sym e)
-        (All-append (λ x. All IsMode x.modes) old.row.info (info ∷ []) kept.modes (all_of_one info modes));
-    small = omega (arith, same_area, kept.small);
-    filter_count = length-append old.filter_info (f ∷ []) ∙ ap (λ k. k + 1) kept.filter_count;
-  }
+  kept_more row e =
+      let one = All-cons (λ (x : NeighbourInfo). All IsMode x.modes) info [] modes (All-nil _) in
+      rw (e, width, height) (record {
+        wide = kept.wide;
+        high = kept.high;
+        row_width = kept.row_width;
+        count = length-append old.row.info (info ∷ []) ∙ ap (λ k. k + 1) kept.count;
+        within = omega (arith, room);
+        modes = All-append (λ x. All IsMode x.modes) old.row.info (info ∷ []) kept.modes one;
+        small = kept.small;
+        filter_count = length-append old.filter_info (f ∷ []) ∙ ap (λ k. k + 1) kept.filter_count;
+      })
 
 none_yet : (width : ℕ) → filtered_rows width 0 ≡ 0
 none_yet width = let none : 0 / width ≤ 0 = div-le_self 0 width in omega (arith, none)
 
-module _ (canvas : CanvasState) (row : PictureInfo) (width height : ℕ) (offset : ℤ) (constrained : Bool)
-    (begun : Planes) (is_begun : canvas ≡ record { width = width; height = height; chroma_qp_index_offset = offset; constrained_intra_pred = constrained; planes = begun })
-    (none : row ≡ no_info width) where
-  pub kept_none : 0 < width → 0 < height → width * height ≤ max_macroblocks
-      → PartsAgree (record { canvas = canvas; row = row; filter_info = []; next = 0 })
-  kept_none wide high small = record {
-    wide = subst (λ x. 0 < x.width) (sym is_begun) wide;
-    high = subst (λ x. 0 < x.height) (sym is_begun) high;
-    row_width = ap (λ r. r.width) none ∙ sym (ap (λ x. x.width) is_begun);
-    count = ap (λ r. length r.info) none;
-    within = omega arith;
-    modes = subst (λ r. HaveModes r.info) (sym none) (λ k d below. absurd (omega (arith, below)));
-    small = subst (λ x. x.width * x.height ≤ max_macroblocks) (sym is_begun) small;
-    filter_count = refl;
+module _ (width height : ℕ) (offset : ℤ) (constrained : Bool) (begun : Planes) where
+  abbrev pub none_decoded : MbsState
+  none_decoded = record {
+    canvas = record { width = width; height = height; chroma_qp_index_offset = offset; constrained_intra_pred = constrained; planes = begun };
+    row = no_info width;
+    filter_info = [];
+    next = 0;
   }
 
+  pub kept_none : 0 < width → 0 < height → width * height ≤ max_macroblocks → PartsAgree none_decoded
+  kept_none wide high small = grind (arith, All-nil)
+
   pub holds_none : (c : Coded) (names : Names) → IsSized width height begun → c.width ≡ width → c.height ≡ height → c.chroma_qp_index_offset ≡ offset
-      → c.constrained_intra_pred ≡ constrained → HoldsFirst c names (record { canvas = canvas; row = row; filter_info = []; next = 0 })
+      → c.constrained_intra_pred ≡ constrained → HoldsFirst c names none_decoded
   holds_none c names sized w h o f = record {
     within = omega arith;
-    width = ap (λ x. x.width) is_begun ∙ sym w;
-    height = ap (λ x. x.height) is_begun ∙ sym h;
-    offset = ap (λ x. x.chroma_qp_index_offset) is_begun ∙ sym o;
-    constrained = ap (λ x. x.constrained_intra_pred) is_begun ∙ sym f;
+    width = sym w;
+    height = sym h;
+    offset = sym o;
+    constrained = sym f;
     begun = begun;
-    begun_sized = subst (λ n. IsSized n c.height begun) (sym w) (subst (λ n. IsSized width n begun) (sym h) sized);
-    built = ap (λ x. x.planes) is_begun ∙ ap (λ k. rows_filtered c k (first_built c begun 0)) (sym (none_yet c.width));
-    neighbours = subst (λ r. HasNeighbourInfo c 0 r.info) (sym none) (record {
+    begun_sized = rw (w, h) sized;
+    built = ap (λ k. rows_filtered c k (first_built c begun 0)) (sym (none_yet c.width));
+    neighbours = record {
       count = refl;
       slices = (map (λ m. m.slice) c.mbs, refl);
       total_coeffs = (map (λ m. total_coeffs_of m.mb.syntax) c.mbs, refl);
       intra = (map (λ m. is_intra m.mb.syntax) c.mbs, refl);
       motion = refl;
       modes = refl;
-    });
+    };
     filter = λ k other below. absurd (omega (arith, below));
   }
 
 -- a plane of this size, with all its samples
 pub whole_plane : (w h : ℕ) (s : Plane) → s.width ≡ w → s.height ≡ h → length s.samples ≡ s.width * s.height → HasSize w h s
-whole_plane w h s width height all = record { columns = width; rows = height; all = all ∙ ap (λ n. n * s.height) width ∙ ap (λ n. w * n) height }
+whole_plane w h s width height all = record { columns = width; rows = height; all = rw (width, height) at all }
 
 -- ---- what decoding a slice's data answers
 
-pub none-of : {A : Type 0} (o : Option A) → ((x : A) → o ≡ Some x → ⊥) → o ≡ None
-none-of None h = refl
-none-of (Some x) h = absurd (h x refl)
+pub none-of : {A : Type 0} {o : Option A} → ((x : A) → o ≡ Some x → ⊥) → o ≡ None
+none-of {o = None} h = refl
+none-of {o = Some x} h = absurd (h x refl)
 
-pub usable-still : {PAD : ℕ} (references : List (Option (ReferencePicture PAD))) (old new : MbsState) → HasSameSize old new
+pub usable-still : {PAD : ℕ} (references : List (Option (ReferencePicture PAD))) {old new : MbsState} → HasSameSize old new
     → AreUsable old.canvas.width old.canvas.height references → AreUsable new.canvas.width new.canvas.height references
-usable-still references old new same usable = grind (arith, ints)
+usable-still references same usable = grind (arith, ints)
 
-pub usable-at : {PAD : ℕ} (references : List (Option (ReferencePicture PAD))) (w w' h h' : ℕ) → w' ≡ w → h' ≡ h → AreUsable w h references → AreUsable w' h' references
-usable-at references w w' h h' e f usable = subst (λ x. AreUsable x h' references) (sym e) (subst (λ y. AreUsable w y references) (sym f) usable)
+pub same-area : {old new : MbsState} → HasSameSize old new → new.canvas.width * new.canvas.height ≡ old.canvas.width * old.canvas.height
+same-area same = rw (same.width, same.height) refl
 
-pub same-area : (old new : MbsState) → HasSameSize old new → new.canvas.width * new.canvas.height ≡ old.canvas.width * old.canvas.height
-same-area old new same = ap (λ w. w * new.canvas.height) same.width ∙ ap (λ h. old.canvas.width * h) same.height
+module _ {PAD : ℕ} {c : Coded} {names : Names} {s : SliceStart} {context : SliceContext PAD} {m m' : MbsState} {d d' : SliceData}
+    (far : GoesOnFrom c names s context m d m' d') where
+  pub ends-well : (read : ℕ) → m'.next ≡ read → outcome_from c s m' d' ≡ (0, None) → IsDataAnswer c names m.next (outcome_from c s m d) (Ok tt) read m'
+  ends-well read reached e = grind (arith, ints)
 
-pub less-left : (a a' n n' : ℕ) → a' ≡ a → n' ≡ suc n → n < a → a' - n' < a - n
-less-left a a' n n' e f h = omega (arith, e, f, h)
+  pub ends-badly : (k read : ℕ) (f : Fault) (new : MbsState) → read ≡ m'.next + k → outcome_from c s m' d' ≡ (k, Some f)
+      → IsDataAnswer c names m.next (outcome_from c s m d) (Err f) read new
+  ends-badly k read f new count e = grind (arith, ints)
 
-module _ {PAD : ℕ} (c : Coded) (names : Names) (s : SliceStart) (context : SliceContext PAD) (m : MbsState) (d : SliceData) (m' : MbsState) (d' : SliceData)
-    (far : GoesOnFrom c names s context m d m' d') (read : ℕ) (reached : m'.next ≡ read) where
-  pub ends-well : outcome_from c s m' d' ≡ (0, None) → IsDataAnswer c names m.next (outcome_from c s m d) (Ok tt) read m'
-  ends-well e = grind (arith, ints)
+  pub goes-further : {m'' : MbsState} {d'' : SliceData} → GoesOnFrom c names s context m' d' m'' d'' → GoesOnFrom c names s context m d m'' d''
+  goes-further more = record { goes_on = more.goes_on; count = far.count ∙ more.count; fault = far.fault ∙ more.fault }
 
-  pub ends-badly : (k read' : ℕ) (f : Fault) (new : MbsState) → read' ≡ read + k → outcome_from c s m' d' ≡ (k, Some f)
-      → IsDataAnswer c names m.next (outcome_from c s m d) (Err f) read' new
-  ends-badly k read' f new count e = grind (arith, ints)
-
-  pub goes-further : (m'' : MbsState) (d'' : SliceData) → GoesOnFrom c names s context m' d' m'' d'' → GoesOnFrom c names s context m d m'' d''
-  goes-further m'' d'' more = record { goes_on = more.goes_on; count = far.count ∙ more.count; fault = far.fault ∙ more.fault }
-
--- what the data answers from a later macroblock on
-module _ {PAD : ℕ} (c : Coded) (names : Names) (s : SliceStart) (context : SliceContext PAD) (m : MbsState) (d : SliceData) (m' : MbsState) (d' : SliceData) (far : GoesOnFrom c names s context m d m' d') where
+  -- what the data answers from a later macroblock on
   pub answers-further : (r : Result (Unit {0}) Fault) (read : ℕ) (new : MbsState) → IsDataAnswer c names m'.next (outcome_from c s m' d') r read new
       → IsDataAnswer c names m.next (outcome_from c s m d) r read new
   answers-further (Ok done) read new a = (far.fault ∙ a.0, far.count ∙ a.1, a.2, a.3)
   answers-further (Err f) read new a = (far.fault ∙ a.0, far.count ∙ a.1)
 
-pub from-here : {PAD : ℕ} (c : Coded) (names : Names) (s : SliceStart) (context : SliceContext PAD) (m : MbsState) (d : SliceData) → GoesOn c names s m d context → GoesOnFrom c names s context m d m d
-from-here c names s context m d g = record { goes_on = g; count = refl; fault = refl }
+pub from-here : {PAD : ℕ} {c : Coded} {names : Names} {s : SliceStart} {context : SliceContext PAD} {m : MbsState} {d : SliceData} → GoesOn c names s m d context → GoesOnFrom c names s context m d m d
+from-here g = record { goes_on = g; count = refl; fault = refl }
 
 pub abs-within : (n : ℕ) (z : ℤ) → pos 0 ≤ℤ z → z ≤ℤ pos n → nat_abs z ≤ n
 abs-within n z low high = omega (arith, ints, low, high)
 
--- ---- one macroblock more of a slice's data
-
--- ---- lists
+-- ---- one macroblock more of a slice's data: lists
 
 get-here_data : {A : Type 0} (front rest : List A) (x : A) → slice_get (front ++ x ∷ rest) (length front) ≡ Some x
 get-here_data [] rest x = refl
 get-here_data (y ∷ front) rest x = get-here_data front rest x
-
-take-here : {A : Type 0} (front rest : List A) (x : A) → take (suc (length front)) (front ++ x ∷ rest) ≡ front ++ x ∷ []
-take-here [] rest x = refl
-take-here (y ∷ front) rest x = ap (λ xs. y ∷ xs) (take-here front rest x)
 
 -- ---- outcomes
 
 -- what is found in the macroblocks behind one without a fault
 with-one : (c : Coded) (a : ℕ) (mb : Mb) (rest : SliceMbs) → macroblock_fault c a ≡ None
     → ((outcome c a (after (mb ∷ []) rest)).0 ≡ (outcome c (suc a) rest).0 + 1) × ((outcome c a (after (mb ∷ []) rest)).1 ≡ (outcome c (suc a) rest).1)
-with-one c a mb rest none = by_first (macroblock_fault c a) none (a + 1) (add-one a)
-  where
-    by_rest : (o : Option (ℕ × Fault)) → ((first_of (option_map (λ found. (found.0 + 1, found.1)) o) (after (mb ∷ []) rest)).0 ≡ (first_of o rest).0 + 1)
-        × ((first_of (option_map (λ found. (found.0 + 1, found.1)) o) (after (mb ∷ []) rest)).1 ≡ (first_of o rest).1)
-    by_rest None = (let n : suc (length rest.mbs) ≡ length rest.mbs + 1 = omega arith in n, refl)
-    by_rest (Some found) = (refl, refl)
-
-    by_first : (f : Option Fault) → f ≡ None → (b : ℕ) → b ≡ suc a → (let o : ℕ × Option Fault = first_of
-        (elim f [ Some g ↦ Some (1, g) | None ↦ option_map (λ found. (found.0 + 1, found.1)) (first_mb_fault c b (length rest.mbs)) ]) (after (mb ∷ []) rest) in
-        (o.0 ≡ (outcome c (suc a) rest).0 + 1) × (o.1 ≡ (outcome c (suc a) rest).1))
-    by_first f e b h = rw (e, h) (by_rest (first_mb_fault c (suc a) (length rest.mbs)))
+with-one c a mb rest none = grind (arith, none, add-one a)
 
 faulty-one : (c : Coded) (a : ℕ) (mb : Mb) (rest : SliceMbs) (f : Fault) → macroblock_fault c a ≡ Some f
     → outcome c a (after (mb ∷ []) rest) ≡ (1, Some f)
@@ -702,7 +563,13 @@ faulty-one c a mb rest f is = grind arith
 
 -- ---- one macroblock more
 
-module _ {PAD : ℕ} (c : Coded) (names : Names) (s : SliceStart) (m : MbsState) (d d' : SliceData) (context : SliceContext PAD) (mb : Mb)
+-- what a call that asks for the next macroblock says of each picture that goes on with the data
+abbrev pub Hands : MbsState → (number : ℕ) → Result (Option Mb) Fault → (d d' : SliceData) → Type 0
+Hands m number out d d' =
+    (c : Coded) (names : Names) (s : SliceStart) → HoldsFirst c names m → s.width ≡ c.width → s.slice ≡ number → Follows s (take m.next c.mbs) d
+    → IsHandedOut s (take m.next c.mbs) out d d'
+
+module _ {PAD : ℕ} {c : Coded} {names : Names} {s : SliceStart} {m : MbsState} {d d' : SliceData} {context : SliceContext PAD} {mb : Mb}
     (g : GoesOn c names s m d context) (out : IsHandedOut s (take m.next c.mbs) (Ok (Some mb)) d d') where
   abbrev before : List PicMb
   before = take m.next c.mbs
@@ -730,7 +597,9 @@ module _ {PAD : ℕ} (c : Coded) (names : Names) (s : SliceStart) (m : MbsState)
   slice-is = g.is_slice mb rest.mbs (ap (λ ms. ms.mbs) out.0)
 
   taken : (next : ℕ) → next ≡ suc m.next → take next c.mbs ≡ before ++ placed s mb ∷ []
-  taken next e = grind (arith, long, all-mbs, take-here)
+  taken next e =
+      let n : next ≡ length before + 1 = omega (arith, long) in
+      ap (take next) all-mbs ∙ rw n (take-append-add before (placed s mb ∷ (map (placed s) rest.mbs ++ g.later)) 1)
 
   goes-on : (m' : MbsState) → m'.next ≡ suc m.next → HoldsFirst c names m' → GoesOn c names s m' d' context
   goes-on m' e holds = grind (arith, taken, slice-is, all-mbs, append_assoc)
@@ -749,11 +618,23 @@ module _ {PAD : ℕ} (c : Coded) (names : Names) (s : SliceStart) (m : MbsState)
   pub faulty : (f : Fault) (m' : MbsState) → Decodes (Err f) m' → outcome_from c s m d ≡ (1, Some f)
   faulty f m' decodes = ap (λ ms. outcome c m.next ms) out.0 ∙ faulty-one c m.next mb rest f (decodes g.holds next-mb slice-is)
 
+pub handed : {PAD : ℕ} {c : Coded} {names : Names} {s : SliceStart} {m : MbsState} {d d' : SliceData} {context : SliceContext PAD} {mb : Mb}
+    → GoesOn c names s m d context → Hands m context.number (Ok (Some mb)) d d' → IsHandedOut s (take m.next c.mbs) (Ok (Some mb)) d d'
+handed {c = c} {names = names} {s = s} g hands = hands c names s g.holds g.width g.number g.follows
+
+-- where some macroblocks have been decoded, there is room for the one that is handed out, and it is in its ranges
+pub has-room : {PAD : ℕ} {m m' : MbsState} {d d' d'' : SliceData} {context : SliceContext PAD} {mb : Mb} → CanGoOn m d context
+    → ((c : Coded) (names : Names) (s : SliceStart) → GoesOn c names s m d context → GoesOnFrom c names s context m d m' d')
+    → Hands m' context.number (Ok (Some mb)) d' d'' → (m'.next < m'.canvas.width * m'.canvas.height) × IsRead mb
+has-room some far hands =
+    let here = (far some.coded some.names some.start some.goes_on).goes_on in
+    (room here (handed here hands), is-read here (handed here hands))
+
 -- ---- the end
 
-module _ {PAD : ℕ} (c : Coded) (names : Names) (s : SliceStart) (m : MbsState) (d d' : SliceData) (context : SliceContext PAD) (g : GoesOn c names s m d context) where
-  pub at-end : IsHandedOut s (take m.next c.mbs) (Ok None) d d' → outcome_from c s m d ≡ (0, None)
-  at-end out = ap (λ ms. outcome c m.next ms) out.0
+module _ {PAD : ℕ} {c : Coded} {names : Names} {s : SliceStart} {m : MbsState} {d d' : SliceData} {context : SliceContext PAD} (g : GoesOn c names s m d context) where
+  pub at-end : Hands m context.number (Ok None) d d' → outcome_from c s m d ≡ (0, None)
+  at-end hands = ap (outcome c m.next) (hands c names s g.holds g.width g.number g.follows).0
 
-  pub at-fault : (f : Fault) → IsHandedOut s (take m.next c.mbs) (Err f) d d' → outcome_from c s m d ≡ (0, Some f)
-  at-fault f out = ap (λ ms. outcome c m.next ms) out.0
+  pub at-fault : (f : Fault) → Hands m context.number (Err f) d d' → outcome_from c s m d ≡ (0, Some f)
+  at-fault f hands = ap (outcome c m.next) (hands c names s g.holds g.width g.number g.follows).0

@@ -1,5 +1,5 @@
-use Rattle.avc_picture.proofs.Slices.{◌≡◌, ◌∙◌, ◌≤◌, ◌*◌, refl, sym, ap, subst, arith, w8, w32, to_z, of_z, ints, max_macroblocks, height_in_mbs}
-use Rattle.avc_picture.proofs.Slices.{Planes, planes_of, FilterInfo, CanvasState, HoldsFirst, PartsAgree, IsSized, holds_none, kept_none, whole_plane}
+use Rattle.avc_picture.proofs.Slices.{◌≡◌, ◌∙◌, ◌≤◌, ◌*◌, sym, ap, arith, w8, w32, to_z, of_z, ints, max_macroblocks, planes_of, FilterInfo, IsSized}
+use Rattle.avc_picture.proofs.Slices.{holds_none, kept_none, whole_plane}
 use Rattle.avc_picture.proofs.macroblocks.Macroblocks.new.Goals as goal
 
 pub invariant_of-result : goal.invariant_of-result
@@ -7,17 +7,12 @@ invariant_of-result g c =
     let w = c.width_in_mbs-width.result in
     let h = c.height_in_mbs-height.result in
     let offset = to_z w8 (of_z w8 (to_z w32 (of_z w32 c.args.pps.now.chroma_qp_index_offset))) in
-    let constrained = c.args.pps.now.constrained_intra_pred_flag in
-    let state : Planes → CanvasState = λ s. record { width = w; height = h; chroma_qp_index_offset = offset; constrained_intra_pred = constrained; planes = s } in
-    let size : w * h ≤ max_macroblocks =
-    subst (λ k. w * k ≤ max_macroblocks) (sym c.height_in_mbs-height.ensures)
-    (subst (λ k. k * height_in_mbs c.args.sps.now ≤ max_macroblocks) (sym c.width_in_mbs-width.ensures) c.requires.sps.size) in
+    let size : w * h ≤ max_macroblocks = rw (c.width_in_mbs-width.ensures, c.height_in_mbs-height.ensures) c.requires.sps.size in
     record {
       sized = c.in_ok-planes.ensures;
       filter_width = ap (λ (f : FilterInfo). f.width) c.in_ok-info.ensures.filter_rows;
-      kept = subst (λ (f : FilterInfo). PartsAgree (record { canvas = state (planes_of c.in_ok-planes.planes); row = c.in_ok-info.info.row; filter_info = f.info; next = 0 }))
-          (sym c.in_ok-info.ensures.filter_rows)
-          (kept_none _ _ w h offset constrained (planes_of c.in_ok-planes.planes) refl c.in_ok-info.ensures.row (omega (arith, c.width_in_mbs-width.ensures))
+      kept = rw (c.in_ok-info.ensures.row, c.in_ok-info.ensures.filter_rows)
+          (kept_none w h offset c.args.pps.now.constrained_intra_pred_flag (planes_of c.in_ok-planes.planes) (omega (arith, c.width_in_mbs-width.ensures))
           (omega (arith, c.height_in_mbs-height.ensures)) size);
     }
 
@@ -25,11 +20,8 @@ pub returns-clause-holds : goal.returns-clause-holds
 returns-clause-holds g c = λ coded names sets.
     let w = c.width_in_mbs-width.result in
     let h = c.height_in_mbs-height.result in
-    let offset = to_z w8 (of_z w8 (to_z w32 (of_z w32 c.args.pps.now.chroma_qp_index_offset))) in
-    let constrained = c.args.pps.now.constrained_intra_pred_flag in
-    let state : Planes → CanvasState = λ s. record { width = w; height = h; chroma_qp_index_offset = offset; constrained_intra_pred = constrained; planes = s } in
-    let p = c.requires.pps in
     let x = c.args.pps.now.chroma_qp_index_offset in
+    let p = c.requires.pps in
     let cast : to_z w8 (of_z w8 (to_z w32 (of_z w32 x))) ≡ x = omega (arith, ints, p.chroma_low, p.chroma_high) in
     let planes = planes_of c.in_ok-planes.planes in
     let size = c.in_ok-planes.ensures in
@@ -38,7 +30,6 @@ returns-clause-holds g c = λ coded names sets.
       cb = whole_plane (8 * w) (8 * h) planes.cb size.cb_width size.cb_height c.holds_bytes-2.ensures.all;
       cr = whole_plane (8 * w) (8 * h) planes.cr size.cr_width size.cr_height c.holds_bytes-3.ensures.all;
     } in
-    subst (λ (f : FilterInfo). HoldsFirst coded names (record { canvas = state planes; row = c.in_ok-info.info.row; filter_info = f.info; next = 0 }))
-    (sym c.in_ok-info.ensures.filter_rows)
-    (holds_none _ _ w h offset constrained planes refl c.in_ok-info.ensures.row coded names whole (sets.width ∙ sym c.width_in_mbs-width.ensures)
+    rw (c.in_ok-info.ensures.row, c.in_ok-info.ensures.filter_rows)
+    (holds_none w h _ c.args.pps.now.constrained_intra_pred_flag planes coded names whole (sets.width ∙ sym c.width_in_mbs-width.ensures)
     (sets.height ∙ sym c.height_in_mbs-height.ensures) (sets.offset ∙ sym cast) sets.constrained)

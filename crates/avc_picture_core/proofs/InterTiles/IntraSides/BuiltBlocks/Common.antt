@@ -1,10 +1,10 @@
 -- The names that the proofs cite of std, of the crates below and of the definitions here, passed on from one place. Declares nothing.
-pub use Rattle.std.proofs.Common.{◌≡◌, ℕ, ◌+◌, ◌-◌, ◌*◌, ◌<◌, ◌≤◌, Bool, true, false, slice_index, if◌then◌else◌, arith, refl, ap, ◌∙◌, None, ℤ, pos}
-pub use Rattle.std.proofs.Common.{◌/◌, ◌%◌, ◌≢◌, nat_lt, length, sym, inl, inr, List, [], slice_index_or, zero, suc, ◌^◌, negsuc, ◌+ℤ◌, ◌*ℤ◌, not}
-pub use Rattle.std.proofs.Common.{cond, ◌∷◌, nat_abs, subst, zero-add, map, mul_comm, Option, ◌&&◌, ◌||◌, Result, Ok, Err, ◌-ℤ◌, ⊎_elim, to_z, of_z}
-pub use Rattle.std.proofs.Common.{w32, rules, w8, below_more, take}
+pub use Rattle.std.proofs.Common.{◌≡◌, ℕ, ◌+◌, ◌-◌, ◌*◌, ◌<◌, ◌≤◌, Bool, true, false, slice_index, if◌then◌else◌, arith, refl, ap, ◌∙◌, None, ℤ, pos, ◌/◌, ◌%◌}
+pub use Rattle.std.proofs.Common.{◌≢◌, nat_lt, length, sym, inl, inr, List, [], slice_index_or, zero, suc, ◌^◌, negsuc, ◌+ℤ◌, ◌*ℤ◌, not, cond, ◌∷◌, nat_abs}
+pub use Rattle.std.proofs.Common.{subst, zero-add, map, mul_comm, Option, ◌&&◌, ◌||◌, Result, Ok, Err, ◌-ℤ◌, ⊎_elim, to_z, of_z, w32, rules, w8, below_more}
+pub use Rattle.std.proofs.Common.{take}
 pub use Rattle.std.proofs.Math.IntN.{*ℤ-zero, zero-*ℤ}
-pub use Rattle.std.proofs.Math.Nat.{add-mul, mul-add, mul-le-mul_right, div-lt_iff_lt-mul}
+pub use Rattle.std.proofs.Math.Nat.{add-zero, add-mul, mul-add, mul-le-mul_right, div-lt_iff_lt-mul}
 pub use Rattle.std.proofs.Math.Path.{fun_ext}
 pub use Rattle.std.proofs.lemmas.Bool.{cases_lt, cases_Bool, and_parts, ltb-true, le-ltb, true≢false, or_cases, false≢true}
 pub use Rattle.std.proofs.lemmas.Bool.Decides.{nat_tests}
@@ -41,22 +41,18 @@ pub use Rattle.avc_neigh.specs.declared.neighbour_info.Motion.TheVariants.{Inter
 pub use Rattle.avc_neigh.specs.declared.neighbour_info.NearMode.{NearMode}
 pub use Rattle.avc_neigh.specs.declared.neighbour_info.NearMode.TheVariants.{Absent as absent}
 pub use Rattle.avc_neigh.specs.declared.neighbour_info.NeighbourInfo.{NeighbourInfo}
-pub use Rattle.avc_plane.proofs.PlaneMaps.{plane_of_same, inside, no_line}
-pub use Rattle.avc_plane.proofs.PlaneMaps.{block_lent, room_lent}
-pub use Rattle.avc_plane.proofs.PlaneMaps.{sample-plane_of, sample-with_block}
-pub use Rattle.avc_plane.proofs.PlaneMaps.{by_place}
+pub use Rattle.avc_plane.proofs.PlaneMaps.{plane_of_same, inside, no_line, block_lent, room_lent, sample-plane_of, sample-with_block, by_place}
 pub use Rattle.avc_plane.specs.Frames.{padded_planes_of, planes_of}
 pub use Rattle.avc_plane.specs.Lending.{with_rows}
 pub use Rattle.avc_plane.specs.Padded.{HaveSamples, stored_place}
 pub use Rattle.avc_plane.specs.Plane.{Plane, sample, with_block, is_inside}
 pub use Rattle.avc_plane.specs.Planes.{Planes}
 pub use Rattle.avc_plane.specs.Strided.{IsStridedSet}
-pub use Rattle.avc_transform.proofs.Residuals.{below_two}
-pub use Rattle.avc_transform.proofs.Residuals.{residual_of_dc, no_residual}
+pub use Rattle.avc_transform.proofs.Residuals.{below_two, residual_of_dc, no_residual}
 pub use Rattle.avc_transform.specs.Bounds.{matrix}
 pub use Rattle.avc_transform.specs.MacroblockResidual.{chroma_residual, luma_residual, luma_residual_16x16}
-pub use Rattle.avc_transform.specs.Residual.{residual4x4, residual4x4_with_dc, level, even_scale, hadamard2, chroma_dc, chroma_dc_product}
-pub use Rattle.avc_transform.specs.Residual.{chroma_dc_scaled, chroma_qp, luma_dc}
+pub use Rattle.avc_transform.specs.Residual.{residual4x4, residual4x4_with_dc, level, even_scale, hadamard2, chroma_dc, chroma_dc_product, chroma_dc_scaled}
+pub use Rattle.avc_transform.specs.Residual.{chroma_qp, luma_dc}
 pub use Rattle.avc_types.specs.Arithmetic.{◌>>ℤ◌}
 pub use Rattle.avc_types.specs.Blocks.{block_of}
 pub use Rattle.avc_types.specs.Macroblock.{total_coeff, Mb, MbSyntax, p_skip, i_pcm, i_nxn, i_16x16, p_inter, Residual, parts_of, partitions}
@@ -70,16 +66,14 @@ pub use Rattle.avc_types.specs.declared.macroblock.PMbType.{PMbType}
 pub use Rattle.avc_types.specs.declared.vector.Mv.{Mv}
 pub use Rattle.avc_types.specs.declared.weight.Weight.{Weight}
 pub use Rattle.avc_types.specs.declared.weight.Weights.{Weights}
-pub use Rattle.avc_picture_core.specs.Built.{sum_of, weighted_by, seen_from, Place, left_of_mb, mode_number, residual_at, sides_of, top_of_mb}
-pub use Rattle.avc_picture_core.specs.Built.{is_there, chroma_after, inter_at, is_intra_place, luma_after, planes_after, with_blocks4x4}
-pub use Rattle.avc_picture_core.specs.Built.{with_block4x4, size_of, with_macroblock, luma_place, component_weight, reference_of, fetched}
-pub use Rattle.avc_picture_core.specs.Built.{inter_predicted}
+pub use Rattle.avc_picture_core.specs.Built.{sum_of, weighted_by, seen_from, Place, left_of_mb, mode_number, residual_at, sides_of, top_of_mb, is_there}
+pub use Rattle.avc_picture_core.specs.Built.{chroma_after, inter_at, is_intra_place, luma_after, planes_after, with_blocks4x4, with_block4x4, size_of}
+pub use Rattle.avc_picture_core.specs.Built.{with_macroblock, luma_place, component_weight, reference_of, fetched, inter_predicted}
 pub use Rattle.avc_picture_core.specs.Canvas.{CanvasState, IsBuilt, IsPlaceOn, sides_near}
 pub use Rattle.avc_picture_core.specs.CanvasFields.{with_planes}
 pub use Rattle.avc_picture_core.specs.Faults.{has_references, has_sides, refusal, is_picture}
-pub use Rattle.avc_picture_core.specs.Inter.{with_part, CoverMacroblock, predicted_at, HasWholeQuarters, HaveOneMotion, IsMacroblockShape}
-pub use Rattle.avc_picture_core.specs.Inter.{IsQuarterShape, block_motion, AreUsableAt, IsUsableAt, fetched_from, have_pictures, motion_at}
-pub use Rattle.avc_picture_core.specs.Inter.{picture_in, predicted_in, wanted}
+pub use Rattle.avc_picture_core.specs.Inter.{with_part, CoverMacroblock, predicted_at, HasWholeQuarters, HaveOneMotion, IsMacroblockShape, IsQuarterShape}
+pub use Rattle.avc_picture_core.specs.Inter.{block_motion, AreUsableAt, IsUsableAt, fetched_from, have_pictures, motion_at, picture_in, predicted_in, wanted}
 unfoldable pub use Rattle.avc_picture_core.specs.Inter.{predicted_from}
 pub use Rattle.avc_picture_core.specs.Nxn.{IsNxnAt}
 pub use Rattle.avc_picture_core.specs.Places.{ArePlanesBuilt, IsPlaceIn, MayRead, IsAt}

@@ -1,15 +1,13 @@
-use Rattle.avc_plane.proofs.PlaneMaps.{ℕ, ◌≡◌, ◌+◌, ◌*◌, ◌∙◌, ◌++◌, List, length, take, drop, slice_range, arith, ap, sym, subst, mul_comm, take-add}
-use Rattle.avc_plane.proofs.PlaneMaps.{take-length, Plane, stored_place, slice_index, length-plane_of}
+use Rattle.avc_plane.proofs.PlaneMaps.{ℕ, ◌≡◌, ◌+◌, ◌-◌, ◌*◌, ◌∙◌, ◌++◌, List, length, take, slice_range, arith, ap, sym, mul_comm, take-add}
+use Rattle.avc_plane.proofs.PlaneMaps.{take-length, Plane, sizes, all_samples}
 use Rattle.avc_plane.proofs.padded.PaddedPlane.to_bytes.Goals as goal
 
 -- one row more
 row_more : (samples bytes row : List ℕ) (y width : ℕ) → bytes ≡ take (y * width) samples → row ≡ slice_range samples (y * width) (y * width + width) → bytes ++ row ≡ take ((y + 1) * width) samples
 row_more samples bytes row y width so_far here =
-    ap (λ xs. xs ++ row) so_far
-    ∙ ap (λ xs. take (y * width) samples ++ xs) here
-    ∙ ap (λ n. take (y * width) samples ++ take n (drop (y * width) samples)) (omega arith)
-    ∙ sym (take-add (y * width) width samples)
-    ∙ ap (λ n. take n samples) (omega arith)
+    let one : y * width + width - y * width ≡ width = omega arith in
+    let more : (y + 1) * width ≡ y * width + width = omega arith in
+    rw (so_far, here, more, take-add (y * width) width samples, one)
 
 all_rows : (p : Plane) (bytes : List ℕ) (y : ℕ) → length p.samples ≡ p.width * p.height → y ≡ p.height → bytes ≡ take (y * p.width) p.samples → bytes ≡ p.samples
 all_rows p bytes y long last so_far =
@@ -21,7 +19,7 @@ loop-y-preserved g c = c.in_ok-extend_from_slice.ensures.items ∙ row_more c.ar
 pub returns : goal.returns
 returns g c =
     let a = c.self.inside in
-    let long : length c.args.self.now.samples ≡ c.args.self.now.width * c.args.self.now.height =
-    subst (λ (p : Plane). length p.samples ≡ p.width * p.height) c.self.view_is (length-plane_of a.width a.height (λ x y. slice_index a.stored.items (stored_place g.row.PAD a.width x y))) in
-    let rows : a.height ≡ c.args.self.now.height = ap (λ (p : Plane). p.height) c.self.view_is in
-    c.from_vec.ensures ∙ all_rows c.args.self.now c.loop-y.bytes.items c.loop-y.y long (omega arith) c.loop-y.invariant
+    let long = c.self.invariant.rows.long in
+    let rows = (sizes g.row.PAD a.width a.height a.stored.items long _ c.self.view_is).1 in
+    let all = all_samples g.row.PAD a.width a.height a.stored.items long _ c.self.view_is in
+    c.from_vec.ensures ∙ all_rows c.args.self.now c.loop-y.bytes.items c.loop-y.y all (omega arith) c.loop-y.invariant

@@ -1,4 +1,4 @@
-use Rattle.avc_plane.proofs.PlaneMaps.{ℕ, List, refl, sym, ap, subst, ◌∙◌, Plane, HaveSamples, with_rows, rows_written, have_samples}
+use Rattle.avc_plane.proofs.PlaneMaps.{refl, ap, ◌∙◌, Plane, with_rows, rows_written, stored_sample}
 use Rattle.avc_plane.proofs.plane.Plane.padded_rows_mut.Goals as goal
 
 pub returns : goal.returns
@@ -10,7 +10,6 @@ returns g c =
       (refl, λ w. rows_written pad a.width a.height a.stored.len items w a.stored.ok.0 long ∙ ap (λ (p : Plane). with_rows pad p w) c.self.view_is),
       record {
         writes_back = tt;
-        rows = subst (λ (xs : List ℕ). HaveSamples pad c.args.self.now xs) (sym c.as_mut_slice.ensures.value)
-            (subst (λ (p : Plane). HaveSamples pad p items) c.self.view_is (have_samples pad a.width a.height items long));
+        rows = rw (c.as_mut_slice.ensures.value, ← c.self.view_is) (record { long = long; at = stored_sample pad a.width a.height items long });
       },
     )

@@ -1,14 +1,12 @@
-use Rattle.avc_plane.proofs.PlaneMaps.{ℕ, ◌≡◌, ◌+◌, ◌-◌, ◌*◌, ◌∙◌, ◌<◌, ◌≤◌, length, get_or, take, drop, length-drop, arith, ap, subst, mul_comm}
-use Rattle.avc_plane.proofs.PlaneMaps.{slice_index, length-take-le, get_or-take, get_or-drop, row_fits, Plane, with_block, stored_place}
-use Rattle.avc_plane.proofs.PlaneMaps.{length-plane_of, no_line, line_more}
+use Rattle.avc_plane.proofs.PlaneMaps.{ℕ, ◌≡◌, ◌+◌, ◌-◌, ◌*◌, ◌∙◌, ◌<◌, ◌≤◌, length, get_or, take, drop, length-drop, arith, ap, mul_comm}
+use Rattle.avc_plane.proofs.PlaneMaps.{slice_index, length-take-le, get_or-take, get_or-drop, row_fits, Plane, with_block, all_samples, no_line, line_more}
 use Rattle.avc_plane.proofs.plane.Plane.set_block.Goals as goal
 
 pub loop-row-init : goal.loop-row-init
 loop-row-init g c =
     let a = c.self.inside in
-    let long : length c.args.self.now.samples ≡ c.args.self.now.width * c.args.self.now.height =
-    subst (λ (p : Plane). length p.samples ≡ p.width * p.height) c.self.view_is (length-plane_of a.width a.height (λ x y. slice_index a.stored.items (stored_place g.row.PAD a.width x y))) in
-    no_line c.args.self.now c.args.left c.args.top c.args.width (λ x y. slice_index c.args.samples.now (c.args.width * y + x)) long
+    no_line c.args.self.now c.args.left c.args.top c.args.width (λ x y. slice_index c.args.samples.now (c.args.width * y + x))
+    (all_samples g.row.PAD a.width a.height a.stored.items c.self.invariant.long _ c.self.view_is)
 
 pub loop-row-preserved : goal.loop-row-preserved
 loop-row-preserved g c =

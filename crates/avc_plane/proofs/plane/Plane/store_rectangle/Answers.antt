@@ -1,29 +1,28 @@
-use Rattle.avc_plane.proofs.PlaneMaps.{◌≡◌, ◌∙◌, ℕ, ◌+◌, ◌*◌, ◌≤◌, List, length, arith, sym, ap, subst, slice_index, with_items_is, Plane, with_block}
-use Rattle.avc_plane.proofs.PlaneMaps.{inner_plane, IsSameOutside, small, room, stored_rectangle}
+use Rattle.avc_plane.proofs.PlaneMaps.{◌≡◌, ◌∙◌, ℕ, ◌+◌, ◌*◌, List, length, arith, sym, ap, slice_index, with_items_is, Plane, with_block}
+use Rattle.avc_plane.proofs.PlaneMaps.{inner_plane, IsSameOutside, small, room, stored_rectangle, sizes}
 use Rattle.avc_plane.proofs.plane.Plane.store_rectangle.Goals as goal
 
 pub store-requires : goal.store-requires
 store-requires g c =
     let a = c.self.inside in
     let r = g.row in
-    let columns : c.args.left + r.W ≤ a.width = subst (λ (p : Plane). c.args.left + r.W ≤ p.width) (sym c.self.view_is) c.requires.columns in
-    let rows : c.args.top + r.H ≤ a.height = subst (λ (p : Plane). c.args.top + r.H ≤ p.height) (sym c.self.view_is) c.requires.rows in
-    let fits = room r.PAD a.width a.height c.args.left c.args.top r.W r.H a.stored.items c.self.invariant.long columns rows in (
-      small r.W r.H r.N (omega (arith, columns, c.self.invariant.narrow)) (omega (arith, rows, c.self.invariant.low)) c.requires.all,
-      (λ y low. omega (arith, fits y low, ap length c.deref_mut.ensures.value), (omega (arith, columns), c.requires.all)),
+    let size = sizes r.PAD a.width a.height a.stored.items c.self.invariant.long _ c.self.view_is in
+    let fits = room r.PAD a.width a.height c.args.left c.args.top r.W r.H a.stored.items c.self.invariant.long (omega arith) (omega arith) in (
+      small r.W r.H r.N (omega (arith, c.self.invariant.narrow)) (omega (arith, c.self.invariant.low)) c.requires.all,
+      (λ y low. omega (arith, fits y low, ap length c.deref_mut.ensures.value), (omega arith, c.requires.all)),
     )
 
 pub returns : goal.returns
 returns g c =
     let a = c.self.inside in
     let r = g.row in
-    let columns : c.args.left + r.W ≤ a.width = subst (λ (p : Plane). c.args.left + r.W ≤ p.width) (sym c.self.view_is) c.requires.columns in
-    let rows : c.args.top + r.H ≤ a.height = subst (λ (p : Plane). c.args.top + r.H ≤ p.height) (sym c.self.view_is) c.requires.rows in
+    let size = sizes r.PAD a.width a.height a.stored.items c.self.invariant.long _ c.self.view_is in
     let new = c.store.new.stored in
     let samples = c.args.samples.now in
     let long : length new ≡ a.stored.len = c.store.auto.stored ∙ ap length c.deref_mut.ensures.value ∙ sym a.stored.ok.0 in
     let outside : IsSameOutside r.W r.H ((c.args.top + r.PAD) * (a.width + 2 * r.PAD) + (c.args.left + r.PAD)) (a.width + 2 * r.PAD) a.stored.items new =
     λ j none. c.store.ensures.outside j none ∙ ap (λ xs. slice_index xs j) c.deref_mut.ensures.value in
     ap (λ (items : List ℕ). inner_plane r.PAD a.width a.height items) (with_items_is a.stored new long)
-    ∙ stored_rectangle r.PAD a.width a.height c.args.left c.args.top r.W r.H a.stored.items c.self.invariant.long columns rows new samples c.store.ensures.inside outside
+    ∙ stored_rectangle r.PAD a.width a.height c.args.left c.args.top r.W r.H a.stored.items c.self.invariant.long (omega arith) (omega arith) new samples
+    c.store.ensures.inside outside
     ∙ ap (λ (p : Plane). with_block p c.args.left c.args.top r.W r.H (λ x y. slice_index samples (r.W * y + x))) c.self.view_is

@@ -1,5 +1,4 @@
-use Rattle.avc_poc.proofs.OrderCounts.{◌≡◌, ap, ◌∙◌, arith, rules, OrderCountState, after_picture, count_pair, counts_after, counted, after_law}
-use Rattle.avc_poc.proofs.OrderCounts.{counts_law}
+use Rattle.avc_poc.proofs.OrderCounts.{◌≡◌, ap, ◌∙◌, arith, rules, OrderCountState, after_picture, count_pair, counts_after, counted, after_law, counts_law}
 use Rattle.avc_poc.proofs.poc.Poc.next.Goals as goal
 
 pub returns-in_err-counts-clause-counts : goal.returns-in_err-counts-clause-counts

@@ -1,16 +1,15 @@
 -- The names that the proofs cite of std, of the crates below and of the definitions here, passed on from one place. Declares nothing.
-pub use Rattle.std.proofs.Common.{◌≡◌, ◌+◌, ◌≤◌, ℕ, Bool, true, false, List, [], ◌∷◌, length, drop, Some, None, nat_le, All, refl, ap, sym, ◌∙◌}
-pub use Rattle.std.proofs.Common.{arith, slice_index, ◌-◌, ◌<◌, suc, not, ◌++◌, map, reverse, take, if◌then◌else◌, append_assoc, cond, zero, ◌||◌}
-pub use Rattle.std.proofs.Common.{is_some, append-nil, length-append, Option, Result, Ok, Err, subst, get_or, inl, inr, rules, string_bytes, ◌⊎◌, ◌^◌}
-pub use Rattle.std.proofs.Common.{ap₂, ◌&&◌, ◌==◌}
+pub use Rattle.std.proofs.Common.{◌≡◌, ◌+◌, ◌≤◌, ℕ, Bool, true, false, List, [], ◌∷◌, length, drop, Some, None, nat_le, All, refl, ap, sym, ◌∙◌, arith}
+pub use Rattle.std.proofs.Common.{slice_index, ◌-◌, ◌<◌, suc, not, ◌++◌, map, reverse, take, if◌then◌else◌, append_assoc, cond, zero, ◌||◌, is_some, append-nil}
+pub use Rattle.std.proofs.Common.{length-append, Option, Result, Ok, Err, subst, get_or, inl, inr, rules, string_bytes, ◌⊎◌, ◌^◌, ap₂, ◌&&◌, ◌==◌}
 pub use Rattle.std.proofs.Math.Seq.{drop-append_seam, take-append_seam, take-length}
 pub use Rattle.std.proofs.lemmas.Bool.{eq-eqb, eqb-true}
 pub use Rattle.std.proofs.lemmas.Bool.Decides.{nat_tests}
 pub use Rattle.std.proofs.lemmas.Grind.{flat_map-append}
-pub use Rattle.std.proofs.lemmas.List.{length-drop, length-reverse, reverse-append, reverse-reverse, take_more, get_or-replicate, length-replicate}
-pub use Rattle.std.proofs.lemmas.List.{drop-map, drop_more, length-map, drop_all, map-append}
-pub use Rattle.std.proofs.lemmas.List.Elements.{All-head, All-tail, filter-append, All-nil, All-cons, All-append, All-take, All-drop, All-same}
-pub use Rattle.std.proofs.lemmas.List.Elements.{All-push, All-filter, All-weaker, All-map}
+pub use Rattle.std.proofs.lemmas.List.{length-drop, length-reverse, reverse-append, reverse-reverse, take_more, get_or-replicate, length-replicate, drop-map}
+pub use Rattle.std.proofs.lemmas.List.{drop_more, length-map, drop_all, map-append}
+pub use Rattle.std.proofs.lemmas.List.Elements.{All-head, All-tail, filter-append, All-nil, All-cons, All-append, All-take, All-drop, All-same, All-push}
+pub use Rattle.std.proofs.lemmas.List.Elements.{All-filter, All-weaker, All-map}
 pub use Rattle.std.proofs.lemmas.List.Folds.{list_any-append, list_all-append}
 pub use Rattle.std.proofs.lemmas.List.Sums.{take_while-cons}
 pub use Rattle.std.proofs.lemmas.Option.{slice_get_cases, slice_get_within, get_or_from_slice_get, slice_get-get_or}
@@ -29,9 +28,9 @@ pub use Rattle.avc_annexb.specs.Written.{written}
 pub use Rattle.avc_annexb.specs.declared.unit.Unit.{Unit as Piece, Unit}
 pub use Rattle.avc_bits.specs.Bits.{Bits, Read, ◌>>=◌, start}
 pub use Rattle.avc_bits.specs.Codes.{ue_to, ue}
-pub use Rattle.avc_decoder.specs.Events.{events, Outcome, Phase, State, after_next, after_unit, at_end, closed_outcome, closed_picture}
-pub use Rattle.avc_decoder.specs.Events.{closing_result, events_from, failed_at, followed_by, held_after, history_in, in_phase, is_running}
-pub use Rattle.avc_decoder.specs.Events.{is_waiting, no_change, open_facts_in, running, state_after, events_and_held, first_state}
+pub use Rattle.avc_decoder.specs.Events.{events, Outcome, Phase, State, after_next, after_unit, at_end, closed_outcome, closed_picture, closing_result}
+pub use Rattle.avc_decoder.specs.Events.{events_from, failed_at, followed_by, held_after, history_in, in_phase, is_running, is_waiting, no_change}
+pub use Rattle.avc_decoder.specs.Events.{open_facts_in, running, state_after, events_and_held, first_state}
 pub use Rattle.avc_decoder.specs.FirstFault.{OpenPicture, history_of}
 pub use Rattle.avc_decoder.specs.Laws.{is_picture, state_through, PicturesNameNoUnits, LetsPriorPicturesOut, StartUnitsBeginAnew}
 pub use Rattle.avc_decoder.specs.Output.{Output}
@@ -53,25 +52,25 @@ pub use Rattle.avc_slice.specs.declared.slice.Slice.{Slice}
 pub use Rattle.avc_types.specs.declared.fault.Fault.{Fault}
 pub use Rattle.avc_units.proofs.SetUnits.{set_units-append, sets_then}
 pub use Rattle.avc_units.specs.Grouping.{is_start, list_of, set_unit, set_units, Kind, kind, rbsp_of, reads_zero, set_fault, set_of, OpenPictureFacts}
-pub use Rattle.avc_units.specs.Grouping.{ends_picture, kind_of, no_effect, refusal_of, running_step, slice_in, slice_step, step, unreadable}
-pub use Rattle.avc_units.specs.Grouping.{waiting_step, boundary, partition, tables}
+pub use Rattle.avc_units.specs.Grouping.{ends_picture, kind_of, no_effect, refusal_of, running_step, slice_in, slice_step, step, unreadable, waiting_step}
+pub use Rattle.avc_units.specs.Grouping.{boundary, partition, tables}
 pub use Rattle.avc_units.specs.Laws.{IsSetOf, SetsAreInForceAgain, SetsInForceAreUnits}
 pub use Rattle.avc_units.specs.Resuming.{sets_in_force, deciding_unit, satisfies, unit_list}
 pub use Rattle.avc_units.specs.declared.step.Next.{Next}
 pub use Rattle.avc_units.specs.declared.step.Next.TheVariants.{Nothing, Refusal, FaultOfOpen, FaultOfOwn}
 pub use Rattle.avc_units.specs.declared.step.Step.{Step}
-pub use Rattle.avc_tools.specs.Cutting.{AreKept, AreReplaced, HasSets, kept_bytes, pps_unit, replaced, sps_unit, piece_at, piece_in, pieces_at}
-pub use Rattle.avc_tools.specs.Cutting.{pieces_in, piece_units}
+pub use Rattle.avc_tools.specs.Cutting.{AreKept, AreReplaced, HasSets, kept_bytes, pps_unit, replaced, sps_unit, piece_at, piece_in, pieces_at, pieces_in}
+pub use Rattle.avc_tools.specs.Cutting.{piece_units}
 pub use Rattle.avc_tools.specs.Laws.{PiecesDecodeAlike, drop_flags, drops_by, drops_prior}
-pub use Rattle.avc_tools.specs.Lines.{unit_line, unit_lines_so_far, header_line, header_lines_from, header_lines_so_far, newline, pps_fields}
-pub use Rattle.avc_tools.specs.Lines.{pps_flags, pps_identity, slice_fields, slice_picture, slice_place, sps_frames, sps_identity, sps_size}
-pub use Rattle.avc_tools.specs.Lines.{unit_lines, header_lines, pps_constrained, pps_control, and_number}
-pub use Rattle.avc_tools.specs.PieceSoFar.{PiecesAreWhole, PiecesStay, bytes_of, numbered_piece, piece_so_far, piece_text, pieces_so_far_from}
-pub use Rattle.avc_tools.specs.PieceSoFar.{rest_so_far, is_over as piece_is_over}
+pub use Rattle.avc_tools.specs.Lines.{unit_line, unit_lines_so_far, header_line, header_lines_from, header_lines_so_far, newline, pps_fields, pps_flags}
+pub use Rattle.avc_tools.specs.Lines.{pps_identity, slice_fields, slice_picture, slice_place, sps_frames, sps_identity, sps_size, unit_lines, header_lines}
+pub use Rattle.avc_tools.specs.Lines.{pps_constrained, pps_control, and_number}
+pub use Rattle.avc_tools.specs.PieceSoFar.{PiecesAreWhole, PiecesStay, bytes_of, numbered_piece, piece_so_far, piece_text, pieces_so_far_from, rest_so_far}
+pub use Rattle.avc_tools.specs.PieceSoFar.{is_over as piece_is_over}
 pub use Rattle.avc_tools.specs.Pieces.{after_slices, is_left_out, is_slice, rest_of_piece, through_slices, leads, piece, pieces_from, pieces}
 pub use Rattle.avc_tools.specs.Showing.{AreShown, header_lines_under}
-pub use Rattle.avc_tools.specs.Stages.{Stage, begun, made, next, over, piece_of, stage_after, staying, text_of, writing, IsCutOff, IsCutOn, StandsAt}
-pub use Rattle.avc_tools.specs.Stages.{leading, IsCutting, phase_of, stage_of}
+pub use Rattle.avc_tools.specs.Stages.{Stage, begun, made, next, over, piece_of, stage_after, staying, text_of, writing, IsCutOff, IsCutOn, StandsAt, leading}
+pub use Rattle.avc_tools.specs.Stages.{IsCutting, phase_of, stage_of}
 pub use Rattle.avc_tools.specs.Streams.{OnlyGrows, IsDrained, after_units_left, units_left, max_unit, StreamSoFar, after_end, after_piece}
 pub use Rattle.avc_tools.specs.declared.cutter.CutPhase.{CutPhase}
 pub use Rattle.avc_tools.specs.declared.cutter.Cutter.{Cutter}

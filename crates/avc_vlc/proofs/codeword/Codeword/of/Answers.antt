@@ -1,5 +1,4 @@
-use Rattle.avc_vlc.proofs.Entries.{◌≡◌, ◌<◌, length, get_or, take, Some, ap, ◌∙◌, sym, arith, list_any, take_all, holds, word_at, word_found}
-use Rattle.avc_vlc.proofs.Entries.{word_none}
+use Rattle.avc_vlc.proofs.Entries.{◌≡◌, ◌<◌, length, get_or, take, Some, ap, ◌∙◌, sym, arith, list_any, take_all, holds, word_at, word_found, word_none}
 use Rattle.avc_vlc.proofs.codeword.Codeword.of.Goals as goal
 
 pub returns-in-Some : goal.returns-in-Some

@@ -5,9 +5,7 @@ use Rattle.avc_types.specs.Results.{◌>>=◌}
 use Rattle.avc_units.specs.Grouping.{pps as pps_kind, slice as slice_kind, sps as sps_kind, list_of}
 use Rattle.avc_decoder.specs.Events.{running as running_phase}
 
--- ---- what has gone out of a history as it grows, and that each of its pictures could come
-
--- ---- what comes of a history
+-- ---- what has gone out of a history as it grows, and that each of its pictures could come: what comes of a history
 
 -- one history has come of another
 pub record Follows (h full : History) : Type 0 where
@@ -30,13 +28,11 @@ shown_in_turn h first others = flat_map-append (λ place. entry_pictures (entry_
 pub gone_and_held : (output : Output) (h : History) → gone output h ++ held_pictures output h ≡ all_of output h
 gone_and_held output h = sym (shown_in_turn h (buffer_of output h).out (all_held output h))
 
-all_first : (P : ℕ → Type 0) (xs ys : List ℕ) → All P (xs ++ ys) → All P xs
-all_first P [] ys a = All-nil P
-all_first P (x ∷ xs) ys a = All-cons P x xs (All-head P x (xs ++ ys) a) (all_first P xs ys (All-tail P x (xs ++ ys) a))
-
 -- the places of what has gone out
 gone_below : (output : Output) (h : History) → All (λ p. p < length h) (buffer_of output h).out
-gone_below output h = all_first (λ p. p < length h) (buffer_of output h).out (all_held output h) (places_below output h)
+gone_below output h =
+    let out = (buffer_of output h).out in
+    subst (All (λ p. p < length h)) (take-append_seam out (all_held output h)) (All-take (λ p. p < length h) (length out) (out ++ all_held output h) (places_below output h))
 
 -- with one entry more
 gone_more : (output : Output) (e : Entry) (h : History) → gone output h ++ output_pictures output h (e ∷ h) ≡ gone output (e ∷ h)
@@ -73,15 +69,29 @@ pub gone_later : (output : Output) (old new : History) → Follows old new
 gone_later output old new f =
     subst (λ l. gone output old ++ output_pictures output old l ≡ gone output l) (sym f.is) (grown output old f.more).in_turn
 
--- ---- each picture could come
+-- ---- each picture could come, and has its size
 
--- Each picture of the history could come, and each entry was marked.
+-- a closed picture has the size of its parameter set
+abbrev pub Good : Entry → Type 0
+Good (decoded_picture sps h planes) = IsSps sps × IsSized (width_in_mbs sps) (height_in_mbs sps) planes
+Good (missing_frame sps frame_num) = Prim.Unit {0}
+
+abbrev pub AllGood : History → Type 0
+AllGood [] = Prim.Unit {0}
+AllGood (e ∷ h) = Good e × AllGood h
+
+-- by these laws pictures have their sizes
+abbrev pub Sizes : Type 0
+Sizes = PicturesAreSized × SpsInForceKeepsLimits
+
+-- Each picture of the history could come and has its size, and each entry was marked.
 pub record IsSound (h : History) : Type 0 where
   pub each : EachCanCome h
   pub marked : is_ok (marks_of h) ≡ true
+  pub good : Sizes → AllGood h
 
 pub none_sound : IsSound []
-none_sound = record { each = tt; marked = refl }
+none_sound = record { each = tt; marked = refl; good = λ _. tt }
 
 -- a picture that is one of an IDR picture has the marking of one
 abbrev pub HasItsMarking : Header → Type 0
@@ -91,56 +101,48 @@ HasItsMarking h = is_idr h ≡ true → has_idr_marking h ≡ true
 pub record IsSoundOpen (o : OpenPicture) : Type 0 where
   pub before : IsSound o.before
   pub idr : HasItsMarking (first_header o)
+  pub limits : Sizes → IsSps o.sps
 
 -- It has come of such a history by missing numbers, or is that.
 pub record Grows (h full : History) : Type 0 where
   pub follows : Follows h full
   pub sound : IsSound full
 
--- What holds of a history, and still with a missing frame more that can be marked, holds once missing numbers are taken in.
-missing_keeps : (P : History → Type 0) (sps : Sps)
-    → ((n : ℕ) (x : History) → P x → is_ok (marks_of (missing_frame sps n ∷ x)) ≡ true → P (missing_frame sps n ∷ x))
-    → (numbers : List ℕ) (h full : History) → P h → with_missing sps numbers h ≡ Ok full → P full
-missing_keeps P sps more [] h full p e = subst P (ok_same h full e) p
-missing_keeps P sps more (n ∷ numbers) h full p e =
-    by_marks (marks_of (missing_frame sps n ∷ h)) refl (missing_keeps P sps more numbers (missing_frame sps n ∷ h) full) e
+-- with missing numbers taken in
+missing_grows : (sps : Sps) (numbers : List ℕ) (h mid full : History) → Grows h mid → with_missing sps numbers mid ≡ Ok full → Grows h full
+missing_grows sps [] h mid full g e = subst (Grows h) (ok_same mid full e) g
+missing_grows sps (n ∷ numbers) h mid full g e = by_marks (marks_of next) refl (missing_grows sps numbers h next full) e
   where
-    by_marks : (r : Result Marks Fault) → marks_of (missing_frame sps n ∷ h) ≡ r
-        → (P (missing_frame sps n ∷ h) → with_missing sps numbers (missing_frame sps n ∷ h) ≡ Ok full → P full)
-        → (r >>= λ m. with_missing sps numbers (missing_frame sps n ∷ h)) ≡ Ok full → P full
-    by_marks (Ok m) is others e' = others (more n h p (ap is_ok is)) e'
+    next : History
+    next = missing_frame sps n ∷ mid
+
+    by_marks : (r : Result Marks Fault) → marks_of next ≡ r → (Grows h next → with_missing sps numbers next ≡ Ok full → Grows h full)
+        → (r >>= λ m. with_missing sps numbers next) ≡ Ok full → Grows h full
+    by_marks (Ok m) is others e' =
+        others (record {
+          follows = record { more = missing_frame sps n ∷ g.follows.more; is = ap (λ l. missing_frame sps n ∷ l) g.follows.is };
+          sound = record { each = g.sound.each; marked = ap is_ok is; good = λ l. (tt, g.sound.good l) };
+        }) e'
     by_marks (Err f) is others e' = cc
-
--- The same of the history before the open picture, and of that on which it stands.
-pub base_keeps : (P : History → Type 0) (o : OpenPicture)
-    → ((n : ℕ) (x : History) → P x → is_ok (marks_of (missing_frame o.sps n ∷ x)) ≡ true → P (missing_frame o.sps n ∷ x))
-    → P o.before → P (history_of o)
-base_keeps P o more p = by_address (first_header o).first_mb_in_slice (history_at_opening_of o) opening_keeps
-  where
-    opening_keeps : (h : History) → history_at_opening_of o ≡ Ok h → P h
-    opening_keeps h e =
-        let opened = opened_by o.sps (first_header o) o.before h e in
-        missing_keeps P o.sps more opened.numbers o.before h p opened.missing
-
-    by_address : (address : ℕ) (opened : Result History Fault) → ((h : History) → opened ≡ Ok h → P h)
-        → P (history_by address opened o.before)
-    by_address zero (Ok h) keeps = keeps h refl
-    by_address _ opened keeps = p
 
 -- the history on which the open picture stands
 pub base_grows : (o : OpenPicture) → IsSound o.before → Grows o.before (history_of o)
-base_grows o s =
-    base_keeps (Grows o.before) o (λ n x g marked. record {
-      follows = record { more = missing_frame o.sps n ∷ g.follows.more; is = ap (λ l. missing_frame o.sps n ∷ l) g.follows.is };
-      sound = record { each = g.sound.each; marked = marked };
-    }) (record { follows = record { more = []; is = refl }; sound = s })
+base_grows o s = by_address (first_header o).first_mb_in_slice (history_at_opening_of o) opening_grows
+  where
+    here : Grows o.before o.before
+    here = record { follows = record { more = []; is = refl }; sound = s }
+
+    opening_grows : (h : History) → history_at_opening_of o ≡ Ok h → Grows o.before h
+    opening_grows h e =
+        let opened = opened_by o.sps (first_header o) o.before h e in
+        missing_grows o.sps opened.numbers o.before o.before h here opened.missing
+
+    by_address : (address : ℕ) (opened : Result History Fault) → ((h : History) → opened ≡ Ok h → Grows o.before h)
+        → Grows o.before (history_by address opened o.before)
+    by_address zero (Ok h) grows = grows h refl
+    by_address _ opened grows = here
 
 -- ---- a picture that is closed
-
--- The open picture has no fault, and closing gives this history.
-pub record HasClosed (o : OpenPicture) (full : History) : Type 0 where
-  pub opened : history_at_opening_of o ≡ Ok (history_of o)
-  pub closed : closed_history o (history_of o) ≡ Ok full
 
 -- where no fault is found, whatever `others` looks for on the history with the missing numbers
 opens : (address : ℕ) (opened : Result History Fault) (unit : ℕ) (before : History) (others : History → Option (ℕ × Fault))
@@ -148,17 +150,18 @@ opens : (address : ℕ) (opened : Result History Fault) (unit : ℕ) (before : H
 opens zero (Ok h) unit before others e = refl
 opens _ opened unit before others e = cc
 
-pub has_closed : (o : OpenPicture) (full : History) → closing_result o ≡ Ok full → HasClosed o full
+-- the open picture has no fault, and closing gives this history
+has_closed : (o : OpenPicture) (full : History) → closing_result o ≡ Ok full
+    → (history_at_opening_of o ≡ Ok (history_of o)) × (closed_history o (history_of o) ≡ Ok full)
 has_closed o full e = by_fault (first_fault o true) refl (closed_history o (history_of o)) refl e
   where
     opened_there : first_fault o true ≡ None → history_at_opening_of o ≡ Ok (history_of o)
     opened_there = opens (first_header o).first_mb_in_slice (history_at_opening_of o) (first_slice o).unit o.before _
 
     by_fault : (f : Option (ℕ × Fault)) → first_fault o true ≡ f → (r : Result History Fault) → closed_history o (history_of o) ≡ r
-        → unless_found f (at_last_slice o r) ≡ Ok full → HasClosed o full
-    by_fault (Some found) is r closed e' = cc
-    by_fault None is (Err f) closed e' = cc
-    by_fault None is (Ok h) closed e' = let same : h ≡ full = cc in record { opened = opened_there is; closed = closed ∙ ap Ok same }
+        → unless_found f (at_last_slice o r) ≡ Ok full → (history_at_opening_of o ≡ Ok (history_of o)) × (closed_history o (history_of o) ≡ Ok full)
+    by_fault None is (Ok h) closed e' = let same : h ≡ full = cc in (opened_there is, closed ∙ ap Ok same)
+    by_fault _ is r closed e' = cc
 
 -- the history that it gives can be marked
 pub closing_is : (sps : Sps) (hd : Header) (planes : Planes) (h full : History) → history_after_closing sps hd planes h ≡ Ok full
@@ -178,9 +181,15 @@ pub record IsSoundlyClosed (o : OpenPicture) (full : History) : Type 0 where
 pub closed_sound : (o : OpenPicture) (full : History) → IsSoundOpen o → closing_result o ≡ Ok full → IsSoundlyClosed o full
 closed_sound o full s e =
     let c = has_closed o full e in
-    let closing = closing_is o.sps (first_header o) (picture_planes o (history_of o)) (history_of o) full c.closed in
+    let closing = closing_is o.sps (first_header o) (picture_planes o (history_of o)) (history_of o) full c.1 in
     record {
-      sound = record { each = subst EachCanCome (sym closing.0) (can_come c.opened (is_idr (first_header o)) refl); marked = closing.1 };
+      sound = record {
+        each = subst EachCanCome (sym closing.0) (can_come c.0 (is_idr hd) refl);
+        marked = closing.1;
+        good = λ l.
+            let before = either AllGood (is_idr hd) [] base (λ _. tt) (λ _. (base_grows o s.before).sound.good l) in
+            subst AllGood (sym closing.0) ((s.limits l, l.0 (start_on o base) (slices_of o)), before);
+      };
       follows = record { more = decoded_picture o.sps (first_header o) (picture_planes o (history_of o)) ∷ []; is = closing.0 };
     }
   where
@@ -203,9 +212,7 @@ closed_sound o full s e =
           ((base_grows o s.before).sound).each,
         )
 
--- ---- what the grouper's steps bring, and when they keep the parameter sets
-
--- ---- what comes next
+-- ---- what the grouper's steps bring, and when they keep the parameter sets: what comes next
 
 -- no picture is open after closing
 abbrev pub rests : (closes : Bool) → Option OpenPictureFacts → Bool
@@ -274,16 +281,15 @@ abbrev pub Fits : Option OpenPictureFacts → (closes : Bool) → Next → Type 
 Fits None closes n = Allows n false
 Fits (Some facts) closes n = Allows n (not closes)
 
-pub rules_in : HeadersKeepIdrRules → (sets : Sets) (u : Piece) (s : Slice) → slice_in sets u ≡ Ok s → KeepsIdrRules s.header
-rules_in rules sets u s e = let of_unit = slice_of_unit sets u s e in rules u.header sets of_unit.rbsp s.header of_unit.is_read
+pub rules_in : (sets : Sets) (u : Piece) (s : Slice) → slice_in sets u ≡ Ok s → KeepsIdrRules s.header
+rules_in sets u s e = (slice_of_unit sets u s e).2.rules
 
-pub fits : HeadersKeepIdrRules → (sets : Sets) (u : Piece) (o : Option OpenPictureFacts) (closes : Bool) (n : Next)
-    → BringsNext (slice_in sets u) o closes n → Fits o closes n
-fits rules sets u None closes (Begins s) b = (rules_in rules sets u s b.1).marking
-fits rules sets u (Some facts) true (Begins s) b = (rules_in rules sets u s b.1).marking
-fits rules sets u (Some facts) false (Begins s) b = cc b.0
-fits rules sets u None closes _ b = tt
-fits rules sets u (Some facts) closes _ b = tt
+pub fits : (sets : Sets) (u : Piece) (o : Option OpenPictureFacts) (closes : Bool) (n : Next) → BringsNext (slice_in sets u) o closes n → Fits o closes n
+fits sets u (Some facts) false (Begins s) b = cc b.0
+fits sets u None closes (Begins s) b = (rules_in sets u s b.1).marking
+fits sets u (Some facts) true (Begins s) b = (rules_in sets u s b.1).marking
+fits sets u None closes _ b = tt
+fits sets u (Some facts) closes _ b = tt
 
 -- ---- the parameter sets
 
@@ -378,15 +384,8 @@ pub named_first : (sets : Sets) (slice : Slice) (sps : Sps) (pps : Pps) (frames 
     → IsSliceUnder sets slice → sets_named sets slice.header ≡ Some (pps, sps)
     → IsNamed sets (begun_with_slice sps pps frames slice)
 named_first sets slice sps pps frames t e =
-    let named : sets_named sets slice.header ≡ Some (t.pps, t.sps) = cc (t.pps_is, t.sps_is) in
-    let same : ◌≡◌ {A = Pps × Sps} (t.pps, t.sps) (pps, sps) = some_is _ _ (sym named ∙ e) in
-    let p : t.pps ≡ pps = ap (λ (x : Pps × Sps). x.0) same in
-    let s : t.sps ≡ sps = ap (λ (x : Pps × Sps). x.1) same in
-    record {
-      pps = t.pps_is ∙ ap Some p;
-      sps = ap (λ (q : Pps). sets.sps q.seq_parameter_set_id) (sym p) ∙ t.sps_is
-          ∙ ap Some s;
-    }
+    let named = named_is sets slice.header t.pps t.sps t.pps_is t.sps_is in
+    subst (λ (x : Pps × Sps). IsNamed sets (begun_with_slice x.1 x.0 frames slice)) (some_is _ _ (sym named ∙ e)) (record { pps = t.pps_is; sps = t.sps_is })
 
 -- and so are those that a further one names
 pub named_further : (sets : Sets) (p : PhaseHere) (slice : Slice) → IfSome (current_in p) (IsNamed sets)
@@ -409,20 +408,7 @@ can_have sets s (Running (Some c)) slice w t goes =
     }
 can_have sets s _ slice w t goes = tt
 
--- ---- closing
-
-pub open_is : (p : PhaseHere) (c : CurrentPicture) → ◌≡◌ {A = Option CurrentPicture} (Some c) (current_in p)
-    → p ≡ Running (Some c)
-open_is Waiting c e = cc
-open_is (Running o) c e = ap Running (sym e)
-
--- ---- what a unit does, joined from its parts: closing the open picture, and what comes next
-
-and_false : (b : Bool) → (b && false) ≡ true → ⊥
-and_false true e = cc
-and_false false e = cc
-
--- ---- what a step asks for can be carried out
+-- ---- what a unit does, joined from its parts: closing the open picture, and what comes next: what a step asks for can be carried out
 
 -- where no picture is open
 fits_none : (sets : Sets) (p : PhaseHere) (next : Next) → current_in p ≡ None → IfSlice next (IsSliceUnder sets)
@@ -448,8 +434,7 @@ fits_before {table} {table'} (Running (Some c)) {u} {w} k stays =
     let here : Brings (slice_in (sets_after table) u) facts w = subst (Brings (slice_in (sets_after table) u) facts) (sym k.is) brings in
     fits_open (sets_after table') c k.full (slice_in (sets_after table) u) w.next
     (subst (λ b. BringsNext (slice_in (sets_after table) u) facts b w.next) (sym (and-true w.closes) ∙ stays) here.brings) k.under
-fits_before {table' = table'} Waiting {w = w} k stays = fits_none (sets_after table') Waiting w.next refl k.under
-fits_before {table' = table'} (Running None) {w = w} k stays = fits_none (sets_after table') (Running None) w.next refl k.under
+fits_before {table' = table'} p {w = w} k stays = fits_none (sets_after table') p w.next refl k.under
 
 -- its parameter sets stay in force
 pub works_before : {table table' : List SetUnit} {s : SequenceState} (p : PhaseHere) {u : Piece} {w : Step}
@@ -460,8 +445,7 @@ works_before {table} {table'} (Running (Some c)) {u} {w} works k stays =
     (ap (λ (x : Step). x.closes) (sym k.is) ∙ sym (and-true w.closes) ∙ stays) in
     let same : table' ≡ table = k.put ∙ ap (λ ss. table ++ ss) none ∙ append-nil table in
     rw same works
-works_before Waiting works k stays = record { stands = works.stands; named = tt }
-works_before (Running None) works k stays = record { stands = works.stands; named = tt }
+works_before _ works k stays = record { stands = works.stands; named = tt }
 
 -- ---- closing
 
@@ -516,7 +500,7 @@ closes_as : (output : Output) (sets : Sets) (unit : ℕ) (w : Step) (s : Sequenc
     → in_phase output sets unit w (phase_of s p) ≡ after_closing output sets unit w (closed_in output (phase_of s p))
 closes_as output sets unit w s (Running (Some c)) stands e = rw (opened_phase s c stands)
     (rw (sym (and-true w.closes) ∙ e) refl)
-closes_as output sets unit w s _ stands e = absurd (and_false w.closes e)
+closes_as output sets unit w s _ stands e = absurd (false≢true (second_so w.closes false e))
 
 waits_here : (s : SequenceState) (p : PhaseHere) → is_waiting (phase_of s p) ≡ is_waiting_in p
 waits_here s (Running (Some c)) = refl
@@ -543,25 +527,11 @@ then_comes t t1 t' o1 o2 none a b = record {
   sets = b.sets ∙ a.sets;
 }
 
-same_state : {o o' : Output} {t t' : List SetUnit} {a a' : Phase} → o ≡ o' → t ≡ t' → a ≡ a'
-    → (let x : State = record { output = o; sets = t; phase = a } in x) ≡ record
-    { output = o'; sets = t'; phase = a' }
-same_state e f g = cc
-
 -- the stream's state is that after the unit
-state_is : (f : StreamState) (u : Piece) (x : Outcome) (st : State) (es : List Event) (t n : ℕ)
-    → st ≡ state_after f.state u x → es ≡ f.events ++ x.events → t ≡ f.taken → n ≡ more_read f.read x.read
-    → x ≡ after_unit f.state u → (let f' : StreamState = record { state = st; events = es; taken = t; read = n } in f')
-    ≡ after_unit_in_stream u f
-state_is f u x st es t n a b c d e = rw (a, b, c, d, e) refl
-
 unit_done : (t t' : Stream) (table1 : List SetUnit) (u : Piece) (x : Outcome) → HasOutcome (record t { table = table1 }) x t'
     → table1 ≡ t.table ++ set_units (u ∷ []) → x ≡ after_unit (stream_state t).state u
     → stream_state t' ≡ after_unit_in_stream u (stream_state t)
-unit_done t t' table1 u x r put is =
-    state_is (stream_state t) u x (stream_state t').state t'.queue.events t'.queue.taken t'.read
-    (same_state r.output_is (r.sets ∙ put) r.phase) (ap (λ (k : QueueState). k.events) r.queue)
-    (ap (λ (k : QueueState). k.taken) r.queue) r.count is
+unit_done t t' table1 u x r put is = rw (r.output_is, r.sets, put, r.phase, r.queue, r.count, is) refl
 
 -- what after_unit is by the step that the unit has
 unit_is : (t : Stream) (table' : List SetUnit) (u : Piece) (w : Step) → IsPhase t.sequence t.phase → HasStep t.table t.phase u w table'
@@ -641,12 +611,6 @@ held_here output s (Running (Some c)) w none =
     let there = sym (ap open_facts_in (opened_phase s c w)) ∙ none in
     cc
 
-end_is : (f : StreamState) (st : State) (es : List Event) (t n : ℕ)
-    → st ≡ record { output = (f.state).output; sets = (f.state).sets; phase = waiting }
-    → es ≡ f.events ++ at_end (f.state).output (f.state).phase → t ≡ f.taken → n ≡ f.read
-    → (let f' : StreamState = record { state = st; events = es; taken = t; read = n } in f') ≡ after_stream_end f
-end_is f st es t n a b c d = rw (a, b, c, d) refl
-
 pub ends : (t t1 t' : Stream) → HasOutcome t (closed_in t.sequence.output (phase_of t.sequence t.phase)) t1
     → WaitsAfter t1 (pictures (held_pictures t1.sequence.output (current_history t1.sequence))) t'
     → stream_state t' ≡ after_stream_end (stream_state t)
@@ -664,6 +628,4 @@ ends t t1 t' r waits =
     ∙ ap (λ es. t.queue.events ++ es) (end_events output (phase_of t.sequence t.phase)) in
     let taken = ap (λ (k : QueueState). k.taken) w.queue ∙ ap (λ (k : QueueState). k.taken) r.queue in
     let read = waits.1 ∙ r.count ∙ ap (more_read t.read) (none_read output (phase_of t.sequence t.phase)) in
-    end_is (stream_state t) (stream_state t').state t'.queue.events t'.queue.taken t'.read
-    (same_state (ap (λ (s : SequenceState). s.output) w.sequence ∙ r.output_is) (waits.2 ∙ r.sets) (ap₂ phase_of w.sequence w.phase))
-    events taken read
+    rw (w.sequence, w.phase, r.output_is, waits.2, r.sets, events, taken, read) refl

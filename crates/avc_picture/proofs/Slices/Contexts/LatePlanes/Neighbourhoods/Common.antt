@@ -4,8 +4,8 @@ pub use Rattle.std.proofs.Common.{nat_lt, Bool, true, false, not, ℤ, pos, ◌+
 pub use Rattle.std.proofs.Common.{add-one, ◌/◌, ◌%◌, ◌==◌, nat_abs, cond, ◌*◌, ◌^◌, Ok, Err, ◌≤ℤ◌, Result, append_assoc, length-set, mul_comm, ⊎_elim}
 pub use Rattle.std.proofs.Common.{replicate, unwrap_or, lit≤, ◌⊎◌, rules, w8, to_z, of_z, w32}
 pub use Rattle.std.proofs.Math.Nat.{div-div-eq-div-mul, pow-succ', div-le_self, add-mul, mul-le-mul_right, div-lt_iff_lt-mul, div-mul-le_self}
-pub use Rattle.std.proofs.Math.Seq.{take-append_seam, take-suc, take-length}
-pub use Rattle.std.proofs.lemmas.Bool.{cases_lt}
+pub use Rattle.std.proofs.Math.Seq.{get_or-append_seam, take-append-add, take-append_seam, take-suc, take-length}
+pub use Rattle.std.proofs.lemmas.Bool.{cases_lt, ne_eqb}
 pub use Rattle.std.proofs.lemmas.Bool.Decides.{nat_tests}
 pub use Rattle.std.proofs.lemmas.Int.{ints}
 pub use Rattle.std.proofs.lemmas.List.{append-nil, length-map, map-append, take-map, length-append, get_or_append_left, get_or-append_right}
@@ -18,7 +18,7 @@ pub use Rattle.std.proofs.lemmas.List.FromFn.{get_or-range_with_len, length-rang
 pub use Rattle.std.proofs.lemmas.List.Kept.{AllPairs-from_increasing}
 pub use Rattle.std.proofs.lemmas.List.Sums.{AllPass-from_list_all}
 pub use Rattle.std.proofs.lemmas.Nat.{div-add-mod', mod_below, div-mul-add}
-pub use Rattle.std.proofs.lemmas.Option.{same_Some, get_or_from_slice_get, slice_get_within, slice_get-map, unwrap_or-slice_get}
+pub use Rattle.std.proofs.lemmas.Option.{same_Some, get_or_from_slice_get, slice_get_within, slice_get_cases, slice_get-map, unwrap_or-slice_get}
 pub use Rattle.std.specs.List.{list_all, range_with_len, list_any, flat_map, filter, find}
 pub use Rattle.std.specs.List.Sorted.{IsStrictlyIncreasing}
 pub use Rattle.std.specs.Option.{option_map}
@@ -62,13 +62,10 @@ pub use Rattle.avc_params.specs.Within.{IsPps, IsSps}
 pub use Rattle.avc_params.specs.declared.pps.Pps.{Pps}
 pub use Rattle.avc_params.specs.declared.set_unit.SetUnit.TheVariants.{OfSps, OfPps}
 pub use Rattle.avc_params.specs.declared.sps.Sps.{Sps}
-pub use Rattle.avc_picture_core.proofs.InterTiles.IntraSides.BuiltBlocks.{with_block_same}
+pub use Rattle.avc_picture_core.proofs.InterTiles.IntraSides.BuiltBlocks.{each_sixteen, with_block_same}
 pub use Rattle.avc_picture_core.proofs.InterTiles.IntraSides.{Agree, AgreeBefore, address_at, planes_agree}
 pub use Rattle.avc_picture_core.proofs.InterTiles.IntraSides.{AgreeFrom, block_from, chroma_from, luma_from, block_same, luma_same, chroma_same}
-pub use Rattle.avc_picture_core.proofs.InterTiles.{some_at}
-pub use Rattle.avc_picture_core.proofs.InterTiles.{bounds}
-pub use Rattle.avc_picture_core.proofs.InterTiles.IntraSides.BuiltBlocks.{each_sixteen}
-pub use Rattle.avc_picture_core.proofs.InterTiles.{planes_same}
+pub use Rattle.avc_picture_core.proofs.InterTiles.{bounds, planes_same, some_at}
 pub use Rattle.avc_picture_core.specs.Built.{is_intra_place, is_there, sides_of, Place, place_of, with_blocks4x4, luma_after, chroma_after}
 pub use Rattle.avc_picture_core.specs.Built.{planes_after, built_on, built, inter_at, left_of_mb, top_of_mb, with_block4x4, with_macroblock, size_of}
 pub use Rattle.avc_picture_core.specs.Canvas.{sides_near, IsInRange, CanvasState, IsBuilt, IsPlaceOn}
@@ -117,9 +114,9 @@ pub use Rattle.avc_types.specs.declared.references.Modification.TheVariants.{Sub
 pub use Rattle.avc_types.specs.declared.weight.Weights.{Weights}
 pub use mir.Val.{bool_byte}
 pub use Rattle.avc_picture.specs.Context.{FramesStandAt, picture_start, AreNames, ArePicturesAt, ArePlacesIn, HasPlaces, IsContextAt, IsContextOf}
-pub use Rattle.avc_picture.specs.Context.{IsPictureAt, planes_at, IsListAt}
+pub use Rattle.avc_picture.specs.Context.{IsPictureAt, planes_at, IsListAt, HasList}
 pub use Rattle.avc_picture.specs.Decoded.{deblocked}
-pub use Rattle.avc_picture.specs.DecoderState.{GoesOn, GoesOnFrom, IsDataAnswer, outcome_from, first_of, outcome, CanHaveFirst, HasFirst, IsDataOf}
+pub use Rattle.avc_picture.specs.DecoderState.{CanGoOn, GoesOn, GoesOnFrom, IsDataAnswer, outcome_from, first_of, outcome, CanHaveFirst, HasFirst, IsDataOf}
 pub use Rattle.avc_picture.specs.DecoderState.{IsStateOrFault, IsWellSoFar, address_fault, number_after, IsDecoderState, IsWellSomewhere}
 pub use Rattle.avc_picture.specs.Decoding.{AreFramesOf, Decoding, HasNoFault, Refuses, end_fault, fault_at_end, CanStandAt, start_at, with_slice_more}
 pub use Rattle.avc_picture.specs.FilterRows.{AreFrom, AreLastRows}

@@ -1,147 +1,75 @@
 -- A slice header that was read, and an open picture: its first fault, one slice more, and what closing it comes to.
 pub mod Common
 unfoldable pub use Common.*
-use Rattle.avc_bits.specs.Bits.{◌>>=◌}
+use Rattle.avc_bits.proofs.Reading.{Gives, bind-ok, gives-give, gives-then, value}
 use Rattle.avc_decoder.specs.Events.{running}
 use Rattle.avc_decoder.specs.PictureFrames.{IsRefused}
+use Rattle.avc_slice.proofs.ReadUnder.{header-read}
+use Rattle.avc_slice.specs.Reading.{position_here}
 use Rattle.avc_types.specs.declared.fault.Fault.TheVariants as faults
 
 -- ---- what is known of a slice header that can be read, and of the unit that it stands in
 
--- ---- parts that could be read
+-- first_mb_in_slice stands first
+first_read : (nal_ref_idc : ℕ) (idr : Bool) (b next : Bits) (g : Front) → front nal_ref_idc idr b ≡ Ok (g, next)
+    → (rest : Bits) × (ue b ≡ Ok (g.first_mb_in_slice, rest))
+first_read nal_ref_idc idr b next g e =
+    let first = bind-ok ue _ b next g e in
+    let number = bind-ok (ue_to 9) _ first.1 next g first.3 in
+    let kind = bind-ok (found (slice_type_of number.0) faults.SliceType) _ number.1 next g number.3 in
+    let checked = bind-ok (check (not (idr && (nal_ref_idc == 0 || is_p_type kind.0))) faults.BadIdr) _ kind.1 next g kind.3 in
+    let id = bind-ok (ue_to 255) _ checked.1 next g checked.3 in
+    (first.1, first.2 ∙ ap (λ r. Ok ((value g r).first_mb_in_slice, first.1)) id.3)
 
--- what a first part gave, and the second after it
-record AreRead {A B : Type 0} (part : Read A) (next : A → Read B) (b : Bits) (r : B × Bits) : Type 0 where
-  value : A
-  rest : Bits
-  first : part b ≡ Ok (value, rest)
-  then_read : next value rest ≡ Ok r
-
-are_read : {A B : Type 0} (part : Read A) (next : A → Read B) (b : Bits) (r : B × Bits) → (part >>= next) b ≡ Ok r
-    → AreRead part next b r
-are_read {A} {B} part next b r e = by_part (part b) refl e
-  where
-    by_part : (x : Result (A × Bits) Fault) → part b ≡ x
-        → ◌≡◌ {A = Result (B × Bits) Fault} (elim x [ Ok y ↦ next y.0 y.1 | Err f ↦ Err f ]) (Ok r) → AreRead part next b r
-    by_part (Ok y) is e' = record { value = y.0; rest = y.1; first = is; then_read = e' }
-    by_part (Err f) is e' = cc
-
-found_is : {A : Type 0} (o : Option A) (f : Fault) (b : Bits) (r : A × Bits) → found o f b ≡ Ok r → o ≡ Some r.0
-found_is None f b r e = cc
-found_is (Some a) f b r e = ap (λ o. Some o) (ap (λ x. x.0) (ok_same (a, b) r e))
-
--- ---- the parts of a header
-
--- its first_mb_in_slice is what stands first
-record BeginsWith (b : Bits) (g : Front) : Type 0 where
-  rest : Bits
-  is_read : ue b ≡ Ok (g.first_mb_in_slice, rest)
-
-front_begins : (nal_ref_idc : ℕ) (idr : Bool) (b : Bits) (r : Front × Bits) → front nal_ref_idc idr b ≡ Ok r
-    → BeginsWith b r.0
-front_begins nal_ref_idc idr b r e =
-    let a = are_read ue _ b r e in
-    let number = are_read (ue_to 9) _ a.rest r a.then_read in
-    let kind = are_read (found (slice_type_of number.value) faults.SliceType) _ number.rest r number.then_read in
-    let checked = are_read (check (not (idr && (nal_ref_idc == 0 || is_p_type kind.value))) faults.BadIdr) _ kind.rest r kind.then_read in
-    let pps = are_read (ue_to 255) _ checked.rest r checked.then_read in
-    let same = ap (λ (x : Front × Bits). (x.0).first_mb_in_slice) (ok_same _ r pps.then_read) in
-    record { rest = a.rest; is_read = a.first ∙ ap (λ n. Ok (n, a.rest)) same }
-
-where_set_is : {A : Type 0} (idr : Bool) (part : Read A) (b : Bits) (r : Option A × Bits) → where_set idr part b ≡ Ok r
-    → idr ≡ true
-    → is_some r.0 ≡ true
-where_set_is false part b r e i = cc
-where_set_is true part b r e i =
-    let a = are_read part _ b r e in
-    sym (ap (λ (x : Option _ × Bits). is_some x.0) (ok_same _ r a.then_read))
-
--- idr_pic_id stands in it
-numbers_have : (idr : Bool) (pps : Pps) (sps : Sps) (b : Bits) (r : Numbers × Bits) → numbers idr pps sps b ≡ Ok r
-    → idr ≡ true
-    → is_some (r.0).idr_pic_id ≡ true
-numbers_have idr pps sps b r e i =
-    let frame_num = are_read (u (sps.log2_max_frame_num_minus4 + 4)) _ b r e in
-    let checked = are_read (check (not (idr && not (frame_num.value == 0))) faults.BadIdr) _ frame_num.rest r frame_num.then_read in
-    let of_idr = are_read (idr_pic_id idr) _ checked.rest r checked.then_read in
-    let order = are_read (coded_order sps.order_count pps.bottom_field_pic_order_in_frame_present_flag) _ of_idr.rest r of_idr.then_read in
-    let redundant = are_read (redundant_pic_cnt pps.redundant_pic_cnt_present_flag) _ order.rest r order.then_read in
-    let same = ap (λ (x : Numbers × Bits). is_some (x.0).idr_pic_id) (ok_same _ r redundant.then_read) in
-    sym same ∙ where_set_is idr (ue_to 65535) checked.rest (of_idr.value, of_idr.rest) of_idr.first i
-
--- it has the front, and idr_pic_id where it is one of an IDR picture
-record HasFront (idr : Bool) (g : Front) (h : Header) : Type 0 where
-  address : g.first_mb_in_slice ≡ h.first_mb_in_slice
-  pps_id : g.pic_parameter_set_id ≡ h.pic_parameter_set_id
-  of_idr : idr ≡ true → is_idr h ≡ true
-
-back_has : (nal_ref_idc : ℕ) (idr : Bool) (g : Front) (pps : Pps) (sps : Sps) (b : Bits) (r : Header × Bits)
-    → back nal_ref_idc idr g pps sps b ≡ Ok r → HasFront idr g r.0
-back_has nal_ref_idc idr g pps sps b r e =
-    let checked = are_read (check (nat_lt g.first_mb_in_slice (size_in_mbs sps)) faults.OutOfRange) _ b r e in
-    let of_picture = are_read (numbers idr pps sps) _ checked.rest r checked.then_read in
-    let list = are_read (list_part (is_p_type g.slice_type) pps sps) _ of_picture.rest r of_picture.then_read in
-    let marked = are_read (where_set (not (nal_ref_idc == 0)) (marking idr)) _ list.rest r list.then_read in
-    let filtered = are_read (filtering pps) _ marked.rest r marked.then_read in
-    let same = ok_same _ r filtered.then_read in
-    record {
-      address = ap (λ (x : Header × Bits). (x.0).first_mb_in_slice) same;
-      pps_id = ap (λ (x : Header × Bits). (x.0).pic_parameter_set_id) same;
-      of_idr = λ i.
-          sym (ap (λ (x : Header × Bits). is_some (x.0).idr_pic_id) same)
-          ∙ numbers_have idr pps sps checked.rest (of_picture.value, of_picture.rest) of_picture.first i;
-    }
+-- what stands behind the front keeps it
+address_stays : (nal_ref_idc : ℕ) (idr : Bool) (g : Front) (pps : Pps) (sps : Sps)
+    → Gives (λ h. h.first_mb_in_slice ≡ g.first_mb_in_slice) (back nal_ref_idc idr g pps sps)
+address_stays nal_ref_idc idr g pps sps =
+    let Q = λ (h : Header). h.first_mb_in_slice ≡ g.first_mb_in_slice in
+    gives-then Q (check (nat_lt g.first_mb_in_slice (size_in_mbs sps)) _) _ (λ _.
+    gives-then Q (numbers idr pps sps) _ (λ of_picture.
+    gives-then Q (list_part (is_p_type g.slice_type) pps sps) _ (λ list.
+    gives-then Q (where_set (not (nal_ref_idc == 0)) (marking idr)) _ (λ marked.
+    gives-then Q (filtering pps) _ (λ filtered.
+    gives-then Q position_here _ (λ position. gives-give Q _ refl))))))
 
 -- What can be read has its parameter sets, and its first_mb_in_slice stands first.
 pub record IsRead (header : ℕ) (sets : Sets) (rbsp : List ℕ) (h : Header) : Type 0 where
   pub named : is_some (sets_named sets h) ≡ true
   pub address : reads_zero (ue (start rbsp)) ≡ true → h.first_mb_in_slice ≡ 0
   pub of_idr : (header % 32 == 5) ≡ true → is_idr h ≡ true
+  pub rules : KeepsIdrRules h
 
-value_is : (x : Result (Header × Bits) Fault) (h : Header) → value_or_fault x ≡ Ok h → (r : Header × Bits) × (x ≡ Ok r) × (r.0 ≡ h)
-value_is (Ok r) h e = (r, refl, ok_same r.0 h e)
+value_is : (x : Result (Header × Bits) Fault) (h : Header) → value_or_fault x ≡ Ok h → (next : Bits) × (x ≡ Ok (h, next))
+value_is (Ok r) h e = (r.1, ap (λ g. Ok (g, r.1)) (ok_same r.0 h e))
 value_is (Err f) h e = cc
 
-abbrev named_in : Sets → Option Pps → Option (Pps × Sps)
-named_in sets p = elim p [ None ↦ None | Some pps ↦ both (Some pps) (sets.sps pps.seq_parameter_set_id) ]
-
-named_by : (sets : Sets) (o : Option Pps) (pps : Pps) (sps : Sps) → o ≡ Some pps
-    → sets.sps pps.seq_parameter_set_id ≡ Some sps
-    → is_some (named_in sets o) ≡ true
-named_by sets o pps sps e f = ap (λ p. is_some (named_in sets p)) e ∙ ap (λ s. is_some (both (Some pps) s)) f
-
-header_is : (header : ℕ) (sets : Sets) (rbsp : List ℕ) (r : Header × Bits) → header_of header sets (start rbsp) ≡ Ok r
-    → IsRead header sets rbsp r.0
-header_is header sets rbsp r is =
-    let nal_ref_idc = header / 32 % 4 in
-    let idr = header % 32 == 5 in
-    let g = are_read (front nal_ref_idc idr) _ (start rbsp) r is in
-    let pps = are_read (found (sets.pps (g.value).pic_parameter_set_id) faults.NoParameterSet) _ g.rest r g.then_read in
-    let sps = are_read (found (sets.sps (pps.value).seq_parameter_set_id) faults.NoParameterSet) _ pps.rest r pps.then_read in
-    let has = back_has nal_ref_idc idr g.value pps.value sps.value sps.rest r sps.then_read in
-    let begun = front_begins nal_ref_idc idr (start rbsp) (g.value, g.rest) g.first in
-    let pps_read = found_is (sets.pps (g.value).pic_parameter_set_id) faults.NoParameterSet g.rest (pps.value, pps.rest) pps.first in
-    let pps_there = ap sets.pps (sym has.pps_id) ∙ pps_read in
-    let sps_there = found_is (sets.sps (pps.value).seq_parameter_set_id) faults.NoParameterSet pps.rest (sps.value, sps.rest) sps.first in
-    record {
-      named = named_by sets (sets.pps (r.0).pic_parameter_set_id) pps.value sps.value pps_there sps_there;
-      address = λ zero_read. sym has.address ∙ eqb-true (g.value).first_mb_in_slice 0 (sym (ap reads_zero begun.is_read) ∙ zero_read);
-      of_idr = has.of_idr;
-    }
+pub named_is : (sets : Sets) (h : Header) (pps : Pps) (sps : Sps) → sets.pps h.pic_parameter_set_id ≡ Some pps
+    → sets.sps pps.seq_parameter_set_id ≡ Some sps → sets_named sets h ≡ Some (pps, sps)
+named_is sets h pps sps e f = cc
 
 pub is_read : (header : ℕ) (sets : Sets) (rbsp : List ℕ) (h : Header) → header_in_rbsp header sets rbsp ≡ Ok h
     → IsRead header sets rbsp h
 is_read header sets rbsp h e =
-    let r = value_is (header_of header sets (start rbsp)) h e in
-    subst (IsRead header sets rbsp) r.2 (header_is header sets rbsp r.0 r.1)
+    let nal_ref_idc = header / 32 % 4 in
+    let idr = header % 32 == 5 in
+    let all = value_is (header_of header sets (start rbsp)) h e in
+    let g = bind-ok (front nal_ref_idc idr) _ (start rbsp) all.0 h all.1 in
+    let pps = bind-ok (found (sets.pps g.0.pic_parameter_set_id) faults.NoParameterSet) _ g.1 all.0 h g.3 in
+    let sps = bind-ok (found (sets.sps pps.0.seq_parameter_set_id) faults.NoParameterSet) _ pps.1 all.0 h pps.3 in
+    let first = first_read nal_ref_idc idr (start rbsp) g.1 g.0 g.2 in
+    let read = header-read header sets rbsp h e in
+    let within = read.kept.within in
+    record {
+      named = ap is_some (named_is sets h read.kept.pps read.kept.sps read.kept.pps_is read.kept.sps_is);
+      address = λ zero_read.
+          address_stays nal_ref_idc idr g.0 pps.0 sps.0 sps.1 all.0 h sps.3
+          ∙ eqb-true g.0.first_mb_in_slice 0 (sym (ap reads_zero first.1) ∙ zero_read);
+      of_idr = λ of_idr. read.idr_is ∙ of_idr;
+      rules = record { intra = within.intra; reference = within.reference; marking = within.marking };
+    }
 
 -- ---- the slice of a unit
-
--- its header stands in the unit's RBSP
-pub record IsOfUnit (sets : Sets) (u : Piece) (s : Slice) : Type 0 where
-  pub rbsp : List ℕ
-  pub there : rbsp_of u ≡ Some rbsp
-  pub is_read : header_in_rbsp u.header sets rbsp ≡ Ok s.header
 
 some_read : {A B : Type 0} (o : Option A) (f : Fault) (read : A → Result B Fault) (s : B)
     → ◌≡◌ {A = Result B Fault} (elim o [ None ↦ Err f | Some a ↦ read a ]) (Ok s) → (a : A) × (o ≡ Some a) × (read a ≡ Ok s)
@@ -152,10 +80,12 @@ header_read : (u : Piece) (bytes : List ℕ) (h : Result Header Fault) (s : Slic
 header_read u bytes (Ok h) s e = ap (λ (t : Slice). Ok t.header) (ok_same _ s e)
 header_read u bytes (Err f) s e = cc
 
-pub slice_of_unit : (sets : Sets) (u : Piece) (s : Slice) → slice_in sets u ≡ Ok s → IsOfUnit sets u s
+-- its header stands in the unit's RBSP
+pub slice_of_unit : (sets : Sets) (u : Piece) (s : Slice) → slice_in sets u ≡ Ok s
+    → (rbsp : List ℕ) × (rbsp_of u ≡ Some rbsp) × IsRead u.header sets rbsp s.header
 slice_of_unit sets u s e =
     let some = some_read (rbsp_of u) faults.NalTooLong (λ bytes. with_header u bytes (header_in_rbsp u.header sets bytes)) s e in
-    record { rbsp = some.0; there = some.1; is_read = header_read u some.0 (header_in_rbsp u.header sets some.0) s some.2 }
+    (some.0, some.1, is_read u.header sets some.0 s.header (header_read u some.0 (header_in_rbsp u.header sets some.0) s some.2))
 
 -- ---- a unit to start with
 
@@ -298,9 +228,7 @@ closes_by o h (Ok h') s e f c =
     cc (none, same)
 closes_by o h (Err g) s e f c = cc (s.first, s.stands, e, f, c)
 
--- ---- what a picture decoder says holds on the history of the sequence, and the frames have the picture's size
-
--- ---- the history's frames
+-- ---- what a picture decoder says holds on the history of the sequence, and the frames have the picture's size: the history's frames
 
 -- Places at which the frames can stand; the picture is decoded there as on the history.
 pub record StandsOn (history : History) (d : Decoding 32) : Type 0 where
@@ -311,13 +239,9 @@ pub record StandsOn (history : History) (d : Decoding 32) : Type 0 where
 none_rises : IsStrictlyIncreasing []
 none_rises k below = search arith
 
--- the list of no places is that of no frames
-stand_nowhere : (d : Decoding 32) → d.frames ≡ [] → CanStandAt [] d
-stand_nowhere d none = rw none (record { each = refl; rising = none_rises })
-
 stands_by : (idr : Bool) (s : SequenceState) (d : Decoding 32) → d.frames ≡ elim idr [ true ↦ [] | false ↦ s.frames ] → (idr ≡ true → All IsISlice d.slices) → (idr ≡ false → AreStoredIn (current_history s) s.frames)
     → StandsOn (current_history s) d
-stands_by true s d e intra stored = record { entries = []; stand = stand_nowhere d e; same = progress-other (start_at [] d) (stored_frames (current_history s)) d.slices (intra refl) }
+stands_by true s d e intra stored = record { entries = []; stand = rw e (record { each = refl; rising = none_rises }); same = progress-other (start_at [] d) (stored_frames (current_history s)) d.slices (intra refl) }
 stands_by false s d e intra stored =
     let a = stored refl in
     record {
@@ -326,15 +250,12 @@ stands_by false s d e intra stored =
       same = ap (λ fs. progress (start_with fs d) d.slices) (ap (stored_at a.entries) e ∙ a.stored);
     }
 
-stands_on : (s : SequenceState) (h : Header) (d : Decoding 32) → HasItsFrames s h d → StandsOn (current_history s) d
-stands_on s h d f = stands_by (is_idr h) s d f.frames f.intra f.stored
-
 -- ---- what the picture decoder says
 
 -- wherever it can stand, holds on the history
 pub on_history : (s : SequenceState) (h : Header) (d : Decoding 32) → HasItsFrames s h d → (Says : Progress → Type 0)
     → ((entries : List ℕ) → CanStandAt entries d → Says (progress_at entries d)) → Says (progress_on_history (current_history s) d)
-on_history s h d f Says says = let k = stands_on s h d f in subst Says k.same (says k.entries k.stand)
+on_history s h d f Says says = let k = stands_by (is_idr h) s d f.frames f.intra f.stored in subst Says k.same (says k.entries k.stand)
 
 pub with_one_more : (s : SequenceState) (d : Decoding 32) (slice : Slice) → CanHave s d slice → HasItsFrames s slice.header (with_slice_more slice d)
 with_one_more s d slice can = record {
@@ -367,28 +288,10 @@ same_frames s g h d e f = record {
 
 -- sets of the same contents give the same size
 same_size : (a b : Sps) → same_sps a b ≡ true → (width_in_mbs a ≡ width_in_mbs b) × (height_in_mbs a ≡ height_in_mbs b)
-same_size a b e =
-    let e1 = second_so (a.profile_idc == b.profile_idc) _ e in
-    let e2 = second_so (same_constraints a.constraint_flags b.constraint_flags) _ e1 in
-    let e3 = second_so (a.reserved_zero_2bits == b.reserved_zero_2bits) _ e2 in
-    let e4 = second_so (a.level_idc == b.level_idc) _ e3 in
-    let e5 = second_so (a.seq_parameter_set_id == b.seq_parameter_set_id) _ e4 in
-    let e6 = second_so (a.log2_max_frame_num_minus4 == b.log2_max_frame_num_minus4) _ e5 in
-    let e7 = second_so (same_order a.order_count b.order_count) _ e6 in
-    let e8 = second_so (a.max_num_ref_frames == b.max_num_ref_frames) _ e7 in
-    let e9 = second_so (same_flag a.gaps_in_frame_num_value_allowed_flag b.gaps_in_frame_num_value_allowed_flag) _ e8 in
-    let e10 = second_so (a.pic_width_in_mbs_minus1 == b.pic_width_in_mbs_minus1) _ e9 in (
-      ap (λ n. n + 1) (eqb-true a.pic_width_in_mbs_minus1 b.pic_width_in_mbs_minus1 (first_so (a.pic_width_in_mbs_minus1 == b.pic_width_in_mbs_minus1) _ e9)),
-      ap (λ n. n + 1) (eqb-true a.pic_height_in_map_units_minus1 b.pic_height_in_map_units_minus1 (first_so (a.pic_height_in_map_units_minus1 == b.pic_height_in_map_units_minus1) _ e10)),
-    )
-
--- before a picture that is no IDR picture the parameter set stays, whatever numbers are missing
-pub record StaysIn (sps : Sps) (history full : History) : Type 0 where
-  pub set : sequence_sps full ≡ sequence_sps history
-  pub same : is_same_sps (sequence_sps history) sps ≡ true
-
-stays_in : (sps : Sps) (hd : Header) (h h' : History) → is_idr hd ≡ false → history_at_opening sps hd h ≡ Ok h' → StaysIn sps h h'
-stays_in sps hd h h' other e = record { set = set_at_opening sps hd h h' e; same = (opened_by sps hd h h' e).same other }
+same_size a b e = (
+  ap (λ n. n + 1) (eqb-true a.pic_width_in_mbs_minus1 b.pic_width_in_mbs_minus1 (search (first_so, second_so) depth 16)),
+  ap (λ n. n + 1) (eqb-true a.pic_height_in_map_units_minus1 b.pic_height_in_map_units_minus1 (search (first_so, second_so) depth 16)),
+)
 
 fit_set : (sps : Sps) (set : Option Sps) (frames : List (Frame 32)) → is_same_sps set sps ≡ true → IfSome set (λ before. AreFrames (width_in_mbs before) (height_in_mbs before) frames) → AreFramesOf sps frames
 fit_set sps None frames same fit = cc
@@ -396,22 +299,17 @@ fit_set sps (Some before) frames same fit =
     let size = same_size before sps same in
     rw (← size.0, ← size.1) fit
 
-no_frames_fit : (sps : Sps) → AreFramesOf {PAD = 32} sps []
-no_frames_fit sps = record { few = omega arith; sized = All-nil _ }
-
 -- the frames have the size of the picture that is opened
 pub frames_fit : (s s1 : SequenceState) (sps : Sps) (h : Header) (out : List Decoded) (frames : List (Frame 32)) → IsOpened s sps h out s1 → frames ≡ frames_for h s1
     → (is_idr h ≡ false → s1.failed ≡ false → AreFramesIn (current_history s1) s1.frames) → AreFramesOf sps frames
-frames_fit s s1 sps h out frames i is sized = by_idr (is_idr h) is (λ other. stays_in sps h s.history (current_history s1) other i.stands) (λ other. sized other going)
+frames_fit s s1 sps h out frames i is sized = by_idr (is_idr h) refl is
   where
-    going : s1.failed ≡ false
-    going = ap (λ (x : SequenceState). x.failed) i.state ∙ i.going
-
-    by_idr : (idr : Bool) → frames ≡ elim idr [ true ↦ [] | false ↦ s1.frames ] → (idr ≡ false → StaysIn sps s.history (current_history s1)) → (idr ≡ false → AreFramesIn (current_history s1) s1.frames) → AreFramesOf sps frames
-    by_idr true e stays fit = rw e (no_frames_fit sps)
-    by_idr false e stays fit =
-        let k = stays refl in
-        rw e (fit_set sps (sequence_sps (current_history s1)) s1.frames (ap (λ set. is_same_sps set sps) k.set ∙ k.same) (fit refl))
+    by_idr : (idr : Bool) → is_idr h ≡ idr → frames ≡ elim idr [ true ↦ [] | false ↦ s1.frames ] → AreFramesOf sps frames
+    by_idr true other e = rw e (record { few = omega arith; sized = All-nil _ })
+    by_idr false other e =
+        let stays = ap (λ set. is_same_sps set sps) (set_at_opening sps h s.history (current_history s1) i.stands) in
+        let same = (opened_by sps h s.history (current_history s1) i.stands).same other in
+        rw e (fit_set sps _ s1.frames (stays ∙ same) (sized other (ap (λ (x : SequenceState). x.failed) i.state ∙ i.going)))
 
 -- ---- what closing the open picture comes to
 
@@ -471,10 +369,7 @@ fails : (t t' : Stream) (c : CurrentPicture) (f : Fault) (w : IsOpenIn t.sequenc
 fails t t' c f w e stops =
     let s = t.sequence in
     let o = opened_as s c.decoder w.last w.earlier in
-    subst (λ p. HasOutcome t (closed_in s.output p) t') (sym (opened_phase s c w))
-    (subst (λ x. HasOutcome t (closed_outcome s.output o x) t') (sym e)
-    (subst (λ h. HasOutcome t (failed_at s.output h c.last_unit f 0) t') (sym (history_is o (current_history s) (stands_as s c w)))
-    (stops_at _ refl stops.0 stops.1 stops.2)))
+    rw (opened_phase s c w, e, history_is o (current_history s) (stands_as s c w)) (stops_at _ refl stops.0 stops.1 stops.2)
 
 -- ---- without a fault in the slices a picture ends by its macroblocks alone
 
@@ -530,10 +425,7 @@ closes_done {s} {s'} {q} {q'} {n} {table} c planes out w answer closed eq =
     let o = opened_as s c.decoder w.last w.earlier in
     let k = closed _ w.open_picture in
     let stands = sym (history_is o (current_history s) (stands_as s c w)) in
-    subst (λ p. ComesTo s.output q n table (closed_in s.output p) s' (Running None) q' n table) (sym (opened_phase s c w))
-    (subst (λ x. ComesTo s.output q n table (closed_outcome s.output o x) s' (Running None) q' n table)
-    (sym (finished s c w planes (Ok s'.history) answer k.closes))
-    (record {
+    rw (opened_phase s c w, finished s c w planes (Ok s'.history) answer k.closes) (record {
       works = record {
         stands = record {
           on = ap (λ (t : SequenceState). t.failed) k.state;
@@ -547,7 +439,7 @@ closes_done {s} {s'} {q} {q'} {n} {table} c planes out w answer closed eq =
           (k.pictures ∙ ap (λ h. output_at_closing s.output (first_header o) h s'.history) stands);
       count = refl;
       sets = refl;
-    }))
+    })
 
 -- it could not be marked
 pub closes_unmarked : (t t' : Stream) (between : SequenceState) (c : CurrentPicture) (planes : PaddedPlanes 32) {f : Fault}
@@ -568,9 +460,7 @@ pub sized_as : (s : SequenceState) (c : CurrentPicture) (planes : Planes) → Is
     → (o : OpenPictureStart) → s.open_picture ≡ Some o → AreSizedAs o planes
 sized_as s c planes w sized o e = subst (λ p. AreSizedAs p planes) (some_is _ o (sym w.open_picture ∙ e)) sized
 
--- ---- what one slice more comes to
-
--- ---- a slice of a picture that is open
+-- ---- what one slice more comes to: a slice of a picture that is open
 
 -- what it gives, by the first fault, where the picture stands on this history
 slice_is : (output : Output) (before after : History) (already : ℕ) (o : OpenPicture) (f : Option (ℕ × Fault)) → Stands o after
@@ -616,17 +506,14 @@ slice_comes s before already c slice earlier q q1 n n' table (Running (Some c'))
       stands = a.stands;
     } in
     let none = no_fault o h st (well_at s (with_last slice c) open') in
-    rw (k.0, k.3, k.4)
-    (subst (λ x. ComesTo s.output q n table x s (Running (Some (with_last slice c))) q1 n' table)
-    (sym (slice_is s.output before h already o None st none))
-    (record {
+    rw (k.0, k.3, k.4, slice_is s.output before h already o None st none) (record {
       works = record { stands = open'; named = named };
       phase = opened_phase s (with_last slice c) open';
       output_is = refl;
       queue = released;
       count = counts ∙ ap (more_read n) read;
       sets = refl;
-    }))
+    })
 slice_comes s before already c slice earlier q q1 n n' table (Running None) a named k counts read released held = absurd k
 slice_comes s before already c slice earlier q q1 n n' table Waiting a named k counts read released held =
     let o = opened_as s c.decoder slice earlier in
@@ -634,11 +521,8 @@ slice_comes s before already c slice earlier q q1 n n' table Waiting a named k c
     let st : Stands o h = record { first = a.first; stands = a.stands } in
     let fault = ap (λ ss. (progress (start_with (stored_frames h) c.decoder) (slice ∷ ss)).fault) (sym a.slices) ∙ k.1 in
     let found = slice_fault o h false (slice.unit, k.0) st fault in
-    rw (k.2, k.3)
-    (subst (λ x. ComesTo s.output q n table x (empty_sequence s.output) Waiting
-    (with_events (failed_at s.output h slice.unit k.0 0).events q1) n' table)
-    (sym (slice_is s.output before h already o (Some (slice.unit, k.0)) st found))
-    (stops_at _ refl (record { sequence = refl; phase = refl; queue = held k.0 }) (counts ∙ ap (more_read n) read) refl))
+    rw (k.2, k.3, slice_is s.output before h already o (Some (slice.unit, k.0)) st found)
+    (stops_at _ refl (record { sequence = refl; phase = refl; queue = held k.0 }) (counts ∙ ap (more_read n) read) refl)
 
 -- ---- a further slice
 
@@ -682,7 +566,6 @@ next_slice_comes s s' q q' n n' table table' slice (Running (Some c)) p' w named
     let open' = w.stands in
     let h = current_history s in
     let o = opened_as s c.decoder open'.last open'.earlier in
-    let more = opened_as s c.decoder slice (open'.last ∷ open'.earlier) in
     let awaits : Awaits s c slice (open'.last ∷ open'.earlier) = record {
       on = open'.on;
       slices = open'.slices;
@@ -690,16 +573,10 @@ next_slice_comes s s' q q' n n' table table' slice (Running (Some c)) p' w named
       first = open'.first;
       stands = open'.stands;
     } in
-    rw same
-    (subst (λ p. ComesTo s.output q n table (after_next_slice s.output p slice) s' p' q' n' table) (sym (opened_phase s c open'))
-    (subst (λ b. ComesTo s.output q n table (with_slice s.output b (read_of o) more) s' p' q' n' table)
-    (sym (history_is o h (stands_as s c open')))
+    rw (same, opened_phase s c open', history_is o h (stands_as s c open'))
     (slice_comes s h (read_of o) c slice (open'.last ∷ open'.earlier) q q n n' table p' awaits named k.0 k.1
-    (read_further s c slice open') (no_more_output s.output h q) (λ f. refl))))
-next_slice_comes s s' q q' n n' table table' slice (Running None) p' w named k same = rw (same, k.0, k.1, k.2, k.3)
-    (nothing_comes s q n table (Running None) w)
-next_slice_comes s s' q q' n n' table table' slice Waiting p' w named k same = rw (same, k.0, k.1, k.2, k.3)
-    (nothing_comes s q n table Waiting w)
+    (read_further s c slice open') (no_more_output s.output h q) (λ f. refl))
+next_slice_comes s s' q q' n n' table table' slice p p' w named k same = rw (same, k.0, k.1, k.2, k.3) (nothing_comes s q n table p w)
 
 -- ---- the first slice
 
@@ -739,7 +616,7 @@ first_unopened t t' between sps pps slice h {f} base none first fails is stops n
     let w : WaitsAfter t (failed_at s.output s.history slice.unit f 0).events t' = rw (k.1, closed) at stops in
     let faulty : with_slice s.output s.history 0 o ≡ failed_at s.output s.history slice.unit f 0 =
     ap₂ (λ x n. slice_outcome s.output x s.history o (history_of o) (n - 0)) (unopened o f false first k.2) (unopened_read o f first k.2) in
-    rw (names, base) (subst (λ x. HasOutcome t x t') (sym faulty) (stops_at _ refl w.0 w.1 w.2))
+    rw (names, base, faulty) (stops_at _ refl w.0 w.1 w.2)
 
 pub first_slice_more : MissingNumbersKeepTheOrder → (s s1 s' : SequenceState) (q q1 q' : QueueState) (n n' : ℕ)
     (table table' : List SetUnit) (sps : Sps) (pps : Pps) (frames : List (Frame 32)) (slice : Slice)

@@ -25,11 +25,9 @@ pub use Rattle.std.specs.List.{flat_map, sum, zip, range_with_len, All}
 pub use Rattle.std.specs.Option.{option_map, option_copied}
 pub use Rattle.std.specs.Prelude.{◌==◌, if◌then◌else◌, int_lt, replicate, bit_or, IsTrue, slice_get, int_le}
 pub use Rattle.avc_annexb.specs.Escapes.{rbsp}
-pub use Rattle.avc_bits.proofs.Reading.{u_reads}
+pub use Rattle.avc_bits.proofs.Reading.{u_reads, before_found, before_many, before_short}
 pub use Rattle.avc_bits.proofs.Reading.Numbers.{bits_of-number, byte_bits-append, length-bits_of, length-byte_bits, number-append, number-bits_of, number-zeros}
-pub use Rattle.avc_bits.proofs.Reading.Numbers.{bits_of-zero, number-inj}
-pub use Rattle.avc_bits.proofs.Reading.{before_found, before_many, before_short}
-pub use Rattle.avc_bits.proofs.Reading.Numbers.{before_one}
+pub use Rattle.avc_bits.proofs.Reading.Numbers.{bits_of-zero, number-inj, before_one}
 pub use Rattle.avc_bits.specs.Bits.{Read, ◌>>=◌, bits_of, give, or_none, times, Bits, ◌>>◌, check, bits_before_stop, byte_bits, number_of, refuse, start, more}
 pub use Rattle.avc_bits.specs.Bits.{where_set, more_data, before_last_one, passed}
 pub use Rattle.avc_bits.specs.Codes.{u, IsReadBy, IsU, Takes, flag, zeros, zeros_before_one, se_within, ue_to, align, skip, te_to, bits, se, signed_value, te}
@@ -97,11 +95,9 @@ pub use Rattle.avc_types.specs.declared.references.Modification.TheVariants.{Sub
 pub use Rattle.avc_types.specs.declared.references.Operation.{Operation}
 pub use Rattle.avc_types.specs.declared.references.Operation.TheVariants.{UnmarkShortTerm, UnmarkLongTerm, AssignLongTerm, MaxLongTermFrameIdx, UnmarkAll}
 pub use Rattle.avc_types.specs.declared.references.Operation.TheVariants.{CurrentToLongTerm}
-pub use Rattle.avc_vlc.proofs.Entries.Codes.{table_read}
+pub use Rattle.avc_vlc.proofs.Entries.Codes.{table_read, run_own, token_own, zeros_own, run_back, run_whole, token_back, token_whole, zeros_back}
+pub use Rattle.avc_vlc.proofs.Entries.Codes.{chroma_zeros_whole, zeros_whole, all_in, is_token, token_tested, tokens_tested}
 pub use Rattle.avc_vlc.proofs.Entries.{split-append}
-pub use Rattle.avc_vlc.proofs.Entries.Codes.{run_own, token_own, zeros_own}
-pub use Rattle.avc_vlc.proofs.Entries.Codes.{run_back, run_whole, token_back, token_whole, zeros_back, chroma_zeros_whole, zeros_whole}
-pub use Rattle.avc_vlc.proofs.Entries.Codes.{all_in, is_token, token_tested, tokens_tested}
 pub use Rattle.avc_vlc.specs.Laws.{IsReadBack, IsRead}
 pub use Rattle.avc_vlc.specs.Reading.{IsToken, coeff_token, run_before, token, total_zeros, IsIn, token_table, coded_block_pattern, pattern_at}
 pub use Rattle.avc_vlc.specs.Tables.{cbp_intra, cbp_inter}

@@ -1,5 +1,0 @@
-use Rattle.avc_annexb.proofs.Written.{written_units_stand_so}
-use Rattle.avc_annexb.proofs.laws.written_units_stand.Goals as goal
-
-pub returns : goal.returns
-returns c = written_units_stand_so
