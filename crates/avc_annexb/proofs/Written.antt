@@ -345,31 +345,24 @@ line u = u.index ∷ u.offset ∷ u.length ∷ nal_unit_type u.header ∷ nal_re
 abbrev lines : List (List ℕ)
 lines = (0 ∷ 4 ∷ 6 ∷ 7 ∷ 3 ∷ []) ∷ (1 ∷ 14 ∷ 4 ∷ 8 ∷ 3 ∷ []) ∷ (2 ∷ 21 ∷ 5 ∷ 5 ∷ 3 ∷ []) ∷ []
 
-three_units : map line (units 134217728 stream true) ≡ lines
-three_units = refl
-
--- with no flush the last one's end has not been seen
-two_units : map line (units 134217728 stream false) ≡ (0 ∷ 4 ∷ 6 ∷ 7 ∷ 3 ∷ []) ∷ (1 ∷ 14 ∷ 4 ∷ 8 ∷ 3 ∷ []) ∷ []
-two_units = refl
-
--- two zeros at the end belong to no unit
-same_with_zeros : map line (units 134217728 (stream ++ 0 ∷ 0 ∷ []) true) ≡ lines
-same_with_zeros = refl
-
--- two zeros and a 03 belong to it
-longer_with_escape : map (λ u. u.length) (units 134217728 (stream ++ 0 ∷ 0 ∷ 3 ∷ []) true) ≡ 6 ∷ 4 ∷ 8 ∷ []
-longer_with_escape = refl
-
-too_long : map (λ u. u.body) (units 5 stream true) ≡ None ∷ Some (0xCE ∷ 0x38 ∷ 0x80 ∷ []) ∷ Some (0x88 ∷ 0x84 ∷ 0x93 ∷ 0xC0 ∷ []) ∷ []
-too_long = refl
-
 -- what stands between 00 00 00 and the next 00 00 01, and before the first, belongs to no unit, and a unit without bytes is none
 skipped : map line (units 134217728 (9 ∷ 0 ∷ 0 ∷ 1 ∷ 0 ∷ 0 ∷ 1 ∷ 0x65 ∷ 0 ∷ 0 ∷ 0 ∷ 7 ∷ 0 ∷ 0 ∷ 1 ∷ 0x09 ∷ 0 ∷ []) true) ≡ (0 ∷ 7 ∷ 1 ∷ 5 ∷ 3 ∷ []) ∷ (1 ∷ 15 ∷ 1 ∷ 9 ∷ 0 ∷ []) ∷ []
 skipped = refl
 
-unescaped : rbsp (0x65 ∷ 0 ∷ 0 ∷ 3 ∷ 0 ∷ []) ≡ 0x65 ∷ 0 ∷ 0 ∷ 0 ∷ []
-unescaped = refl
+-- ---- worked examples, a row each
 
--- 00 00 02 stays, and zeros are counted anew after a 03 that was left out
-stays : rbsp (0 ∷ 0 ∷ 2 ∷ 0 ∷ 0 ∷ 3 ∷ 0 ∷ 3 ∷ 0 ∷ 0 ∷ 0 ∷ 3 ∷ []) ≡ 0 ∷ 0 ∷ 2 ∷ 0 ∷ 0 ∷ 0 ∷ 3 ∷ 0 ∷ 0 ∷ 0 ∷ []
-stays = refl
+record WorkedRows : Type 0 where
+  three_units : map line (units 134217728 stream true) ≡ lines
+  -- with no flush the last one's end has not been seen
+  two_units : map line (units 134217728 stream false) ≡ (0 ∷ 4 ∷ 6 ∷ 7 ∷ 3 ∷ []) ∷ (1 ∷ 14 ∷ 4 ∷ 8 ∷ 3 ∷ []) ∷ []
+  -- two zeros at the end belong to no unit
+  same_with_zeros : map line (units 134217728 (stream ++ 0 ∷ 0 ∷ []) true) ≡ lines
+  -- two zeros and a 03 belong to it
+  longer_with_escape : map (λ u. u.length) (units 134217728 (stream ++ 0 ∷ 0 ∷ 3 ∷ []) true) ≡ 6 ∷ 4 ∷ 8 ∷ []
+  too_long : map (λ u. u.body) (units 5 stream true) ≡ None ∷ Some (0xCE ∷ 0x38 ∷ 0x80 ∷ []) ∷ Some (0x88 ∷ 0x84 ∷ 0x93 ∷ 0xC0 ∷ []) ∷ []
+  unescaped : rbsp (0x65 ∷ 0 ∷ 0 ∷ 3 ∷ 0 ∷ []) ≡ 0x65 ∷ 0 ∷ 0 ∷ 0 ∷ []
+  -- 00 00 02 stays, and zeros are counted anew after a 03 that was left out
+  stays : rbsp (0 ∷ 0 ∷ 2 ∷ 0 ∷ 0 ∷ 3 ∷ 0 ∷ 3 ∷ 0 ∷ 0 ∷ 0 ∷ 3 ∷ []) ≡ 0 ∷ 0 ∷ 2 ∷ 0 ∷ 0 ∷ 0 ∷ 3 ∷ 0 ∷ 0 ∷ 0 ∷ []
+
+worked_rows : WorkedRows
+worked_rows = search rules

@@ -28,42 +28,27 @@ module _ (c : Coded) (motion : List (List Motion)) (names : Names) (column row a
     pub edge_is : (s : Planes) → edge_by_info v column row n offset p q s ≡ planes_edge c motion v a n s
     edge_is s = grind (arith, strength_by, edge_planes)
 
-  outer_is : (o : Bool) (p q : MbInfo) → (o ≡ true → v ≡ true → 1 ≤ column) → (o ≡ true → v ≡ false → 1 ≤ row) →
-      (o ≡ true → HasInfo c motion names (p_address c v 0 a) p) → HasInfo c motion names a q → (s : Planes) →
-      (if o then edge_by_info v column row 0 offset p q s else s) ≡ (if o then planes_edge c motion v a 0 s else s)
-  outer_is false p q across down hp hq s = refl
-  outer_is true p q across down hp hq s = grind (arith, edge_is)
-
-  inner_is : (i : Bool) (q : MbInfo) → HasInfo c motion names a q → (s : Planes) →
-      (if i then edge_by_info v column row 3 offset q q (edge_by_info v column row 2 offset q q (edge_by_info v column row 1 offset q q s)) else s)
-      ≡ (if i then planes_edge c motion v a 3 (planes_edge c motion v a 2 (planes_edge c motion v a 1 s)) else s)
-  inner_is false q hq s = refl
-  inner_is true q hq s = grind (arith, edge_is)
-
   pub edges_are : (o i : Bool) (p q : MbInfo) → (o ≡ true → v ≡ true → 1 ≤ column) → (o ≡ true → v ≡ false → 1 ≤ row) →
       (o ≡ true → HasInfo c motion names (p_address c v 0 a) p) → HasInfo c motion names a q → (s : Planes) →
       edges_by_info v column row offset o i p q s ≡ planes_edges c motion v o i a s
-  edges_are o i p q across down hp hq s = grind (arith, inner_is, outer_is)
+  edges_are o i p q across down hp hq s = grind (arith, edge_is)
 
 pub some_coded : (b : Bool) (n : ℕ) → (nat_lt 0 n && b) ≡ true → 1 ≤ n
-some_coded b zero t = let never : nat_lt 0 0 ≡ true = (and_parts (nat_lt 0 0) b t).0 in absurd (cc)
-some_coded b (suc n) t = omega arith
+some_coded b n t = grind (arith, nat_tests, and_parts, nat_lt)
 
 pub mb_is : (c : Coded) (motion : List (List Motion)) (names : Names) (column row a : ℕ) (at : IsAt c column row a) (offset : ℤ) → c.chroma_qp_index_offset ≡ offset →
     (left above q : MbInfo) → HasInfo c motion names a q → (1 ≤ column → HasInfo c motion names (a - 1) left) → (1 ≤ row → HasInfo c motion names (a - c.width) above) →
     (s : Planes) → mb_by_info offset column row left above q s ≡ planes_mb c motion a s
 mb_is c motion names column row a at offset same left above q hq hl ha s =
-    let l : Bool = nat_lt 0 column && filters_between q left in
-    let u : Bool = nat_lt 0 row && filters_between q above in
-    let i : Bool = filters_between q q in
-    let inside : Bool = filters_edge_to c a a in
-    edges_are c motion names column row a at offset same false u i above q (λ e f. absurd (cc)) (λ e f. some_coded (filters_between q above) row e) (λ e. ha (some_coded (filters_between q above) row e)) hq
-    (edges_by_info true column row offset l i left q s)
-    ∙ ap (planes_edges c motion false u i a)
-    (edges_are c motion names column row a at offset same true l i left q (λ e f. some_coded (filters_between q left) column e) (λ e f. absurd (cc)) (λ e. hl (some_coded (filters_between q left) column e)) hq s)
-    ∙ ap (λ (b : Bool). planes_edges c motion false u b a (planes_edges c motion true l b a s)) (between_is c motion names a a q q hq hq)
-    ∙ ap (λ (b : Bool). planes_edges c motion false b inside a (planes_edges c motion true l inside a s)) (above_is c motion names column row a q above at hq ha)
-    ∙ ap (λ (b : Bool). planes_edges c motion false (filters_horizontal c a 0) inside a (planes_edges c motion true b inside a s)) (left_is c motion names column row a q left at hq hl)
+    let low = some_coded (filters_between q above) row in
+    let far = some_coded (filters_between q left) column in
+    rw (
+      ← left_is c motion names column row a q left at hq hl,
+      ← above_is c motion names column row a q above at hq ha,
+      ← between_is c motion names a a q q hq hq,
+      ← edges_are c motion names column row a at offset same true _ _ left q (λ e f. far e) (λ e f. absurd (cc)) (λ e. hl (far e)) hq s,
+    )
+    (edges_are c motion names column row a at offset same false _ _ above q (λ e f. absurd (cc)) (λ e f. low e) (λ e. ha (low e)) hq _)
 
 pub row_part : (c : Coded) (motion : List (List Motion)) (names : Names) (row : ℕ) (offset : ℤ) (above info : List MbInfo) (s : Planes) →
     AreOfRow c motion names row offset above info → (n : ℕ) → n ≤ length info →
@@ -103,9 +88,6 @@ pub record ActsApart (wl wb wr row : ℕ) (g : Planes → Planes) : Type 0 where
 
 abbrev planes_from : Plane → Plane → Plane → Planes
 planes_from l b r = record { luma = l; cb = b; cr = r }
-
-even_low : (n : ℕ) → n < 4 → (n % 2 == 0) ≡ true → n ≤ 2
-even_low n low even = grind (arith, nat_tests)
 
 module _ (wl wb wr row : ℕ) where
   acts_none : ActsApart wl wb wr row (λ s. s)
@@ -160,8 +142,7 @@ module _ (wl wb wr row : ℕ) where
         λ w fits.
         local_if w _ _ (n % 2 == 0) (edge_behind 8 (chroma_setting st chroma) v column row (2 * n))
         (λ even.
-        let two = even_low n low even in
-        acts_behind w 8 1 (2 * n) (chroma_setting st chroma) (λ i. chroma_reach (chroma_setting st chroma i) refl) fits (omega arith) v
+        acts_behind w 8 1 (2 * n) (chroma_setting st chroma) (λ i. chroma_reach (chroma_setting st chroma i) refl) fits (grind (arith, nat_tests)) v
         (λ e. far_enough column n (across e) even) (λ e. far_enough row n (down e) even)) in
         record {
           luma = luma_of_edge v column row n st luma;
@@ -227,18 +208,17 @@ module _ (first end : ℕ) (g : Plane → Plane) (s : Plane) (a : IsLocal s.widt
 
     commute_of : g built ≡ with_block (g s) left top width height f
     commute_of =
-        let wide = a.width s in
-        let tall = a.height s in
-        block_is (g s) (g built) left top width height f
-        (record { width = a.width built ∙ sym wide; height = a.height built ∙ sym tall; long = rw (wide, tall) (a.long built ∙ built_size.long) })
-        (λ x y column row p q r u.
-        a.kept s.height built built_size rows x y (omega arith) (λ lo hi. omega arith) ∙ inside_block s left top width height f x y (omega arith) (omega arith) p q r u)
-        (λ x y column row out.
-        ⊎_elim
-        (λ less. a.same s.height s built size built_size rows (λ i j i_low j_low. outside_block s left top width height f i j i_low (omega arith) (λ p q r u. omega arith)) x y (omega arith) less)
-        (λ no. a.kept s.height built built_size rows x y (omega arith) (λ lo hi. omega arith) ∙ outside_block s left top width height f x y (omega arith) (omega arith) out
-        ∙ sym (a.kept s.height s size rows x y (omega arith) (λ lo hi. omega arith)))
-        (cases_lt y end))
+        block_is (g s) (g built) left top width height f (search (rules, a.width, a.height, a.long, built_size.long))
+        (λ x y column row p q r u. grind (arith, a.kept s.height built built_size rows, inside_block, a.width, a.height))
+        (λ x y column row out. grind (
+          arith,
+          a.kept s.height s size rows,
+          a.kept s.height built built_size rows,
+          a.same s.height s built size built_size rows,
+          outside_block,
+          a.width,
+          a.height,
+        ))
 
 -- ---- the laws
 
@@ -249,8 +229,7 @@ module _ (offset : ℤ) (row : ℕ) (above info : List MbInfo) (s : Planes) (has
 pub row_changes : (offset : ℤ) (row : ℕ) (above info : List MbInfo) (s : Planes) → HasRow row (length info) s → ChangesInRow row s (row_by_info offset row above info (length info) s)
 row_changes offset row above info s has =
     let a = acts offset row above info s has in
-    subst (ChangesInRow row s) (sym (a.is s))
-    (record {
+    rw (a.is s) (record {
       luma = changes_of (16 * row - 3) (16 * row + 16) a.luma s.luma a.luma_local has.full.luma has.luma_rows;
       cb = changes_of (8 * row - 1) (8 * row + 8) a.cb s.cb a.cb_local has.full.cb has.cb_rows;
       cr = changes_of (8 * row - 1) (8 * row + 8) a.cr s.cr a.cr_local has.full.cr has.cr_rows;
@@ -260,15 +239,11 @@ pub row_reads : (offset : ℤ) (row : ℕ) (above info : List MbInfo) (s t : Pla
     AgreesToRow row (row_by_info offset row above info (length info) s) (row_by_info offset row above info (length info) t)
 row_reads offset row above info s t has agrees =
     let a = acts offset row above info s has in
-    let g : Planes → Planes = row_by_info offset row above info (length info) in
-    let built : Planes → Planes = λ p. planes_from (a.luma p.luma) (a.cb p.cb) (a.cr p.cr) in
-    subst (λ p. AgreesToRow row p (g t)) (sym (a.is s))
-    (subst (AgreesToRow row (built s)) (sym (a.is t))
-    (record {
+    rw (a.is s, a.is t) (record {
       luma = reads_of (16 * row - 3) (16 * row + 16) a.luma s.luma a.luma_local has.full.luma has.luma_rows t.luma agrees.luma;
       cb = reads_of (8 * row - 1) (8 * row + 8) a.cb s.cb a.cb_local has.full.cb has.cb_rows t.cb agrees.cb;
       cr = reads_of (8 * row - 1) (8 * row + 8) a.cr s.cr a.cr_local has.full.cr has.cr_rows t.cr agrees.cr;
-    }))
+    })
 
 module _ (row n : ℕ) (s : Planes) (has : HasRow row n s) (g : Planes → Planes) (a : ActsApart s.luma.width s.cb.width s.cr.width row g) (left top width height : ℕ) (f : ℕ → ℕ → ℕ) where
   abbrev with_it : Plane → Plane
@@ -287,10 +262,8 @@ pub row_commutes : (offset : ℤ) (row : ℕ) (above info : List MbInfo) (s : Pl
     ≡ in_component k (λ p. with_block p left top width height f) (row_by_info offset row above info (length info) s)
 row_commutes offset row above info s has k left top width height f below =
     let a = acts offset row above info s has in
-    let b : Plane → Plane = λ (p : Plane). with_block p left top width height f in
-    a.is (in_component k b s)
-    ∙ acts_commute row (length info) s has (row_by_info offset row above info (length info)) a left top width height f k below
-    ∙ sym (ap (in_component k b) (a.is s))
+    rw (a.is (in_component k (λ p. with_block p left top width height f) s), a.is s)
+    (acts_commute row (length info) s has (row_by_info offset row above info (length info)) a left top width height f k below)
 
 -- ---- worked values of the line filter
 

@@ -298,46 +298,29 @@ module _ (s : Wide) (left left' top top' : ℤ) (columns lines first stride righ
 
 -- ---- worked values of inter prediction
 
--- a vector far off the picture gives its lower left sample
-pub far_vector : inter_luma 16 16 (λ x y. 16 * y + x) (record { x = neg_ℤ (pos 32768); y = pos 32767 }) 3 5 ≡ 240
-far_vector = refl
-
-pub far_vector_chroma : inter_chroma 8 8 (λ x y. 8 * y + x) (record { x = neg_ℤ (pos 32768); y = pos 32767 }) 3 5 ≡ 56
-far_vector_chroma = refl
-
--- the six taps over a step
-pub taps_over_step : map (λ i. across (λ x y. if nat_lt (nat_abs x) 8 then 128 else 136) (pos (i + 2)) (pos 0)) (range_with_len 0 11)
-    ≡ pos 4096 ∷ pos 4096 ∷ pos 4096 ∷ pos 4104 ∷ pos 4064 ∷ pos 4224 ∷ pos 4384 ∷ pos 4344 ∷ pos 4352 ∷ pos 4352 ∷ pos 4352 ∷ []
-taps_over_step = refl
-
-pub taps_low : six_taps (pos 0) (pos 255) (pos 0) (pos 0) (pos 255) (pos 0) ≡ neg_ℤ (pos 2550)
-taps_low = refl
-
-pub taps_high : six_taps (pos 255) (pos 0) (pos 255) (pos 255) (pos 0) (pos 255) ≡ pos 10710
-taps_high = refl
-
--- weighted prediction
-pub weight_half : weighted 1 (pos 3) (neg_ℤ (pos 4)) 128 ≡ 188
-weight_half = refl
-
-pub weight_below : weighted 0 (neg_ℤ (pos 1)) (pos 5) 128 ≡ 0
-weight_below = refl
-
-pub weight_above : weighted 7 (pos 127) (pos 127) 255 ≡ 255
-weight_above = refl
-
 -- a picture of 9 by 7 samples, and the values of all sixteen quarter positions there, found by another way
 abbrev rough : ℕ → ℕ → ℕ
 rough x y = slice_index (231 ∷ 255 ∷ 0 ∷ 243 ∷ 0 ∷ 255 ∷ 0 ∷ 21 ∷ 255 ∷ 80 ∷ 7 ∷ 0 ∷ 0 ∷ 123 ∷ 255 ∷ 255 ∷ 100 ∷ 119 ∷ 255 ∷ 2 ∷ 255 ∷ 255 ∷ 42 ∷ 255 ∷ 117 ∷ 0 ∷ 35 ∷ 255 ∷ 255 ∷ 0 ∷ 8 ∷ 0 ∷ 0 ∷ 255 ∷ 255 ∷ 37 ∷ 101 ∷ 255 ∷ 255 ∷ 0 ∷ 0 ∷ 0 ∷ 0 ∷ 255 ∷ 0 ∷ 255 ∷ 97 ∷ 255 ∷ 0 ∷ 255 ∷ 0 ∷ 138 ∷ 0 ∷ 0 ∷ 201 ∷ 0 ∷ 0 ∷ 255 ∷ 4 ∷ 255 ∷ 0 ∷ 0 ∷ 106 ∷ []) (9 * y + x)
 
-pub quarters_0 : map (λ i. inter_luma 9 7 rough (record { x = (pos 0) +ℤ pos (i % 4); y = (pos 0) +ℤ pos (i / 4) }) 3 2) (range_with_len 0 16) ≡ 255 ∷ 183 ∷ 110 ∷ 76 ∷ 214 ∷ 141 ∷ 99 ∷ 63 ∷ 172 ∷ 130 ∷ 87 ∷ 51 ∷ 90 ∷ 97 ∷ 54 ∷ 18 ∷ []
-quarters_0 = refl
+-- ---- worked examples, a row each
 
-pub quarters_1 : map (λ i. inter_luma 9 7 rough (record { x = (negsuc 7) +ℤ pos (i % 4); y = (pos 4) +ℤ pos (i / 4) }) 0 6) (range_with_len 0 16) ≡ 201 ∷ 198 ∷ 195 ∷ 198 ∷ 202 ∷ 199 ∷ 196 ∷ 199 ∷ 203 ∷ 200 ∷ 196 ∷ 200 ∷ 202 ∷ 199 ∷ 196 ∷ 199 ∷ []
-quarters_1 = refl
+record WorkedRows : Type 0 where
+  -- a vector far off the picture gives its lower left sample
+  far_vector : inter_luma 16 16 (λ x y. 16 * y + x) (record { x = neg_ℤ (pos 32768); y = pos 32767 }) 3 5 ≡ 240
+  far_vector_chroma : inter_chroma 8 8 (λ x y. 8 * y + x) (record { x = neg_ℤ (pos 32768); y = pos 32767 }) 3 5 ≡ 56
+  -- the six taps over a step
+  taps_over_step : map (λ i. across (λ x y. if nat_lt (nat_abs x) 8 then 128 else 136) (pos (i + 2)) (pos 0)) (range_with_len 0 11)
+      ≡ pos 4096 ∷ pos 4096 ∷ pos 4096 ∷ pos 4104 ∷ pos 4064 ∷ pos 4224 ∷ pos 4384 ∷ pos 4344 ∷ pos 4352 ∷ pos 4352 ∷ pos 4352 ∷ []
+  taps_low : six_taps (pos 0) (pos 255) (pos 0) (pos 0) (pos 255) (pos 0) ≡ neg_ℤ (pos 2550)
+  taps_high : six_taps (pos 255) (pos 0) (pos 255) (pos 255) (pos 0) (pos 255) ≡ pos 10710
+  -- weighted prediction
+  weight_half : weighted 1 (pos 3) (neg_ℤ (pos 4)) 128 ≡ 188
+  weight_below : weighted 0 (neg_ℤ (pos 1)) (pos 5) 128 ≡ 0
+  weight_above : weighted 7 (pos 127) (pos 127) 255 ≡ 255
+  quarters_0 : map (λ i. inter_luma 9 7 rough (record { x = (pos 0) +ℤ pos (i % 4); y = (pos 0) +ℤ pos (i / 4) }) 3 2) (range_with_len 0 16) ≡ 255 ∷ 183 ∷ 110 ∷ 76 ∷ 214 ∷ 141 ∷ 99 ∷ 63 ∷ 172 ∷ 130 ∷ 87 ∷ 51 ∷ 90 ∷ 97 ∷ 54 ∷ 18 ∷ []
+  quarters_1 : map (λ i. inter_luma 9 7 rough (record { x = (negsuc 7) +ℤ pos (i % 4); y = (pos 4) +ℤ pos (i / 4) }) 0 6) (range_with_len 0 16) ≡ 201 ∷ 198 ∷ 195 ∷ 198 ∷ 202 ∷ 199 ∷ 196 ∷ 199 ∷ 203 ∷ 200 ∷ 196 ∷ 200 ∷ 202 ∷ 199 ∷ 196 ∷ 199 ∷ []
+  quarters_2 : map (λ i. inter_luma 9 7 rough (record { x = (pos 12) +ℤ pos (i % 4); y = (negsuc 35) +ℤ pos (i / 4) }) 8 0) (range_with_len 0 16) ≡ 255 ∷ 255 ∷ 255 ∷ 255 ∷ 255 ∷ 255 ∷ 255 ∷ 255 ∷ 255 ∷ 255 ∷ 255 ∷ 255 ∷ 255 ∷ 255 ∷ 255 ∷ 255 ∷ []
+  eighths : map (λ k. inter_chroma 9 7 rough (record { x = pos (8 * (k % 3) + (k * 5) % 8) -ℤ pos 8; y = pos (8 * (k % 2) + (k * 3) % 8) }) 7 5) (range_with_len 0 16) ≡ 138 ∷ 66 ∷ 80 ∷ 0 ∷ 27 ∷ 106 ∷ 26 ∷ 40 ∷ 0 ∷ 0 ∷ 20 ∷ 106 ∷ 35 ∷ 13 ∷ 27 ∷ 0 ∷ []
 
-pub quarters_2 : map (λ i. inter_luma 9 7 rough (record { x = (pos 12) +ℤ pos (i % 4); y = (negsuc 35) +ℤ pos (i / 4) }) 8 0) (range_with_len 0 16) ≡ 255 ∷ 255 ∷ 255 ∷ 255 ∷ 255 ∷ 255 ∷ 255 ∷ 255 ∷ 255 ∷ 255 ∷ 255 ∷ 255 ∷ 255 ∷ 255 ∷ 255 ∷ 255 ∷ []
-quarters_2 = refl
-
-pub eighths : map (λ k. inter_chroma 9 7 rough (record { x = pos (8 * (k % 3) + (k * 5) % 8) -ℤ pos 8; y = pos (8 * (k % 2) + (k * 3) % 8) }) 7 5) (range_with_len 0 16) ≡ 138 ∷ 66 ∷ 80 ∷ 0 ∷ 27 ∷ 106 ∷ 26 ∷ 40 ∷ 0 ∷ 0 ∷ 20 ∷ 106 ∷ 35 ∷ 13 ∷ 27 ∷ 0 ∷ []
-eighths = refl
+worked_rows : WorkedRows
+worked_rows = search rules

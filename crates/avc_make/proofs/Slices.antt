@@ -370,14 +370,15 @@ before_more c i m here =
     rw (here.last, map-append) (append_assoc (earlier_mbs c) (map (placed (own_start c)) (take i c.macroblocks)) (placed (own_start c) m ∷ []))
 
 -- its context, and that it can stand there
-pub stands_at : (c : CodedSlice) (old now : Made) (i : ℕ) (row : PictureInfo) (qp run : ℕ) (m : Mb) (k : Context) (syntax : MbSyntax) → IsPut c old i row qp run now → IsAt c.macroblocks i m
-    → k ≡ context (own_start c) (before_of c i) qp → syntax ≡ m.syntax → CanStand k syntax
-stands_at c old now i row qp run m k syntax is here is_k is_syntax = search rules
+pub stands_at : {c : CodedSlice} {old now : Made} {i : ℕ} {row : PictureInfo} {qp run : ℕ} {m : Mb} {k : Context} {syntax : MbSyntax}
+    → IsPut c old i row qp run now → IsAt c.macroblocks i m → k ≡ context (own_start c) (before_of c i) qp → syntax ≡ m.syntax → CanStand k syntax
+stands_at is here is_k is_syntax = search rules
 
-pub put_next : (c : CodedSlice) (old now new : Made) (i : ℕ) (row row' : PictureInfo) (qp qp' run run' : ℕ) (m : Mb) (k : Context) (syntax : MbSyntax) → IsPut c old i row qp run now → IsAt c.macroblocks i m
-    → k ≡ context (own_start c) (before_of c i) qp → syntax ≡ m.syntax → new ≡ with_bits now (own_bits k (length now.bits) run syntax)
-    → AreInfoOf (own_start c).width (before_of c i ++ placed (own_start c) m ∷ []) row' → run' ≡ run_after run syntax → run' ≤ run + 1 → qp' ≡ m.qp → IsPut c old (i + 1) row' qp' run' new
-put_next c old now new i row row' qp qp' run run' m k syntax is here is_k is_syntax is_new told is_run few is_qp =
+pub put_next : {c : CodedSlice} {old now new : Made} {i : ℕ} {row row' : PictureInfo} {qp qp' run run' : ℕ} {m : Mb} {k : Context} {syntax : MbSyntax}
+    → IsPut c old i row qp run now → IsAt c.macroblocks i m → k ≡ context (own_start c) (before_of c i) qp → syntax ≡ m.syntax
+    → new ≡ with_bits now (own_bits k (length now.bits) run syntax) → AreInfoOf (own_start c).width (before_of c i ++ placed (own_start c) m ∷ []) row'
+    → run' ≡ run_after run syntax → run' ≤ run + 1 → qp' ≡ m.qp → IsPut c old (i + 1) row' qp' run' new
+put_next {c} {old} {now} {new} {i} {row} {row'} {qp} {qp'} {run} {run'} {m} {k} {syntax} is here is_k is_syntax is_new told is_run few is_qp =
     let s = own_start c in
     let before = before_of c i in
     let before' = before ++ placed s m ∷ [] in
@@ -398,9 +399,10 @@ put_next c old now new i row row' qp qp' run run' m k syntax is here is_k is_syn
       sum = rw (← grown, is_qp, is_run, is_syntax) sum;
     }
 
-pub put_end : (c : CodedSlice) (old now new : Made) (i : ℕ) (row : PictureInfo) (qp run : ℕ) (p : Bool) → IsPut c old i row qp run now → drop i c.macroblocks ≡ [] → (own_start c).is_p ≡ p
-    → new ≡ with_bits now (last_run_bits_where p run) → new ≡ with_bits old (some_bits (own_start c) (earlier_mbs c) (length old.bits) c.macroblocks)
-put_end c old now new i row qp run p is none same is_new = search (rules, none_left)
+pub put_end : {c : CodedSlice} {old now new : Made} {i : ℕ} {row : PictureInfo} {qp run : ℕ} {p : Bool}
+    → IsPut c old i row qp run now → drop i c.macroblocks ≡ [] → (own_start c).is_p ≡ p → new ≡ with_bits now (last_run_bits_where p run)
+    → new ≡ with_bits old (some_bits (own_start c) (earlier_mbs c) (length old.bits) c.macroblocks)
+put_end is none same is_new = search (rules, none_left)
 
 -- ---- the unit
 

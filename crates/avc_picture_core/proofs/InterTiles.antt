@@ -49,9 +49,7 @@ chroma_intra : (p : Place) (column row k chroma : ℕ) (sides : Sides) (residual
     → mode ≡ mode_chroma_of chroma
     → new ≡ with_block s (8 * column) (8 * row) 8 8 (λ x y. sum_of (unwrap_or (intra_chroma sides (seen_from s (8 * column) (8 * row)) mode x y) 0) (residual x y))
     → new ≡ with_macroblock p (suc k) (chroma_from p chroma (suc k) s) s
-chroma_intra p column row k chroma sides residual s new mode across down mine same of is =
-    rw of at is
-    ∙ predicted_elsewhere (λ t a x y. intra_chroma t a (mode_chroma_of chroma) x y) s 8 _ _ column row sides (sides_of p.coded p.address 0) residual (residual_at p (suc k)) across down mine same
+chroma_intra p column row k chroma sides residual s new mode across down mine same of is = grind (arith, predicted_elsewhere)
 
 -- ---- I_PCM
 
@@ -68,12 +66,7 @@ pub inside_luma : (left top width : ℕ) (sides : Sides) → AreInside (left + 0
 inside_luma left top width sides i = rw (add-zero left, add-zero top) at i
 
 pub inside_chroma : (column row width wide : ℕ) (sides : Sides) → 8 * column + 8 ≤ wide → AreInside (16 * column + 0) (16 * row + 0) width sides → AreInside (8 * column) (8 * row) wide sides
-inside_chroma column row width wide sides room i = record {
-  above = λ h. let q = i.above h in omega (arith, q);
-  above_right = λ h. let q = i.above_right h in (omega (arith, q.0), omega (arith, room));
-  before = λ h. let q = i.before h in omega (arith, q);
-  corner = λ h. let q = i.corner h in (omega (arith, q.0), omega (arith, q.1));
-}
+inside_chroma column row width wide sides room i = grind arith
 
 -- ---- an intra macroblock that has its sides
 
@@ -139,13 +132,7 @@ has_nxn p coded chroma r readable modes mode sides are of =
 
 pub nxn_at : (p : Place) (column row width chroma qp qp_of_chroma : ℕ) (coded : List (Option ℕ)) (r : Residual) (readable : ReadableNeighbours) (modes : List NearMode)
     → IsAt column row (i_nxn coded chroma r) qp qp_of_chroma p → MayRead column row width readable p → p.modes ≡ modes → IsNxnAt column row width readable modes qp r p
-nxn_at p column row width chroma qp qp_of_chroma coded r readable modes at may are = record {
-  left = ap (λ u. 16 * u) at.column_is;
-  top = ap (λ v. 16 * v) at.row_is;
-  may_read = may;
-  modes_are = are;
-  residual_is = λ x y. ap (λ t. residual_of p.coded.chroma_qp_index_offset p.mb.qp t 0 x y) at.syntax_is ∙ ap (λ q. luma_residual q r x y) at.qp_is;
-}
+nxn_at p column row width chroma qp qp_of_chroma coded r readable modes at may are = grind arith
 
 -- ---- inter
 
@@ -377,11 +364,7 @@ same_as motion n k = block_motion motion k ≡ block_motion motion n
 
 have_one : (motion : List Motion) (quarter_left quarter_top w h first : ℕ) → block_at quarter_left quarter_top ≡ first
     → ((x y : ℕ) → quarter_left ≤ x → x < quarter_left + w → quarter_top ≤ y → y < quarter_top + h → same_as motion first (block_at x y)) → HaveOneMotion motion quarter_left quarter_top w h
-have_one motion quarter_left quarter_top w h first corner all = record {
-  same = λ x y e.
-      let b = bounds quarter_left quarter_top w h x y e in
-      all x y b.0 b.1 b.2 b.3 ∙ ap (λ k. block_motion motion k) (sym corner);
-}
+have_one motion quarter_left quarter_top w h first corner all = grind (arith, bounds)
 
 -- ---- a quarter
 

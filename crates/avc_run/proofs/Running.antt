@@ -26,17 +26,13 @@ pub no_memory_in : (text : Text) → OnlyGrows text → (s : StreamSoFar) (piece
     → IsStopped Memory text s (after_piece s piece) held held
 no_memory_in text grows s piece held open_end short =
     let later = grows s.bytes piece false short in
-    none_written text s (after_piece s piece) held later.0
-    (ap (λ (t : StreamSoFar). text t.bytes t.ended) (open_piece s piece open_end) ∙ ap (λ x. text (s.bytes ++ piece) x) open_end ∙ later.1
-    ∙ ap (λ x. text s.bytes x ++ later.0) (sym open_end))
+    none_written text s (after_piece s piece) held later.0 (rw open_end later.1)
 
 pub no_memory_at_end : (text : Text) → OnlyGrows text → (s : StreamSoFar) (held : Option (List ℕ)) → s.ended ≡ false → length s.bytes < 2 ^ 64
     → IsStopped Memory text s (after_end s) held held
 no_memory_at_end text grows s held open_end short =
-    let same = ap (λ (bs : List ℕ). length bs) (append-nil s.bytes) in
-    let later = grows s.bytes [] true (omega (arith, same, short)) in
-    none_written text s (after_end s) held later.0
-    (ap (λ bs. text bs true) (sym (append-nil s.bytes)) ∙ later.1 ∙ ap (λ x. text s.bytes x ++ later.0) (sym open_end))
+    let later = grows s.bytes [] true (rw append-nil short) in
+    none_written text s (after_end s) held later.0 (rw open_end (ap (λ bs. text bs true) (sym (append-nil s.bytes)) ∙ later.1))
 
 -- ---- faults
 
@@ -48,12 +44,7 @@ nothing_more unread left left' bytes piece len so_far none more =
 -- no memory for the first piece
 pub no_piece : (text : Text) (unread old : Option (List ℕ)) (f : RunFault) → f ≡ Memory → Lists text unread unread old old (Err f)
 no_piece text unread old f is =
-    subst (λ f. Lists text unread unread old old (Err f)) (sym is) (
-      [],
-      false,
-      record { consumed = Consumes-nil unread; whole = λ all. cc },
-      record { count = 0; within = omega arith; written = Appends-nil old },
-    )
+    rw is ([], false, record { consumed = Consumes-nil unread; whole = λ all. cc }, record { count = 0; within = omega arith; written = Appends-nil old })
 
 writing_stopped : (text : Text) (fault : RunFault) (unread left w0 w' : Option (List ℕ)) (bytes : List ℕ) (all : Bool) → HasRead unread left bytes all
     → StopsWriting fault w0 w' (text bytes all) → Lists text unread left w0 w' (Err fault)
@@ -63,11 +54,7 @@ writing_stopped text _ unread left w0 w' bytes all read off = absurd off
 
 -- a fault in b, after all of a
 stops_later : (fault : RunFault) (w0 w w' : Option (List ℕ)) (a b : List ℕ) → Appends w0 w a → StopsWriting fault w w' b → StopsWriting fault w0 w' (a ++ b)
-stops_later Write w0 w w' a b all some = record {
-  count = length a + some.count;
-  fewer = omega (arith, length-append a b, some.fewer);
-  written = subst (Appends w0 w') (sym (take-append-add a b some.count)) (Appends-trans w0 w w' a (take some.count b) all some.written);
-}
+stops_later Write w0 w w' a b all some = stopped_after w0 w w' a b all some
 stops_later Memory w0 w w' a b all some = record {
   count = length a + some.count;
   within = omega (arith, length-append a b, some.within);
@@ -79,9 +66,7 @@ stops_later _ w0 w w' a b all some = absurd some
 stopped_behind : (text now_text : Text) (fault : RunFault) (n : ℕ) (s now : StreamSoFar) (unread left w0 w w' : Option (List ℕ)) → IsWriting text n s unread left w0 w → now_text ≡ text
     → IsStopped fault now_text s now w w' → StopsWriting fault w0 w' (text now.bytes now.ended)
 stopped_behind text now_text fault n s now unread left w0 w w' i same off =
-    let defined : text now.bytes now.ended ≡ text s.bytes false ++ off.added =
-    ap (λ (f : Text). f now.bytes now.ended) (sym same) ∙ off.defined ∙ ap (λ (f : Text). f s.bytes s.ended ++ off.added) same
-    ∙ ap (λ x. text s.bytes x ++ off.added) i.open_end in
+    let defined : text now.bytes now.ended ≡ text s.bytes false ++ off.added = rw (← same, ← i.open_end) off.defined in
     subst (StopsWriting fault w0 w') (sym defined) (stops_later fault w0 w w' (text s.bytes false) off.added i.written off.stopped)
 
 -- at a piece
@@ -127,9 +112,7 @@ pub whole_at_end : (text now_text : Text) (over : List ℕ → (ended : Bool) �
     → IsWriting text n s unread left w0 w → n < 2 ^ 32 → now_text ≡ text → len ≡ 0 → Consumes left left' (take len piece) → IsAtEnd left' → now ≡ after_end s
     → IsWrittenOn now_text s (after_end s) w w' → IsWhole text over now unread left' w0 w'
 whole_at_end text now_text over n s now unread left left' w0 w w' len piece i low same none more at_end is on =
-    let defined : text s.bytes true ≡ text s.bytes false ++ on.added =
-    ap (λ (f : Text). f s.bytes true) (sym same) ∙ on.defined ∙ ap (λ (f : Text). f s.bytes s.ended ++ on.added) same
-    ∙ ap (λ x. text s.bytes x ++ on.added) i.open_end in
+    let defined : text s.bytes true ≡ text s.bytes false ++ on.added = rw (← same, ← i.open_end) on.defined in
     subst (λ t. IsWhole text over t unread left' w0 w') (sym is) (record {
       has_read = record { consumed = nothing_more unread left left' s.bytes piece len i.consumed none more; whole = λ all. at_end };
       is_over = λ open_end. cc open_end;
@@ -138,14 +121,9 @@ whole_at_end text now_text over n s now unread left left' w0 w w' len piece i lo
       written = subst (Appends w0 w') (sym defined) (Appends-trans w0 w w' (text s.bytes false) on.added i.written on.written);
     })
 
--- a text that is never over has been written to the end of the stream
-to_end : (ended : Bool) → (ended ≡ false → false ≡ true) → ended ≡ true
-to_end true never = refl
-to_end false never = cc (never refl)
-
 pub listed : (text : Text) (s : StreamSoFar) (unread left held holds : Option (List ℕ)) → IsWhole text (λ bytes ended. false) s unread left held holds → Lists text unread left held holds (Ok tt)
 listed text s unread left held holds all =
-    let ended = to_end s.ended all.is_over in
+    let ended = whole s.ended all.is_over in
     (s.bytes, subst (HasRead unread left s.bytes) ended all.has_read, subst (λ e. Appends held holds (text s.bytes e)) ended all.written)
 
 -- ---- a piece of a stream that comes is the stream's piece
@@ -200,7 +178,9 @@ pub no_piece_begun : (number : ℕ) (unread held : Option (List ℕ)) (r : Resul
 no_piece_begun number unread held (Ok found) is = absurd is
 no_piece_begun number unread held (Err fault) is = no_piece (piece_text number) unread held fault is
 
--- ---- a run, piece after piece: reports
+-- ---- a run, piece after piece
+
+-- ---- reports
 
 abbrev fresh : Report
 fresh = record { pictures = 0; refused = [] }
@@ -310,13 +290,12 @@ pub reading_begins : (f : Format) (output : Output) (unread holds : Option (List
     → IsReading f 0 output unread unread holds holds m (record { pictures = 0; refused = refused })
 reading_begins f output unread holds m refused new none = record {
   runs = record { bytes = []; consumed = Consumes-nil unread; machine = new; report = ap (λ rs. report_of_none rs) none; written = Appends-nil holds };
-  many = let low : 0 ≤ 0 = omega arith in low;
+  many = omega arith;
 }
 
 -- the front of a stream, which was read before
 pub front_is : (left : Option (List ℕ)) (front : List ℕ) → Consumes (prepend_known front left) left front
-front_is None front = tt
-front_is (Some xs) front = refl
+front_is left front = grind arith
 
 pub front_taken : (f : Format) → EventsOnlyGrow → (output : Output) (left w0 w : Option (List ℕ)) (d d' : Machine) (refused : List (ℕ × Fault)) (r : Report) (front : List ℕ) → d ≡ new_machine output → refused ≡ []
     → IsHandled f (after_feed front d) d' (record { pictures = 0; refused = refused }) r w0 w → IsReading f 0 output (prepend_known front left) left w0 w d' r
@@ -381,9 +360,9 @@ broken_at_end f grow output unread left left' w0 w w' d r len piece fault i none
 pub err_is : {A : Type 0} (r : Result A RunFault) (f : RunFault) → IsErrAnd r (λ e. e ≡ f) → r ≡ Err f
 err_is r f is = grind arith
 
-pub decodes_err : (format : Format) (output : Output) (unread left old new : Option (List ℕ)) (r : Result Report RunFault) (f : RunFault) → r ≡ Err f
+pub decodes_err : (format : Format) (output : Output) (unread left old new : Option (List ℕ)) (r : Result Report RunFault) (f : RunFault) → IsErrAnd r (λ e. e ≡ f)
     → DecodesAs format output unread left old new (Err f) → DecodesAs format output unread left old new r
-decodes_err format output unread left old new r f is d = subst (DecodesAs format output unread left old new) (sym is) d
+decodes_err format output unread left old new r f is d = subst (DecodesAs format output unread left old new) (sym (err_is r f is)) d
 
 -- all events that had come were taken
 pub drained : (f : Format) (output : Output) (unread left w0 w : Option (List ℕ)) (d : Machine) (r : Report) → IsRunning f output unread left w0 w d r → IsDrained d

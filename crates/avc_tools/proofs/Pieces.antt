@@ -36,12 +36,8 @@ module _ {X : Type 0} (P : X → Type 0) where
   all_flat f (n ∷ ns) h = All-append P (f n) (flat_map f ns) (h n) (all_flat f ns h)
 
 pub taken_pass : {X : Type 0} (test : X → Bool) (xs : List X) → All (λ x. test x ≡ true) (take_while test xs)
-taken_pass test [] = All-nil (λ x. test x ≡ true)
-taken_pass test (x ∷ xs) = rw (take_while-cons test x xs) (first (test x) refl (taken_pass test xs))
-  where
-    first : (b : Bool) → test x ≡ b → All (λ x. test x ≡ true) (take_while test xs) → All (λ x. test x ≡ true) (cond b (x ∷ take_while test xs) [])
-    first true e h = All-cons (λ x. test x ≡ true) x (take_while test xs) e h
-    first false e h = All-nil (λ x. test x ≡ true)
+taken_pass test [] = All-nil _
+taken_pass test (x ∷ xs) = rw take_while-cons (search (rules, All-cons, All-nil, taken_pass test xs))
 
 -- what a piece has before its cut point
 abbrev pub front : List Unit → List Unit
@@ -85,8 +81,7 @@ module _ (P : Unit → Type 0) where
 
   added : (starts : Bool) (p : List Unit) (others : List (List Unit)) → All P p → All (All P) others →
       All (All P) (elim starts [ true ↦ p ∷ others | false ↦ others ])
-  added true p others h k = All-cons (All P) p others h k
-  added false p others h k = k
+  added starts p others h k = search (rules, All-cons)
 
   -- each unit of the pieces is one of the stream
   all_units_of : (before after : List Unit) → All P before → All P after → All (All P) (piece_units before after)
@@ -123,10 +118,7 @@ body_if short body = elim short [ true ↦ Some body | false ↦ None ]
 
 set_of_short : (k : Kind) (short : Bool) (body : List ℕ) → set_fault k (rbsp_in (body_if short body)) ≡ None →
     set_of k (rbsp_in (body_if short body)) ≡ set_of k (Some (rbsp body))
-set_of_short k true body h = refl
-set_of_short sps false body h = (cc)
-set_of_short pps false body h = (cc)
-set_of_short _ false body h = refl
+set_of_short k short body h = search (rules)
 
 set_of_within : (max : ℕ) (k : Kind) (o : Option (List ℕ)) → set_fault k (rbsp_in (body_within max o)) ≡ None →
     set_of k (rbsp_in (body_within max o)) ≡ set_of k (rbsp_in o)
@@ -141,39 +133,12 @@ same_sets max [] h = refl
 same_sets max (u ∷ us) h =
     ap₂ (λ s t. list_of s ++ t) (same_set max u (All-head (IsAcceptedWithin max) u us h)) (same_sets max us (All-tail (IsAcceptedWithin max) u us h))
 
--- whether decoding can start with a unit, by its header's bits and its bytes
-abbrev starts_in : Option (List ℕ) → Bool
-starts_in o = elim o [ None ↦ false | Some bytes ↦ reads_zero (ue (start bytes)) ]
-
-short_is_same : (short : Bool) (body : List ℕ) → IsTrue (is_some (body_if short body)) → body_if short body ≡ Some body
-short_is_same short body h = grind arith
-
-within_is_same : (max : ℕ) (o : Option (List ℕ)) → IsTrue (is_some (body_within max o)) → body_within max o ≡ o
-within_is_same max None h = refl
-within_is_same max (Some body) h = short_is_same (nat_le (1 + length body) max) body h
-
-same_start_by : (bit five : Bool) (max : ℕ) (o : Option (List ℕ)) → (five ≡ true → IsTrue (is_some (body_within max o))) →
-    (not bit && five && starts_in (rbsp_in (body_within max o))) ≡ (not bit && five && starts_in (rbsp_in o))
-same_start_by bit true max o h = ap (λ b. not bit && true && starts_in (rbsp_in b)) (within_is_same max o (h refl))
-same_start_by true false max o h = refl
-same_start_by false false max o h = refl
-
 pub same_start : (max : ℕ) (u : Unit) → IsWholeStart (unit_within max u) → is_start (unit_within max u) ≡ is_start u
-same_start max u h = same_start_by (forbidden_zero_bit u.header) (nal_unit_type u.header == 5) max u.body h
-
-no_start_if : (bit five short : Bool) (body : List ℕ) → (not bit && five && starts_in (Some (rbsp body))) ≡ false →
-    (not bit && five && starts_in (rbsp_in (body_if short body))) ≡ false
-no_start_if bit five true body h = h
-no_start_if bit five false body h = grind arith
-
-no_start_within : (bit five : Bool) (max : ℕ) (o : Option (List ℕ)) → (not bit && five && starts_in (rbsp_in o)) ≡ false →
-    (not bit && five && starts_in (rbsp_in (body_within max o))) ≡ false
-no_start_within bit five max None h = h
-no_start_within bit five max (Some body) h = no_start_if bit five (nat_le (1 + length body) max) body h
+same_start max u h = search (rules)
 
 -- a unit with which decoding can't start doesn't become one
 pub no_start : (max : ℕ) (u : Unit) → is_start u ≡ false → is_start (unit_within max u) ≡ false
-no_start max u h = no_start_within (forbidden_zero_bit u.header) (nal_unit_type u.header == 5) max u.body h
+no_start max u h = search (rules)
 
 -- Where decoding waits, the unit gives nothing, and decoding still waits.
 pub record IsSilent (u : Unit) : Type 0 where
@@ -212,24 +177,13 @@ pieces_of_stream are_whole bytes =
 
 -- ---- what a stream without refusals says of its units, and pieces with which decoding doesn't start
 
-abbrev next_of : Step → Next
-next_of what = what.next
-
 abbrev events_of : Outcome → List Event
 events_of o = o.events
 
 -- ---- units that give nothing where decoding waits
 
-silent_kind : (sets : Sets) (u : Unit) (k : Kind) → set_fault k (rbsp_of u) ≡ None → is_start u ≡ false → (waiting_step sets u k).next ≡ Nothing
-silent_kind sets u (slice_kind idr) h no_start = ap (λ b. next_of (elim b [ true ↦ running_step sets None u (slice_kind idr) | false ↦ no_effect ])) no_start
-silent_kind sets u sps h no_start = ap refusal_of h
-silent_kind sets u pps h no_start = ap refusal_of h
-silent_kind sets u _ h no_start = refl
-
 silent_step : (sets : Sets) (u : Unit) → IsSilent u → (step sets false None u).next ≡ Nothing
-silent_step sets u s =
-    ap (λ b. next_of (elim b [ true ↦ record { closes = false; next = Refusal faults.ForbiddenBit; even_after_fault = true } | false ↦ waiting_step sets u (kind u) ]))
-    s.accepted.bit ∙ silent_kind sets u (kind u) s.accepted.set s.no_start
+silent_step sets u s = search (rules)
 
 pub silent_unit : (s : State) (u : Unit) → s.phase ≡ waiting → IsSilent u → after_unit s u ≡ no_change waiting
 silent_unit s u waits silent = grind (arith, sets_after, silent_step)
@@ -245,14 +199,11 @@ silent_units (u ∷ us) s waits h =
 abbrev pub ArePictures : List Event → Type 0
 ArePictures es = list_all is_picture es ≡ true
 
-both : (a b : Bool) → (a && b) ≡ true → (a ≡ true) × (b ≡ true)
-both a b h = grind arith
-
 pub pictures_before : (xs ys : List Event) → ArePictures (xs ++ ys) → ArePictures xs
-pictures_before xs ys h = (both (list_all is_picture xs) (list_all is_picture ys) (sym (list_all-append is_picture xs ys) ∙ h)).0
+pictures_before xs ys h = grind (arith, list_all-append is_picture xs ys, h)
 
 pub pictures_behind : (xs ys : List Event) → ArePictures (xs ++ ys) → ArePictures ys
-pictures_behind xs ys h = (both (list_all is_picture xs) (list_all is_picture ys) (sym (list_all-append is_picture xs ys) ∙ h)).1
+pictures_behind xs ys h = grind (arith, list_all-append is_picture xs ys, h)
 
 none_refused : (xs : List Event) (n : ℕ) (f : Fault) → ArePictures (xs ++ Refused n f ∷ []) → ⊥
 none_refused xs n f h = (cc (pictures_behind xs (Refused n f ∷ []) h))
@@ -262,17 +213,9 @@ none_failed output h n f read all = none_refused (held_after output (running h N
 
 -- ---- no unit is refused by itself
 
-refuses_behind : (output : Output) (sets : Sets) (n : ℕ) (waits : Bool) (f : Fault) (closed : Outcome) →
-    ArePictures (events_of (elim (waits && not true) [ true ↦ closed | false ↦ followed_by closed (after_next output sets n closed.phase (Refusal f)) ])) → ⊥
-refuses_behind output sets n true f closed h = none_refused closed.events n f h
-refuses_behind output sets n false f closed h = none_refused closed.events n f h
-
 refuses : (output : Output) (sets : Sets) (n : ℕ) (closes : Bool) (f : Fault) (p : Phase) →
     ArePictures (in_phase output sets n (record { closes = closes; next = Refusal f; even_after_fault = true }) p).events → ⊥
-refuses output sets n closes f waiting h = none_refused [] n f h
-refuses output sets n closes f (running older None) h = none_refused [] n f h
-refuses output sets n true f (running older (Some o)) h = refuses_behind output sets n (is_waiting (closed_picture output o).phase) f (closed_picture output o) h
-refuses output sets n false f (running older (Some o)) h = none_refused [] n f h
+refuses output sets n closes f p h = search (rules, none_refused)
 
 bit_is_zero : (output : Output) (sets : Sets) (n : ℕ) (p : Phase) (bit : Bool) (others : Step) →
     ArePictures (in_phase output sets n (elim bit [ true ↦ record { closes = false; next = Refusal faults.ForbiddenBit; even_after_fault = true } | false ↦ others ]) p).events →
@@ -292,11 +235,7 @@ set_is_good output sets n p (Some f) h = absurd (refuses output sets n true f p 
 set_by_kind : (output : Output) (sets : Sets) (n : ℕ) (p : Phase) (runs : Bool) (open_picture : Option OpenPictureFacts) (u : Unit) (k : Kind) →
     ArePictures (in_phase output sets n (elim runs [ true ↦ running_step sets open_picture u k | false ↦ waiting_step sets u k ]) p).events →
     set_fault k (rbsp_of u) ≡ None
-set_by_kind output sets n p true open_picture u sps h = set_is_good output sets n p (set_fault sps (rbsp_of u)) h
-set_by_kind output sets n p false open_picture u sps h = set_is_good output sets n p (set_fault sps (rbsp_of u)) h
-set_by_kind output sets n p true open_picture u pps h = set_is_good output sets n p (set_fault pps (rbsp_of u)) h
-set_by_kind output sets n p false open_picture u pps h = set_is_good output sets n p (set_fault pps (rbsp_of u)) h
-set_by_kind output sets n p runs open_picture u _ h = refl
+set_by_kind output sets n p runs open_picture u k h = search (rules, set_is_good)
 
 pub is_accepted : (s : State) (u : Unit) → ArePictures (after_unit s u).events → IsAccepted u
 is_accepted s u h =
@@ -340,12 +279,8 @@ start_is_slice u five = ap kind_of (eqb-true (nal_unit_type u.header) 5 five)
 
 unreadable_behind : (output : Output) (sets : Sets) (n : ℕ) (f : Fault) (closed : Outcome) (waits : Bool) → waits ≡ is_waiting closed.phase → Runs closed →
     ArePictures (events_of (elim (waits && not false) [ true ↦ closed | false ↦ followed_by closed (after_next output sets n closed.phase (FaultOfOwn f)) ])) → ⊥
-unreadable_behind output sets n f closed true is runs all = never closed.phase is (runs all)
-  where
-    never : (p : Phase) → true ≡ is_waiting p → is_running p ≡ true → ⊥
-    never waiting e h = (cc)
-    never (running h o) e k = (cc)
-unreadable_behind output sets n f closed false is runs all = none_failed output (history_in closed.phase) n f 0 (pictures_behind closed.events (events_of (after_next output sets n closed.phase (FaultOfOwn f))) all)
+unreadable_behind output sets n f closed true is runs all = grind (arith, is, runs all)
+unreadable_behind output sets n f closed false is runs all = none_failed output (history_in closed.phase) n f 0 (pictures_behind closed.events _ all)
 
 unreadable_open : (output : Output) (sets : Sets) (n : ℕ) (f : Fault) (full : Bool) (h : _) (o : Option OpenPicture) →
     ArePictures (in_phase output sets n (elim full [
@@ -394,10 +329,7 @@ events-append (u ∷ us) vs s ended =
 abbrev brings_data : Kind → Bool
 brings_data (slice_kind idr) = true
 brings_data partition = true
-brings_data sps = false
-brings_data pps = false
-brings_data boundary = false
-brings_data other_kind = false
+brings_data _ = false
 
 data_by : (one five part s p b : Bool) →
     brings_data (if one then slice_kind false else (if five then slice_kind true else (if part then partition else (if s then sps else (if p then pps else (if b then boundary else other_kind))))))
@@ -415,16 +347,7 @@ Ends what = (what ≡ no_effect) ⊎ (what ≡ ends_picture Nothing)
 
 step_ends_by : (sets : Sets) (runs : Bool) (facts : Option OpenPictureFacts) (u : Unit) (k : Kind) → brings_data k ≡ false → set_fault k (rbsp_of u) ≡ None →
     Ends (elim runs [ true ↦ running_step sets facts u k | false ↦ waiting_step sets u k ])
-step_ends_by sets runs facts u (slice_kind idr) h g = (cc)
-step_ends_by sets runs facts u partition h g = (cc)
-step_ends_by sets true facts u sps h g = inr (ap (λ f. ends_picture (refusal_of f)) g)
-step_ends_by sets false facts u sps h g = inr (ap (λ f. ends_picture (refusal_of f)) g)
-step_ends_by sets true facts u pps h g = inr (ap (λ f. ends_picture (refusal_of f)) g)
-step_ends_by sets false facts u pps h g = inr (ap (λ f. ends_picture (refusal_of f)) g)
-step_ends_by sets true facts u boundary h g = inr refl
-step_ends_by sets false facts u boundary h g = inr refl
-step_ends_by sets true facts u other_kind h g = inl refl
-step_ends_by sets false facts u other_kind h g = inl refl
+step_ends_by sets runs facts u k h g = search (rules)
 
 ends_from : (bit : Bool) (others : Step) → bit ≡ false → Ends others →
     Ends (elim bit [ true ↦ record { closes = false; next = Refusal faults.ForbiddenBit; even_after_fault = true } | false ↦ others ])
@@ -442,33 +365,14 @@ ends sets runs facts u b =
     (step_ends_by sets runs facts u (kind u) (no_data (nal_unit_type u.header) b.no_slice) b.accepted.set)
 
 held_by : (output : Output) (o : OpenPicture) (result : _) → at_end output (closed_outcome output o result).phase ≡ held_after output (closed_outcome output o result).phase
-held_by output o (Ok h) = refl
-held_by output o (Err found) = refl
+held_by output o result = search (rules)
 
 -- what ending a picture hands out, and then the end of the stream
 abbrev and_end : (output : Output) (o : Outcome) → List Event
 and_end output o = o.events ++ at_end output o.phase
 
-ended_by : (output : Output) (sets : Sets) (n : ℕ) (waits : Bool) (closed : Outcome) → at_end output closed.phase ≡ held_after output closed.phase →
-    and_end output (elim (waits && not true) [ true ↦ closed | false ↦ followed_by closed (after_next output sets n closed.phase Nothing) ])
-    ≡ events_and_held output closed
-ended_by output sets n true closed h = ap (λ t. t ++ at_end output closed.phase) (append-nil closed.events) ∙ ap (λ t. closed.events ++ t) h
-ended_by output sets n false closed h = ap (λ t. t ++ at_end output closed.phase) (append-nil closed.events) ∙ ap (λ t. closed.events ++ t) h
-
-ended_in : (output : Output) (sets : Sets) (n : ℕ) (p : Phase) → and_end output (in_phase output sets n (ends_picture Nothing) p) ≡ at_end output p
-ended_in output sets n waiting = refl
-ended_in output sets n (running h None) = refl
-ended_in output sets n (running h (Some o)) =
-    ended_by output sets n (is_waiting (closed_picture output o).phase) (closed_picture output o) (held_by output o (closing_result o))
-
-passed_in : (output : Output) (sets : Sets) (n : ℕ) (p : Phase) → and_end output (in_phase output sets n no_effect p) ≡ at_end output p
-passed_in output sets n waiting = refl
-passed_in output sets n (running h None) = refl
-passed_in output sets n (running h (Some o)) = refl
-
 either_way : (output : Output) (sets : Sets) (n : ℕ) (what : Step) (p : Phase) → Ends what → and_end output (in_phase output sets n what p) ≡ at_end output p
-either_way output sets n what p (inl e) = ap (λ w. and_end output (in_phase output sets n w p)) e ∙ passed_in output sets n p
-either_way output sets n what p (inr e) = ap (λ w. and_end output (in_phase output sets n w p)) e ∙ ended_in output sets n p
+either_way output sets n what p h = search (rules, append-nil, held_by)
 
 -- Units that are no slices hand out what the end of the stream would.
 pub only_end : (us : List Unit) (s : State) → All IsBetween us → events_from s us true ≡ at_end s.output s.phase
@@ -518,16 +422,11 @@ rest_of_events false max us after s h = refl
 
 -- ---- what stands in front of a piece's first slice is silent
 
-not_five : (bit reads : Bool) → (not bit && false && reads) ≡ false
-not_five bit reads = grind arith
-
 abbrev IsNoStart : Unit → Type 0
 IsNoStart u = is_start u ≡ false
 
 no_start_by : (u : Unit) → (nal_unit_type u.header == 5) ≡ false → IsNoStart u
-no_start_by u other_type =
-    ap (λ five. not (forbidden_zero_bit u.header) && five && elim (rbsp_of u) [ None ↦ false | Some bytes ↦ reads_zero (ue (start bytes)) ]) other_type
-    ∙ not_five (forbidden_zero_bit u.header) _
+no_start_by u other_type = grind (arith, other_type)
 
 no_slice_starts : (u : Unit) → IsNoSlice u → IsNoStart u
 no_slice_starts u h = no_start_by u (grind (arith, nat_tests, h))
@@ -541,10 +440,7 @@ slice_closes : (bit starts same : Bool) (result : Result Slice Fault) →
       | true ↦ record { closes = false; next = Refusal faults.ForbiddenBit; even_after_fault = true }
       | false ↦ elim starts [ true ↦ slice_step None same result | false ↦ no_effect ]
     ]) ≡ false
-slice_closes true starts same result = refl
-slice_closes false true same (Ok s) = refl
-slice_closes false true same (Err f) = refl
-slice_closes false false same result = refl
+slice_closes bit starts same result = search (rules)
 
 set_starts : (before : List Unit) (u : Unit) → IsSetOf before u → IsNoStart u
 set_starts before u s = by (nal_unit_type u.header == 5) refl
@@ -589,12 +485,9 @@ after_front (u ∷ us) more s waits h =
 -- ---- what leads a picture brings no set
 
 abbrev brings_set : Kind → Bool
-brings_set (slice_kind idr) = false
-brings_set partition = false
 brings_set sps = true
 brings_set pps = true
-brings_set boundary = false
-brings_set other_kind = false
+brings_set _ = false
 
 set_by : (one five part s p b : Bool) → (s || p) ≡ false →
     brings_set (if one then slice_kind false else (if five then slice_kind true else (if part then partition else (if s then sps else (if p then pps else (if b then boundary else other_kind)))))) ≡ false
@@ -654,42 +547,18 @@ sets_alike again max before h = ap sets_after (same_sets max (front before) (all
 abbrev AreOff : List Bool → Type 0
 AreOff flags = list_all (λ f. not f) flags ≡ true
 
-off_first : (f : Bool) (flags : List Bool) → AreOff (f ∷ flags) → f ≡ false
-off_first f flags e = grind arith
-
-abbrev flags_by : Bool → (flag : Bool) → (others : List Bool) → List Bool
-flags_by starts flag others = elim starts [ true ↦ flag ∷ others | false ↦ others ]
-
-off_behind : (starts flag : Bool) (others : List Bool) → AreOff (flags_by starts flag others) → AreOff others
-off_behind starts flag others e = grind arith
-
 -- the unit's flag, where all are off
 own_off : (b xs : List Unit) (u : Unit) (more : List Unit) → is_start u ≡ true → AreOff (drop_flags b (xs ++ u ∷ more))
     → drops_prior (slice_in (tables (b ++ xs)) u) ≡ false
-own_off b [] u more starts off = search (rules, append-nil, off_first)
-own_off b (v ∷ xs) u more starts off =
-    let others = drop_flags (b ++ v ∷ []) (xs ++ u ∷ more) in
-    ap (λ us. drops_prior (slice_in (tables us) u)) (sym (append_assoc b (v ∷ []) xs))
-    ∙ own_off (b ++ v ∷ []) xs u more starts (off_behind (is_start v) (drops_prior (slice_in (tables b) v)) others off)
-
--- the same with one unit more in front, which may be the first start
-moved_off : (b xs : List Unit) (v u : Unit) → drops_prior (slice_in (tables ((b ++ v ∷ []) ++ xs)) u) ≡ false
-    → drops_prior (slice_in (tables (b ++ v ∷ xs)) u) ≡ false
-moved_off b xs v u e = ap (λ us. drops_prior (slice_in (tables us) u)) (sym (append_assoc b (v ∷ []) xs)) ∙ e
-
-flags_by_start : (s : Bool) (any flag : Bool) (others : List Bool) (P : Type 0) → (s || any) ≡ true → AreOff (drop 1 (flags_by s flag others))
-    → (AreOff others → P) → (any ≡ true → AreOff (drop 1 others) → P) → P
-flags_by_start true any flag others P e off first later = first off
-flags_by_start false any flag others P e off first later = later e off
+own_off b [] u more starts off = grind (arith, append-nil, starts, off)
+own_off b (v ∷ xs) u more starts off = grind (arith, append_assoc b (v ∷ []) xs, own_off (b ++ v ∷ []) xs u more starts, off)
 
 -- and where all but the first are off, and a start stands before it
 later_off : (b xs : List Unit) (u : Unit) (more : List Unit) → is_start u ≡ true → list_any is_start xs ≡ true
     → AreOff (drop 1 (drop_flags b (xs ++ u ∷ more))) → drops_prior (slice_in (tables (b ++ xs)) u) ≡ false
-later_off b [] u more starts any off = (cc)
+later_off b [] u more starts any off = cc
 later_off b (v ∷ xs) u more starts any off =
-    flags_by_start (is_start v) (list_any is_start xs) (drops_prior (slice_in (tables b) v)) (drop_flags (b ++ v ∷ []) (xs ++ u ∷ more)) _ any off
-    (λ all. moved_off b xs v u (own_off (b ++ v ∷ []) xs u more starts all))
-    (λ some others. moved_off b xs v u (later_off (b ++ v ∷ []) xs u more starts some others))
+    grind (arith, append_assoc b (v ∷ []) xs, own_off (b ++ v ∷ []) xs u more starts, later_off (b ++ v ∷ []) xs u more starts, any, off)
 
 lets_out : (before : List Unit) (u : Unit) → drops_prior (slice_in (tables before) u) ≡ false → LetsPriorPicturesOut before u
 lets_out before u off slice n l read marking =

@@ -23,21 +23,15 @@ row_back row width some = let back : row ≡ (row - 1) + 1 = omega arith in ap (
 
 module _ (c : Coded) (column row a j : ℕ) (at : IsAt c column row a) (j_low : j < 16) where
   here : (v : Bool) (n : ℕ) → n < 4 → address_of c (along v (16 * column) (4 * n) j) (along (not v) (16 * row) (4 * n) j) ≡ a
-  here true n low = address_is c _ _ column row (omega arith) (omega arith) ∙ sym at.address
-  here false n low = address_is c _ _ column row (omega arith) (omega arith) ∙ sym at.address
+  here v n low = grind (arith, address_is)
 
   before : (v : Bool) (n : ℕ) → n < 4 → (v ≡ true → 1 ≤ 4 * column + n) → (v ≡ false → 1 ≤ 4 * row + n) →
       address_of c (before_edge v (along v (16 * column) (4 * n) j)) (before_edge (not v) (along (not v) (16 * row) (4 * n) j)) ≡ p_address c v n a
-  before true zero low across down = grind (arith, nat_tests, address_is)
-  before false zero low across down = grind (arith, nat_tests, address_is, row_back)
-  before true (suc n) low across down = address_is c _ _ column row (omega arith) (omega arith) ∙ sym at.address
-  before false (suc n) low across down = address_is c _ _ column row (omega arith) (omega arith) ∙ sym at.address
+  before v n low across down = grind (arith, nat_tests, address_is, row_back)
 
 -- whether both sides are one macroblock
 pub same_mb : (c : Coded) (v : Bool) (column row a n : ℕ) → IsAt c column row a → (v ≡ true → 1 ≤ 4 * column + n) → (v ≡ false → 1 ≤ 4 * row + n) → (p_address c v n a == a) ≡ not (n == 0)
-same_mb c true column row a zero at across down = grind (arith, nat_tests)
-same_mb c false column row a zero at across down = grind (arith, nat_tests, row_back)
-same_mb c v column row a (suc n) at across down = grind (arith, nat_tests)
+same_mb c v column row a n at across down = grind (arith, nat_tests, row_back)
 
 -- ---- settings
 
@@ -65,12 +59,12 @@ module _ (c : Coded) (motion : List (List Motion)) (k : ℕ) where
 -- ---- edges whose lines have equal settings, and edges of strength 0: equal settings
 
 lines_same : (f g : ℕ → Setting) (v : Bool) (x y a m : ℕ) (s : Plane) → ((i : ℕ) → i < a + m → f i ≡ g i) → lines_filtered f v x y (range_with_len a m) s ≡ lines_filtered g v x y (range_with_len a m) s
-lines_same f g true x y a zero s same = refl
-lines_same f g false x y a zero s same = refl
-lines_same f g true x y a (suc m) s same =
-    grind (arith, lines_same f g true x y (a + 1) m (line_filtered (g a) true x (y + a) s) (λ i low. same i (omega arith)))
-lines_same f g false x y a (suc m) s same =
-    grind (arith, lines_same f g false x y (a + 1) m (line_filtered (g a) false (x + a) y s) (λ i low. same i (omega arith)))
+lines_same f g v x y a zero s same = search rules
+lines_same f g v x y a (suc m) s same = search (
+  arith,
+  λ (s : Plane) (x y : ℕ). lines_same f g v x y (a + 1) m s (λ i low. same i (omega arith)),
+  same a (omega arith),
+)
 
 pub edge_same : (f g : ℕ → Setting) (v : Bool) (x y n : ℕ) (s : Plane) → ((i : ℕ) → i < n → f i ≡ g i) → edge_filtered f v x y n s ≡ edge_filtered g v x y n s
 unfolding edge_filtered
@@ -290,15 +284,13 @@ component_in_order c motion a k s =
     let n = 16 / luma_per_sample k in
     let left = n * (a % c.width) in
     let top = n * (a / c.width) in
-    let vs = flat_map (λ e. if filters_vertical c a e then vertical_lines k left top n e else []) (edges_below n) in
-    let hs = flat_map (λ e. if filters_horizontal c a e then horizontal_lines k left top n e else []) (edges_below n) in
-    let v = edges_filtered (filters_vertical c a) (component_edge c motion k true a) (edges_below n) in
-    let h = edges_filtered (filters_horizontal c a) (component_edge c motion k false a) (edges_below n) in
-    all_filtered-append c motion s vs hs
-    ∙ ap (λ (t : Planes). all_filtered c motion t hs)
-    (edges_in_order c motion k (filters_vertical c a) (component_edge c motion k true a) (vertical_lines k left top n) (λ e t. lines_in_order c motion k (left + e) top true (range_with_len 0 n) t) (edges_below n) s)
-    ∙ edges_in_order c motion k (filters_horizontal c a) (component_edge c motion k false a) (horizontal_lines k left top n) (λ e t. lines_in_order c motion k left (top + e) false (range_with_len 0 n) t) (edges_below n) (in_component k v s)
-    ∙ twice k h v s
+    simp (
+      all_filtered-append,
+      edges_in_order c motion k (filters_vertical c a) (component_edge c motion k true a) (vertical_lines k left top n)
+          (λ e t. lines_in_order c motion k (left + e) top true (range_with_len 0 n) t),
+      edges_in_order c motion k (filters_horizontal c a) (component_edge c motion k false a) (horizontal_lines k left top n)
+          (λ e t. lines_in_order c motion k left (top + e) false (range_with_len 0 n) t),
+    ) (twice k _ _ s)
 
 -- whether an edge is filtered, from whether the outer one is and whether the inner ones are
 abbrev filters_by : Bool → Bool → ℕ → Bool
@@ -314,14 +306,7 @@ module _ (c : Coded) (motion : List (List Motion)) (a : ℕ) where
   same_planes : (outer_v outer_h inner : Bool) (s : Planes) →
       record { luma = by_edges outer_v outer_h inner 0 s.luma; cb = by_edges outer_v outer_h inner 1 s.cb; cr = by_edges outer_v outer_h inner 2 s.cr }
       ≡ planes_edges c motion false outer_h inner a (planes_edges c motion true outer_v inner a s)
-  same_planes true true true s = refl
-  same_planes true true false s = refl
-  same_planes true false true s = refl
-  same_planes true false false s = refl
-  same_planes false true true s = refl
-  same_planes false true false s = refl
-  same_planes false false true s = refl
-  same_planes false false false s = refl
+  same_planes v h i s = search rules
 
   pub mb_in_order : (s : Planes) → all_filtered c motion s (flat_map (component_lines c a) (0 ∷ 1 ∷ 2 ∷ [])) ≡ planes_mb c motion a s
   mb_in_order s =
@@ -352,11 +337,7 @@ between_is c motion names a b f g hf hg =
 
 pub left_is : (c : Coded) (motion : List (List Motion)) (names : Names) (column row a : ℕ) (f g : MbInfo) → IsAt c column row a → HasInfo c motion names a f →
     (1 ≤ column → HasInfo c motion names (a - 1) g) → (nat_lt 0 column && filters_between f g) ≡ filters_vertical c a 0
-left_is c motion names zero row a f g at hf hg = rw (column_is c 0 row a at) refl
-left_is c motion names (suc column) row a f g at hf hg =
-    let some : (suc column == 0) ≡ false = grind (arith, nat_tests) in
-    let more : nat_lt 0 (suc column) ≡ true = grind (arith, nat_tests) in
-    rw (column_is c (suc column) row a at, some, more) (between_is c motion names a (a - 1) f g hf (hg (omega arith)))
+left_is c motion names column row a f g at hf hg = grind (arith, nat_tests, nat_lt, between_is, column_is)
 
 pub above_is : (c : Coded) (motion : List (List Motion)) (names : Names) (column row a : ℕ) (f g : MbInfo) → IsAt c column row a → HasInfo c motion names a f →
     (1 ≤ row → HasInfo c motion names (a - c.width) g) → (nat_lt 0 row && filters_between f g) ≡ filters_horizontal c a 0
@@ -383,10 +364,14 @@ pub one_more : (c : Coded) (motion : List (List Motion)) (first n m : ℕ) (s t 
     u ≡ planes_mb c motion (first + n) t → u ≡ all_filtered c motion s (flat_map (mb_lines c) (range_with_len first m))
 one_more c motion first n m s t u next before here =
     let suc_is : m ≡ suc n = omega arith in
-    let lines = mb_lines c (first + n) in
-    here ∙ sym (mb_in_order c motion (first + n) t) ∙ ap (λ p. all_filtered c motion p lines) before
-    ∙ sym (all_filtered-append c motion s (flat_map (mb_lines c) (range_with_len first n)) lines)
-    ∙ ap (all_filtered c motion s) (sym (ap (λ k. flat_map (mb_lines c) (range_with_len first k)) suc_is ∙ flat_more (mb_lines c) first n))
+    rw (
+      here,
+      suc_is,
+      flat_more (mb_lines c) first n,
+      all_filtered-append c motion s (flat_map (mb_lines c) (range_with_len first n)) (mb_lines c (first + n)),
+      ← before,
+    )
+    (sym (mb_in_order c motion (first + n) t))
 
 pub shifted : (c : Coded) (motion : List (List Motion)) (names : Names) (a b : ℕ) (f : MbInfo) → a ≡ b → HasInfo c motion names a f → HasInfo c motion names b f
 shifted c motion names a b f e h = subst (λ (n : ℕ). HasInfo c motion names n f) e h
@@ -421,35 +406,21 @@ module _ (column row n : ℕ) (f g : ℕ → ℕ) (qp : EdgeQp) (s t : Plane) wh
   pub luma_lines : 1 ≤ 4 * column + n → ((k : ℕ) → k < 4 → f k ≡ g k) →
       t ≡ edge_filtered (luma_setting f qp) true (16 * column + 4 * n - 4 + 4) (16 * row) 16 s →
       t ≡ edge_filtered (luma_setting g qp) true (16 * column + 4 * n) (16 * row) 16 s
-  luma_lines some same is =
-      is ∙ ap (λ x. edge_filtered (luma_setting f qp) true x (16 * row) 16 s) (let e : 16 * column + 4 * n - 4 + 4 ≡ 16 * column + 4 * n = omega arith in e)
-      ∙ luma_same column row n f g qp same true s
+  luma_lines some same is = grind (arith, nat_tests, edge_same)
 
 -- the left edge of chroma and the one in the middle
 pub both_chroma : (column row : ℕ) (f f' g g' : ℕ → ℕ) (qp next : EdgeQp) (s t : Plane) → 1 ≤ column →
     ((k : ℕ) → k < 4 → f k ≡ f' k) → ((k : ℕ) → k < 4 → g k ≡ g' k) →
     t ≡ edge_filtered (chroma_setting g next) true (8 * column - 4 + 8) (8 * row) 8 (edge_filtered (chroma_setting f qp) true (8 * column - 4 + 4) (8 * row) 8 s) →
     t ≡ chroma_of_edge true column row 2 g' next (chroma_of_edge true column row 0 f' qp s)
-both_chroma column row f f' g g' qp next s t some first second is =
-    let left_is : 8 * column - 4 + 4 ≡ 8 * column + 2 * 0 = omega arith in
-    let right_is : 8 * column - 4 + 8 ≡ 8 * column + 2 * 2 = omega arith in
-    let outer : edge_filtered (chroma_setting f qp) true (8 * column - 4 + 4) (8 * row) 8 s ≡ chroma_of_edge true column row 0 f' qp s =
-    ap (λ x. edge_filtered (chroma_setting f qp) true x (8 * row) 8 s) left_is ∙ chroma_same column row 0 f f' qp first true s in
-    is
-    ∙ ap (edge_filtered (chroma_setting g next) true (8 * column - 4 + 8) (8 * row) 8) outer
-    ∙ ap (λ x. edge_filtered (chroma_setting g next) true x (8 * row) 8 (chroma_of_edge true column row 0 f' qp s)) right_is
-    ∙ chroma_same column row 2 g g' next second true (chroma_of_edge true column row 0 f' qp s)
+both_chroma column row f f' g g' qp next s t some first second is = grind (arith, nat_tests, edge_same)
 
 pub edges_room : (column row : ℕ) (offset : ℤ) (p q : MbInfo) (s t : Planes) →
     t ≡ edges_by_info true column row offset false true q q (edges_by_info true column row offset true false p q s) → (a b : ℕ) → HasRoom a b s → HasRoom a b t
 edges_room column row offset p q s t is a b h =
     let kept : (n : ℕ) (m : MbInfo) (r : Planes) → HasRoom a b r → HasRoom a b (edge_by_info true column row n offset m q r) =
-    λ n m r.
-    room_kept true column row n (strength_of m q true n) (luma_qp_of m q) (chroma_qp_of offset m q) r (edge_by_info true column row n offset m q r) refl a b in
-    let s0 = edge_by_info true column row 0 offset p q s in
-    let s1 = edge_by_info true column row 1 offset q q s0 in
-    let s2 = edge_by_info true column row 2 offset q q s1 in
-    subst (HasRoom a b) (sym is) (kept 3 q s2 (kept 2 q s1 (kept 1 q s0 (kept 0 p s h))))
+    λ n m r. room_kept true column row n (strength_of m q true n) (luma_qp_of m q) (chroma_qp_of offset m q) r _ refl a b in
+    rw is (kept 3 q _ (kept 2 q _ (kept 1 q _ (kept 0 p s h))))
 
 -- ---- the strength of info is that of the picture
 
@@ -470,12 +441,10 @@ pub intra_between : (c : Coded) (motion : List (List Motion)) (names : Names) (p
 intra_between c motion names pa qa p kp q kq hp hq either = grind (arith, nat_tests)
 
 pub both_false : (a b : Bool) → (a || b) ≡ false → (a ≡ false) × (b ≡ false)
-both_false true b e = absurd (cc)
-both_false false b e = (refl, e)
+both_false a b e = grind (arith, nat_tests)
 
 pub low_block : (v : Bool) (n k : ℕ) → n < 4 → k < 4 → edge_block v n k < 16
-low_block true n k n_low k_low = omega arith
-low_block false n k n_low k_low = omega arith
+low_block v n k n_low k_low = grind (arith, nat_tests)
 
 -- ---- where all blocks of a macroblock have one motion and none has coefficients, all strengths inside it are 0
 
@@ -500,16 +469,13 @@ module _ (column row : ℕ) (offset : ℤ) (f : MbInfo) (inter : f.is_intra ≡ 
   still_edge n low s = grind (arith, edge_zero, low_block)
 
   still_edges : (inner : Bool) (s : Planes) → edges_by_info v column row offset false inner f f s ≡ s
-  still_edges false s = refl
-  still_edges true s = grind (arith, still_edge)
+  still_edges inner s = grind (arith, still_edge)
 
 -- Edges inside a macroblock that is still can go.
 pub without_still : (column row : ℕ) (offset : ℤ) (f : MbInfo) (still : Bool) → (still ≡ true → f.is_intra ≡ false) →
     (still ≡ true → (j k : ℕ) → j < 16 → k < 16 → inter_strength f j f k ≡ 0) → (v inner : Bool) (s : Planes) →
     edges_by_info v column row offset false (inner && not still) f f s ≡ edges_by_info v column row offset false inner f f s
-without_still column row offset f true inter none v inner s = grind (arith, still_edges)
-without_still column row offset f false inter none v true s = refl
-without_still column row offset f false inter none v false s = refl
+without_still column row offset f still inter none v inner s = grind (arith, nat_tests, still_edges)
 
 -- ---- a macroblock
 
@@ -523,10 +489,7 @@ over v false i column row e p q s = refl
 outer_kept : (v : Bool) (column row : ℕ) (e : ℤ) (p q : MbInfo) (acts joins : Bool) → (acts ≡ true → joins ≡ true) →
     (acts ≡ false → joins ≡ true → (k : ℕ) → k < 4 → strength_of p q v 0 k ≡ 0) → (s : Planes) →
     edges_by_info v column row e acts false p q s ≡ edges_by_info v column row e joins false p q s
-outer_kept v column row e p q true true on off s = refl
-outer_kept v column row e p q true false on off s = let never : false ≡ true = on refl in absurd (cc)
-outer_kept v column row e p q false false on off s = refl
-outer_kept v column row e p q false true on off s = grind (arith, edge_zero)
+outer_kept v column row e p q acts joins on off s = grind (arith, nat_tests, edge_zero)
 
 module _ (column row : ℕ) (e : ℤ) (left above mb : MbInfo) (still i l u : Bool)
     (inter : still ≡ true → mb.is_intra ≡ false) (none : still ≡ true → (j k : ℕ) → j < 16 → k < 16 → inter_strength mb j mb k ≡ 0)
@@ -537,18 +500,12 @@ module _ (column row : ℕ) (e : ℤ) (left above mb : MbInfo) (still i l u : Bo
   pub mb_kept : edges_by_info false column row e false i mb mb (edges_by_info false column row e u false above mb (edges_by_info true column row e false i mb mb (edges_by_info true column row e l false left mb s)))
       ≡ mb_by_info e column row left above mb s
   mb_kept =
-      let inside : Bool = filters_between mb mb in
-      let joins_left : Bool = nat_lt 0 column && filters_between mb left in
-      let joins_top : Bool = nat_lt 0 row && filters_between mb above in
-      let inner : Bool → Bool → Planes → Planes = λ (v : Bool) (o : Bool) (t : Planes). edges_by_info v column row e false o mb mb t in
-      let at_left : Bool → Planes = λ (o : Bool). edges_by_info true column row e o false left mb s in
-      let at_top : Bool → Planes → Planes = λ (o : Bool) (t : Planes). edges_by_info false column row e o false above mb t in
-      ap (λ (b : Bool). inner false b (at_top u (inner true b (at_left l)))) inner_is
-      ∙ without_still column row e mb still inter none false inside (at_top u (inner true (inside && not still) (at_left l)))
-      ∙ ap (λ (t : Planes). inner false inside (at_top u t)) (without_still column row e mb still inter none true inside (at_left l))
-      ∙ ap (inner false inside)
-      (outer_kept false column row e above mb u joins_top top_on top_off (inner true inside (at_left l)))
-      ∙ ap (λ (t : Planes). inner false inside (at_top joins_top (inner true inside t)))
-      (outer_kept true column row e left mb l joins_left left_on left_off s)
-      ∙ over false joins_top inside column row e above mb (inner true inside (at_left joins_left))
-      ∙ ap (edges_by_info false column row e joins_top inside above mb) (over true joins_left inside column row e left mb s)
+      rw (
+        inner_is,
+        without_still column row e mb still inter none false,
+        without_still column row e mb still inter none true,
+        outer_kept false column row e above mb u (nat_lt 0 row && filters_between mb above) top_on top_off,
+        outer_kept true column row e left mb l (nat_lt 0 column && filters_between mb left) left_on left_off s,
+        over false,
+        over true,
+      ) refl

@@ -66,7 +66,8 @@ needless_leave {slots} {frames} {references} {b} {next} {frame_of} slots' frames
 
 find_by : (frames : List Stored) (k : ℕ) (o : Option Stored) (p : Option (ℕ × ℤ)) → Agree frames 0 o p → Some k ≡ option_map (λ (p : ℕ × ℤ). p.0) p
     → (s : Stored) × (o ≡ Some s) × (slice_get frames k ≡ Some s)
-find_by frames k o p s e = grind (arith, none-some, same_Some)
+find_by frames k None p a e = grind (arith, none-some)
+find_by frames k (Some s) p a e = (s, refl, grind (arith, none-some, same_Some))
 
 find_none : (frames : List Stored) (o : Option Stored) (p : Option (ℕ × ℤ)) → Agree frames 0 o p → None ≡ option_map (λ (p : ℕ × ℤ). p.0) p → o ≡ None
 find_none frames o p a e = grind (arith, none-some)
@@ -236,14 +237,10 @@ shows_while bumping needed_for_output turn slots0 slots frames0 frames out0 out 
     let more = grows_while (goes_on_in bumping references) references (needed_for_output - (turn + 1)) after in
     let all : after_bumping_while (goes_on_in bumping references) references (needed_for_output - (turn + 1)) after ≡ after_making_room (goes_on_in bumping references) references b =
     goes_more bumping references needed_for_output turn slots f.now low goes f.become.stand.slots_are ∙ f.left ∙ all_are bumping references needed_for_output slots0 b count h.slots_are in
-    let shown : List ℕ → List Picture = filter_map (λ e. shown_frame (frame_of e)) in
     record {
       since = f.become.since ++ (first.since ++ more.0);
-      grows = ap (λ c. c.out) (sym all) ∙ more.1 ∙ ap (λ l. l ++ more.0) (first.grows ∙ ap (λ l. l ++ first.since) f.become.grows)
-          ∙ append_assoc (b.out ++ f.become.since) first.since more.0 ∙ append_assoc b.out f.become.since (first.since ++ more.0);
-      some = λ nil. first.some (nil_middle (shown f.become.since) (shown first.since) (shown more.0)
-          (sym (filter_map-append (λ e. shown_frame (frame_of e)) f.become.since (first.since ++ more.0)
-          ∙ ap (λ l. shown f.become.since ++ l) (filter_map-append (λ e. shown_frame (frame_of e)) first.since more.0)) ∙ nil));
+      grows = grind (arith, all, more.1, first.grows, f.become.grows, append_assoc);
+      some = grind (arith, first.some, filter_map-append, nil_middle);
     }
 
 -- ---- the arriving frame finds its place
@@ -292,13 +289,9 @@ stored c new a frame slots1 slots2 slots3 slots4 frames1 frames2 frames3 frames4
 abbrev stands_in : List ℕ → ℕ → Bool
 stands_in es e = list_any (λ r. r == e) es
 
-filtered_one : (p : ℕ → Bool) (e x : ℕ) (kept es : List ℕ) → stands_in kept e ≡ (p e && stands_in es e)
-    → stands_in (cond (p x) (x ∷ kept) kept) e ≡ (p e && stands_in (x ∷ es) e)
-filtered_one p e x kept es more = grind (arith, nat_tests)
-
 among_filtered : (p : ℕ → Bool) (e : ℕ) (es : List ℕ) → stands_in (filter p es) e ≡ (p e && stands_in es e)
 among_filtered p e [] = grind arith
-among_filtered p e (x ∷ es) = filtered_one p e x (filter p es) es (among_filtered p e es)
+among_filtered p e (x ∷ es) = grind (arith, nat_tests, (among_filtered p e es))
 
 stands_filtered : (p : ℕ → Bool) (e : ℕ) (es : List ℕ) → stands_in es e ≡ true → stands_in (filter p es) e ≡ p e
 stands_filtered p e es h = grind (arith, among_filtered p e es)
@@ -307,8 +300,7 @@ each_among : (es : List ℕ) (frames : List Stored) → ((e : ℕ) → stands_in
     → Each (λ e. stands_in es e ≡ true) frames
 each_among es [] up = tt
 each_among es (s ∷ frames) up =
-    let later = each_among es frames (λ e h. up e (or_right (s.entry == e) (stands_in (map (λ s. s.entry) frames) e) h)) in
-    grind (arith, or_left, eq-eqb, later)
+    grind (arith, or_left, or_right, eq-eqb, (each_among es frames (λ e h. up e (or_right (s.entry == e) (stands_in (map (λ s. s.entry) frames) e) h))))
 
 -- the reference frames that the marks tell of
 record HasReferences (c : Contents) (b : Buffer) (next : ℕ) (frame_of : ℕ → Frame 32) : Type 0 where

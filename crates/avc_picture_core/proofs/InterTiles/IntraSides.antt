@@ -107,12 +107,8 @@ abbrev pub AgreeBeside : (size : ℕ) → Sides → (p q : Around) → Type 0
 AgreeBeside size s p q = (x y : ℤ) → is_beside size s x y ≡ true → p x y ≡ q x y
 
 module _ (size : ℕ) (s : Sides) (p q : Around) (agree : AgreeBeside size s p q) where
-  by_side : (b : Bool) (u v : ℕ) → (b ≡ true → u ≡ v) → (if b then u else 0) ≡ (if b then v else 0)
-  by_side true u v same = same refl
-  by_side false u v same = refl
-
   same_beside : beside size s p ≡ beside size s q
-  same_beside = fun_ext (λ x. fun_ext (λ y. by_side (is_beside size s x y) (p x y) (q x y) (agree x y)))
+  same_beside = fun_ext (λ x. fun_ext (λ y. grind (arith, nat_tests, agree x y)))
 
 if_can : (can : Bool) (u v : ℕ) → (can ≡ true → u ≡ v) → (if can then Some u else None) ≡ (if can then Some v else None)
 if_can true u v same = ap (λ n. Some n) (same refl)
@@ -141,7 +137,7 @@ agree16x16 s p q agree mode x y low high =
 
 pub agree_chroma : (s : Sides) (p q : Around) → AgreeBeside 8 s p q → (mode : ModeChroma) (x y : ℕ) → x < 8 → y < 8
     → intra_chroma s p mode x y ≡ intra_chroma s q mode x y
-agree_chroma s p q agree mode x y low high = grind (arith, nat_tests, if_can, all_chroma, same_beside)
+agree_chroma s p q agree mode x y low high = grind (arith, nat_tests, all_chroma, same_beside)
 
 -- ---- what an intra prediction reads lies at most one row above its block
 
@@ -175,10 +171,7 @@ chroma_from p m k s x y =
 
 module _ (n : ℕ) (s t : Plane) (agree : AgreeFrom n s t) (p : Place) where
   agree_beside : (size left top : ℕ) (sides : Sides) → n < top → AgreeBeside size sides (seen_from t left top) (seen_from s left top)
-  agree_beside size left top sides below =
-      on_each_side size sides (λ u v. seen_from t left top u v ≡ seen_from s left top u v)
-      (λ x low there. agree _ _ (omega (arith, ints))) (λ x from low there. agree _ _ (omega (arith, ints))) (λ y low there. agree _ _ (omega (arith, ints)))
-      (λ there. agree _ _ (omega (arith, ints)))
+  agree_beside size left top sides below = grind (arith, on_each_side)
 
   pub block_same : n < top_of_mb p 0 → (k x y : ℕ) → x < 4 → y < 4 → block_from p k t x y ≡ block_from p k s x y
   block_same below k x y h v = grind (arith, agree4x4, agree_beside)
@@ -231,28 +224,11 @@ module _ {PAD : ℕ} (canvas : CanvasState) (address qp_of_chroma : ℕ) (mb : M
     (references : List (Option (ReferencePicture PAD))) (p : Place) (on : IsPlaceOn canvas address mb info n references p) where
   -- what its blocks may read
   place_reads : is_intra mb.syntax ≡ true → r ≡ readable_near canvas.constrained_intra_pred n → MayRead (address % canvas.width) (address / canvas.width) (16 * canvas.width) r p
-  place_reads intra near =
-      let sides : (k : ℕ) → k < 16 → sides_of p.coded p.address k ≡ readable_sides r k =
-      λ k low. rw near (on.sides intra k low ∙ near_readable canvas.constrained_intra_pred n k) in
-      record { sides = sides; inside = λ k low. rw (← sides k low, ← on.width, ← on.address_is) (sides_inside p.coded p.address k) }
+  place_reads intra near = grind (arith, near_readable, sides_inside)
 
   place_in : qp_of_chroma ≡ chroma_qp canvas.chroma_qp_index_offset mb.qp → (is_intra mb.syntax ≡ true → r ≡ readable_near canvas.constrained_intra_pred n)
       → IsPlaceIn (address % canvas.width) (address / canvas.width) canvas.width canvas.height mb.syntax mb.qp qp_of_chroma info r references p
-  place_in chroma near = record {
-    at = record {
-      column_is = ap (λ a. a % p.coded.width) on.address_is ∙ ap (λ w. address % w) on.width;
-      row_is = ap (λ a. a / p.coded.width) on.address_is ∙ ap (λ w. address / w) on.width;
-      syntax_is = ap (λ m. m.syntax) on.mb_is;
-      qp_is = ap (λ m. m.qp) on.mb_is;
-      chroma_is = ap (λ o. chroma_qp o p.mb.qp) on.offset ∙ ap (λ m. chroma_qp canvas.chroma_qp_index_offset m.qp) on.mb_is ∙ sym chroma;
-    };
-    may_read = λ intra. place_reads intra (near intra);
-    width_is = on.width;
-    height_is = on.height;
-    modes_are = on.modes;
-    motion_is = on.motion;
-    references_are = on.references_are;
-  }
+  place_in chroma near = grind (arith, place_reads)
 
   -- the planes of a canvas that is else as it was
   pub canvas_built : qp_of_chroma ≡ chroma_qp canvas.chroma_qp_index_offset mb.qp → (is_intra mb.syntax ≡ true → r ≡ readable_near canvas.constrained_intra_pred n)

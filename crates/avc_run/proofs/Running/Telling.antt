@@ -18,10 +18,7 @@ pub told_next : {A : Type 0} (line : A → List ℕ) (old new : List ℕ) (d : A
 told_next line old new d items i low so_far more = rw (more, so_far, take_more items i d low) (sym (told_more line (take i items) (get_or items i d)))
 
 pub kept_front : (a b c : Option (List ℕ)) (bytes : List ℕ) → Keeps a b → Appends b c bytes → Appends a c bytes
-kept_front None b c bytes kept more = tt
-kept_front (Some xs) None c bytes kept more = absurd kept
-kept_front (Some xs) (Some ys) None bytes kept more = absurd more
-kept_front (Some xs) (Some ys) (Some zs) bytes kept more = more ∙ ap (λ l. l ++ bytes) kept
+kept_front a b c bytes kept more = grind arith
 
 -- ---- what is told of a run
 
@@ -30,8 +27,7 @@ as_it_is run = grind arith
 
 -- no memory was found for the lines of its refusals
 pub as_memory : (run : Result Report RunFault) (fault : RunFault) → fault ≡ Memory → is_ok run ≡ true → IsToldAs run (Err fault)
-as_memory (Ok report) fault is ok = is
-as_memory (Err f) fault is ok = cc
+as_memory run fault is ok = grind arith
 
 -- after nothing was told
 pub told_after : (a b c : Option (List ℕ)) (text : List ℕ) (told : Bool) → Keeps a b → Tells b c text told → Tells a c text told
@@ -80,7 +76,9 @@ pub untold_piece : (number : ℕ) (found : Bool) (unread left held holds : Optio
 untold_piece number found unread left held holds run none =
     (run.0, run.1, run.3, none_of_it run.2 held holds (piece_text number run.0 run.1) (sym run.6 ∙ none) run.5)
 
--- ---- events that are taken one after another: lists of events
+-- ---- events that are taken one after another
+
+-- ---- lists of events
 
 pub written-append : (f : Format) (n : ℕ) (a b : List Event) → written_from f n (a ++ b) ≡ written_from f n a ++ written_from f (pictures_after n a) b
 written-append f n [] b = refl
@@ -200,21 +198,10 @@ pub breaks_later : (f : Format) (n : ℕ) (fault : RunFault) (w0 w w' : Option (
 breaks_later f n Read w0 w w' a b c all some = some
 breaks_later f n Endless w0 w w' a b c all some = some
 breaks_later f n Write w0 w w' a b c all some =
-    let is = written_three f n a b c in
     let m = pictures_after n a in
-    let x = written_from f n a in
     let y = written_from f m b in
     let z = written_from f (pictures_after m b) c in
-    let count = length x + some.count in
-    let long = ap (λ bs. length bs) is ∙ length-append x (y ++ z) ∙ ap (λ n. length x + n) (length-append y z) in
-    let within : some.count ≤ length y = omega (arith, some.fewer) in
-    record {
-      count = count;
-      fewer = omega (arith, long, some.fewer);
-      written =
-          subst (Appends w0 w') (sym (ap (λ bs. take count bs) is ∙ take_behind x y z some.count within))
-          (Appends-trans w0 w w' x (take some.count y) all some.written);
-    }
+    subst (WritesFirst w0 w') (sym (written_three f n a b c)) (stopped_after w0 w w' (written_from f n a) (y ++ z) all (stopped_before w w' y z some))
 breaks_later f n Memory w0 w w' a b c all some = record {
   count = length a + some.count;
   within = omega (arith, length-append a (b ++ c), length-append b c, some.within);
@@ -275,14 +262,10 @@ none_handled f n w events = record { count = 0; within = omega arith; written = 
 
 -- ---- faults that are passed on
 
--- an error that is want of memory
-pub by_memory : {A : Type 0} (r : Result A RunFault) (Q : RunFault → Type 0) → IsErrAnd r (λ fault. fault ≡ Memory) → Q Memory → IfErr r Q
-by_memory (Ok a) Q is q = absurd is
-by_memory (Err fault) Q is q = subst Q (sym is) q
-
 -- an error that is this one
-pub by_fault : {A : Type 0} (r : Result A RunFault) (f : RunFault) (Q : RunFault → Type 0) → r ≡ Err f → Q f → IfErr r Q
-by_fault r f Q is q = subst (λ r. IfErr r Q) (sym is) q
+pub by_fault : {A : Type 0} (r : Result A RunFault) (f : RunFault) (Q : RunFault → Type 0) → IsErrAnd r (λ e. e ≡ f) → Q f → IfErr r Q
+by_fault (Ok a) f Q is q = absurd is
+by_fault (Err fault) f Q is q = subst Q (sym is) q
 
 -- ---- as the loop says it
 
@@ -429,34 +412,21 @@ written_plain n (Picture p ∷ es) = ap (λ bs. i420 p ++ bs) (written_plain (sa
 written_plain n (Refused unit f ∷ es) = written_plain n es
 
 -- all bytes were read
-whole : (all : Bool) → (all ≡ false → false ≡ true) → all ≡ true
+pub whole : (all : Bool) → (all ≡ false → false ≡ true) → all ≡ true
 whole all other = grind arith
-
-abbrev OfWhole : Output → (unread left held holds : Option (List ℕ)) → Report → (bytes : List ℕ) → Bool → Type 0
-OfWhole output unread left held holds report bytes all =
-    HasRead unread left bytes all × Appends held holds (shown (events output max_unit bytes all)) × (report ≡ report_of (events output max_unit bytes all))
 
 pub plainly : (output : Output) (unread left held holds : Option (List ℕ)) (result : Result Report RunFault) → DecodesAs plain output unread left held holds result
     → Decodes output unread left held holds result
-plainly output unread left held holds (Ok report) (bytes, all, read, wrote, told, wanted) =
-    let all_read : OfWhole output unread left held holds report bytes true =
-    subst (OfWhole output unread left held holds report bytes) (whole all wanted)
-    (read, subst (Appends held holds) (written_plain 0 (events output max_unit bytes all)) wrote, told) in
-    (bytes, all_read.0, all_read.1, all_read.2)
+plainly output unread left held holds (Ok report) (bytes, true, read, wrote, told, wanted) =
+    (bytes, read, subst (Appends held holds) (written_plain 0 (events output max_unit bytes true)) wrote, told)
+plainly output unread left held holds (Ok report) (bytes, false, read, wrote, told, wanted) = cc (wanted refl)
 plainly output unread left held holds (Err Read) (bytes, read, wrote) =
     (bytes, read, subst (Appends held holds) (written_plain 0 (events output max_unit bytes false)) wrote)
 plainly output unread left held holds (Err Endless) (bytes, read, wrote, many) =
     (bytes, read, subst (Appends held holds) (written_plain 0 (events output max_unit bytes false)) wrote, many)
 plainly output unread left held holds (Err Write) (bytes, all, read, some) =
     (bytes, all, read, subst (WritesFirst held holds) (written_plain 0 (events output max_unit bytes all)) some)
-plainly output unread left held holds (Err Memory) (bytes, all, read, some) = (
-  bytes,
-  all,
-  read,
-  record {
-    count = some.count;
-    within = some.within;
-    written = subst (Appends held holds) (written_plain 0 (take some.count (events output max_unit bytes all))) some.written;
-  },
-)
+plainly output unread left held holds (Err Memory) (bytes, all, read, some) =
+    let is = written_plain 0 (take some.count (events output max_unit bytes all)) in
+    (bytes, all, read, record { count = some.count; within = some.within; written = subst (Appends held holds) is some.written })
 plainly output unread left held holds (Err Size) (bytes, all, read, some) = let another : true ≡ false = some.another in cc

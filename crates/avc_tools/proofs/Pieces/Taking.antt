@@ -78,9 +78,7 @@ pub leading_none : (before : List Unit) (u : Unit) → is_slice u ≡ true → l
 leading_none before u e = ap (λ us. flat_map written (filter leads us)) (after_slice before u e)
 
 pub leading_more : (before : List Unit) (u : Unit) (old new : List ℕ) → is_slice u ≡ false → new ≡ old ++ (if leads u then written u else []) → old ≡ leading before → new ≡ leading (before ++ u ∷ [])
-leading_more before u old new e is h =
-    is ∙ ap (λ t. t ++ (if leads u then written u else [])) h ∙ sym (filtered_more leads (after_slices before) u)
-    ∙ ap (λ us. flat_map written (filter leads us)) (sym (after_other before u e))
+leading_more before u old new e is h = rw (is, h, after_other before u e) (sym (filtered_more leads (after_slices before) u))
 
 -- ---- while the piece has not begun
 
@@ -113,17 +111,17 @@ waits_on _ u b old new piece h is e passed phase sps pps held = cc
 pub made_first : (before : List Unit) (u : Unit) (c : Cutter) (p0 p1 p2 p3 p4 : List ℕ) → StandsAt (waiting 0 before) c → p1 ≡ p0 ++ flat_map kept_bytes c.sets.sps.items → p2 ≡ p1 ++ flat_map kept_bytes c.sets.pps.items
     → p3 ≡ p2 ++ c.held.items → p4 ≡ p3 ++ written u → p4 ≡ p0 ++ made before u []
 made_first before u c p0 p1 p2 p3 p4 h e1 e2 e3 e4 =
-    let sps = flat_map kept_bytes c.sets.sps.items in
-    let pps = flat_map kept_bytes c.sets.pps.items in
-    let front = sets_in_force before in
-    let two : p2 ≡ p0 ++ flat_map written front =
-    e2 ∙ ap (λ t. t ++ pps) e1 ∙ append_assoc p0 sps pps ∙ ap (λ t. p0 ++ t) (sets_written before c.sets h.holds.sets) in
-    let three : p3 ≡ p0 ++ flat_map written (front ++ filter leads (after_slices before)) =
-    e3 ∙ ap (λ t. t ++ c.held.items) two ∙ append_assoc p0 (flat_map written front) c.held.items
-    ∙ ap (λ t. p0 ++ (flat_map written front ++ t)) h.holds.held ∙ ap (λ t. p0 ++ t) (sym (flat_map-append written front (filter leads (after_slices before)))) in
-    e4 ∙ ap (λ t. t ++ written u) three ∙ append_assoc p0 (flat_map written (front ++ filter leads (after_slices before))) (written u)
-    ∙ ap (λ t. p0 ++ (flat_map written (front ++ filter leads (after_slices before)) ++ t)) (sym (append-nil (written u)))
-    ∙ ap (λ t. p0 ++ t) (sym (flat_map-append written (front ++ filter leads (after_slices before)) (u ∷ [])))
+    rw (
+      e4,
+      e3,
+      e2,
+      e1,
+      append_assoc p0,
+      sets_written before c.sets h.holds.sets,
+      h.holds.held,
+      flat_map-append written (sets_in_force before ++ filter leads (after_slices before)),
+      flat_map-append written (sets_in_force before),
+    ) (rw (append-nil (written u)) (simp append_assoc))
 
 pub begins : (s : Stage) (u : Unit) (old new : Cutter) (piece more : List ℕ) → StandsAt s old → old.phase ≡ phases.Waiting → old.left ≡ 0 → is_start u ≡ true → new.phase ≡ phases.Writing → new.held.items ≡ []
     → new.staying.items ≡ [] → ((before : List Unit) → StandsAt (waiting 0 before) old → more ≡ piece ++ made before u []) → IsCutOn s (next s u) new piece more
@@ -160,19 +158,10 @@ pub goes_on_by_slice : (s : Stage) (u : Unit) (old new : Cutter) (piece one more
 goes_on_by_slice (writing before c after) u old new piece one more h is e slice phase held stay first second =
     let none = after_slice after u slice in
     subst (λ b. IsCutOn (writing before c after) (after_it b before c after u) new piece more) (sym e) (record {
-      stands = record {
-        phase = phase;
-        holds = record {
-          all = held ∙ ap (flat_map written) (sym none);
-          stay = stay ∙ ap (λ us. flat_map written (filter (λ v. not (is_left_out v)) us)) (sym none);
-        };
-      };
+      stands = record { phase = phase; holds = record { all = rw (held, none) refl; stay = rw (stay, none) refl } };
       added = flat_map written (after_slices after) ++ flat_map written (u ∷ []);
       defined = added_by_slice before c after u slice;
-      written_on =
-          second ∙ ap (λ t. t ++ written u) first ∙ append_assoc piece old.held.items (written u)
-          ∙ ap (λ t. piece ++ (t ++ written u)) h.holds.all
-          ∙ ap (λ t. piece ++ (flat_map written (after_slices after) ++ t)) (sym (append-nil (written u)));
+      written_on = rw (second, first, h.holds.all) (simp (append_assoc, append-nil));
     })
 goes_on_by_slice _ u old new piece one more h is e slice phase held stay first second = cc
 
@@ -184,15 +173,8 @@ piece_goes_on (writing before c after) u old new piece h is e slice phase held s
       stands = record {
         phase = phase;
         holds = record {
-          all =
-              held ∙ ap (λ t. t ++ written u) h.holds.all
-              ∙ ap (λ t. flat_map written (after_slices after) ++ t) (sym (append-nil (written u)))
-              ∙ sym (flat_map-append written (after_slices after) (u ∷ []))
-              ∙ ap (flat_map written) (sym more);
-          stay =
-              stay ∙ ap (λ t. t ++ (if not (is_left_out u) then written u else [])) h.holds.stay
-              ∙ sym (filtered_more (λ v. not (is_left_out v)) (after_slices after) u)
-              ∙ ap (λ us. flat_map written (filter (λ v. not (is_left_out v)) us)) (sym more);
+          all = rw (held, more, h.holds.all) (simp (flat_map-append, append-nil));
+          stay = rw (stay, more, h.holds.stay) (sym (filtered_more (λ v. not (is_left_out v)) (after_slices after) u));
         };
       };
       added = [];
@@ -293,13 +275,11 @@ stays_by_end s e = ap (λ x. record s { ended = x }) e
 
 abbrev pub begun_in : CutPhase → Bool
 begun_in phases.Waiting = false
-begun_in phases.Writing = true
-begun_in phases.Over = true
+begun_in _ = true
 
 abbrev pub over_in : CutPhase → Bool
-over_in phases.Waiting = false
-over_in phases.Writing = false
 over_in phases.Over = true
+over_in _ = false
 
 begun_by : (s : Stage) (ended : Bool) → is_some (piece_of s ended) ≡ begun_in (phase_of s)
 begun_by (waiting left before) ended = refl

@@ -1,13 +1,14 @@
 -- The names that the proofs cite of std, of the crates below and of the definitions here, passed on from one place. Declares nothing.
-pub use Rattle.std.proofs.Common.{◌≡◌, ℕ, zero, suc, ◌+◌, ◌-◌, ◌*◌, ◌/◌, ◌^◌, ◌<◌, ◌≤◌, ◌==◌, Bool, true, false, List, [], ◌∷◌, ◌++◌, length, take, drop}
-pub use Rattle.std.proofs.Common.{Option, Result, Ok, Err, if◌then◌else◌, IfErr, refl, sym, ap, ◌∙◌, subst, arith, get_or, append_assoc, length-append}
-pub use Rattle.std.proofs.Common.{append-nil, length-drop, length-take-le, drop-drop, map, take-append-drop, drop_of_length-le, rules, length-take}
+pub use Rattle.std.proofs.Common.{◌≡◌, ℕ, zero, suc, ◌+◌, ◌-◌, ◌*◌, ◌/◌, ◌^◌, ◌<◌, ◌≤◌, ◌==◌, Bool, true, false, List, [], ◌∷◌, ◌++◌, length, take}
+pub use Rattle.std.proofs.Common.{drop, Option, Result, Ok, Err, if◌then◌else◌, IfErr, refl, sym, ap, ◌∙◌, subst, arith, get_or, append_assoc}
+pub use Rattle.std.proofs.Common.{length-append, append-nil, length-drop, length-take-le, drop-drop, map, take-append-drop, drop_of_length-le, rules}
+pub use Rattle.std.proofs.Common.{length-take}
 pub use Rattle.std.proofs.KnownBytes.{Appends-trans}
 pub use Rattle.std.proofs.Math.Nat.{mul-le-mul_right, mul-le-mul}
 pub use Rattle.std.proofs.Math.Seq.{take-add, take-append-add, drop-append-add, take-append_seam}
 pub use Rattle.std.proofs.lemmas.Grind.{flat_map-append}
 pub use Rattle.std.proofs.lemmas.List.{take-append-le, take_rest, same_lists, get_or-take, get_or-drop, get_or_default}
-pub use Rattle.std.proofs.lemmas.List.FromFn.{length-map-range_with_len, get_or-map-range_with_len, length-range_with_len, map-range_with_len_more}
+pub use Rattle.std.proofs.lemmas.List.FromFn.{length-map-range_with_len, get_or-map-range_with_len, length-range_with_len}
 pub use Rattle.std.proofs.lemmas.Slice.{drop-append-drop}
 pub use Rattle.std.specs.Io.KnownBytes.{Appends}
 pub use Rattle.std.specs.List.{range_with_len, flat_map}

@@ -1,7 +1,7 @@
 -- The names that the proofs cite of std, of the crates below and of the definitions here, passed on from one place. Declares nothing.
 pub use Rattle.std.proofs.Common.{◌≡◌, ℕ, ◌+◌, ◌-◌, ◌<◌, ◌≤◌, List, [], ◌∷◌, ◌++◌, length, Bool, true, false, eqb, Option, Some, None, refl, ap, ◌∙◌, sym}
 pub use Rattle.std.proofs.Common.{arith, append_assoc, append-nil, zero, suc, subst, length-append, replicate, slice_index, take, drop, ⊎_elim, map, All}
-pub use Rattle.std.proofs.Common.{nat_le, is_some, min, get_or, take_all, ◌⊎◌, inl, inr, slice_get, ◌^◌, flat_map, add-one}
+pub use Rattle.std.proofs.Common.{nat_le, is_some, min, get_or, take_all, ◌⊎◌, inl, inr, slice_get, ◌^◌, flat_map, add-one, rules}
 pub use Rattle.std.proofs.Math.Seq.{take-add}
 pub use Rattle.std.proofs.lemmas.Bool.{ne_eqb, cases_eq, cases_lt, eq-eqb, eqb-true, or_parts}
 pub use Rattle.std.proofs.lemmas.Iterator.Adapters.{option_map_id}

@@ -3,10 +3,7 @@ use Rattle.avc_deblock.proofs.FilteredPictures.{edges_by_info, some_coded, mb_ke
 use Rattle.avc_deblock.proofs.macroblock.macroblock.Goals as goal
 
 all_off : (i l u b : Bool) → b ≡ (not i && not l && not u) → b ≡ true → ((i ≡ false) × (l ≡ false)) × (u ≡ false)
-all_off true l u b e t = absurd (cc)
-all_off false true u b e t = absurd (cc)
-all_off false false true b e t = absurd (cc)
-all_off false false false b e t = ((refl, refl), refl)
+all_off i l u b e t = grind arith
 
 pub returns-then-idle-clause-lines : goal.returns-then-idle-clause-lines
 returns-then-idle-clause-lines g c =

@@ -1,5 +1,5 @@
 use Rattle.avc_decoder_core.proofs.Sequences.{◌∷◌, ◌∙◌, ap, sym, order_count_state, with_all_missing, missing_frame, pasts, counted_at_once}
-use Rattle.avc_decoder_core.proofs.Sequences.{none_counted, one_counted}
+use Rattle.avc_decoder_core.proofs.Sequences.{no_number, next_number}
 use Rattle.avc_decoder_core.proofs.opening.count_missing.Goals as goal
 
 pub returns-then-first-max_frame_num : goal.returns-then-first-max_frame_num
@@ -15,10 +15,12 @@ loop-frame_num-preserved c history e =
       entry ∷ reached.0,
       c.missing.ensures (pasts reached.0) reached.1,
       ap (λ l. with_all_missing sps l (entry ∷ reached.0)) c.next.ensures.rest
-          ∙ one_counted sps c.loop-frame_num.numbers c.in-Some-next.frame_num reached.0 _ (sym c.in-Some-next.ensures.first) reached.2,
+          ∙ ap (λ l. with_all_missing sps l reached.0) (sym (next_number c.loop-frame_num.numbers _ (sym c.in-Some-next.ensures.first))) ∙ reached.2,
     )
 
 pub returns : goal.returns
 returns c history e =
     let reached = c.loop-frame_num.invariant history e in
-    reached.1 ∙ ap (λ h. order_count_state (pasts h)) (none_counted c.args.sps.now c.loop-frame_num.numbers reached.0 _ (sym c.in_default-next.ensures.first) reached.2)
+    reached.1
+    ∙ ap (λ h. order_count_state (pasts h))
+    (ap (λ l. with_all_missing c.args.sps.now l reached.0) (sym (no_number c.loop-frame_num.numbers (sym c.in_default-next.ensures.first))) ∙ reached.2)

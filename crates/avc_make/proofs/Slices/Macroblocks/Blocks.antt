@@ -18,11 +18,15 @@ is_some_given given word o is some = grind arith
 
 -- ---- what is coded: trailing ones
 
-pub ones_more : (most left : ℕ) (values others : List ℤ) (l : ℤ) → left ≡ suc most → values ≡ l ∷ others → nat_abs l ≡ 1 → ones_first left values ≡ suc (ones_first most others)
-ones_more most left values others l is_left is one = rw (is_left, is, eq-eqb (nat_abs l) 1 one) refl
+-- of three, those of the place k and after it
+abbrev pub ones_from : List (ℤ × ℕ) → ℕ → ℕ
+ones_from found k = ones_first (3 - k) (drop k (values_of found))
 
-pub ones_stop : (most left : ℕ) (values others : List ℤ) (l : ℤ) → left ≡ suc most → values ≡ l ∷ others → nat_abs l ≢ 1 → ones_first left values ≡ 0
-ones_stop most left values others l is_left is other = rw (is_left, is, ne_eqb (nat_abs l) 1 other) refl
+pub ones_at : (found : List (ℤ × ℕ)) (k : ℕ) (l : ℤ) → k < 3 → k < length found → l ≡ get_or (values_of found) k (pos 0) →
+    ones_from found k ≡ (if nat_abs l == 1 then suc (ones_from found (k + 1)) else 0)
+ones_at found k l small within is =
+    let left : 3 - k ≡ suc (3 - (k + 1)) = omega arith in
+    rw (left, at_place (values_of found) k (pos 0) l (omega (arith, length-map found (λ p. p.0))) is) refl
 
 pub ones_end : (left : ℕ) (values : List ℤ) → values ≡ [] → ones_first left values ≡ 0
 ones_end left values is = grind arith
@@ -138,9 +142,12 @@ pub level_word : (sl code prefix least size : ℕ) → prefix ≡ prefix_of sl c
 level_word sl code prefix least size is_prefix is_least is_size = rw (is_size, is_least, is_prefix, bits_of-zero) refl
 
 -- the next level
-pub levels_at : (values : List ℤ) (sl : ℕ) (above_one : Bool) (k : ℕ) (l : ℤ) → k < length values → l ≡ get_or values k (pos 0) → AreCodes sl above_one (drop k values) →
-    AreCodes sl above_one (l ∷ drop (k + 1) values) × (levels_bits sl above_one (drop k values) ≡ levels_bits sl above_one (l ∷ drop (k + 1) values))
-levels_at values sl above_one k l within is codes = let here = at_place values k (pos 0) l within is in (rw here at codes, ap (levels_bits sl above_one) here)
+pub levels_at : (found : List (ℤ × ℕ)) (sl : ℕ) (above_one : Bool) (k : ℕ) (l : ℤ) → k < length found → l ≡ get_or (values_of found) k (pos 0)
+    → AreCodes sl above_one (drop k (values_of found)) → AreCodes sl above_one (l ∷ drop (k + 1) (values_of found))
+    × (levels_bits sl above_one (drop k (values_of found)) ≡ levels_bits sl above_one (l ∷ drop (k + 1) (values_of found)))
+levels_at found sl above_one k l within is codes =
+    let here = at_place (values_of found) k (pos 0) l (omega (arith, length-map found (λ p. p.0))) is in
+    (rw here at codes, ap (levels_bits sl above_one) here)
 
 -- ---- how great a level is
 

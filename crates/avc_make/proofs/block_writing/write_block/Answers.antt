@@ -2,10 +2,7 @@ use Rattle.avc_make.proofs.Slices.{pair, ◌≡◌, ◌≤◌, ◌<ℤ◌, ℤ, 
 use Rattle.avc_make.proofs.block_writing.write_block.Goals as goal
 
 pub put_token-requires-clause-chroma_dc : goal.put_token-requires-clause-chroma_dc
-put_token-requires-clause-chroma_dc g c =
-    let same : to_z w8 (of_z w8 c.args.nc) ≡ c.args.nc = omega (arith, ints, c.ranges.nc.sfits) in
-    let P : ℤ → Type 0 = λ n. n <ℤ pos 0 → c.len.result ≤ 4 in
-    subst P (sym same) (λ below. let four : g.row.MAXN ≤ 4 = c.requires.chroma_dc below in omega (arith, c.of-found.ensures.size, c.len.ensures.value))
+put_token-requires-clause-chroma_dc g c = grind (arith, to_z, w8, of_z)
 
 pub put_levels-requires-clause-some : goal.put_levels-requires-clause-some
 put_levels-requires-clause-some g c =

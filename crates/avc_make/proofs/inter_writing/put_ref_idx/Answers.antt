@@ -14,6 +14,4 @@ put_indices-requires c =
     }
 
 pub returns-then-has_ref_idx : goal.returns-then-has_ref_idx
-returns-then-has_ref_idx c =
-    let is = sym c.has_ref_idx.ensures.value ∙ c.if-has_ref_idx.true in
-    rw is (rw c.partitions.ensures.value at c.put_indices.ensures)
+returns-then-has_ref_idx c = grind (arith)

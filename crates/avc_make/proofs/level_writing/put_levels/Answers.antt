@@ -4,33 +4,26 @@ use Rattle.avc_make.proofs.level_writing.put_levels.Goals as goal
 
 pub put_level-requires-clause-code : goal.put_level-requires-clause-code
 put_level-requires-clause-code c =
-    let values = values_of c.args.found.now in
     let same : to_z w16 (of_z w16 c.level-level.result) ≡ c.level-level.result = omega (arith, ints, c.level-level.type_inv) in
-    let within : c.levels.k < length values = omega (arith, length-map c.args.found.now (λ p. p.0)) in
-    let here = levels_at values c.levels.suffix_length c.levels.above_one c.levels.k c.level-level.result within c.level-level.ensures c.levels.invariant.codes in
+    let here = levels_at c.args.found.now _ _ c.levels.k c.level-level.result (omega arith) c.level-level.ensures c.levels.invariant.codes in
     omega (arith, here.0.0, c.code_of_level.ensures, ap (code_of_level c.levels.above_one) same)
 
 pub next_suffix_length-suffix_length-requires-clause-size : goal.next_suffix_length-suffix_length-requires-clause-size
 next_suffix_length-suffix_length-requires-clause-size c =
-    let values = values_of c.args.found.now in
-    let l = c.level-level.result in
-    let same : to_z w16 (of_z w16 l) ≡ l = omega (arith, ints, c.level-level.type_inv) in
-    let within : c.levels.k < length values = omega (arith, length-map c.args.found.now (λ p. p.0)) in
-    let here = levels_at values c.levels.suffix_length c.levels.above_one c.levels.k l within c.level-level.ensures c.levels.invariant.codes in
-    let some : 1 ≤ nat_abs l = subst (λ v. 1 ≤ nat_abs v) (sym c.level-level.ensures) (c.requires.some c.levels.k (pos 0) within) in
-    subst IsLevel (sym same) (record { some = some; most = level_most c.levels.suffix_length c.levels.above_one l c.levels.invariant.few c.levels.invariant.first here.0.0 })
+    let same : to_z w16 (of_z w16 c.level-level.result) ≡ c.level-level.result = omega (arith, ints, c.level-level.type_inv) in
+    let here = levels_at c.args.found.now _ _ c.levels.k c.level-level.result (omega arith) c.level-level.ensures c.levels.invariant.codes in
+    let some : 1 ≤ nat_abs c.level-level.result =
+    rw c.level-level.ensures (c.requires.some c.levels.k (pos 0) (omega (arith, length-map c.args.found.now (λ p. p.0)))) in
+    rw same (record { some = some; most = level_most c.levels.suffix_length c.levels.above_one _ c.levels.invariant.few c.levels.invariant.first here.0.0 })
 
 pub levels-preserved : goal.levels-preserved
 levels-preserved c =
-    let values = values_of c.args.found.now in
     let same : to_z w16 (of_z w16 c.level-level.result) ≡ c.level-level.result = omega (arith, ints, c.level-level.type_inv) in
-    let within : c.levels.k < length values = omega (arith, length-map c.args.found.now (λ p. p.0)) in
-    let here = levels_at values c.levels.suffix_length c.levels.above_one c.levels.k c.level-level.result within c.level-level.ensures c.levels.invariant.codes in
+    let here = levels_at c.args.found.now _ _ c.levels.k c.level-level.result (omega arith) c.level-level.ensures c.levels.invariant.codes in
     let next = c.next_suffix_length-suffix_length.ensures.value ∙ ap (next_suffix_length c.levels.suffix_length) same in
-    let code = c.code_of_level.ensures ∙ ap (code_of_level c.levels.above_one) same in
     record {
       going = ap (λ m. m.failed) c.in_ok-put_level.ensures.1;
-      put = rw (c.in_ok-put_level.ensures.1, append_assoc, code, next, ← here.1) c.levels.invariant.put;
+      put = rw (c.in_ok-put_level.ensures.1, append_assoc, c.code_of_level.ensures, same, next, ← here.1) c.levels.invariant.put;
       codes = rw next (here.0.1);
       few = c.next_suffix_length-suffix_length.ensures.few;
       first = λ t. cc;

@@ -2,10 +2,7 @@ use Rattle.avc_make.proofs.Slices.{◌≡◌, length, arith, rules, block_here, 
 use Rattle.avc_make.proofs.residual_writing.put_ac.Goals as goal
 
 pub put_block_where-requires : goal.put_block_where-requires
-put_block_where-requires c =
-    let long : length c.args.blocks.now ≡ 4 = search rules in
-    let here = block_here c.each.invariant (omega arith) long c.index-blocks-k.result in
-    (omega arith, (c.each.invariant.going, (omega arith, here.0)))
+put_block_where-requires c = search (rules, block_here)
 
 pub each-preserved : goal.each-preserved
 each-preserved c =

@@ -5,6 +5,4 @@ pub write_block-requires : goal.write_block-requires
 write_block-requires c = (omega arith, (omega arith, ((λ below. omega arith), writable_dc c.args.chroma_pattern c.args.levels.now c.if-chroma_pattern-gt0.true c.requires.block)))
 
 pub returns-then-chroma_pattern-gt0 : goal.returns-then-chroma_pattern-gt0
-returns-then-chroma_pattern-gt0 c =
-    puts_same c.write_block.result (block_bits 4 (negsuc 0) c.args.levels.now) (chroma_dc_bits c.args.chroma_pattern c.args.levels.now) c.args.maker.now c.write_block.new.maker
-    (some_dc c.args.chroma_pattern c.args.levels.now c.if-chroma_pattern-gt0.true) c.write_block.ensures
+returns-then-chroma_pattern-gt0 c = grind (arith, puts_same, negsuc, some_dc)

@@ -1,6 +1,6 @@
 -- The names that the proofs cite of std, of the crates below and of the definitions here, passed on from one place. Declares nothing.
 pub use Rattle.std.proofs.Common.{◌≡◌, ℕ, zero, suc, ◌<◌, Bool, not, List, [], ◌∷◌, ◌++◌, length, map, refl, ap, arith, append-nil, ◌+◌, true, false, Option}
-pub use Rattle.std.proofs.Common.{Some, Ok, ◌&&◌, length-append, None, ◌-◌, ◌≤◌, ◌%◌, drop, slice_get, sym, ◌∙◌, nat_lt, inl, inr, ◌||◌, All, Result, Err, take}
+pub use Rattle.std.proofs.Common.{Some, Ok, ◌&&◌, length-append, None, ◌-◌, ◌≤◌, ◌%◌, drop, slice_get, sym, ◌∙◌, nat_lt, inl, inr, ◌||◌, All, Result, Err, take, rules}
 pub use Rattle.std.proofs.Math.Nat.{mod-mod, mod-add-mod, mod-eq_of_lt, mod-lt, div-add-mod, add-mod_right}
 pub use Rattle.std.proofs.lemmas.Bool.{and_parts, eq-eqb, ne_eqb, or_left, or_right}
 pub use Rattle.std.proofs.lemmas.Bool.Decides.{nat_tests}

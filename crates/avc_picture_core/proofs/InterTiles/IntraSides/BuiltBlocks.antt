@@ -96,9 +96,7 @@ module _ (s : Plane) (left top size : ℕ) (b : ℕ → ℕ → ℕ) (f : ℕ �
   with_blocks_before k = with_block s left top size size (λ x y. chosen x y (nat_lt (b x y) k))
 
   none_before : length s.samples ≡ s.width * s.height → s ≡ with_blocks_before 0
-  none_before long =
-      block_of_its_own s left top size size (λ x y. chosen x y (nat_lt (b x y) 0)) long
-      (λ x y column row within below. let no : nat_lt (b x y) 0 ≡ false = grind (arith, nat_tests) in ap (chosen x y) no)
+  none_before long = grind (arith, block_of_its_own)
 
   all_before : (k : ℕ) → ((x y : ℕ) → x < size → y < size → b x y < k) → with_blocks_before k ≡ with_residual s left top size size (by_tile b f)
   all_before k few = grind (arith, nat_tests, with_block_same, nat_lt)
@@ -192,29 +190,13 @@ luma_within : (k x y : ℕ) → x < 16 → y < 16 → block_at x y ≡ k → (bl
 luma_within k x y column row is = grind (arith, ints, nat_tests, luma_block_place)
 
 pub luma_tile : (k l t : ℕ) → k < 16 → l ≡ block_x k → t ≡ block_y k → IsTile 16 block_at k l t
-luma_tile k l t few across down = record {
-  across = omega (arith, across);
-  down = omega (arith, down);
-  column = omega (arith, across);
-  row = omega (arith, down);
-  number = λ i j near low. luma_number k (l + i) (t + j) few (omega (arith, across)) (omega (arith, across)) (omega (arith, down)) (omega (arith, down));
-  place = λ x y column row is.
-      let w = luma_within k x y column row is in
-      (omega (arith, across, w.0), omega (arith, across, w.1), omega (arith, down, w.2), omega (arith, down, w.3));
-}
+luma_tile k l t few across down = grind (arith, luma_number, luma_within)
 
 abbrev pub chroma_number : ℕ → ℕ → ℕ
 chroma_number x y = 2 * (y / 4) + x / 4
 
 pub chroma_tile : (k : ℕ) → k < 4 → IsTile 8 chroma_number k (4 * (k % 2)) (4 * (k / 2))
-chroma_tile k few = record {
-  across = omega arith;
-  down = omega arith;
-  column = omega arith;
-  row = omega arith;
-  number = λ i j near low. omega arith;
-  place = λ x y column row is. (omega arith, omega arith, omega arith, omega arith);
-}
+chroma_tile k few = grind arith
 
 -- ---- their residuals
 
@@ -247,19 +229,12 @@ no_chroma_product : (dc : List ℤ) (x y : ℕ) → ((i : ℕ) → level dc i �
 no_chroma_product dc x y none = simp (none, *ℤ-zero, zero-*ℤ)
 
 no_chroma_dc : (qp : ℕ) (dc : List ℤ) (x y : ℕ) → ((i : ℕ) → level dc i ≡ pos 0) → chroma_dc qp dc x y ≡ pos 0
-no_chroma_dc qp dc x y none =
-    ap (chroma_dc_scaled qp) (no_chroma_product dc x y none)
-    ∙ ap (λ (z : ℤ). (z *ℤ pos (2 ^ (qp / 6))) >>ℤ 5) (zero-*ℤ (pos (16 * even_scale (qp % 6))))
-    ∙ ap (λ (z : ℤ). z >>ℤ 5) (zero-*ℤ (pos (2 ^ (qp / 6))))
+no_chroma_dc qp dc x y none = grind (arith, no_chroma_product, zero-*ℤ)
 
 -- it has no residual
 pub no_chroma : (qp : ℕ) (dc : List ℤ) (ac : List (List ℤ)) (x y : ℕ) → total_coeff dc ≡ 0
     → ((k : ℕ) → k < 4 → total_coeff (slice_index_or ac k []) ≡ 0) → x < 8 → y < 8 → chroma_residual qp dc ac x y ≡ pos 0
-no_chroma qp dc ac x y no_dc no_ac column row =
-    let k = 2 * (y / 4) + x / 4 in
-    residual_of_dc qp (chroma_dc qp dc (x / 4) (y / 4)) (slice_index_or ac k []) (x % 4) (y % 4)
-    (no_level (slice_index_or ac k []) (no_ac k (omega arith)))
-    ∙ ap (λ (z : ℤ). (z +ℤ pos 32) >>ℤ 6) (no_chroma_dc qp dc (x / 4) (y / 4) (no_level dc no_dc))
+no_chroma qp dc ac x y no_dc no_ac column row = grind (arith, residual_of_dc, no_level, no_chroma_dc)
 
 -- ---- what is asked of each of sixteen blocks
 
@@ -282,26 +257,7 @@ pub one_false : (p : ℕ → Bool) (k : ℕ) → k < 16 → p k ≡ false → li
 one_false p k low not = list_all_at p sixteen k 0 low (subst (λ n. p n ≡ false) (sym (get_or-range_with_len 0 16 k 0 low ∙ zero-add k)) not)
 
 pub same_sixteen : (p q : ℕ → Bool) → ((k : ℕ) → k < 16 → p k ≡ q k) → list_all p (range_with_len 0 16) ≡ list_all q (range_with_len 0 16)
-same_sixteen p q same =
-    let at : (k : ℕ) → nat_lt k 16 ≡ true → p k ≡ q k = λ k low. same k (ltb-true k 16 low) in
-    rw (
-      at 0 refl,
-      at 1 refl,
-      at 2 refl,
-      at 3 refl,
-      at 4 refl,
-      at 5 refl,
-      at 6 refl,
-      at 7 refl,
-      at 8 refl,
-      at 9 refl,
-      at 10 refl,
-      at 11 refl,
-      at 12 refl,
-      at 13 refl,
-      at 14 refl,
-      at 15 refl,
-    ) refl
+same_sixteen p q same = grind (arith, ltb-true)
 
 -- ---- predictions laid into a plane, weighted where there are weights
 
@@ -346,42 +302,23 @@ module _ (pad left upper size first stride : ℕ) (s : Plane) (sides : Sides) (r
   row_above : 0 < upper → (upper + pad) * (s.width + 2 * pad) ≡ (upper - 1 + pad) * (s.width + 2 * pad) + (s.width + 2 * pad)
   row_above some = ap (λ n. n * (s.width + 2 * pad)) (omega arith) ∙ add-mul (upper - 1 + pad) 1 (s.width + 2 * pad) ∙ omega arith
 
-  up : 0 < upper → nat_abs (pos upper +ℤ negsuc 0) ≡ upper - 1
-  up some = omega (arith, ints)
-
-  back : 0 < left → nat_abs (pos left +ℤ negsuc 0) ≡ left - 1
-  back some = omega (arith, ints)
-
   is_below : 0 < upper → stride ≤ first
   is_below some = omega (arith, is_first, is_stride, row_above some)
 
   above_at : (i : ℕ) → 0 < upper → left + i < s.width → 0 < s.height → seen_from s left upper (pos i) (negsuc 0) ≡ slice_index rows (first - stride + i)
-  above_at i some column row = grind (arith, ints, up, row_above)
+  above_at i some column row = grind (arith, ints, row_above)
 
   left_at : (i : ℕ) → 0 < left → i < size → seen_from s left upper (negsuc 0) (pos i) ≡ slice_index rows (first + i * stride - 1)
-  left_at i some row = grind (arith, ints, back, add-mul)
+  left_at i some row = grind (arith, ints, add-mul)
 
   corner_at : 0 < left → 0 < upper → 0 < size → (stride < first) × (seen_from s left upper (negsuc 0) (negsuc 0) ≡ slice_index rows (first - stride - 1))
-  corner_at some_left some_upper some = (
-    omega (arith, is_first, is_stride, row_above some_upper),
-    ap (λ u. sample s u (nat_abs (pos upper +ℤ negsuc 0))) (back some_left)
-        ∙ ap (λ v. sample s (left - 1) v) (up some_upper)
-        ∙ sym (have.at (left - 1) (upper - 1) (omega arith) (omega arith))
-        ∙ ap (slice_index rows) (omega (arith, is_first, is_stride, row_above some_upper)),
-  )
+  corner_at some_left some_upper some = grind (arith, ints, row_above)
 
   pub seen : 0 < size → IsSeen (seen_from s left upper) sides size first stride rows
-  seen some = record {
-    tops = λ there. (is_below (inside.above there), λ i low. above_at i (inside.above there) (omega (arith, columns)) (omega (arith, lines)));
-    lefts = λ there. (omega (arith, is_first, inside.before there), omega (arith, is_stride, columns, inside.before there), λ i low. left_at i (inside.before there) low);
-    at_corner = λ there. corner_at (inside.corner there).0 (inside.corner there).1 some;
-  }
+  seen some = grind (arith, is_below, above_at, left_at, corner_at)
 
   pub seen4x4 : size ≡ 4 → IsSeen4x4 (seen_from s left upper) sides first stride rows
-  seen4x4 four = record {
-    beside = subst (λ n. IsSeen (seen_from s left upper) sides n first stride rows) four (seen (omega arith));
-    tops_right = λ there. (is_below (inside.above_right there).0, λ i from low. above_at i (inside.above_right there).0 (omega (arith, (inside.above_right there).1)) (omega (arith, lines)));
-  }
+  seen4x4 four = grind (arith, seen, is_below, above_at)
 
   -- what is laid from there is the prediction
   pub laid : 0 < size → (can : Bool) (of : ℕ → ℕ → ℕ) (new : List ℕ) → can ≡ true

@@ -1,11 +1,8 @@
-use Rattle.avc_picture_core.proofs.InterTiles.{refl, arith, room_lent, can_predict4x4, extended, predict4x4, seen_from, laid, seen4x4}
+use Rattle.avc_picture_core.proofs.InterTiles.{rules, refl, arith, room_lent, can_predict4x4, extended, predict4x4, seen_from, laid, seen4x4}
 use Rattle.avc_picture_core.proofs.luma4x4.predict_block.Goals as goal
 
 pub lay4x4-requires-clause-room : goal.lay4x4-requires-clause-room
-lay4x4-requires-clause-room g c =
-    let at = c.padded_place-at in
-    let rows = c.padded_rows_mut in
-    room_lent g.row.PAD c.args.plane.now c.args.left c.args.top 4 4 at.result.first at.result.stride rows.result.now rows.ensures.rows c.requires.columns c.requires.rows at.ensures.first at.ensures.stride
+lay4x4-requires-clause-room g c = search (rules, room_lent)
 
 pub returns-clause-samples : goal.returns-clause-samples
 returns-clause-samples g c inside =

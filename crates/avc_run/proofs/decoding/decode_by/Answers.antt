@@ -1,20 +1,18 @@
-use Rattle.avc_run.proofs.Running.{◌≡◌, Err, arith, rules, EventsOnlyGrow, broken_at_end, broken_in, broken_in_front, decodes_err, ended, endless}
-use Rattle.avc_run.proofs.Running.{enough, err_is, front_taken, new_is_drained, one_piece, one_read, unread_on}
+use Rattle.avc_run.proofs.Running.{arith, rules, EventsOnlyGrow, broken_at_end, broken_in, broken_in_front, decodes_err, ended, endless}
+use Rattle.avc_run.proofs.Running.{enough, front_taken, new_is_drained, one_piece, one_read, unread_on}
 use Rattle.avc_run.proofs.decoding.decode_by.Goals as goal
 
 pub returns-in_err-len : goal.returns-in_err-len
 returns-in_err-len g c =
     let fault = c.in_err-len.field-0.0 in
-    let is : c.from_residual-in_err-len.result ≡ Err fault = err_is c.from_residual-in_err-len.result fault c.from_residual-in_err-len.ensures.1 in
-    decodes_err (g.F.PictureFormat.format c.args.format.now) c.args.decoder.now.output _ _ _ _ c.from_residual-in_err-len.result fault is
+    decodes_err (g.F.PictureFormat.format c.args.format.now) c.args.decoder.now.output _ _ _ _ c.from_residual-in_err-len.result fault c.from_residual-in_err-len.ensures.1
     (unread_on (g.F.PictureFormat.format c.args.format.now) c.args.decoder.now.output _ _ _ _ _ c.pieces.decoder c.pieces.report fault c.pieces.invariant.runs c.in_err-len.ensures.err c.in_err-len.ensures.fault)
 
 pub returns-in_err-finish : goal.returns-in_err-finish
 returns-in_err-finish g c =
     let grow : EventsOnlyGrow = c.events_only_grow.ensures in
     let fault = c.in_err-finish.field-0.0 in
-    let is : c.from_residual-in_err-finish.result ≡ Err fault = err_is c.from_residual-in_err-finish.result fault c.from_residual-in_err-finish.ensures.1 in
-    decodes_err (g.F.PictureFormat.format c.args.format.now) c.args.decoder.now.output _ _ _ _ c.from_residual-in_err-finish.result fault is
+    decodes_err (g.F.PictureFormat.format c.args.format.now) c.args.decoder.now.output _ _ _ _ c.from_residual-in_err-finish.result fault c.from_residual-in_err-finish.ensures.1
     (broken_at_end (g.F.PictureFormat.format c.args.format.now) grow c.args.decoder.now.output _ _ _ _ _ _ c.pieces.decoder c.pieces.report c.in_ok-len.len c.read_once.new.piece fault c.pieces.invariant.runs (search rules) c.in_ok-len.ensures.bytes (search rules) c.in_err-finish.ensures.err)
 
 pub returns-then-len-eq0 : goal.returns-then-len-eq0
@@ -26,8 +24,7 @@ pub returns-in_err-take_in-2 : goal.returns-in_err-take_in-2
 returns-in_err-take_in-2 g c =
     let grow : EventsOnlyGrow = c.events_only_grow.ensures in
     let fault = c.in_err-take_in-2.field-0.0 in
-    let is : c.from_residual-in_err-take_in-2.result ≡ Err fault = err_is c.from_residual-in_err-take_in-2.result fault c.from_residual-in_err-take_in-2.ensures.1 in
-    decodes_err (g.F.PictureFormat.format c.args.format.now) c.args.decoder.now.output _ _ _ _ c.from_residual-in_err-take_in-2.result fault is
+    decodes_err (g.F.PictureFormat.format c.args.format.now) c.args.decoder.now.output _ _ _ _ c.from_residual-in_err-take_in-2.result fault c.from_residual-in_err-take_in-2.ensures.1
     (broken_in (g.F.PictureFormat.format c.args.format.now) grow c.args.decoder.now.output _ _ _ _ _ _ c.pieces.decoder c.pieces.report _ fault c.pieces.invariant.runs c.in_ok-len.ensures.bytes c.in_err-take_in-2.ensures.err)
 
 pub returns-then-is_enough : goal.returns-then-is_enough
@@ -45,8 +42,7 @@ pub returns-in_err-take_in : goal.returns-in_err-take_in
 returns-in_err-take_in g c =
     let grow : EventsOnlyGrow = c.events_only_grow.ensures in
     let fault = c.in_err-take_in.field-0.0 in
-    let is : c.from_residual.result ≡ Err fault = err_is c.from_residual.result fault c.from_residual.ensures.1 in
-    decodes_err (g.F.PictureFormat.format c.args.format.now) c.args.decoder.now.output _ _ _ _ c.from_residual.result fault is
+    decodes_err (g.F.PictureFormat.format c.args.format.now) c.args.decoder.now.output _ _ _ _ c.from_residual.result fault c.from_residual.ensures.1
     (broken_in_front (g.F.PictureFormat.format c.args.format.now) grow c.args.decoder.now.output _ _ _ c.args.decoder.now c.new.result c.args.front.now fault c.requires c.new.ensures c.in_err-take_in.ensures.err)
 
 pub pieces-init : goal.pieces-init

@@ -1,11 +1,11 @@
-use Rattle.avc_run.proofs.Running.{◌≡◌, Err, rules, sym, ap, ◌∙◌, after_take, events_left, BreaksOff, by_fault, by_memory, handled, is_none, one_more}
+use Rattle.avc_run.proofs.Running.{Memory, sym, ap, ◌∙◌, after_take, events_left, BreaksOff, by_fault, handled, is_none, one_more}
 use Rattle.avc_run.proofs.Running.{smaller, stopped, stopped_in}
 use Rattle.avc_run.proofs.decoding.drain.Goals as goal
 
 pub returns-in_err-event-clause-err : goal.returns-in_err-event-clause-err
 returns-in_err-event-clause-err g c =
     let writer = c.args.writer.now in
-    by_memory c.from_residual.result (λ fault. BreaksOff (g.F.PictureFormat.format c.args.format.now) c.args.report.now.pictures fault (g.W.Write.contents writer) (g.W.Write.contents c.events.writer) (events_left c.args.decoder.now))
+    by_fault c.from_residual.result Memory (λ fault. BreaksOff (g.F.PictureFormat.format c.args.format.now) c.args.report.now.pictures fault (g.W.Write.contents writer) (g.W.Write.contents c.events.writer) (events_left c.args.decoder.now))
     c.from_residual.ensures.1 (stopped (g.F.PictureFormat.format c.args.format.now) _ _ _ _ _ _ c.events.invariant)
 
 pub events-smaller : goal.events-smaller
@@ -22,8 +22,7 @@ events-preserved g c =
 pub returns-in_err-handle-clause-err : goal.returns-in_err-handle-clause-err
 returns-in_err-handle-clause-err g c =
     let fault = c.in_err-handle.field-0.0 in
-    let is : c.from_residual-in_err-handle.result ≡ Err fault = search rules in
-    by_fault c.from_residual-in_err-handle.result fault (λ f. BreaksOff (g.F.PictureFormat.format c.args.format.now) c.args.report.now.pictures f (g.W.Write.contents c.args.writer.now) (g.W.Write.contents c.handle.new.writer) (events_left c.args.decoder.now)) is
+    by_fault c.from_residual-in_err-handle.result fault (λ f. BreaksOff (g.F.PictureFormat.format c.args.format.now) c.args.report.now.pictures f (g.W.Write.contents c.args.writer.now) (g.W.Write.contents c.handle.new.writer) (events_left c.args.decoder.now)) c.from_residual-in_err-handle.ensures.1
     (stopped_in (g.F.PictureFormat.format c.args.format.now) fault _ c.events.decoder _ _ _ _ _ c.in-Some.event (sym c.in-Some.is ∙ c.in_ok-event.ensures.1) c.in_err-handle.ensures.err c.events.invariant)
 
 pub returns-clause-ok : goal.returns-clause-ok

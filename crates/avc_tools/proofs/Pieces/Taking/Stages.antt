@@ -57,9 +57,7 @@ pub after_slice : (us : List Unit) (u : Unit) → is_slice u ≡ true → after_
 after_slice us u is = ap (λ r. reverse (take_while is_other r)) (reverse-append us (u ∷ [])) ∙ ap reverse (stops is_other u (reverse us) (ap not is))
 
 pub after_other : (us : List Unit) (u : Unit) → is_slice u ≡ false → after_slices (us ++ u ∷ []) ≡ after_slices us ++ u ∷ []
-after_other us u is =
-    ap (λ r. reverse (take_while is_other r)) (reverse-append us (u ∷ [])) ∙ ap reverse (goes_on is_other u (reverse us) (ap not is))
-    ∙ reverse-append (u ∷ []) (take_while is_other (reverse us))
+after_other us u is = rw (reverse-append us (u ∷ []), goes_on is_other u (reverse us) (ap not is)) (reverse-append (u ∷ []) (take_while is_other (reverse us)))
 
 pub split_at_slices : (us : List Unit) → through_slices us ++ after_slices us ≡ us
 split_at_slices us =
@@ -201,9 +199,8 @@ piece_is left before (u ∷ us) ended = by (is_start u) left (λ n. piece_is n (
 -- ---- whether it is over
 
 abbrev pub is_over : Stage → Bool
-is_over (waiting left before) = false
-is_over (writing before c after) = false
 is_over (over before c after) = true
+is_over _ = false
 
 over_when : (before : List Unit) (c : Unit) (a us : List Unit) → is_over (stage_after (writing before c a) us) ≡ list_any is_start us
 over_when before c a [] = refl
@@ -444,13 +441,7 @@ pub put_by : {A : Type 0} (has_id : ℕ → SetUnit → Bool) (record_of : Optio
     → ((k : ℕ) → has_id k s ≡ is_id k id) → is_some (record_of (Some s)) ≡ accepted_so → length new ≡ length old
     → ((k : ℕ) → k < length old → stored new k ≡ (if is_id k id then (if accepted_so then Some unit else None) else stored old k))
     → AreReplaced has_id record_of (Some s) unit old new
-put_by has_id record_of s id accepted_so unit old new same is long put = record {
-  long = long;
-  each = λ k low. rw (same k, is) (put k low ∙ by (is_id k id) accepted_so (stored old k));
-}
-  where
-    by : (hit accepted_so : Bool) (old : Option (List ℕ)) → (if hit then (if accepted_so then Some unit else None) else old) ≡ replaced hit accepted_so unit old
-    by hit accepted_so old = grind arith
+put_by has_id record_of s id accepted_so unit old new same is long put = search (rules)
 
 -- ---- one unit more
 
@@ -547,9 +538,7 @@ all_written by_id count kept h =
 pub sets_written : (before : List Unit) (sets : SetsInForce) → HasSets before sets
     → flat_map kept_bytes sets.sps.items ++ flat_map kept_bytes sets.pps.items ≡ flat_map written (sets_in_force before)
 sets_written before sets h =
-    ap (λ w. w ++ flat_map kept_bytes sets.pps.items) (all_written (sps_unit before) 32 sets.sps.items h.sps)
-    ∙ ap (λ w. flat_map written (flat_map (sps_unit before) (range_with_len 0 32)) ++ w) (all_written (pps_unit before) 256 sets.pps.items h.pps)
-    ∙ sym (flat_map-append written (flat_map (sps_unit before) (range_with_len 0 32)) (flat_map (pps_unit before) (range_with_len 0 256)))
+    rw (flat_map-append written (flat_map (sps_unit before) (range_with_len 0 32)), all_written (sps_unit before) 32 _ h.sps, all_written (pps_unit before) 256 _ h.pps) refl
 
 -- ---- pieces, one after the other
 
@@ -567,19 +556,20 @@ pub piece_written : (us : List Unit) (place k : ℕ) (u : Unit) (sets : SetsInFo
 piece_written us place k u sets s0 s1 s2 s3 s4 s5 low at h is_k e0 e1 e2 e3 e4 e5 =
     let before = take place us in
     let after = drop (place + 1) us in
-    let leading = filter leads (after_slices before) in
-    let kept : take (length before - k) (drop k before) ≡ after_slices before =
-    part_from k before ∙ ap (λ n. drop n before) is_k ∙ sym (after_is_rest before) in
-    let two : s2 ≡ flat_map written (sets_in_force before) =
-    e2 ∙ ap (λ w. w ++ flat_map kept_bytes sets.pps.items) (e1 ∙ ap (λ w. w ++ flat_map kept_bytes sets.sps.items) e0) ∙ sets_written before sets h in
-    let three : s3 ≡ flat_map written (sets_in_force before) ++ flat_map written leading =
-    e3 ∙ ap (λ w. w ++ flat_map written (filter leads (take (length before - k) (drop k before)))) two
-    ∙ ap (λ l. flat_map written (sets_in_force before) ++ flat_map written (filter leads l)) kept in
-    let five : s5 ≡ flat_map written (piece before u after) =
-    e5 ∙ ap (λ w. w ++ flat_map written (rest_of_piece (take (length us - (place + 1)) after))) (e4 ∙ ap (λ w. w ++ written u) three)
-    ∙ ap (λ l. ((flat_map written (sets_in_force before) ++ flat_map written leading) ++ written u) ++ flat_map written (rest_of_piece l)) (part_from (place + 1) us)
-    ∙ joined (sets_in_force before) leading u (rest_of_piece after) in
-    five ∙ ap (piece_in before) (sym (drop_more us place u low ∙ ap (λ v. v ∷ after) (sym at)))
+    rw (
+      e5,
+      e4,
+      e3,
+      e2,
+      e1,
+      e0,
+      is_k,
+      part_from (length (through_slices before)) before,
+      ← after_is_rest before,
+      sets_written before sets h,
+      part_from (place + 1) us,
+    ) (joined (sets_in_force before) (filter leads (after_slices before)) u (rest_of_piece after)
+    ∙ ap (piece_in before) (sym (drop_more us place u low ∙ ap (λ v. v ∷ after) (sym at))))
 
 -- ---- one place more
 

@@ -3,10 +3,5 @@ use Rattle.avc_yuv.proofs.copy.i420_len.Goals as goal
 
 pub returns : goal.returns
 returns c =
-    omega (
-      arith,
-      length-i420 c.args.picture.now c.window_of-luma.result c.window_of-chroma.result c.window_of-luma.ensures.window c.window_of-chroma.ensures.window,
-      c.area.ensures.is,
-      c.area-2.ensures.is,
-      c.area-3.ensures.is,
-    )
+    let long = length-i420 c.args.picture.now _ _ c.window_of-luma.ensures.window c.window_of-chroma.ensures.window in
+    omega (arith, long, c.area.ensures.is, c.area-2.ensures.is, c.area-3.ensures.is)

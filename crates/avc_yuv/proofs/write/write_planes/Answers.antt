@@ -1,42 +1,29 @@
-use Rattle.avc_yuv.proofs.Windows.{◌≡◌, ◌/◌, length, Err, ap, ◌∙◌, arith, rules, subst, ◌*◌, ◌<◌, ◌^◌, shown_width, shown_height, room, length-window}
-use Rattle.avc_yuv.proofs.Windows.{cb_failed, cr_failed, chroma_rows}
+use Rattle.avc_yuv.proofs.Windows.{length, ap, ◌∙◌, arith, rules, shown_width, shown_height, room, length-window, cb_failed, cr_failed, chroma_rows}
 use Rattle.avc_yuv.proofs.write.write_planes.Goals as goal
 
 pub write_window-requires-2-clause-room : goal.write_window-requires-2-clause-room
 write_window-requires-2-clause-room g c =
     let p = c.args.picture.now in
-    let few : length p.luma * 1 < 2 ^ 63 = subst (λ l. length l * 1 < 2 ^ 63) c.as_slice.ensures c.as_slice.type_inv.1 in
-    omega (
-      arith,
-      room p.width p.height (shown_width p) (shown_height p) (length p.luma) c.requires.luma few (omega arith) (omega arith),
-      c.in_ok-written.ensures.0,
-      length-window p.width c.as_slice.result.now (p.crop).left (p.crop).top (shown_width p) (shown_height p),
-    )
+    let all = room p.width p.height (shown_width p) (shown_height p) (length p.luma) c.requires.luma
+    (rw c.as_slice.ensures at c.as_slice.type_inv.1) (omega arith) (omega arith) in
+    omega (arith, all, c.in_ok-written.ensures.0, length-window)
 
 pub returns-in_err-written-2-clause-err : goal.returns-in_err-written-2-clause-err
 returns-in_err-written-2-clause-err g c =
-    let is : c.from_residual-in_err-written-2.result ≡ Err c.in_err-written-2.field-0.0 = search rules in
-    cb_failed c.args.picture.now c.as_slice.result.now c.as_slice-2.result.now _ _ _ c.in_ok-written.written c.in_err-written-2.field-0.0 c.from_residual-in_err-written-2.result is
-    c.as_slice.ensures c.as_slice-2.ensures c.in_ok-written.ensures c.in_err-written-2.ensures
+    cb_failed c.args.picture.now c.as_slice.result.now c.as_slice-2.result.now _ _ _ c.in_ok-written.written c.in_err-written-2.field-0.0
+    c.from_residual-in_err-written-2.result (search rules) c.as_slice.ensures c.as_slice-2.ensures c.in_ok-written.ensures c.in_err-written-2.ensures
 
 pub write_window-requires-3-clause-room : goal.write_window-requires-3-clause-room
 write_window-requires-3-clause-room g c =
     let p = c.args.picture.now in
-    let few : length p.luma * 1 < 2 ^ 63 = subst (λ l. length l * 1 < 2 ^ 63) c.as_slice.ensures c.as_slice.type_inv.1 in
-    omega (
-      arith,
-      room p.width p.height (shown_width p) (shown_height p) (length p.luma) c.requires.luma few (omega arith) (omega arith),
-      c.in_ok-written.ensures.0,
-      c.in_ok-written-2.ensures.0,
-      length-window p.width c.as_slice.result.now (p.crop).left (p.crop).top (shown_width p) (shown_height p),
-      length-window (p.width / 2) c.as_slice-2.result.now ((p.crop).left / 2) ((p.crop).top / 2) (shown_width p / 2) (shown_height p / 2),
-    )
+    let all = room p.width p.height (shown_width p) (shown_height p) (length p.luma) c.requires.luma
+    (rw c.as_slice.ensures at c.as_slice.type_inv.1) (omega arith) (omega arith) in
+    omega (arith, all, c.in_ok-written.ensures.0, c.in_ok-written-2.ensures.0, length-window)
 
 pub returns-in_err-write_window-clause-err : goal.returns-in_err-write_window-clause-err
 returns-in_err-write_window-clause-err g c =
-    let is : c.from_residual-in_err-write_window.result ≡ Err c.in_err-write_window.field-0.0 = search rules in
     cr_failed c.args.picture.now c.as_slice.result.now c.as_slice-2.result.now c.as_slice-3.result.now _ _ _ _ c.in_ok-written.written c.in_ok-written-2.written
-    c.in_err-write_window.field-0.0 c.from_residual-in_err-write_window.result is
+    c.in_err-write_window.field-0.0 c.from_residual-in_err-write_window.result (search rules)
     c.as_slice.ensures c.as_slice-2.ensures c.as_slice-3.ensures c.in_ok-written.ensures c.in_ok-written-2.ensures c.in_err-write_window.ensures
 
 pub write_window-requires-3-clause-rows : goal.write_window-requires-3-clause-rows

@@ -37,9 +37,7 @@ sample_is f = each_of_eight (λ k. sample_of (line_of f) k ≡ f k) refl refl re
 -- ---- samples that stay
 
 either : (F : Line → ℕ) (a b : Bool) (f g l : Line) → (b ≡ true → F f ≡ F l) → F g ≡ F l → F (if a then (if b then f else g) else l) ≡ F l
-either F true true f g l strong weak = strong refl
-either F true false f g l strong weak = weak
-either F false b f g l strong weak = refl
+either F a b f g l strong weak = grind (arith, nat_tests)
 
 module _ (s : Setting) (l : Line) where
   stays : (F : Line → ℕ) → (s.strength == 4 ≡ true → F (filtered_strongly s l) ≡ F l) → F (filtered_weakly s l) ≡ F l → F (filtered s l) ≡ F l
@@ -186,8 +184,7 @@ pub record IsWeaklyMoved (l : Line) (b t : ℕ) (on : Bool) (n1 n0 m0 m1 : ℕ) 
   pub q1_is : m1 ≡ nat_abs (pos l.q1 +ℤ held (if on && nat_lt (distance l.q2 l.q0) b then t else 0) (bend l.q2 l.q1 l.q0 l.p0))
 
 second_either : (f : Bool) (p t : ℕ) (z : ℤ) → nat_abs (pos p +ℤ held (if f then t else 0) z) ≡ (if f then nat_abs (pos p +ℤ held t z) else p)
-second_either true p t z = refl
-second_either false p t z = still_second p z
+second_either f p t z = grind (arith, still_second)
 
 weakly_moved : (n a b t : ℕ) (l : Line) (on : Bool) (n1 n0 m0 m1 : ℕ) → l.p0 < 256 → l.q0 < 256 → IsWeaklyMoved l b t on n1 n0 m0 m1 →
     (if on then filtered_weakly (any_at true n a b t) l else l) ≡ line l.p3 l.p2 n1 n0 m0 m1 l.q2 l.q3
@@ -228,8 +225,7 @@ pub record IsStronglyMoved (s : Setting) (l : Line) (on : Bool) (n2 n1 n0 m0 m1 
 
 strongly_moved : (s : Setting) (l : Line) (on : Bool) (n2 n1 n0 m0 m1 m2 : ℕ) → IsStronglyMoved s l on n2 n1 n0 m0 m1 m2 →
     (if on then filtered_strongly s l else l) ≡ line l.p3 n2 n1 n0 m0 m1 m2 l.q3
-strongly_moved s l true n2 n1 n0 m0 m1 m2 h = rw (h.p0_is, h.p1_is, h.p2_is, h.q0_is, h.q1_is, h.q2_is) refl
-strongly_moved s l false n2 n1 n0 m0 m1 m2 h = rw (h.p0_is, h.p1_is, h.p2_is, h.q0_is, h.q1_is, h.q2_is) refl
+strongly_moved s l on n2 n1 n0 m0 m1 m2 h = grind arith
 
 -- the line filter of a setting at strength 4
 pub strongly : (is_luma : Bool) (s : Setting) (alpha beta : ℕ) (l : Line) (on : Bool) → IsStrong is_luma s alpha beta →
@@ -246,16 +242,11 @@ strong_is s alpha beta l on n2 n1 n0 m0 m1 m2 w is h =
 -- the nearest sample, from what the code asks in another order
 pub either_nearest : (on near up f : Bool) (x y v : ℕ) → f ≡ (on && near && up) →
     (if f then x else (if on then y else v)) ≡ (if on then (if up && near then x else y) else v)
-either_nearest true true true f x y v e = rw e refl
-either_nearest true true false f x y v e = rw e refl
-either_nearest true false true f x y v e = rw e refl
-either_nearest true false false f x y v e = rw e refl
-either_nearest false near up f x y v e = rw e refl
+either_nearest on near up f x y v e = grind (arith, nat_tests)
 
 pub either_other : (on near up f : Bool) (x v : ℕ) → f ≡ (on && near && up) →
     (if f then x else v) ≡ (if on then (if up && near then x else v) else v)
-either_other true near up f x v e = either_nearest true near up f x v v e
-either_other false near up f x v e = rw e refl
+either_other on near up f x v e = grind (arith, nat_tests)
 
 pub turned : (a b : ℕ) → distance a b ≡ distance b a
 turned a b = grind (arith, ints)
@@ -284,8 +275,7 @@ weak_chroma_is s alpha beta tc0 l on n0 m0 hp hq w is h =
 
 strong_moved : (a b t : ℕ) (l : Line) (on : Bool) (n0 m0 : ℕ) → n0 ≡ (if on then (2 * l.p1 + l.p0 + l.q1 + 2) / 4 else l.p0) → m0 ≡ (if on then (2 * l.q1 + l.q0 + l.p1 + 2) / 4 else l.q0) →
     (if on then filtered_strongly (any_at false 4 a b t) l else l) ≡ line l.p3 l.p2 l.p1 n0 m0 l.q1 l.q2 l.q3
-strong_moved a b t l true n0 m0 e f = rw (e, f) refl
-strong_moved a b t l false n0 m0 e f = rw (e, f) refl
+strong_moved a b t l on n0 m0 e f = grind arith
 
 pub strong_chroma_is : (s : Setting) (alpha beta : ℕ) (l : Line) (on : Bool) (n0 m0 : ℕ) → IsStrong false s alpha beta →
     on ≡ (nat_lt (distance l.p0 l.q0) alpha && nat_lt (distance l.p1 l.p0) beta && nat_lt (distance l.q1 l.q0) beta) →
@@ -380,12 +370,8 @@ module _ (l : QpLimits) (qp : EdgeQp) (are : AreLimits l qp) (on : l.is_on ≡ t
 -- ---- four bytes as one word
 
 number_of_four : (xs : List ℕ) → length xs ≡ 4 → number_l 256 xs ≡ get_or xs 0 0 + 256 * (get_or xs 1 0 + 256 * (get_or xs 2 0 + 256 * get_or xs 3 0))
-number_of_four [] e = absurd (omega arith)
-number_of_four (a ∷ []) e = absurd (omega arith)
-number_of_four (a ∷ b ∷ []) e = absurd (omega arith)
-number_of_four (a ∷ b ∷ c ∷ []) e = absurd (omega arith)
 number_of_four (a ∷ b ∷ c ∷ d ∷ []) e = omega arith
-number_of_four (a ∷ b ∷ c ∷ d ∷ f ∷ xs) e = absurd (omega arith)
+number_of_four xs e = absurd (omega arith)
 
 -- word k of sixty-four bytes
 pub word_is : (t : List ℕ) → length t ≡ 64 → ((i : ℕ) → i < 64 → slice_index t i < 256) → (k : ℕ) → k < 16 →

@@ -1,6 +1,5 @@
-use Rattle.avc_decoder_core.proofs.Sequences.{◌≡◌, ◌∙◌, ◌∷◌, map, ap, sym, subst, false, Some, result_map, SlidingWindow, marked_frame, MarksFrame}
-use Rattle.avc_decoder_core.proofs.Sequences.{marks_after, history_of, marks_of, missing_frame, marked_then, answered, few_marked}
-use Rattle.avc_marking.specs.Frames.{marking_entry}
+use Rattle.avc_decoder_core.proofs.Sequences.{◌≡◌, ◌∙◌, ◌∷◌, map, ap, sym, false, result_map, marked_frame}
+use Rattle.avc_decoder_core.proofs.Sequences.{history_of, marks_of, missing_frame, marked_then, answered, few_marked}
 use Rattle.avc_decoder_core.proofs.frame_buffer.FrameBuffer.can_store_missing.Goals as goal
 
 pub sliding_window-requires : goal.sliding_window-requires
@@ -16,7 +15,7 @@ returns c =
     let old = c.marked_frames-marked.result.items in
     let new = c.sliding_window.new.frames.items in
     let idx = i.max_long_term_frame_idx in
-    let marks = subst (λ n. MarksFrame (λ entry. marks_after (marking_entry n (Some SlidingWindow)) entry (Some SlidingWindow)) old idx c.sliding_window.result new idx) c.new_frame.ensures (c.sliding_window.ensures.marks idx) in
+    let marks = rw (c.new_frame.ensures) at (c.sliding_window.ensures.marks idx) in
     let then = marked_then e h i.dpb idx i.prev_ref_frame_num (c.self.invariant on) old new c.sliding_window.result idx
     (c.marked_frames-marked.ensures ∙ ap (map marked_frame) c.frames.ensures) marks in
     answered c.sliding_window.result _ ∙ ap (result_map (λ _. tt)) (sym then) ∙ ap (λ v. result_map (λ _. tt) (marks_of (e ∷ v.history))) c.self.view_is

@@ -1,8 +1,7 @@
-use Rattle.avc_decoder_core.proofs.Sequences.{◌≡◌, ◌∙◌, ◌∷◌, ◌+◌, ◌-◌, [], length, map, ap, ap₂, refl, sym, subst, false, Some, Ok, Err, arith}
-use Rattle.avc_decoder_core.proofs.Sequences.{false≢true, SlidingWindow, marked_frame, MarksFrame, marks_after, history_of, with_all_marks}
-use Rattle.avc_decoder_core.proofs.Sequences.{IsStateAfter, output_pictures, is_ok, Entry, is_same_sps, marks_of, missing_frame, sequence_sps}
+use Rattle.avc_decoder_core.proofs.Sequences.{◌≡◌, ◌∙◌, ◌∷◌, ◌+◌, ◌-◌, [], length, map, ap, ap₂, refl, sym, false, Err, arith}
+use Rattle.avc_decoder_core.proofs.Sequences.{false≢true, marked_frame, history_of, with_all_marks}
+use Rattle.avc_decoder_core.proofs.Sequences.{is_ok, Entry, is_same_sps, marks_of, missing_frame, sequence_sps}
 use Rattle.avc_decoder_core.proofs.Sequences.{marked_then, IsTaken, few_marked, taken, frame_made, arrival_of_missing, missing_arrives, outputs_none}
-use Rattle.avc_marking.specs.Frames.{marking_entry}
 use Rattle.avc_decoder_core.proofs.frame_buffer.FrameBuffer.store_missing.Goals as goal
 
 pub sliding_window-requires : goal.sliding_window-requires
@@ -17,9 +16,7 @@ unreachable-requires c =
     let old = c.marked_frames-marked.result.items in
     let new = c.sliding_window.new.frames.items in
     let idx = i.max_long_term_frame_idx in
-    let marks =
-    subst (λ n. MarksFrame (λ entry. marks_after (marking_entry n (Some SlidingWindow)) entry (Some SlidingWindow)) old idx (Err c.in_default.field-0) new idx)
-    c.new_frame.ensures (c.in_default.ensures.marks idx) in
+    let marks = rw (c.new_frame.ensures) at (c.in_default.ensures.marks idx) in
     let then = marked_then e h i.dpb idx i.prev_ref_frame_num (c.self.invariant on) old new (Err c.in_default.field-0) idx
     (c.marked_frames-marked.ensures ∙ ap (map marked_frame) c.frames.ensures) marks in
     false≢true (sym (ap is_ok then) ∙ ap (λ v. is_ok (marks_of (e ∷ v.history))) c.self.view_is ∙ c.requires.marked)
@@ -46,9 +43,7 @@ stored c =
     let old = c.marked_frames-marked.result.items in
     let new = c.sliding_window.new.frames.items in
     let idx = i.max_long_term_frame_idx in
-    let marks =
-    subst (λ n. MarksFrame (λ entry. marks_after (marking_entry n (Some SlidingWindow)) entry (Some SlidingWindow)) old idx (Ok tt) new idx)
-    c.new_frame.ensures (c.in-Ok.ensures.marks idx) in
+    let marks = rw (c.new_frame.ensures) at (c.in-Ok.ensures.marks idx) in
     let set : c.set_marks.new.dpb ≡ with_all_marks i.dpb new = c.set_marks.ensures ∙ ap (with_all_marks i.dpb) c.as_slice.ensures.value in
     let last : (c.len.result - 1) + 1 ≡ length new = omega (arith, c.len.ensures.value, c.in-Ok.ensures.length) in
     let made =
@@ -69,21 +64,14 @@ stored c =
 
 pub invariant_of-self-2 : goal.invariant_of-self-2
 invariant_of-self-2 c = λ going.
-    let s = stored c in
-    subst (λ h. IsStateAfter h c.store.new.self c.self.inside.max_long_term_frame_idx c.args.frame_num) (sym s.history) (s.taken).state
+    rw ((stored c).history) ((stored c).taken).state
 
 pub returns-clause-ok : goal.returns-clause-ok
 returns-clause-ok c =
     let s = stored c in
-    let e = entry c in
-    let now = c.args.self.now in
-    let before : history_of c.self.inside.history.items ≡ now.history = ap (λ v. v.history) c.self.view_is in
-    let output : c.self.inside.dpb.output ≡ now.output = ap (λ v. v.output) c.self.view_is in
-    record {
-      going = c.requires.going;
-      state =
-          ap₂ (λ h o. record { history = h; frames = (c.store.new.self).frames; output = o; failed = false })
-          (s.history ∙ ap (λ h. e ∷ h) before) ((s.taken).kept ∙ output);
-      marked = ap (λ h. is_ok (marks_of (e ∷ h))) (sym before) ∙ (s.taken).ok;
-      pictures = (s.taken).pictures ∙ ap₂ (λ o h. output_pictures o h (e ∷ h)) output before;
-    }
+    rw (← c.self.view_is) (record {
+      going = ap (λ v. v.failed) c.self.view_is ∙ c.requires.going;
+      state = ap₂ (λ h o. record { history = h; frames = (c.store.new.self).frames; output = o; failed = false }) s.history (s.taken).kept;
+      marked = (s.taken).ok;
+      pictures = (s.taken).pictures;
+    })

@@ -1,6 +1,6 @@
 use Rattle.avc_decoder_core.proofs.Sequences.{◌≡◌, ◌∙◌, ◌∷◌, ◌+◌, ◌-◌, length, map, ap, ap₂, refl, rules, to_z, of_z, w32, sym, subst, OnOk, false}
-use Rattle.avc_decoder_core.proofs.Sequences.{Ok, Err, arith, Faulty, NoMemory, order_counts, CanFollow, marked_frame, padded_planes_of, MarksFrame}
-use Rattle.avc_decoder_core.proofs.Sequences.{frame_num_after_marking, marks_after, history_of, with_all_marks, IsStateAfter, output_pictures, is_ok}
+use Rattle.avc_decoder_core.proofs.Sequences.{Err, arith, Faulty, NoMemory, order_counts, CanFollow, marked_frame, padded_planes_of}
+use Rattle.avc_decoder_core.proofs.Sequences.{frame_num_after_marking, history_of, with_all_marks}
 use Rattle.avc_decoder_core.proofs.Sequences.{Entry, decoded_picture, marks_of, order_or_0, pasts, picture_entry, marked_then, IsTaken, few_marked}
 use Rattle.avc_decoder_core.proofs.Sequences.{refused, taken, frame_made, picture_arrival, picture_arrives, picture_previous}
 use Rattle.avc_marking.specs.Frames.{marking_entry}
@@ -24,9 +24,7 @@ returns-in_err-mark-clause-err c =
     let idx = i.max_long_term_frame_idx in
     let new_idx = c.mark.new.max_long_term_frame_idx in
     let f = c.in_err-mark.field-0.0 in
-    let marks =
-    subst (λ n. MarksFrame (λ entry. marks_after (marking_entry n header.marking) entry header.marking) old idx (Err f) new new_idx)
-    c.new_frame-new.ensures c.in_err-mark.ensures.marks in
+    let marks = rw (c.new_frame-new.ensures) at c.in_err-mark.ensures.marks in
     let then = marked_then e h i.dpb idx i.prev_ref_frame_num (c.self.invariant on) old new (Err f) new_idx
     (c.marked_frames-marked.ensures ∙ ap (map marked_frame) c.frames.ensures) marks in
     let is : c.from_residual.result ≡ Err (Faulty f) = search rules in
@@ -65,9 +63,7 @@ stored c =
     let new = c.mark.new.frames.items in
     let idx = i.max_long_term_frame_idx in
     let new_idx = c.mark.new.max_long_term_frame_idx in
-    let marks =
-    subst (λ n. MarksFrame (λ entry. marks_after (marking_entry n header.marking) entry header.marking) old idx (Ok tt) new new_idx)
-    c.new_frame-new.ensures c.in_ok-mark.ensures.marks in
+    let marks = rw (c.new_frame-new.ensures) at c.in_ok-mark.ensures.marks in
     let number : c.frame_num_after_marking-frame_num.result ≡ frame_num_after_marking (picture_entry sps header) =
     c.frame_num_after_marking-frame_num.ensures
     ∙ ap (λ n. frame_num_after_marking (marking_entry n header.marking)) c.new_frame-new.ensures in
@@ -102,22 +98,14 @@ stored c =
 
 pub invariant_of-self-2 : goal.invariant_of-self-2
 invariant_of-self-2 c = λ going.
-    let s = stored c in
-    subst (λ h. IsStateAfter h c.store.new.self c.mark.new.max_long_term_frame_idx c.prev_ref_frame_num_after-self-inside.result)
-    (sym s.history) (s.taken).state
+    rw ((stored c).history) ((stored c).taken).state
 
 pub returns-clause-ok : goal.returns-clause-ok
 returns-clause-ok c =
     let s = stored c in
-    let e = entry c in
-    let now = c.args.self.now in
-    let before : history_of c.self.inside.history.items ≡ now.history = ap (λ v. v.history) c.self.view_is in
-    let output : c.self.inside.dpb.output ≡ now.output = ap (λ v. v.output) c.self.view_is in
-    record {
-      going = c.requires.going;
-      state =
-          ap₂ (λ h o. record { history = h; frames = (c.store.new.self).frames; output = o; failed = false })
-          (s.history ∙ ap (λ h. e ∷ h) before) ((s.taken).kept ∙ output);
-      marked = ap (λ h. is_ok (marks_of (e ∷ h))) (sym before) ∙ (s.taken).ok;
-      pictures = c.in_ok-out.ensures ∙ (s.taken).pictures ∙ ap₂ (λ o h. output_pictures o h (e ∷ h)) output before;
-    }
+    rw (← c.self.view_is) (record {
+      going = ap (λ v. v.failed) c.self.view_is ∙ c.requires.going;
+      state = ap₂ (λ h o. record { history = h; frames = (c.store.new.self).frames; output = o; failed = false }) s.history (s.taken).kept;
+      marked = (s.taken).ok;
+      pictures = c.in_ok-out.ensures ∙ (s.taken).pictures;
+    })

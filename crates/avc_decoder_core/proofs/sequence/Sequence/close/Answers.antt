@@ -1,6 +1,6 @@
-use Rattle.avc_decoder_core.proofs.Sequences.{◌≡◌, ◌∷◌, ◌∙◌, ap, ap₂, sym, subst, false, Err, None, Some, Option, List, to_z, of_z, w32, rules, option_map}
-use Rattle.avc_decoder_core.proofs.Sequences.{PictureError, Faulty, Output, padded_planes_of, order_count_state, HistoryEntry, OpenPicture, Inside, history_of}
-use Rattle.avc_decoder_core.proofs.Sequences.{FrameBufferState, Refuses, output_at_closing, SequenceState, OpenPictureStart, History, decoded_picture, marks_of}
+use Rattle.avc_decoder_core.proofs.Sequences.{◌≡◌, ◌∙◌, ap, ap₂, sym, subst, false, Err, None, Some, Option, List, to_z, of_z, w32, rules, option_map}
+use Rattle.avc_decoder_core.proofs.Sequences.{Output, padded_planes_of, order_count_state, HistoryEntry, OpenPicture, Inside, history_of}
+use Rattle.avc_decoder_core.proofs.Sequences.{FrameBufferState, output_at_closing, SequenceState, OpenPictureStart, History, marks_of}
 use Rattle.avc_decoder_core.proofs.Sequences.{pasts, sequence_sps, with_picture, IsSequenceState, IsStateOf, open_picture_of, IsRefusedOn, IsStoredOn}
 use Rattle.avc_decoder_core.proofs.Sequences.{can_store, closing_refused, current_is, is_closed, open_is, refused_on, set_then, stored_on, unchanged}
 use Rattle.avc_decoder_core.proofs.sequence.Sequence.close.Goals as goal
@@ -28,10 +28,7 @@ store_picture-requires c =
     }
 
 stored : (c : goal.After-self-in-Ok-2-1) → IsStoredOn c.in-Some.open_picture.sps c.in-Some.open_picture.header (padded_planes_of c.args.planes) c.self.inside.buffer c.in_ok-out-in-Ok.out.items c.store_picture.new.self
-stored c =
-    let p = c.in-Some.open_picture in
-    stored_on p.sps p.header (padded_planes_of c.args.planes) c.self.inside.buffer c.begin_sequence.new.self c.store_picture.new.self c.in_ok-prior.prior.items c.in-Ok.more.items c.in_ok-out-in-Ok.out.items
-    c.in_ok-prior.ensures.ok c.in-Ok.ensures.ok c.in_ok-out-in-Ok.ensures
+stored c = stored_on _ _ _ _ _ _ _ _ _ c.in_ok-prior.ensures.ok c.in-Ok.ensures.ok c.in_ok-out-in-Ok.ensures
 
 pub invariant_of-self-in-Ok : goal.invariant_of-self-in-Ok
 invariant_of-self-in-Ok c = λ going.
@@ -72,22 +69,15 @@ returns-in-Ok-clause-ok c o told =
 
 not_stored : (c : goal.After-drop-prior) → IsRefusedOn c.in-Some.open_picture.sps c.in-Some.open_picture.header (padded_planes_of c.args.planes) c.self.inside.buffer c.in-Err-Fault.fault c.store_picture.new.self
 not_stored c =
-    let s = c.self.inside in
     let p = c.in-Some.open_picture in
-    let planes = padded_planes_of c.args.planes in
-    let there = c.begin_sequence.new.self in
-    let state = kept s p c.self.invariant c.if-self.false (sym c.take.ensures.value ∙ c.in-Some.is) in
-    let refuses : Refuses there (marks_of (decoded_picture p.sps p.header planes ∷ there.history)) (Faulty c.in-Err-Fault.fault) c.store_picture.new.self =
-    subst (λ (e : PictureError). Refuses there (marks_of (decoded_picture p.sps p.header planes ∷ there.history)) e c.store_picture.new.self) c.in-Err-Fault.field-0-is c.in-Err-Fault.ensures.err in
-    refused_on p.sps p.header planes s.buffer there c.store_picture.new.self c.in_ok-prior.prior.items c.in-Err-Fault.fault (state.stands.follows).idr c.in_ok-prior.ensures.ok refuses.1 refuses.2
+    let state = kept c.self.inside p c.self.invariant c.if-self.false (sym c.take.ensures.value ∙ c.in-Some.is) in
+    let refuses = rw (c.in-Err-Fault.field-0-is) at c.in-Err-Fault.ensures.err in
+    refused_on _ _ _ _ c.begin_sequence.new.self _ c.in_ok-prior.prior.items _ (state.stands.follows).idr c.in_ok-prior.ensures.ok refuses.1 refuses.2
 
 pub invariant_of-self-in-Err-Fault : goal.invariant_of-self-in-Err-Fault
 invariant_of-self-in-Err-Fault c = λ going.
-    let s = c.self.inside in
-    let p = c.in-Some.open_picture in
-    let state = kept s p c.self.invariant c.if-self.false (sym c.take.ensures.value ∙ c.in-Some.is) in
-    subst (λ items. IsStateOf (history_of items) (Some p) c.store_picture.new.self s.poc s.sps) (sym c.in-Err-Fault.ensures.kept)
-    (subst (λ b. IsStateOf (history_of s.closed.items) (Some p) b s.poc s.sps) (sym (not_stored c).same) state)
+    rw (c.in-Err-Fault.ensures.kept, (not_stored c).same)
+    (kept c.self.inside c.in-Some.open_picture c.self.invariant c.if-self.false (sym c.take.ensures.value ∙ c.in-Some.is))
 
 pub returns-in-Err-Fault-clause-err : goal.returns-in-Err-Fault-clause-err
 returns-in-Err-Fault-clause-err c o told =

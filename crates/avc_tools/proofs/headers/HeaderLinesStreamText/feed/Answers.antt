@@ -8,9 +8,4 @@ invariant_of-self-2 c =
     λ _. shown_again max_unit _ _ _ _ _ shown left c.in_ok-lines.ensures.taken c.in_ok-lines.ensures.table
 
 pub returns-clause-added : goal.returns-clause-added
-returns-clause-added c =
-    let shown = c.self.invariant c.if-self.false in
-    let left = left_by_feed c.units_stay.ensures max_unit _ _ c.args.piece.now shown.drained c.in_ok-feed.ensures.ok in
-    rw (← c.self.view_is)
-    (λ short. header_lines_added max_unit _ _ _ _ _ shown left c.in_ok-lines.ensures.taken
-    (ap (λ v. v.items) c.into_bytes.ensures.value ∙ c.in_ok-lines.ensures.text) (omega (arith, short)))
+returns-clause-added c = grind (arith, left_by_feed, header_lines_added)

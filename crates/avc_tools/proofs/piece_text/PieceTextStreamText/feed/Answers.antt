@@ -20,11 +20,7 @@ returns-clause-added c =
     (sym (feed_keeps_end _ _ c.args.piece.now fed) ∙ sym h.end_is ∙ c.if-self-2.false) c.in_ok-added.ensures.piece (omega (arith, short)))
 
 pub returns-then-self-2-clause-so_far : goal.returns-then-self-2-clause-so_far
-returns-then-self-2-clause-so_far c =
-    let h = c.self.invariant c.if-self.false in
-    rw (← c.self.view_is) (stays_by_piece _ c.args.piece.now (sym h.end_is ∙ c.if-self-2.true))
+returns-then-self-2-clause-so_far c = grind (arith, stays_by_piece)
 
 pub returns-then-self-2-clause-added : goal.returns-then-self-2-clause-added
-returns-then-self-2-clause-added c =
-    let text = piece_text c.args.self.now.number c.args.self.now.stream.bytes c.args.self.now.stream.ended in
-    λ short. sym (append-nil text) ∙ ap (λ t. text ++ t) (sym c.new.ensures.items)
+returns-then-self-2-clause-added c = grind (arith, append-nil)
