@@ -30,7 +30,7 @@ part_of_older : AddsOwnFrameAlone → (e : Entry) (older : History) (a : AreMark
 part_of_older law e older a b low =
     law (marking_entry e) (length older) a.marks b.marks (each_all (λ r. r.entry < length older) (a.marks).references low) (marked_after e older a b)
 
--- the reference frames stand at places of the history
+-- the decoding indices of the reference frames are those of entries of the history
 marked_below : AddsOwnFrameAlone → (h : History) → is_ok (marks_of h) ≡ true → (b : AreMarked h) → Each (λ r. r.entry < length h) (b.marks).references
 marked_below law [] ok b = subst (Each (λ r. r.entry < 0)) (ap or_no_references b.is) tt
 marked_below law (e ∷ older) ok b =
@@ -47,17 +47,17 @@ marked_below law (e ∷ older) ok b =
 
 -- ---- an entry adds no reference frame but its own
 
--- a place of the first frames is one of the others
-place_of_part : (place : ℕ) (new old : List Reference) → IsPartUpToMarks new old → is_entry new place ≡ true → is_entry old place ≡ true
-place_of_part place [] old part here = wrong here
-place_of_part place (r ∷ new) [] part here = absurd part
-place_of_part place (r ∷ new) (s ∷ old) (inl both) here = grind (arith, nat_tests, both, place_of_part place new old both.1)
-place_of_part place (r ∷ new) (s ∷ old) (inr part) here = grind (arith, place_of_part place (r ∷ new) old part here)
+-- a decoding index of the first frames is one of the others
+index_of_part : (index : ℕ) (new old : List Reference) → IsPartUpToMarks new old → is_entry new index ≡ true → is_entry old index ≡ true
+index_of_part index [] old part here = wrong here
+index_of_part index (r ∷ new) [] part here = absurd part
+index_of_part index (r ∷ new) (s ∷ old) (inl both) here = grind (arith, nat_tests, both, index_of_part index new old both.1)
+index_of_part index (r ∷ new) (s ∷ old) (inr part) here = grind (arith, index_of_part index (r ∷ new) old part here)
 
-own_or_other : (place : ℕ) (old : List Reference) (own : Reference) → is_entry (old ++ own ∷ []) place ≡ true →
-    (place ≡ own.entry) ⊎ (is_entry old place ≡ true)
-own_or_other place [] own here = grind (arith, nat_tests)
-own_or_other place (s ∷ old) own here = grind (arith, nat_tests, own_or_other place old own)
+own_or_other : (index : ℕ) (old : List Reference) (own : Reference) → is_entry (old ++ own ∷ []) index ≡ true →
+    (index ≡ own.entry) ⊎ (is_entry old index ≡ true)
+own_or_other index [] own here = grind (arith, nat_tests)
+own_or_other index (s ∷ old) own here = grind (arith, nat_tests, own_or_other index old own)
 
 arriving_references : (e : Entry) (older : History) → (arrival e older).references ≡ entries (references_of (e ∷ older))
 arriving_references (decoded_picture sps h planes) older = refl
@@ -67,31 +67,31 @@ references_before : (h : History) → references_after (arrivals h) ≡ entries 
 references_before [] = refl
 references_before (e ∷ older) = arriving_references e older
 
--- the places of the reference frames of a history
-abbrev is_reference_place : History → (place : ℕ) → Bool
-is_reference_place h place = is_entry (references_of h) place
+-- the decoding indices of the reference frames of a history
+abbrev is_reference_index : History → (index : ℕ) → Bool
+is_reference_index h index = is_entry (references_of h) index
 
-adds_own : AddsOwnFrameAlone → (e : Entry) (older : History) → is_ok (marks_of (e ∷ older)) ≡ true → (place : ℕ) →
-    is_reference_place (e ∷ older) place ≡ true → (place ≡ length older) ⊎ (is_reference_place older place ≡ true)
-adds_own law e older ok place here =
+adds_own : AddsOwnFrameAlone → (e : Entry) (older : History) → is_ok (marks_of (e ∷ older)) ≡ true → (index : ℕ) →
+    is_reference_index (e ∷ older) index ≡ true → (index ≡ length older) ⊎ (is_reference_index older index ≡ true)
+adds_own law e older ok index here =
     let before = marked_before e older ok in
     let a = marked older before in
     let b = marked (e ∷ older) ok in
     let own = current_frame (marking_entry e) (length older) Short in
     let part = part_of_older law e older a b (marked_below law older before a) in
-    let now : is_entry (b.marks).references place ≡ true = sym (ap (λ r. is_entry (or_no_references r) place) b.is) ∙ here in
-    subst (λ rs. (place ≡ length older) ⊎ (is_entry rs place ≡ true)) (sym (ap or_no_references a.is))
-    (own_or_other place (a.marks).references own
-    (place_of_part place (b.marks).references ((a.marks).references ++ own ∷ []) part now))
+    let now : is_entry (b.marks).references index ≡ true = sym (ap (λ r. is_entry (or_no_references r) index) b.is) ∙ here in
+    subst (λ rs. (index ≡ length older) ⊎ (is_entry rs index ≡ true)) (sym (ap or_no_references a.is))
+    (own_or_other index (a.marks).references own
+    (index_of_part index (b.marks).references ((a.marks).references ++ own ∷ []) part now))
 
-pub adds_own_place : AddsOwnFrameAlone → (e : Entry) (older : History) → is_ok (marks_of (e ∷ older)) ≡ true → (place : ℕ) →
-    list_any (λ p. p == place) (arrival e older).references ≡ true →
-    (place ≡ length (arrivals older)) ⊎ (list_any (λ p. p == place) (references_after (arrivals older)) ≡ true)
-adds_own_place law e older ok place here =
-    let now : is_reference_place (e ∷ older) place ≡ true = sym (ap (list_any (λ p. p == place)) (arriving_references e older)) ∙ here in
-    subst (λ n. (place ≡ n) ⊎ (list_any (λ p. p == place) (references_after (arrivals older)) ≡ true)) (sym (length-arrivals older))
-    (subst (λ ps. (place ≡ length older) ⊎ (list_any (λ p. p == place) ps ≡ true)) (sym (references_before older))
-    (adds_own law e older ok place now))
+pub adds_own_index : AddsOwnFrameAlone → (e : Entry) (older : History) → is_ok (marks_of (e ∷ older)) ≡ true → (index : ℕ) →
+    list_any (λ p. p == index) (arrival e older).references ≡ true →
+    (index ≡ length (arrivals older)) ⊎ (list_any (λ p. p == index) (references_after (arrivals older)) ≡ true)
+adds_own_index law e older ok index here =
+    let now : is_reference_index (e ∷ older) index ≡ true = sym (ap (list_any (λ p. p == index)) (arriving_references e older)) ∙ here in
+    subst (λ n. (index ≡ n) ⊎ (list_any (λ p. p == index) (references_after (arrivals older)) ≡ true)) (sym (length-arrivals older))
+    (subst (λ ps. (index ≡ length older) ⊎ (list_any (λ p. p == index) ps ≡ true)) (sym (references_before older))
+    (adds_own law e older ok index now))
 
 -- ---- a non-existing frame is a reference frame
 
@@ -111,7 +111,7 @@ missing_is_reference sps frame_num older ok =
     let e = missing_frame sps frame_num in
     let a = marked older (marked_before e older ok) in
     let b = marked (e ∷ older) ok in
-    subst (λ n. is_reference_place (e ∷ older) n ≡ true) (sym (length-arrivals older))
+    subst (λ n. is_reference_index (e ∷ older) n ≡ true) (sym (length-arrivals older))
     (ap (λ r. is_entry (or_no_references r) (length older)) b.is
     ∙ slid (marking_entry e) (length older) a.marks b.marks (marked_after e older a b))
 
@@ -159,17 +159,17 @@ limit_before sps h older each come = grind (arith, limit_in_sequence)
 
 -- ---- the pictures that go out late
 
-count_less : (first later place : ℕ) → first ≤ later → (ps : List ℕ) →
-    count_by (λ p. nat_le later p && nat_lt p place) ps ≤ count_by (λ p. nat_le first p && nat_lt p place) ps
-count_less first later place low [] = omega arith
-count_less first later place low (p ∷ ps) =
-    let fewer = sum_by-cons (λ p. cond (nat_le later p && nat_lt p place) 1 0) p ps in
-    let more = sum_by-cons (λ p. cond (nat_le first p && nat_lt p place) 1 0) p ps in
-    grind (arith, nat_tests, fewer, more, count_less first later place low ps)
+count_less : (first later index : ℕ) → first ≤ later → (ps : List ℕ) →
+    count_by (λ p. nat_le later p && nat_lt p index) ps ≤ count_by (λ p. nat_le first p && nat_lt p index) ps
+count_less first later index low [] = omega arith
+count_less first later index low (p ∷ ps) =
+    let fewer = sum_by-cons (λ p. cond (nat_le later p && nat_lt p index) 1 0) p ps in
+    let more = sum_by-cons (λ p. cond (nat_le first p && nat_lt p index) 1 0) p ps in
+    grind (arith, nat_tests, fewer, more, count_less first later index low ps)
 
--- from a later place on there are no more of them
-reordered_less : (first later place : ℕ) (order : List ℕ) → first ≤ later → reordered later place order ≤ reordered first place order
-reordered_less first later place order low = count_less first later place low (places_after place order)
+-- from a later decoding index on there are no more of them
+reordered_less : (first later index : ℕ) (order : List ℕ) → first ≤ later → reordered later index order ≤ reordered first index order
+reordered_less first later index order low = count_less first later index low (indices_after index order)
 
 newest_within : (order : List ℕ) (sps : Sps) (h : Header) (planes : Planes) (older : History) →
     NewestIsWithin order (decoded_picture sps h planes ∷ older) →
@@ -187,14 +187,14 @@ can_go_out_early : AddsOwnFrameAlone → (order : List ℕ) (e : Entry) (older :
     is_ok (marks_of (e ∷ older)) ≡ true → NewestIsWithin order (e ∷ older) →
     CanGoOutEarly order (arrival e older) (arrivals older)
 can_go_out_early law order (decoded_picture sps h planes) older come ok within = record {
-  references = adds_own_place law (decoded_picture sps h planes) older ok;
+  references = adds_own_index law (decoded_picture sps h planes) older ok;
   non_existing = λ missing. wrong (sym missing);
   no_limit = λ missing. wrong (sym missing);
   limit = λ _. limit_before sps h older come.1 come.0;
   within = λ _. newest_within order sps h planes older within;
 }
 can_go_out_early law order (missing_frame sps frame_num) older come ok within = record {
-  references = adds_own_place law (missing_frame sps frame_num) older ok;
+  references = adds_own_index law (missing_frame sps frame_num) older ok;
   non_existing = λ _. missing_is_reference sps frame_num older ok;
   no_limit = λ _. refl;
   limit = λ existing. wrong existing;

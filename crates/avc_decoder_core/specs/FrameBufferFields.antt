@@ -57,13 +57,13 @@ abbrev pub Each : {A : Type 0} → (A → Type 0) → List A → Type 0
 Each P [] = Unit {0}
 Each P (x ∷ xs) = P x × Each P xs
 
--- the places of the buffer's frames in the history
-abbrev pub places_in : Buffer → List ℕ
-places_in b = map (λ s. s.entry) b.frames
+-- the decoding indices of the buffer's frames in the history
+abbrev pub indices_in : Buffer → List ℕ
+indices_in b = map (λ s. s.entry) b.frames
 
--- Where the entry at the place is a picture it has the size that the parameter set gives.
-abbrev pub IsSizedAt : History → Sps → (place : ℕ) → Type 0
-IsSizedAt history sps place = IfSome (planes_in (entry_at history place)) (AreSized (width_in_mbs sps) (height_in_mbs sps))
+-- Where the entry with this decoding index is a picture it has the size that the parameter set gives.
+abbrev pub IsSizedAt : History → Sps → (index : ℕ) → Type 0
+IsSizedAt history sps index = IfSome (planes_in (entry_at history index)) (AreSized (width_in_mbs sps) (height_in_mbs sps))
 
 -- The buffer's frames that have a mark are the reference frames; there are no more than there may be, and all have one size.
 pub record IsStateAfter (history : History) (dpb : Contents) (idx : Option ℕ) (previous : ℕ) : Type 0 where
@@ -72,10 +72,10 @@ pub record IsStateAfter (history : History) (dpb : Contents) (idx : Option ℕ) 
   pub idx_is : idx ≡ marks.max_long_term_frame_idx
   pub previous_is : previous ≡ prev_ref_frame_num (marking_entries history)
   pub buffer : IsBuffer dpb (buffer_of dpb.output history) (length history) (frame_at history marks.references)
-  pub references : references_at (places_in (buffer_of dpb.output history)) (map marked_frame dpb.frames) ≡ marks.references
+  pub references : references_at (indices_in (buffer_of dpb.output history)) (map marked_frame dpb.frames) ≡ marks.references
   pub few : IfSome (sequence_sps history) (λ sps. length marks.references ≤ reference_limit sps)
   pub within : IsWithin 16 (arrivals history)
-  pub sized : IfSome (sequence_sps history) (λ sps. Each (IsSizedAt history sps) (places_in (buffer_of dpb.output history)))
+  pub sized : IfSome (sequence_sps history) (λ sps. Each (IsSizedAt history sps) (indices_in (buffer_of dpb.output history)))
 
 -- the frames and numbers that are kept are those after the history, unless memory was refused
 abbrev pub IsFrameBufferState : Inside → Type 0

@@ -13,9 +13,9 @@ use Rattle.avc_marking.specs.Marks.{frame_num_after_marking}
 use Rattle.avc_decoder_core.specs.History.{Entry, decoded_picture, missing_frame, History, entry_at, picture_entry}
 use Rattle.avc_decoder_core.specs.Pictures.{crop_of}
 
--- how the frame at a place is marked, where these are the reference frames (8.2.5)
-abbrev pub mark_in : List Reference → (place : ℕ) → Option Mark
-mark_in references place = option_map (λ r. r.mark) (find (λ r. r.entry == place) references)
+-- how the frame with this decoding index is marked, where these are the reference frames (8.2.5)
+abbrev pub mark_in : List Reference → (index : ℕ) → Option Mark
+mark_in references index = option_map (λ r. r.mark) (find (λ r. r.entry == index) references)
 
 -- planes as they are stored
 abbrev pub padded_of : Planes → PaddedPlanes 32
@@ -38,6 +38,6 @@ frame_of (Some (decoded_picture sps h planes)) mark = coded_frame sps (Some (pad
 frame_of (Some (missing_frame sps frame_num)) mark = coded_frame sps None frame_num mark
 frame_of None mark = record { planes = None; frame_num = 0; mark = mark; width = 0; height = 0; crop = crop_of None }
 
--- the frame of the entry at a place of the history, where these are the reference frames
-abbrev pub frame_at : History → List Reference → (place : ℕ) → Frame 32
-frame_at history references place = frame_of (entry_at history place) (mark_in references place)
+-- the frame of the entry with this decoding index, where these are the reference frames
+abbrev pub frame_at : History → List Reference → (index : ℕ) → Frame 32
+frame_at history references index = frame_of (entry_at history index) (mark_in references index)

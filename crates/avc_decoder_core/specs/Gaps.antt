@@ -19,19 +19,19 @@ use Rattle.avc_decoder_core.specs.History.{History, buffer_of, marks_of}
 use Rattle.avc_decoder_core.specs.Opening.{with_all_missing}
 use Rattle.avc_decoder_core.specs.Pictures.{output_pictures}
 
--- the frame for a missing number, at a place of the history (8.2.5.2)
-abbrev pub missing_reference : (frame_num place : ℕ) → Reference
-missing_reference frame_num place = record { entry = place; frame_num = frame_num; existing = false; mark = Short }
+-- the frame for a missing number, with this decoding index (8.2.5.2)
+abbrev pub missing_reference : (frame_num index : ℕ) → Reference
+missing_reference frame_num index = record { entry = index; frame_num = frame_num; existing = false; mark = Short }
 
 -- those for n missing numbers from `number` on, modulo max
-abbrev pub missing_references : (max number place n : ℕ) → List Reference
-missing_references max number place zero = []
-missing_references max number place (suc n) = missing_reference (number % max) place ∷ missing_references max (number + 1) (place + 1) n
+abbrev pub missing_references : (max number index n : ℕ) → List Reference
+missing_references max number index zero = []
+missing_references max number index (suc n) = missing_reference (number % max) index ∷ missing_references max (number + 1) (index + 1) n
 
 -- n of them in the buffer (C.4.2)
-abbrev pub stored_missing : (place n : ℕ) → List Stored
-stored_missing place zero = []
-stored_missing place (suc n) = missing_stored place ∷ stored_missing (place + 1) n
+abbrev pub stored_missing : (index n : ℕ) → List Stored
+stored_missing index zero = []
+stored_missing index (suc n) = missing_stored index ∷ stored_missing (index + 1) n
 
 -- The buffer's frames are these reference frames, and none is needed for output.
 abbrev pub AreNotNeeded : List Reference → List Stored → Type 0
@@ -40,10 +40,10 @@ AreNotNeeded [] (s ∷ frames) = ⊥
 AreNotNeeded (r ∷ rs) [] = ⊥
 AreNotNeeded (r ∷ rs) (s ∷ frames) = (s.entry ≡ r.entry) × (s.needed_for_output ≡ false) × AreNotNeeded rs frames
 
--- each stands before this place
-abbrev pub AreBefore : (place : ℕ) → List Stored → Type 0
-AreBefore place [] = Unit {0}
-AreBefore place (s ∷ frames) = (s.entry < place) × AreBefore place frames
+-- each has a lower decoding index than this
+abbrev pub AreBefore : (index : ℕ) → List Stored → Type 0
+AreBefore index [] = Unit {0}
+AreBefore index (s ∷ frames) = (s.entry < index) × AreBefore index frames
 
 -- What stays through a gap: the long-term frames and MaxLongTermFrameIdx, the buffer's frames that are needed for output or long-term, and what has
 -- gone out.
@@ -55,15 +55,15 @@ pub record Staying : Type 0 where
 
 -- Before the missing number `number` the sliding window is full, and its short-term frames, which are the last of the buffer, are not
 -- held, and have rising numbers from `low` on.
-pub record IsSettled (output : Output) (sps : Sps) (h : History) (low number place : ℕ) (stays : Staying) (shorts : List Reference)
+pub record IsSettled (output : Output) (sps : Sps) (h : History) (low number index : ℕ) (stays : Staying) (shorts : List Reference)
     (lasts : List Stored) : Type 0 where
   pub marked : marks_of h ≡ Ok (record { references = stays.longs ++ shorts; max_long_term_frame_idx = stays.max_long_term_frame_idx })
   pub buffer : buffer_of output h ≡ record { frames = stays.frames ++ lasts; out = stays.out }
-  pub window : IsFullWindow place (length h) (reference_limit sps) stays.longs shorts
+  pub window : IsFullWindow index (length h) (reference_limit sps) stays.longs shorts
   pub counts : CountFrom (max_frame_num sps) low number shorts
   pub not_needed : AreNotNeeded shorts lasts
   pub needed : needed_frames (map (λ r. r.entry) stays.longs) stays.frames ≡ stays.frames
-  pub before : AreBefore place stays.frames
+  pub before : AreBefore index stays.frames
   pub room : length stays.frames + length lasts ≤ dpb_size sps
 
 -- These numbers can be missing after the history and leave only the frames of the last of them: its window is settled, and they come
@@ -71,11 +71,11 @@ pub record IsSettled (output : Output) (sps : Sps) (h : History) (low number pla
 pub record IsLongGap (output : Output) (sps : Sps) (h : History) (numbers : List ℕ) : Type 0 where
   pub low : ℕ
   pub number : ℕ
-  pub place : ℕ
+  pub index : ℕ
   pub stays : Staying
   pub shorts : List Reference
   pub lasts : List Stored
-  pub settled : IsSettled output sps h low number place stays shorts lasts
+  pub settled : IsSettled output sps h low number index stays shorts lasts
   pub some_short : 0 < length shorts
   pub few_shorts : length shorts ≤ 16
   pub numbers_are : numbers ≡ frame_nums_from (max_frame_num sps) number (length numbers)

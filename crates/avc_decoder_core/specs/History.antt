@@ -1,5 +1,5 @@
 -- The history of a coded video sequence, and what decoding one more picture starts from. A history is written with its
--- newest entry first; an entry's place is the number of those before it.
+-- newest entry first; an entry's decoding index is the number of those before it.
 use Rattle.std.specs.Prelude.{ℕ, zero, suc, ◌-◌, ℤ, pos, Bool, true, false, if◌then◌else◌, List, [], ◌∷◌, length, map, drop, Option, Some, None, slice_get, Result, Ok, Err}
 use Rattle.std.specs.Option.{option_map}
 use Rattle.avc_types.specs.declared.current_frame_num.CurrentFrameNum.{CurrentFrameNum}
@@ -128,19 +128,19 @@ arrivals (e ∷ older) = arrival e older ∷ arrivals older
 abbrev pub buffer_of : Output → History → Buffer
 buffer_of output h = buffer_after output (arrivals h)
 
--- the places of the pictures that go out where history `old` has become `new` (C.4.5.3)
+-- the decoding indices of the pictures that go out where history `old` has become `new` (C.4.5.3)
 abbrev pub new_output : Output → (old new : History) → List ℕ
 new_output output old new = drop (length (buffer_of output old).out) (buffer_of output new).out
 
--- the places of the pictures that are needed for output, in the order in which they go out (C.4.5.3)
+-- the decoding indices of the pictures that are needed for output, in the order in which they go out (C.4.5.3)
 abbrev pub all_held : Output → History → List ℕ
 all_held output h = map (λ s. s.entry) (needed_in_output_order (buffer_of output h).frames)
 
--- ---- entries by their places (this decoder's form of the buffer's frames)
+-- ---- entries by their decoding indices (this decoder's form of the buffer's frames)
 
--- the entry at a place, if there is one
-abbrev pub entry_at : History → (place : ℕ) → Option Entry
-entry_at h place = elim (length h - place) [ zero ↦ None | suc n ↦ slice_get h n ]
+-- the entry with this decoding index, if there is one
+abbrev pub entry_at : History → (index : ℕ) → Option Entry
+entry_at h index = elim (length h - index) [ zero ↦ None | suc n ↦ slice_get h n ]
 
 -- the planes of an entry; a missing frame number has none
 abbrev pub planes_in : Option Entry → Option Planes

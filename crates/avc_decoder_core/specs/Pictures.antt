@@ -41,9 +41,9 @@ entry_pictures (Some (decoded_picture sps h planes)) = picture_of sps planes ∷
 entry_pictures (Some (missing_frame sps frame_num)) = []
 entry_pictures None = []
 
--- the pictures at these places of the history
+-- the pictures with these decoding indices of the history
 abbrev pub pictures_at : History → List ℕ → List Picture
-pictures_at h places = flat_map (λ place. entry_pictures (entry_at h place)) places
+pictures_at h indices = flat_map (λ index. entry_pictures (entry_at h index)) indices
 
 -- what goes out where `old` has become `new` (C.4.5.3)
 abbrev pub output_pictures : Output → (old new : History) → List Picture

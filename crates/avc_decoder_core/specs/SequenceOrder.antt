@@ -9,7 +9,7 @@ use Rattle.avc_slice.specs.Header.{is_idr, has_idr_marking}
 use Rattle.avc_slice.specs.declared.header.Header.{Header}
 use Rattle.avc_decoder_core.specs.History.{decoded_picture, missing_frame, History, arrivals, is_same_sps, marks_of, reorder_limit, sequence_sps}
 
--- the places of all pictures of a history, in the order in which they go out in the end (C.4)
+-- the decoding indices of all pictures of a history, in the order in which they go out in the end (C.4)
 abbrev pub output_order : Output → History → List ℕ
 output_order output h = whole_output output (arrivals h)
 

@@ -75,7 +75,7 @@ pub record IsCleared (old : SequenceState) (out : List Picture) (new : SequenceS
 abbrev pub HoldsPictures : SequenceState → Type 0
 HoldsPictures s = held_pictures s.output (current_history s) ≢ []
 
--- The frames of the buffer are those of some places of the history, and those that are used for reference are the history's.
+-- The frames of the buffer are those of some entries of the history, and those that are used for reference are the history's.
 pub record AreStoredIn {PAD : ℕ} (history : History) (frames : List (Frame PAD)) : Type 0 where
   pub entries : List ℕ
   pub stand : StandAt entries (map marked_frame frames)

@@ -18,7 +18,7 @@ pub record Contents : Type 0 where
   pub output : Output
   pub failed : Bool
 
--- Later frames have later places in the history, and all stand before the next entry's place.
+-- Later frames have later decoding indices, and all are below that of the next entry.
 abbrev pub IsRising : List Stored → (next : ℕ) → Type 0
 IsRising [] next = Unit {0}
 IsRising (s ∷ []) next = s.entry < next
@@ -28,7 +28,7 @@ IsRising (s ∷ t ∷ frames) next = (s.entry < t.entry) × IsRising (t ∷ fram
 abbrev pub slot_of : Stored → Slot
 slot_of s = record { pic_order_cnt = s.pic_order_cnt; needed_for_output = s.needed_for_output }
 
--- The contents stand for the buffer b before the history's entry at the place `next`: they have its frames with their order counts, and
+-- The contents stand for the buffer b before the history's entry whose decoding index is `next`: they have its frames with their order counts, and
 -- know which are needed for output. `frame_of` is the frame of each entry.
 pub record IsBuffer (c : Contents) (b : Buffer) (next : ℕ) (frame_of : ℕ → Frame 32) : Type 0 where
   pub works : c.failed ≡ false
@@ -40,7 +40,7 @@ pub record IsBuffer (c : Contents) (b : Buffer) (next : ℕ) (frame_of : ℕ →
 abbrev pub AreReferences : List (Frame 32) → List ℕ → Buffer → Type 0
 AreReferences frames references b = map is_used_for_reference frames ≡ map (is_reference_in references) b.frames
 
--- An arriving frame as an entry of the history, with the places of the reference frames once it is marked. What becomes of the pictures
+-- An arriving frame as an entry of the history, with the decoding indices of the reference frames once it is marked. What becomes of the pictures
 -- before it is asked for by other calls.
 abbrev pub arrival_of : ArrivingFrame → (references : List ℕ) → Arrival
 arrival_of a references = record {

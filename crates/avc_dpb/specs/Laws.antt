@@ -9,8 +9,8 @@ use Rattle.avc_dpb.specs.Contents.{IsRising}
 
 -- It is one of these frames, it is needed for output, and no frame needed for output has a smaller order count; of equals it was decoded first.
 pub record IsNextOutput (frames : List Stored) (s : Stored) : Type 0 where
-  pub place : ℕ
-  pub among : slice_get frames place ≡ Some s
+  pub index : ℕ
+  pub among : slice_get frames index ≡ Some s
   pub needed_for_output : s.needed_for_output ≡ true
   pub least : (k : ℕ) (t : Stored) → slice_get frames k ≡ Some t → t.needed_for_output ≡ true → s.pic_order_cnt ≤ℤ t.pic_order_cnt
   pub first : (k : ℕ) (t : Stored) → slice_get frames k ≡ Some t → t.needed_for_output ≡ true → t.pic_order_cnt ≡ s.pic_order_cnt → s.entry ≤ t.entry
@@ -64,24 +64,24 @@ IsWithin most (a ∷ older) = (a.capacity ≤ most) × IsWithin most older
 abbrev pub HoldsAtMost : Type 0
 HoldsAtMost = (output : Output) (most : ℕ) (history : List Arrival) → IsWithin most history → length (buffer_after output history).frames ≤ most
 
--- how often a place stands among these
-abbrev pub occurrences : (place : ℕ) → List ℕ → ℕ
-occurrences place [] = 0
-occurrences place (n ∷ places) = (if n == place then 1 else 0) + occurrences place places
+-- how often a decoding index stands among these
+abbrev pub occurrences : (index : ℕ) → List ℕ → ℕ
+occurrences index [] = 0
+occurrences index (n ∷ indices) = (if n == index then 1 else 0) + occurrences index indices
 
--- the places of all pictures: of all entries but the non-existing frames
+-- the decoding indices of all pictures: of all entries but the non-existing frames
 abbrev pub pictures : List Arrival → List ℕ
 pictures [] = []
 pictures (a ∷ older) = pictures older ++ (if a.existing then length older ∷ [] else [])
 
 -- Each picture goes out once in the end, and nothing else goes out.
 abbrev pub GoesOutOnce : Type 0
-GoesOutOnce = (output : Output) (history : List Arrival) (place : ℕ)
-    → occurrences place (with_all_output (buffer_after output history)).out ≡ occurrences place (pictures history)
+GoesOutOnce = (output : Output) (history : List Arrival) (index : ℕ)
+    → occurrences index (with_all_output (buffer_after output history)).out ≡ occurrences index (pictures history)
 
 -- ---- the frames that stay
 
--- the places of the pictures needed for output, in the order in which they go out
+-- the decoding indices of the pictures needed for output, in the order in which they go out
 abbrev pub needed_in_order : Buffer → List ℕ
 needed_in_order b = map (λ s. s.entry) (needed_in_output_order b.frames)
 
@@ -91,9 +91,9 @@ MissingFramesKeepTheOrder = (output : Output) (entry : ℕ) (a : Arrival) (b : B
     → IsRising b.frames entry → a.existing ≡ false → a.prior_pictures ≡ remain
     → needed_in_order b ≡ new_output b (after_entry output entry a b) ++ needed_in_order (after_entry output entry a b)
 
--- the places of the frames in the buffer that are among these reference frames
-abbrev pub places_of_references : (references : List ℕ) → Buffer → List ℕ
-places_of_references references b = map (λ s. s.entry) (filter (is_reference_in references) b.frames)
+-- the decoding indices of the frames in the buffer that are among these reference frames
+abbrev pub indices_of_references : (references : List ℕ) → Buffer → List ℕ
+indices_of_references references b = map (λ s. s.entry) (filter (is_reference_in references) b.frames)
 
 -- The arriving frame is stored where bumping makes room for it, and the reference frames beside it leave room for one more.
 pub record HasRoom (a : Arrival) (b : Buffer) : Type 0 where
@@ -104,12 +104,12 @@ pub record HasRoom (a : Arrival) (b : Buffer) : Type 0 where
 abbrev pub ReferencesStay : Type 0
 ReferencesStay = (output : Output) (entry : ℕ) (a : Arrival) (b : Buffer)
     → IsRising b.frames entry → (list_any (λ r. r == entry) a.references ≡ true → HasRoom a b)
-    → places_of_references a.references (after_frame output entry a b)
-    ≡ places_of_references a.references b ++ (if list_any (λ r. r == entry) a.references then entry ∷ [] else [])
+    → indices_of_references a.references (after_frame output entry a b)
+    ≡ indices_of_references a.references b ++ (if list_any (λ r. r == entry) a.references then entry ∷ [] else [])
 
 -- ---- missing frame numbers
 
--- a non-existing frame, with the places of the reference frames once it is marked (8.2.5.2)
+-- a non-existing frame, with the decoding indices of the reference frames once it is marked (8.2.5.2)
 abbrev pub missing_arrival : (capacity : ℕ) → (references : List ℕ) → Arrival
 missing_arrival capacity references = record {
   pic_order_cnt = pos 0;

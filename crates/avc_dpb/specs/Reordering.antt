@@ -7,23 +7,23 @@ use Rattle.avc_dpb.specs.Bumping.{remain, are_output, Arrival, with_all_output, 
 
 -- ---- max_num_reorder_frames (E.2.1)
 
--- the places of all pictures of a history, in the order in which they go out in the end (C.4)
+-- the decoding indices of all pictures of a history, in the order in which they go out in the end (C.4)
 abbrev pub whole_output : Output → List Arrival → List ℕ
 whole_output output history = (with_all_output (buffer_after output history)).out
 
 -- those that stand after this one
-abbrev pub places_after : (place : ℕ) → List ℕ → List ℕ
-places_after place [] = []
-places_after place (p ∷ places) = if p == place then places else places_after place places
+abbrev pub indices_after : (index : ℕ) → List ℕ → List ℕ
+indices_after index [] = []
+indices_after index (p ∷ indices) = if p == index then indices else indices_after index indices
 
--- How many pictures from the place `first` on are decoded before the one at a place and go out after it, where they go out in this
+-- How many pictures from the decoding index `first` on are decoded before the one at `index` and go out after it, where they go out in this
 -- order (E.2.1).
-abbrev pub reordered : (first place : ℕ) → (order : List ℕ) → ℕ
-reordered first place order = count_by (λ p. nat_le first p && nat_lt p place) (places_after place order)
+abbrev pub reordered : (first index : ℕ) → (order : List ℕ) → ℕ
+reordered first index order = count_by (λ p. nat_le first p && nat_lt p index) (indices_after index order)
 
 -- ---- early output
 
--- the place of the last entry with which the pictures before went out (C.4.4)
+-- the decoding index of the last entry with which the pictures before went out (C.4.4)
 abbrev pub last_emptying : List Arrival → ℕ
 last_emptying [] = 0
 last_emptying (a ∷ older) = elim a.prior_pictures [ remain ↦ last_emptying older | are_output ↦ length older ]

@@ -153,7 +153,7 @@ with_long_term_current s index entry references =
     without_long_term_frame_idx index references ++ long_term_current s entry index ∷ []
 
 -- One memory_management_control_operation (8.2.5.4, Table 7-9): s is the picture's own entry, `entry` its
--- place in the history. 5 (UnmarkAll) leaves no frame and no long-term indices (8.2.5.4.5).
+-- decoding index. 5 (UnmarkAll) leaves no frame and no long-term indices (8.2.5.4.5).
 abbrev pub after_operation : MarkingEntry → (entry : ℕ) → OperationState → Operation → Result OperationState Fault
 after_operation s entry t (UnmarkShortTerm d) = with_references t (without_short_term s d t.references)
 after_operation s entry t (UnmarkLongTerm index) = with_references t (without_long_term index t.references)
@@ -245,8 +245,8 @@ marks_after s entry (Some SlidingWindow) m =
     >>= λ references. Ok (record m { references = references ++ current_frame s entry Short ∷ [] })
 marks_after s entry (Some (Adaptive operations)) m = after_adaptive_marking s entry m operations
 
--- The marks that a history leaves, or the first fault. An entry's place is the number of
--- those before it (8.2.5.1).
+-- The marks that a history leaves, or the first fault. An entry's decoding index is the
+-- number of those before it (8.2.5.1).
 abbrev pub marks : List MarkingEntry → Result Marks Fault
 marks [] = Ok no_marks
 marks (s ∷ older) = marks older >>= λ m. marks_after s (length older) s.marking m

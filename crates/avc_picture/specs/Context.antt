@@ -18,11 +18,11 @@ use Rattle.avc_picture.specs.FirstMbs.{IsSlice}
 use Rattle.avc_picture.specs.Slices.{PictureStart, deblocking_of, info_of, list_of}
 use Rattle.avc_picture.specs.declared.slice_context.SliceContext.{SliceContext}
 
--- what a picture is decoded with, where its frames are those of these places in the history
+-- what a picture is decoded with, where its frames have these decoding indices
 abbrev pub picture_start : {PAD : ℕ} → Sps → Pps → (entries : List ℕ) → List (Frame PAD) → PictureStart
 picture_start sps pps entries frames = record { sps = sps; pps = pps; frames = stored_at entries frames }
 
--- the frames can be those of these places in the history
+-- the frames can have these decoding indices
 abbrev pub FramesStandAt : {PAD : ℕ} → (entries : List ℕ) → List (Frame PAD) → Type 0
 FramesStandAt entries frames = StandAt entries (map marked_frame frames)
 

@@ -34,11 +34,11 @@ with_slice_more s d = record d { slices = s ∷ d.slices }
 abbrev pub AreFramesOf : {PAD : ℕ} → Sps → List (Frame PAD) → Type 0
 AreFramesOf sps frames = AreFrames (width_in_mbs sps) (height_in_mbs sps) frames
 
--- the frames can be those of these places in the history
+-- the frames can have these decoding indices
 abbrev pub CanStandAt : {PAD : ℕ} → List ℕ → Decoding PAD → Type 0
 CanStandAt entries d = StandAt entries (map marked_frame d.frames)
 
--- what the slices are decoded with, where the frames are those of these places
+-- what the slices are decoded with, where the frames have these decoding indices
 abbrev pub start_at : {PAD : ℕ} → List ℕ → Decoding PAD → PictureStart
 start_at entries d = record { sps = d.sps; pps = d.pps; frames = stored_at entries d.frames }
 

@@ -24,7 +24,7 @@ marked_frame f = record { frame_num = f.frame_num; existing = is_some f.planes; 
 abbrev pub stored_frame : {PAD : ℕ} → (entry : ℕ) → Frame PAD → StoredFrame
 stored_frame entry f = record { reference = reference_of entry (marked_frame f); planes = option_map padded_planes_of f.planes }
 
--- Of frames in decoding order, which are those of these places in the history, the ones that are used for reference.
+-- Of frames in decoding order, which have these decoding indices, the ones that are used for reference.
 abbrev pub stored_at : {PAD : ℕ} → (entries : List ℕ) → List (Frame PAD) → List StoredFrame
 stored_at [] frames = []
 stored_at (e ∷ entries) [] = []

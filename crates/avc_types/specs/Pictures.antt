@@ -11,7 +11,7 @@ Samples = (c x y : ℕ) → ℕ
 -- A frame that an inter prediction can name (8.4.2.1). Two frames are one picture
 -- where their entries are equal.
 pub record Frame : Type 0 where
-  -- its place in the history
+  -- its decoding index in the history
   pub entry : ℕ
   -- no for a non-existing frame, which has no samples
   pub existing : Bool

@@ -66,9 +66,9 @@ same_set sps numbers history full e = ap sequence_sps (is_with_all sps numbers h
 
 -- ---- once the first can be marked, all can (8.2.5.3)
 
-window_again : (s s' : MarkingEntry) (place place' : ℕ) (r : Result Marks Fault) → is_ok (r >>= marks_after s place (Some SlidingWindow)) ≡ true →
-    is_ok (r >>= marks_after s place (Some SlidingWindow) >>= marks_after s' place' (Some SlidingWindow)) ≡ true
-window_again s s' place place' r e = grind (arith, slides_again)
+window_again : (s s' : MarkingEntry) (index index' : ℕ) (r : Result Marks Fault) → is_ok (r >>= marks_after s index (Some SlidingWindow)) ≡ true →
+    is_ok (r >>= marks_after s index (Some SlidingWindow) >>= marks_after s' index' (Some SlidingWindow)) ≡ true
+window_again s s' index index' r e = grind (arith, slides_again)
 
 next_marked : (sps : Sps) (n k : ℕ) (history : History) → is_ok (marks_of (missing_frame sps n ∷ history)) ≡ true
     → is_ok (marks_of (missing_frame sps k ∷ missing_frame sps n ∷ history)) ≡ true
@@ -307,7 +307,7 @@ needed_longer output sps n history =
     missing_frames_keep_the_order output (length (arrivals history)) (arrival e history) (buffer_of output history) (stands_in_decoding_order output (arrivals history)) refl refl in
     sym (pictures_stay e history (all_held output history) (needed_below output history))
     ∙ ap (pictures_at (e ∷ history)) order
-    ∙ flat_map-append (λ place. entry_pictures (entry_at (e ∷ history) place)) (new_output output history (e ∷ history)) (all_held output (e ∷ history))
+    ∙ flat_map-append (λ index. entry_pictures (entry_at (e ∷ history) index)) (new_output output history (e ∷ history)) (all_held output (e ∷ history))
 
 needed_along : (output : Output) (sps : Sps) (numbers : List ℕ) (old history full : History) → Extends output old history
     → held_pictures output old ≡ output_pictures output old history ++ held_pictures output history → with_missing sps numbers history ≡ Ok full
@@ -334,16 +334,16 @@ below_all : (low next p : ℕ) (rs : List Reference) → p < low → StandFrom l
 below_all low next p [] before h = refl
 below_all low next p (r ∷ rs) before h = grind (arith, nat_tests, below_all (r.entry + 1) next p rs (omega arith) h.1)
 
-above_all : (place p : ℕ) (rs : List Reference) → place ≤ p → StandBelow place rs → is_entry rs p ≡ false
-above_all place p [] low h = refl
-above_all place p (r ∷ rs) low h = grind (arith, nat_tests, above_all place p rs low h.1)
+above_all : (index p : ℕ) (rs : List Reference) → index ≤ p → StandBelow index rs → is_entry rs p ≡ false
+above_all index p [] low h = refl
+above_all index p (r ∷ rs) low h = grind (arith, nat_tests, above_all index p rs low h.1)
 
 -- ---- frames that stay, and frames that leave
 
-stays_below : (place : ℕ) (rs all : List Reference) (frames : List Stored) → ((p : ℕ) → p < place → is_entry all p ≡ is_entry rs p) → AreBefore place frames →
+stays_below : (index : ℕ) (rs all : List Reference) (frames : List Stored) → ((p : ℕ) → p < index → is_entry all p ≡ is_entry rs p) → AreBefore index frames →
     needed_frames (entries all) frames ≡ needed_frames (entries rs) frames
-stays_below place rs all [] same h = refl
-stays_below place rs all (s ∷ frames) same h = grind (arith, same s.entry h.0, stays_below place rs all frames same h.1)
+stays_below index rs all [] same h = refl
+stays_below index rs all (s ∷ frames) same h = grind (arith, same s.entry h.0, stays_below index rs all frames same h.1)
 
 -- the frames of reference frames are among them
 lasts_stay : (all rs : List Reference) (frames : List Stored) → ((p : ℕ) → is_entry rs p ≡ true → is_entry all p ≡ true) → AreNotNeeded rs frames →
@@ -362,26 +362,26 @@ stand_on : (low lower next number : ℕ) (rs : List Reference) → lower ≤ low
 stand_on low lower next number [] less h = omega arith
 stand_on low lower next number (r ∷ rs) less h = grind (arith, stand_on (r.entry + 1) (r.entry + 1) next number rs (omega arith) h.1)
 
-count_on : (max low lower number place : ℕ) (rs : List Reference) → lower ≤ low → CountFrom max low number rs →
-    CountFrom max lower (number + 1) (rs ++ missing_reference (number % max) place ∷ [])
-count_on max low lower number place [] less h = (number, (omega (arith, less, h), record { frame_num = refl; short = refl }, omega arith))
-count_on max low lower number place (r ∷ rs) less h =
-    (h.0, (omega (arith, less, (h.1).0), (h.1).1, count_on max (h.0 + 1) (h.0 + 1) number place rs (omega arith) (h.1).2))
+count_on : (max low lower number index : ℕ) (rs : List Reference) → lower ≤ low → CountFrom max low number rs →
+    CountFrom max lower (number + 1) (rs ++ missing_reference (number % max) index ∷ [])
+count_on max low lower number index [] less h = (number, (omega (arith, less, h), record { frame_num = refl; short = refl }, omega arith))
+count_on max low lower number index (r ∷ rs) less h =
+    (h.0, (omega (arith, less, (h.1).0), (h.1).1, count_on max (h.0 + 1) (h.0 + 1) number index rs (omega arith) (h.1).2))
 
-not_needed_on : (number place : ℕ) (rs : List Reference) (frames : List Stored) → AreNotNeeded rs frames →
-    AreNotNeeded (rs ++ missing_reference number place ∷ []) (frames ++ missing_stored place ∷ [])
-not_needed_on number place [] [] h = (refl, refl, tt)
-not_needed_on number place [] (s ∷ frames) h = absurd h
-not_needed_on number place (r ∷ rs) [] h = absurd h
-not_needed_on number place (r ∷ rs) (s ∷ frames) h = (h.0, h.1, not_needed_on number place rs frames h.2)
+not_needed_on : (number index : ℕ) (rs : List Reference) (frames : List Stored) → AreNotNeeded rs frames →
+    AreNotNeeded (rs ++ missing_reference number index ∷ []) (frames ++ missing_stored index ∷ [])
+not_needed_on number index [] [] h = (refl, refl, tt)
+not_needed_on number index [] (s ∷ frames) h = absurd h
+not_needed_on number index (r ∷ rs) [] h = absurd h
+not_needed_on number index (r ∷ rs) (s ∷ frames) h = (h.0, h.1, not_needed_on number index rs frames h.2)
 
 -- ---- one missing number
 
-pub settled_once : (output : Output) (sps : Sps) (h : History) (low number place : ℕ) (stays : Staying) (r : Reference) (rs : List Reference) (s : Stored) (ss : List Stored) →
-    IsSettled output sps h low number place stays (r ∷ rs) (s ∷ ss) → number < low + max_frame_num sps →
-    IsSettled output sps (missing_frame sps (number % max_frame_num sps) ∷ h) low (number + 1) place stays
+pub settled_once : (output : Output) (sps : Sps) (h : History) (low number index : ℕ) (stays : Staying) (r : Reference) (rs : List Reference) (s : Stored) (ss : List Stored) →
+    IsSettled output sps h low number index stays (r ∷ rs) (s ∷ ss) → number < low + max_frame_num sps →
+    IsSettled output sps (missing_frame sps (number % max_frame_num sps) ∷ h) low (number + 1) index stays
     (rs ++ missing_reference (number % max_frame_num sps) (length h) ∷ []) (ss ++ missing_stored (length h) ∷ [])
-settled_once output sps h low number place stays r rs s ss settled near = record {
+settled_once output sps h low number index stays r rs s ss settled near = record {
   marked = marked;
   buffer = buffer;
   window = record {
@@ -421,8 +421,8 @@ settled_once output sps h low number place stays r rs s ss settled near = record
     room : length stays.frames + length (ss ++ missing_stored n ∷ []) ≤ dpb_size sps
     room = let l = length-append ss (missing_stored n ∷ []) in omega (arith, settled.room, l)
 
-    behind : StandFrom place (suc n) (rs ++ new ∷ [])
-    behind = stand_on (r.entry + 1) place n (number % max) rs (let p = ((settled.window).places).0 in omega (arith, p)) ((settled.window).places).1
+    behind : StandFrom index (suc n) (rs ++ new ∷ [])
+    behind = stand_on (r.entry + 1) index n (number % max) rs (let p = ((settled.window).places).0 in omega (arith, p)) ((settled.window).places).1
 
     behind_first : StandFrom (r.entry + 1) (suc n) (rs ++ new ∷ [])
     behind_first = stand_on (r.entry + 1) (r.entry + 1) n (number % max) rs (omega arith) ((settled.window).places).1
@@ -433,7 +433,7 @@ settled_once output sps h low number place stays r rs s ss settled near = record
     marked : marks_of (e ∷ h) ≡ Ok (record { references = all; max_long_term_frame_idx = stays.max_long_term_frame_idx })
     marked =
         marks_then e h m settled.marked
-        ∙ window_takes_the_first (marking_entry e) n max low number place stays.longs rs r m refl settled.window settled.counts near refl
+        ∙ window_takes_the_first (marking_entry e) n max low number index stays.longs rs r m refl settled.window settled.counts near refl
         ∙ ap (λ l. Ok (record { references = l; max_long_term_frame_idx = stays.max_long_term_frame_idx })) (append_assoc stays.longs rs (new ∷ []))
 
     -- the first short-term frame leaves the buffer, and all others stay
@@ -441,8 +441,8 @@ settled_once output sps h low number place stays r rs s ss settled near = record
     stay =
         let among : (p : ℕ) → is_entry all p ≡ (is_entry stays.longs p || (is_entry rs p || (n == p))) = λ p. grind (arith, is_entry-append) in
         let first = below_all (r.entry + 1) (suc n) r.entry (rs ++ new ∷ []) (omega arith) behind_first in
-        let long = above_all place r.entry stays.longs ((settled.window).places).0 (settled.window).longs_before in
-        let before = stays_below place stays.longs all stays.frames (λ p low. let none = below_all place (suc n) p (rs ++ new ∷ []) low behind in grind (arith, is_entry-append, none)) settled.before in
+        let long = above_all index r.entry stays.longs ((settled.window).places).0 (settled.window).longs_before in
+        let before = stays_below index stays.longs all stays.frames (λ p low. let none = below_all index (suc n) p (rs ++ new ∷ []) low behind in grind (arith, is_entry-append, none)) settled.before in
         let rest = lasts_stay all rs ss (λ p here. let there = among p in grind (arith, there)) (settled.not_needed).2 in
         let gone : is_entry all r.entry ≡ false = is_entry-append stays.longs (rs ++ new ∷ []) r.entry ∙ ap₂ (λ a b. a || b) long first in
         let test : (s.needed_for_output || is_entry all s.entry) ≡ false = rw ((settled.not_needed).1, (settled.not_needed).0) gone in
@@ -464,9 +464,9 @@ settled_once output sps h low number place stays r rs s ss settled near = record
 -- ---- several
 
 -- numbers may be left out
-pub settled_later : (output : Output) (sps : Sps) (h : History) (low number later place : ℕ) (stays : Staying) (shorts : List Reference) (lasts : List Stored) →
-    number ≤ later → IsSettled output sps h low number place stays shorts lasts → IsSettled output sps h low later place stays shorts lasts
-settled_later output sps h low number later place stays shorts lasts less settled = record {
+pub settled_later : (output : Output) (sps : Sps) (h : History) (low number later index : ℕ) (stays : Staying) (shorts : List Reference) (lasts : List Stored) →
+    number ≤ later → IsSettled output sps h low number index stays shorts lasts → IsSettled output sps h low later index stays shorts lasts
+settled_later output sps h low number later index stays shorts lasts less settled = record {
   marked = settled.marked;
   buffer = settled.buffer;
   window = settled.window;
@@ -482,22 +482,22 @@ settled_later output sps h low number later place stays shorts lasts less settle
     counts_later low (r ∷ rs) h = (h.0, ((h.1).0, (h.1).1, counts_later (h.0 + 1) rs (h.1).2))
 
 -- the first n frames have left, and those of the n numbers have come
-pub settled_on : (output : Output) (sps : Sps) (n q : ℕ) (h : History) (low number place : ℕ) (stays : Staying) (shorts : List Reference) (lasts : List Stored) →
-    length h ≡ q → IsSettled output sps h low number place stays shorts lasts → number + n ≤ low + max_frame_num sps → 0 < length shorts →
-    IsSettled output sps (with_all_missing sps (frame_nums_from (max_frame_num sps) number n) h) low (number + n) place stays
+pub settled_on : (output : Output) (sps : Sps) (n q : ℕ) (h : History) (low number index : ℕ) (stays : Staying) (shorts : List Reference) (lasts : List Stored) →
+    length h ≡ q → IsSettled output sps h low number index stays shorts lasts → number + n ≤ low + max_frame_num sps → 0 < length shorts →
+    IsSettled output sps (with_all_missing sps (frame_nums_from (max_frame_num sps) number n) h) low (number + n) index stays
     (drop n (shorts ++ missing_references (max_frame_num sps) number q n)) (drop n (lasts ++ stored_missing q n))
-settled_on output sps zero q h low number place stays shorts lasts long settled near some =
-    simp append-nil (settled_later output sps h low number (number + 0) place stays shorts lasts (omega arith) settled)
-settled_on output sps (suc n) q h low number place stays [] lasts long settled near some = absurd (omega (arith, some))
-settled_on output sps (suc n) q h low number place stays (r ∷ rs) [] long settled near some = absurd settled.not_needed
-settled_on output sps (suc n) q h low number place stays (r ∷ rs) (s ∷ ss) long settled near some =
+settled_on output sps zero q h low number index stays shorts lasts long settled near some =
+    simp append-nil (settled_later output sps h low number (number + 0) index stays shorts lasts (omega arith) settled)
+settled_on output sps (suc n) q h low number index stays [] lasts long settled near some = absurd (omega (arith, some))
+settled_on output sps (suc n) q h low number index stays (r ∷ rs) [] long settled near some = absurd settled.not_needed
+settled_on output sps (suc n) q h low number index stays (r ∷ rs) (s ∷ ss) long settled near some =
     let max = max_frame_num sps in
     let new = missing_reference (number % max) q in
-    let once = rw long at (settled_once output sps h low number place stays r rs s ss settled (omega (arith, near))) in
-    let more = settled_on output sps n (q + 1) (missing_frame sps (number % max) ∷ h) low (number + 1) place stays (rs ++ new ∷ []) (ss ++ missing_stored q ∷ [])
+    let once = rw long at (settled_once output sps h low number index stays r rs s ss settled (omega (arith, near))) in
+    let more = settled_on output sps n (q + 1) (missing_frame sps (number % max) ∷ h) low (number + 1) index stays (rs ++ new ∷ []) (ss ++ missing_stored q ∷ [])
     (omega (arith, long)) once (omega (arith, near)) (let l = length-append rs (new ∷ []) in omega (arith, l)) in
     rw (← append_assoc rs (new ∷ []) (missing_references max (number + 1) (q + 1) n), ← append_assoc ss (missing_stored q ∷ []) (stored_missing (q + 1) n))
-    (settled_later output sps _ low (number + 1 + n) (number + suc n) place stays _ _ (omega arith) more)
+    (settled_later output sps _ low (number + 1 + n) (number + suc n) index stays _ _ (omega arith) more)
 
 -- ---- the frames that a long gap leaves are those of its last numbers: the last numbers
 
@@ -506,15 +506,15 @@ numbers_from max zero n m a is = grind arith
 numbers_from max (suc k) n zero a is = absurd (omega arith)
 numbers_from max (suc k) n (suc m) a is = grind (arith, numbers_from max k n m (a + 1) (omega arith))
 
-references_from : (max k n m a place : ℕ) → m ≡ k + n → drop k (missing_references max a place m) ≡ missing_references max (a + k) (place + k) n
-references_from max zero n m a place is = grind arith
-references_from max (suc k) n zero a place is = absurd (omega arith)
-references_from max (suc k) n (suc m) a place is = grind (arith, references_from max k n m (a + 1) (place + 1) (omega arith))
+references_from : (max k n m a index : ℕ) → m ≡ k + n → drop k (missing_references max a index m) ≡ missing_references max (a + k) (index + k) n
+references_from max zero n m a index is = grind arith
+references_from max (suc k) n zero a index is = absurd (omega arith)
+references_from max (suc k) n (suc m) a index is = grind (arith, references_from max k n m (a + 1) (index + 1) (omega arith))
 
-frames_from : (k n m place : ℕ) → m ≡ k + n → drop k (stored_missing place m) ≡ stored_missing (place + k) n
-frames_from zero n m place is = grind arith
-frames_from (suc k) n zero place is = absurd (omega arith)
-frames_from (suc k) n (suc m) place is = grind (arith, frames_from k n m (place + 1) (omega arith))
+frames_from : (k n m index : ℕ) → m ≡ k + n → drop k (stored_missing index m) ≡ stored_missing (index + k) n
+frames_from zero n m index is = grind arith
+frames_from (suc k) n zero index is = absurd (omega arith)
+frames_from (suc k) n (suc m) index is = grind (arith, frames_from k n m (index + 1) (omega arith))
 
 as_many : (rs : List Reference) (frames : List Stored) → AreNotNeeded rs frames → length frames ≡ length rs
 as_many [] [] h = refl
@@ -523,11 +523,11 @@ as_many (r ∷ rs) [] h = absurd h
 as_many (r ∷ rs) (s ∷ frames) h = ap suc (as_many rs frames h.2)
 
 -- only the last are left
-last_left : (output : Output) (sps : Sps) (k : ℕ) (h : History) (low number place : ℕ) (stays : Staying) (shorts : List Reference) (lasts : List Stored) →
-    IsSettled output sps h low number place stays shorts lasts → number + (length shorts + k) ≤ low + max_frame_num sps → 0 < length shorts →
-    IsSettled output sps (with_all_missing sps (frame_nums_from (max_frame_num sps) number (length shorts + k)) h) low (number + (length shorts + k)) place stays
+last_left : (output : Output) (sps : Sps) (k : ℕ) (h : History) (low number index : ℕ) (stays : Staying) (shorts : List Reference) (lasts : List Stored) →
+    IsSettled output sps h low number index stays shorts lasts → number + (length shorts + k) ≤ low + max_frame_num sps → 0 < length shorts →
+    IsSettled output sps (with_all_missing sps (frame_nums_from (max_frame_num sps) number (length shorts + k)) h) low (number + (length shorts + k)) index stays
     (missing_references (max_frame_num sps) (number + k) (length h + k) (length shorts)) (stored_missing (length h + k) (length shorts))
-last_left output sps k h low number place stays shorts lasts settled near some =
+last_left output sps k h low number index stays shorts lasts settled near some =
     let max = max_frame_num sps in
     let w = length shorts in
     let references = missing_references max number (length h) (w + k) in
@@ -537,7 +537,7 @@ last_left output sps k h low number place stays shorts lasts settled near some =
     let lasts_are : drop (w + k) (lasts ++ frames) ≡ stored_missing (length h + k) w =
     ap (λ n. drop (n + k) (lasts ++ frames)) (sym (as_many shorts lasts settled.not_needed))
     ∙ drop-append-add lasts frames k ∙ frames_from k w (w + k) (length h) (omega arith) in
-    rw (← shorts_are, ← lasts_are) (settled_on output sps (w + k) (length h) h low number place stays shorts lasts refl settled near some)
+    rw (← shorts_are, ← lasts_are) (settled_on output sps (w + k) (length h) h low number index stays shorts lasts refl settled near some)
 
 -- ---- the entries of the history
 
@@ -548,9 +548,9 @@ entries_before sps (n ∷ numbers) h p low =
 
 entries_missing : (sps : Sps) (max n a i p number : ℕ) (h : History) → i < n → p ≡ length h + i → number ≡ a + i →
     entry_at (with_all_missing sps (frame_nums_from max a n) h) p ≡ Some (missing_frame sps (number % max))
-entries_missing sps max zero a i p number h low place is = absurd (omega (arith, low))
-entries_missing sps max (suc n) a zero p number h low place is = search (rules, entries_before, frame_nums_from, entry_newest)
-entries_missing sps max (suc n) a (suc i) p number h low place is =
+entries_missing sps max zero a i p number h low index is = absurd (omega (arith, low))
+entries_missing sps max (suc n) a zero p number h low index is = search (rules, entries_before, frame_nums_from, entry_newest)
+entries_missing sps max (suc n) a (suc i) p number h low index is =
     entries_missing sps max n (a + 1) i p number (missing_frame sps (a % max) ∷ h) (omega arith) (omega arith) (omega arith)
 
 newest_number : (sps : Sps) (max n a number : ℕ) (h : History) → 0 < n → number + 1 ≡ a + n →
@@ -566,18 +566,18 @@ mark_first : (xs ys : List Reference) (p : ℕ) → mark_in ys p ≡ None → ma
 mark_first [] ys p e = e
 mark_first (x ∷ xs) ys p e = grind (arith, mark_first xs ys p e)
 
-mark_last : (xs ys : List Reference) (place p : ℕ) → place ≤ p → StandBelow place xs → mark_in (xs ++ ys) p ≡ mark_in ys p
-mark_last [] ys place p low h = refl
-mark_last (x ∷ xs) ys place p low h = grind (arith, nat_tests, mark_last xs ys place p low h.1)
+mark_last : (xs ys : List Reference) (index p : ℕ) → index ≤ p → StandBelow index xs → mark_in (xs ++ ys) p ≡ mark_in ys p
+mark_last [] ys index p low h = refl
+mark_last (x ∷ xs) ys index p low h = grind (arith, nat_tests, mark_last xs ys index p low h.1)
 
-missing_unmarked : (max a place n p : ℕ) → p < place → mark_in (missing_references max a place n) p ≡ None
-missing_unmarked max a place zero p low = refl
-missing_unmarked max a place (suc n) p low = grind (arith, nat_tests, missing_unmarked max (a + 1) (place + 1) n p (omega arith))
+missing_unmarked : (max a index n p : ℕ) → p < index → mark_in (missing_references max a index n) p ≡ None
+missing_unmarked max a index zero p low = refl
+missing_unmarked max a index (suc n) p low = grind (arith, nat_tests, missing_unmarked max (a + 1) (index + 1) n p (omega arith))
 
-missing_marked : (max a place n i : ℕ) → i < n → mark_in (missing_references max a place n) (place + i) ≡ Some Short
-missing_marked max a place zero i low = absurd (omega (arith, low))
-missing_marked max a place (suc n) zero low = grind (arith, nat_tests)
-missing_marked max a place (suc n) (suc i) low = grind (arith, nat_tests, missing_marked max (a + 1) (place + 1) n i (omega arith))
+missing_marked : (max a index n i : ℕ) → i < n → mark_in (missing_references max a index n) (index + i) ≡ Some Short
+missing_marked max a index zero i low = absurd (omega (arith, low))
+missing_marked max a index (suc n) zero low = grind (arith, nat_tests)
+missing_marked max a index (suc n) (suc i) low = grind (arith, nat_tests, missing_marked max (a + 1) (index + 1) n i (omega arith))
 
 -- ---- the frames
 
@@ -592,16 +592,16 @@ at_missing f g max zero t q each = refl
 at_missing f g max (suc w) t q each =
     let rest = at_missing f g max w (t + 1) (q + 1) (λ i low. let e = each (suc i) (omega arith) in grind (arith, e)) in grind (arith, rest, each 0)
 
-at_before : {A : Type 0} (f g : ℕ → A) (place : ℕ) (frames : List Stored) → ((p : ℕ) → p < place → f p ≡ g p) → AreBefore place frames →
+at_before : {A : Type 0} (f g : ℕ → A) (index : ℕ) (frames : List Stored) → ((p : ℕ) → p < index → f p ≡ g p) → AreBefore index frames →
     map (λ s. f s.entry) frames ≡ map (λ s. g s.entry) frames
-at_before f g place [] same h = refl
-at_before f g place (s ∷ frames) same h = grind (arith, same s.entry h.0, at_before f g place frames same h.1)
+at_before f g index [] same h = refl
+at_before f g index (s ∷ frames) same h = grind (arith, same s.entry h.0, at_before f g index frames same h.1)
 
 same_slots : (w q q' : ℕ) → map slot_of (stored_missing q w) ≡ map slot_of (stored_missing q' w)
 same_slots zero q q' = refl
 same_slots (suc w) q q' = ap (λ l. slot_of (missing_stored q) ∷ l) (same_slots w (q + 1) (q' + 1))
 
--- ---- reference frames by their places
+-- ---- reference frames by their decoding indices
 
 references_at-append : (ps qs : List ℕ) (fs gs : List MarkedFrame) → length ps ≡ length fs → references_at (ps ++ qs) (fs ++ gs) ≡ references_at ps fs ++ references_at qs gs
 references_at-append [] qs [] gs long = refl
@@ -614,19 +614,19 @@ references_missing : (sps : Sps) (max w t q : ℕ) →
 references_missing sps max zero t q = refl
 references_missing sps max (suc w) t q = ap (λ l. missing_reference (t % max) q ∷ l) (references_missing sps max w (t + 1) (q + 1))
 
-length_missing : (max n a place : ℕ) → length (missing_references max a place n) ≡ n
-length_missing max zero a place = refl
-length_missing max (suc n) a place = ap suc (length_missing max n (a + 1) (place + 1))
+length_missing : (max n a index : ℕ) → length (missing_references max a index n) ≡ n
+length_missing max zero a index = refl
+length_missing max (suc n) a index = ap suc (length_missing max n (a + 1) (index + 1))
 
 -- ---- the end of a gap
 
--- H is the history h with missing numbers. The last w of them go on from t, stand from the place q on, and have the last frames.
-record EndsIn (output : Output) (sps : Sps) (h H : History) (t q w place : ℕ) (stays : Staying) : Type 0 where
+-- H is the history h with missing numbers. The last w of them go on from t, stand from the decoding index q on, and have the last frames.
+record EndsIn (output : Output) (sps : Sps) (h H : History) (t q w index : ℕ) (stays : Staying) : Type 0 where
   low : ℕ
   later : ℕ
-  settled : IsSettled output sps H low later place stays (missing_references (max_frame_num sps) t q w) (stored_missing q w)
-  behind : place ≤ q
-  before : (p : ℕ) → p < place → entry_at H p ≡ entry_at h p
+  settled : IsSettled output sps H low later index stays (missing_references (max_frame_num sps) t q w) (stored_missing q w)
+  behind : index ≤ q
+  before : (p : ℕ) → p < index → entry_at H p ≡ entry_at h p
   last : (i : ℕ) → i < w → entry_at H (q + i) ≡ Some (missing_frame sps ((t + i) % max_frame_num sps))
   previous : prev_ref_frame_num (marking_entries H) ≡ (t + (w - 1)) % max_frame_num sps
   sequence : sequence_sps H ≡ sequence_sps h
@@ -636,18 +636,18 @@ not_above low next [] h = h
 not_above low next (r ∷ rs) h = let e = not_above (r.entry + 1) next rs h.1 in omega (arith, h.0, e)
 
 -- where the numbers from a on are missing, as many as the window has frames and k more
-ends_in : (output : Output) (sps : Sps) (h : History) (low number place : ℕ) (stays : Staying) (shorts : List Reference) (lasts : List Stored) (a k : ℕ) →
-    IsSettled output sps h low number place stays shorts lasts → 0 < length shorts → number ≤ a → a + (length shorts + k) ≤ low + max_frame_num sps →
-    EndsIn output sps h (with_all_missing sps (frame_nums_from (max_frame_num sps) a (length shorts + k)) h) (a + k) (length h + k) (length shorts) place stays
-ends_in output sps h low number place stays shorts lasts a k settled some less near =
+ends_in : (output : Output) (sps : Sps) (h : History) (low number index : ℕ) (stays : Staying) (shorts : List Reference) (lasts : List Stored) (a k : ℕ) →
+    IsSettled output sps h low number index stays shorts lasts → 0 < length shorts → number ≤ a → a + (length shorts + k) ≤ low + max_frame_num sps →
+    EndsIn output sps h (with_all_missing sps (frame_nums_from (max_frame_num sps) a (length shorts + k)) h) (a + k) (length h + k) (length shorts) index stays
+ends_in output sps h low number index stays shorts lasts a k settled some less near =
     let max = max_frame_num sps in
     let w = length shorts in
     let numbers = frame_nums_from max a (w + k) in
-    let first = not_above place (length h) shorts (settled.window).places in
+    let first = not_above index (length h) shorts (settled.window).places in
     record {
       low = low;
       later = a + (w + k);
-      settled = last_left output sps k h low a place stays shorts lasts (settled_later output sps h low number a place stays shorts lasts less settled) near some;
+      settled = last_left output sps k h low a index stays shorts lasts (settled_later output sps h low number a index stays shorts lasts less settled) near some;
       behind = omega (arith, first);
       before = λ p below. entries_before sps numbers h p (omega (arith, below, first));
       last = λ i below. entries_missing sps max (w + k) a (k + i) (length h + k + i) (a + k + i) h (omega (arith, below)) (omega arith) (omega arith);
@@ -656,10 +656,10 @@ ends_in output sps h low number place stays shorts lasts a k settled some less n
     }
 
 -- What is kept does not depend on the numbers before the last.
-same_state : (sps : Sps) (h S L : History) (t qs qf w place : ℕ) (stays : Staying) (c : Contents) (idx : Option ℕ) (previous : ℕ) →
-    EndsIn c.output sps h S t qs w place stays → EndsIn c.output sps h L t qf w place stays → IsWithin 16 (arrivals L) →
+same_state : (sps : Sps) (h S L : History) (t qs qf w index : ℕ) (stays : Staying) (c : Contents) (idx : Option ℕ) (previous : ℕ) →
+    EndsIn c.output sps h S t qs w index stays → EndsIn c.output sps h L t qf w index stays → IsWithin 16 (arrivals L) →
     IsStateAfter S c idx previous → IsStateAfter L c idx previous
-same_state sps h S L t qs qf w place stays c idx previous shorter longer within s = record {
+same_state sps h S L t qs qf w index stays c idx previous shorter longer within s = record {
   marks = marks qf;
   marked = (longer.settled).marked;
   idx_is = s.idx_is ∙ ap (λ (m : Marks). m.max_long_term_frame_idx) same_marks;
@@ -671,15 +671,15 @@ same_state sps h S L t qs qf w place stays c idx previous shorter longer within 
     rising = subst (λ n. IsRising (buffer_of c.output L).frames n) (length-arrivals L) (stands_in_decoding_order c.output (arrivals L));
   };
   references =
-      ap (references_at (places_in (buffer_of c.output L))) (ap (map marked_frame) frames_are) ∙ references_of_frames L qf longer
+      ap (references_at (indices_in (buffer_of c.output L))) (ap (map marked_frame) frames_are) ∙ references_of_frames L qf longer
       ∙ ap (λ l. l ++ missing_references max t qf w) old_references;
   few = subst (λ o. IfSome o (λ x. length (references qf) ≤ reference_limit x)) sequence
       (subst (λ n. IfSome (sequence_sps S) (λ x. n ≤ reference_limit x)) as_long s.few);
   within = within;
-  sized = subst (λ o. IfSome o (λ x. Each (IsSizedAt L x) (places_in (buffer_of c.output L)))) sequence
-      (if_some (λ x. Each (IsSizedAt S x) (places_in (buffer_of c.output S))) (λ x. Each (IsSizedAt L x) (places_in (buffer_of c.output L))) (sequence_sps S)
-      (λ x is h. each_from_map (IsSizedIn x) (entry_at L) (places_in (buffer_of c.output L))
-      (subst (Each (IsSizedIn x)) (entries_of S qs shorter ∙ sym (entries_of L qf longer)) (each_map (IsSizedIn x) (entry_at S) (places_in (buffer_of c.output S)) h))) s.sized);
+  sized = subst (λ o. IfSome o (λ x. Each (IsSizedAt L x) (indices_in (buffer_of c.output L)))) sequence
+      (if_some (λ x. Each (IsSizedAt S x) (indices_in (buffer_of c.output S))) (λ x. Each (IsSizedAt L x) (indices_in (buffer_of c.output L))) (sequence_sps S)
+      (λ x is h. each_from_map (IsSizedIn x) (entry_at L) (indices_in (buffer_of c.output L))
+      (subst (Each (IsSizedIn x)) (entries_of S qs shorter ∙ sym (entries_of L qf longer)) (each_map (IsSizedIn x) (entry_at S) (indices_in (buffer_of c.output S)) h))) s.sized);
 }
   where
     max : ℕ
@@ -707,16 +707,16 @@ same_state sps h S L t qs qf w place stays c idx previous shorter longer within 
     IsSizedIn x o = IfSome (planes_in o) (AreSized (width_in_mbs x) (height_in_mbs x))
 
     -- all frames: those that stay, and those of the last numbers
-    whole : {A : Type 0} (f : Stored → A) (H : History) (q : ℕ) → EndsIn c.output sps h H t q w place stays →
+    whole : {A : Type 0} (f : Stored → A) (H : History) (q : ℕ) → EndsIn c.output sps h H t q w index stays →
         map f (buffer_of c.output H).frames ≡ map f stays.frames ++ map f (stored_missing q w)
     whole f H q x = ap (λ (b : Buffer). map f b.frames) (x.settled).buffer ∙ map-append f stays.frames (stored_missing q w)
 
-    entries_of : (H : History) (q : ℕ) → EndsIn c.output sps h H t q w place stays →
-        map (entry_at H) (places_in (buffer_of c.output H))
+    entries_of : (H : History) (q : ℕ) → EndsIn c.output sps h H t q w index stays →
+        map (entry_at H) (indices_in (buffer_of c.output H))
         ≡ map (λ s. entry_at h s.entry) stays.frames ++ map (λ n. Some (missing_frame sps n)) (frame_nums_from max t w)
     entries_of H q x =
         map-map (entry_at H) (λ s. s.entry) (buffer_of c.output H).frames ∙ whole (λ s. entry_at H s.entry) H q x
-        ∙ ap₂ (λ l r. l ++ r) (at_before (entry_at H) (entry_at h) place stays.frames x.before (x.settled).before)
+        ∙ ap₂ (λ l r. l ++ r) (at_before (entry_at H) (entry_at h) index stays.frames x.before (x.settled).before)
         (at_missing (entry_at H) (λ n. Some (missing_frame sps n)) max w t q x.last)
 
     stayed : List (Frame 32)
@@ -725,16 +725,16 @@ same_state sps h S L t qs qf w place stays c idx previous shorter longer within 
     came : List (Frame 32)
     came = map (missing_of sps) (frame_nums_from max t w)
 
-    frames_of : (H : History) (q : ℕ) → EndsIn c.output sps h H t q w place stays →
+    frames_of : (H : History) (q : ℕ) → EndsIn c.output sps h H t q w index stays →
         map (λ s. frame_at H (references q) s.entry) (buffer_of c.output H).frames ≡ stayed ++ came
     frames_of H q x =
         whole (λ s. frame_at H (references q) s.entry) H q x
         ∙ ap₂ (λ l r. l ++ r)
-        (at_before (frame_at H (references q)) (λ p. frame_of (entry_at h p) (mark_in stays.longs p)) place stays.frames
+        (at_before (frame_at H (references q)) (λ p. frame_of (entry_at h p) (mark_in stays.longs p)) index stays.frames
         (λ p low. ap₂ frame_of (x.before p low) (mark_first stays.longs new p (missing_unmarked max t q w p (omega (arith, low, x.behind))))) (x.settled).before)
         (at_missing (frame_at H (references q)) (missing_of sps) max w t q
         (λ i low. ap₂ frame_of (x.last i low)
-        (mark_last stays.longs new place (q + i) (omega (arith, x.behind)) ((x.settled).window).longs_before ∙ missing_marked max t q w i low)))
+        (mark_last stays.longs new index (q + i) (omega (arith, x.behind)) ((x.settled).window).longs_before ∙ missing_marked max t q w i low)))
       where
         new : List Reference
         new = missing_references max t q w
@@ -745,8 +745,8 @@ same_state sps h S L t qs qf w place stays c idx previous shorter longer within 
     stayed_references : List Reference
     stayed_references = references_at (map (λ s. s.entry) stays.frames) (map marked_frame stayed)
 
-    references_of_frames : (H : History) (q : ℕ) → EndsIn c.output sps h H t q w place stays →
-        references_at (places_in (buffer_of c.output H)) (map marked_frame (stayed ++ came)) ≡ stayed_references ++ missing_references max t q w
+    references_of_frames : (H : History) (q : ℕ) → EndsIn c.output sps h H t q w index stays →
+        references_at (indices_in (buffer_of c.output H)) (map marked_frame (stayed ++ came)) ≡ stayed_references ++ missing_references max t q w
     references_of_frames H q x =
         let long = length-map stays.frames (λ (s : Stored). s.entry) ∙ sym (length-map stayed marked_frame ∙ length-map stays.frames _) in
         ap₂ references_at (whole (λ s. s.entry) H q x) (map-append marked_frame stayed came)
@@ -756,7 +756,7 @@ same_state sps h S L t qs qf w place stays c idx previous shorter longer within 
     old_references : stayed_references ≡ stays.longs
     old_references =
         append_cancel_right stayed_references stays.longs (missing_references max t qs w)
-        (sym (ap (references_at (places_in (buffer_of c.output S))) (ap (map marked_frame) frames_are) ∙ references_of_frames S qs shorter)
+        (sym (ap (references_at (indices_in (buffer_of c.output S))) (ap (map marked_frame) frames_are) ∙ references_of_frames S qs shorter)
         ∙ s.references ∙ ap (λ (m : Marks). m.references) same_marks)
 
 -- ---- the law
@@ -776,9 +776,9 @@ within_longer : (sps : Sps) (numbers others : List ℕ) (h : History) → 0 < le
 within_longer sps [] others h some i = absurd (omega (arith, some))
 within_longer sps (n ∷ numbers) others h some i = let both = within_parts sps n numbers h i in within_after sps others h both.0 both.1
 
-nothing_out : (output : Output) (sps : Sps) (h H : History) (low number place t q w : ℕ) (stays : Staying) (shorts : List Reference) (lasts : List Stored) →
-    IsSettled output sps h low number place stays shorts lasts → EndsIn output sps h H t q w place stays → output_pictures output h H ≡ []
-nothing_out output sps h H low number place t q w stays shorts lasts s x = grind (arith, drop-length)
+nothing_out : (output : Output) (sps : Sps) (h H : History) (low number index t q w : ℕ) (stays : Staying) (shorts : List Reference) (lasts : List Stored) →
+    IsSettled output sps h low number index stays shorts lasts → EndsIn output sps h H t q w index stays → output_pictures output h H ≡ []
+nothing_out output sps h H low number index t q w stays shorts lasts s x = grind (arith, drop-length)
 
 -- the numbers of a long gap but for the first ones
 left_over : (output : Output) (sps : Sps) (h : History) (numbers : List ℕ) (skipped n : ℕ) (g : IsLongGap output sps h numbers) → length numbers ≡ skipped + n →
@@ -788,10 +788,10 @@ left_over output sps h numbers skipped n g long = grind (arith, numbers_from)
 pub long_gaps_leave_their_end : LongGapsLeaveTheirEnd
 long_gaps_leave_their_end output sps h numbers skipped g far = record {
   same_state = λ c idx previous is state.
-      same_state sps h S L (g.number + skipped + k) (length h + k) (length h + (skipped + k)) w g.place g.stays c idx previous
+      same_state sps h S L (g.number + skipped + k) (length h + k) (length h + (skipped + k)) w g.index g.stays c idx previous
       (rw is shorter) (rw is longer) (within_longer sps (drop skipped numbers) numbers h (omega (arith, parts, long, g.some_short)) state.within) state;
-  nothing_out = nothing_out output sps h L g.low g.number g.place _ _ w g.stays g.shorts g.lasts g.settled longer;
-  nothing_out_shorter = nothing_out output sps h S g.low g.number g.place _ _ w g.stays g.shorts g.lasts g.settled shorter;
+  nothing_out = nothing_out output sps h L g.low g.number g.index _ _ w g.stays g.shorts g.lasts g.settled longer;
+  nothing_out_shorter = nothing_out output sps h S g.low g.number g.index _ _ w g.stays g.shorts g.lasts g.settled shorter;
 }
   where
     max : ℕ
@@ -818,28 +818,28 @@ long_gaps_leave_their_end output sps h numbers skipped g far = record {
     long : length (drop skipped numbers) + skipped ≡ length numbers
     long = omega (arith, length-drop skipped numbers, parts)
 
-    shorter : EndsIn output sps h S (g.number + skipped + k) (length h + k) w g.place g.stays
+    shorter : EndsIn output sps h S (g.number + skipped + k) (length h + k) w g.index g.stays
     shorter =
         rw (left_over output sps h numbers skipped (w + k) g parts)
-        (ends_in output sps h g.low g.number g.place g.stays g.shorts g.lasts (g.number + skipped) k g.settled g.some_short (omega arith) (omega (arith, near)))
+        (ends_in output sps h g.low g.number g.index g.stays g.shorts g.lasts (g.number + skipped) k g.settled g.some_short (omega arith) (omega (arith, near)))
 
-    longer : EndsIn output sps h L (g.number + skipped + k) (length h + (skipped + k)) w g.place g.stays
+    longer : EndsIn output sps h L (g.number + skipped + k) (length h + (skipped + k)) w g.index g.stays
     longer =
         let all : numbers ≡ frame_nums_from max g.number (w + (skipped + k)) =
         g.numbers_are ∙ ap (frame_nums_from max g.number) (let n : length numbers ≡ w + (skipped + k) = omega (arith, parts) in n) in
         let times : g.number + (skipped + k) ≡ g.number + skipped + k = omega arith in
-        subst (λ l. EndsIn output sps h (with_all_missing sps l h) (g.number + skipped + k) (length h + (skipped + k)) w g.place g.stays) (sym all)
-        (rw times at (ends_in output sps h g.low g.number g.place g.stays g.shorts g.lasts g.number (skipped + k) g.settled g.some_short (omega arith) near))
+        subst (λ l. EndsIn output sps h (with_all_missing sps l h) (g.number + skipped + k) (length h + (skipped + k)) w g.index g.stays) (sym all)
+        (rw times at (ends_in output sps h g.low g.number g.index g.stays g.shorts g.lasts g.number (skipped + k) g.settled g.some_short (omega arith) near))
 
 -- ---- the last numbers can be marked
 
-one_marked : (output : Output) (sps : Sps) (h : History) (low number place : ℕ) (stays : Staying) (shorts : List Reference) (lasts : List Stored) →
-    IsSettled output sps h low number place stays shorts lasts → number < low + max_frame_num sps → 0 < length shorts →
+one_marked : (output : Output) (sps : Sps) (h : History) (low number index : ℕ) (stays : Staying) (shorts : List Reference) (lasts : List Stored) →
+    IsSettled output sps h low number index stays shorts lasts → number < low + max_frame_num sps → 0 < length shorts →
     is_ok (marks_of (missing_frame sps (number % max_frame_num sps) ∷ h)) ≡ true
-one_marked output sps h low number place stays [] lasts settled near some = absurd (omega (arith, some))
-one_marked output sps h low number place stays (r ∷ rs) [] settled near some = absurd settled.not_needed
-one_marked output sps h low number place stays (r ∷ rs) (s ∷ ss) settled near some =
-    ap is_ok (settled_once output sps h low number place stays r rs s ss settled near).marked
+one_marked output sps h low number index stays [] lasts settled near some = absurd (omega (arith, some))
+one_marked output sps h low number index stays (r ∷ rs) [] settled near some = absurd settled.not_needed
+one_marked output sps h low number index stays (r ∷ rs) (s ∷ ss) settled near some =
+    ap is_ok (settled_once output sps h low number index stays r rs s ss settled near).marked
 
 pub end_marked : (output : Output) (sps : Sps) (h : History) (numbers : List ℕ) (skipped : ℕ) → IsLongGap output sps h numbers → skipped + 16 ≤ length numbers →
     is_ok (with_missing sps (drop skipped numbers) h) ≡ true
@@ -847,8 +847,8 @@ end_marked output sps h numbers skipped g far =
     let max = max_frame_num sps in
     let a = g.number + skipped in
     let m = length numbers - skipped - 1 in
-    let later = settled_later output sps h g.low g.number a g.place g.stays g.shorts g.lasts (omega arith) g.settled in
-    let first = one_marked output sps h g.low a g.place g.stays g.shorts g.lasts later (let n = g.near in omega (arith, n, far)) g.some_short in
+    let later = settled_later output sps h g.low g.number a g.index g.stays g.shorts g.lasts (omega arith) g.settled in
+    let first = one_marked output sps h g.low a g.index g.stays g.shorts g.lasts later (let n = g.near in omega (arith, n, far)) g.some_short in
     rw (left_over output sps h numbers skipped (suc m) g (omega (arith, far))) (ap is_ok (all_marked sps (a % max) (frame_nums_from max (a + 1) m) h first))
 
 pub all_of : (sps : Sps) (numbers : List ℕ) (h : History) → is_ok (with_missing sps numbers h) ≡ true → with_missing sps numbers h ≡ Ok (with_all_missing sps numbers h)

@@ -76,8 +76,8 @@ good_get [] n g = tt
 good_get (e ∷ h) zero g = g.0
 good_get (e ∷ h) (suc n) g = good_get h n g.1
 
-good_at : (h : History) (place : ℕ) → AllGood h → GoodAt (entry_at h place)
-good_at h place g = by_difference (length h - place)
+good_at : (h : History) (index : ℕ) → AllGood h → GoodAt (entry_at h index)
+good_at h index g = by_difference (length h - index)
   where
     by_difference : (d : ℕ) → GoodAt (elim d [ zero ↦ None | suc n ↦ slice_get h n ])
     by_difference zero = tt
@@ -87,9 +87,9 @@ shown_whole : (e : Option Entry) (more : List Decoded) → GoodAt e → AllWhole
 shown_whole (Some (decoded_picture sps h planes)) more g w = (picture_whole sps planes g.0 g.1, w)
 shown_whole _ more g w = w
 
-pictures_whole : (h : History) (places : List ℕ) → AllGood h → AllWhole (pictures (pictures_at h places))
+pictures_whole : (h : History) (indices : List ℕ) → AllGood h → AllWhole (pictures (pictures_at h indices))
 pictures_whole h [] g = tt
-pictures_whole h (place ∷ places) g = shown_whole (entry_at h place) (pictures_at h places) (good_at h place g) (pictures_whole h places g)
+pictures_whole h (index ∷ indices) g = shown_whole (entry_at h index) (pictures_at h indices) (good_at h index g) (pictures_whole h indices g)
 
 -- ---- a step of decoding, in each mode
 
@@ -320,9 +320,9 @@ closed_goes h o (Ok full) s closed = record {
       let held = pictures_whole base (all_held output base) ((base_grows o s.before).sound.good l) in
       let dropped = if_either Whole (no_output_of_prior_pics hd.marking) [] (held_pictures output base) tt held in
       let first = either Whole (is_idr hd) (if no_output_of_prior_pics hd.marking then [] else held_pictures output base) [] (λ _. dropped) (λ _. tt) in
-      let places = new_output output (earlier_in_sequence hd base) full in
-      subst AllWhole (sym (map-append (λ p. Picture p) _ (pictures_at full places)))
-      (whole-append _ _ first (pictures_whole full places ((closed full refl).sound.good l)));
+      let indices = new_output output (earlier_in_sequence hd base) full in
+      subst AllWhole (sym (map-append (λ p. Picture p) _ (pictures_at full indices)))
+      (whole-append _ _ first (pictures_whole full indices ((closed full refl).sound.good l)));
 }
   where
     hd : Header

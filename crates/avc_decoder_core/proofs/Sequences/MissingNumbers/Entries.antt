@@ -4,7 +4,7 @@ unfoldable pub use Frames.*
 use Rattle.avc_dpb.specs.Contents.{Stores}
 use Rattle.avc_decoder_core.specs.History.{marking_entry}
 
--- ---- what goes out entry after entry: all places of a history are below its length
+-- ---- what goes out entry after entry: all decoding indices of a history are below its length
 
 pub length-arrivals : (history : History) → length (arrivals history) ≡ length history
 length-arrivals [] = refl
@@ -13,18 +13,18 @@ length-arrivals (e ∷ older) = ap suc (length-arrivals older)
 below_unless : (n x : ℕ) (xs : List ℕ) → (n ≤ x → occurrences x (x ∷ xs) ≡ 0) → x < n
 below_unless n x xs f = grind (arith, nat_tests)
 
-all_below : (n : ℕ) (xs : List ℕ) → ((place : ℕ) → n ≤ place → occurrences place xs ≡ 0) → All (λ p. p < n) xs
+all_below : (n : ℕ) (xs : List ℕ) → ((index : ℕ) → n ≤ index → occurrences index xs ≡ 0) → All (λ p. p < n) xs
 all_below n [] f = All-nil (λ p. p < n)
 all_below n (x ∷ xs) f =
-    All-cons (λ p. p < n) x xs (below_unless n x xs (f x)) (all_below n xs (λ place low. let none = f place low in omega (arith, none)))
+    All-cons (λ p. p < n) x xs (below_unless n x xs (f x)) (all_below n xs (λ index low. let none = f index low in omega (arith, none)))
 
-occurrences-append : (place : ℕ) (xs ys : List ℕ) → occurrences place (xs ++ ys) ≡ occurrences place xs + occurrences place ys
-occurrences-append place [] ys = omega arith
-occurrences-append place (x ∷ xs) ys = grind (arith, occurrences-append place xs ys)
+occurrences-append : (index : ℕ) (xs ys : List ℕ) → occurrences index (xs ++ ys) ≡ occurrences index xs + occurrences index ys
+occurrences-append index [] ys = omega arith
+occurrences-append index (x ∷ xs) ys = grind (arith, occurrences-append index xs ys)
 
-none_above : (history : List Arrival) (place : ℕ) → length history ≤ place → occurrences place (pictures history) ≡ 0
-none_above [] place low = refl
-none_above (a ∷ older) place low = let none = none_above older place (omega arith) in grind (arith, nat_tests, occurrences-append, none)
+none_above : (history : List Arrival) (index : ℕ) → length history ≤ index → occurrences index (pictures history) ≡ 0
+none_above [] index low = refl
+none_above (a ∷ older) index low = let none = none_above older index (omega arith) in grind (arith, nat_tests, occurrences-append, none)
 
 -- of the pictures that have gone out and of those that are needed for output
 pub places_below : (output : Output) (history : History) → All (λ p. p < length history) ((buffer_of output history).out ++ all_held output history)
@@ -83,7 +83,7 @@ pub output_more : (output : Output) (e : Entry) (old history : History) → Exte
     → output_pictures output old (e ∷ history) ≡ output_pictures output old history ++ output_pictures output history (e ∷ history)
 output_more output e old history x =
     ap (pictures_at (e ∷ history)) (new_longer output e old history x)
-    ∙ flat_map-append (λ place. entry_pictures (entry_at (e ∷ history) place)) (new_output output old history) (new_output output history (e ∷ history))
+    ∙ flat_map-append (λ index. entry_pictures (entry_at (e ∷ history) index)) (new_output output old history) (new_output output history (e ∷ history))
     ∙ ap (λ l. l ++ output_pictures output history (e ∷ history)) (pictures_stay e history (new_output output old history) (out_below output old history x))
 
 -- ---- entries of one sequence have one size, and no more reference frames than its parameter set allows
@@ -145,13 +145,13 @@ marked_buffer e h c idx previous s m marked is new set =
     let b = buffer_of c.output h in
     let old = frame_at h (s.marks).references in
     let frame = frame_at (e ∷ h) m.references in
-    let low = below (places_in b) (length h) (rise b.frames (length h) (s.buffer).rising) in
+    let low = below (indices_in b) (length h) (rise b.frames (length h) (s.buffer).rising) in
     let there : IsBuffer (with_all_marks c marked) b (length h) frame = record {
       works = (s.buffer).works;
       slots = (s.buffer).slots;
       frames =
           ap (λ fs. with_marks fs marked) ((s.buffer).frames ∙ sym (map-map old (λ t. t.entry) b.frames))
-          ∙ marked_again e h (s.marks).references m.references (places_in b) (length h ∷ []) marked low is.marks
+          ∙ marked_again e h (s.marks).references m.references (indices_in b) (length h ∷ []) marked low is.marks
           ∙ map-map frame (λ t. t.entry) b.frames;
       rising = (s.buffer).rising;
     } in
@@ -159,7 +159,7 @@ marked_buffer e h c idx previous s m marked is new set =
 
 -- ---- the reference frames before the entry's own
 
-kept_remain : (rs : List Reference) (b : Buffer) → places_of_references (entries rs) b ≡ filter (is_entry rs) (places_in b)
+kept_remain : (rs : List Reference) (b : Buffer) → indices_of_references (entries rs) b ≡ filter (is_entry rs) (indices_in b)
 kept_remain rs b = sym (filter_map_places (λ s. s.entry) (is_entry rs) b.frames)
 
 kept_alone : (rs : List Reference) (n : ℕ) (ps : List ℕ) → Each (λ r. r.entry ≡ n) rs → Each (λ p. p < n) ps → [] ≡ filter (is_entry rs) ps
@@ -167,7 +167,7 @@ kept_alone rs n ps alone low = sym (no_filter (is_entry rs) ps (each_implies (λ
 
 -- they are in the buffer once the pictures before have gone out, or are none
 pub kept : (rs : List Reference) (n : ℕ) (b : Buffer) (prior : PriorPictures) (all : Bool) → (all ≡ true → Each (λ r. r.entry ≡ n) rs) → (all ≡ false → prior ≡ remain) →
-    Each (λ p. p < n) (places_in b) → places_of_references (entries rs) (after_prior_pictures prior b) ≡ filter (is_entry rs) (places_in b)
+    Each (λ p. p < n) (indices_in b) → indices_of_references (entries rs) (after_prior_pictures prior b) ≡ filter (is_entry rs) (indices_in b)
 kept rs n b prior all alone stays low = grind (arith, kept_remain, kept_alone)
 
 -- ---- the entry's own
@@ -201,18 +201,18 @@ stored_buffer output e h arriving m arrives old new frame out is same own stores
 
 -- ---- the reference frames
 
--- they are those of the places
+-- they are those of the decoding indices
 by_places : (h : History) (rs : List Reference) (qs : List ℕ) →
     references_at qs (map (λ p. marked_frame (frame_at h rs p)) qs) ≡ map (λ p. reference_of p (marked_frame (frame_at h rs p))) (filter (is_entry rs) qs)
 by_places h rs qs = grind (arith, references_by, same_filter, referenced_is)
 
 -- there is room for the entry's own
 room : (output : Output) (e : Entry) (h : History) (m : Marks) (marked : List MarkedFrame) → IsMarked output e h m marked → (b : Buffer) →
-    places_of_references (entries m.references) b ≡ filter (is_entry m.references) (places_in (buffer_of output h)) → is_entry m.references (length h) ≡ true →
+    indices_of_references (entries m.references) b ≡ filter (is_entry m.references) (indices_in (buffer_of output h)) → is_entry m.references (length h) ≡ true →
     count_by (is_reference_in (entries m.references)) b.frames + 1 ≡ length m.references
 room output e h m marked is b same own =
     let n = length h in
-    let ps = places_in (buffer_of output h) in
+    let ps = indices_in (buffer_of output h) in
     let rs = m.references in
     let frame : ℕ → Reference = λ p. reference_of p (marked_frame (frame_at (e ∷ h) rs p)) in
     let counted : count_by (is_reference_in (entries rs)) b.frames ≡ length (filter (is_entry rs) ps) =
@@ -230,28 +230,28 @@ last_own t n = grind arith
 -- The buffer has the reference frames of the longer history.
 pub stored_references : (output : Output) (e : Entry) (h : History) (arriving : ArrivingFrame) (m : Marks) (marked : List MarkedFrame) → Arrives e h arriving m → IsMarked output e h m marked →
     (all : Bool) → (all ≡ true → Each (λ r. r.entry ≡ length h) m.references) → (all ≡ false → (arrival e h).prior_pictures ≡ remain) →
-    Each (λ p. p < length h) (places_in (buffer_of output h)) →
+    Each (λ p. p < length h) (indices_in (buffer_of output h)) →
     (is_entry m.references (length h) ≡ true → (arriving.is_reference || not arriving.existing) ≡ true) → length m.references ≤ arriving.capacity →
     (old new : Contents) → IsBuffer old (emptied output e h) (length h) (frame_at (e ∷ h) m.references) →
     IsBuffer new (buffer_of output (e ∷ h)) (length h + 1) (frame_at (e ∷ h) m.references) →
-    references_at (places_in (buffer_of output (e ∷ h))) (map marked_frame new.frames) ≡ m.references
+    references_at (indices_in (buffer_of output (e ∷ h))) (map marked_frame new.frames) ≡ m.references
 stored_references output e h arriving m marked arrives is all alone stays low stored limit old new before after =
     let n = length h in
     let rs = m.references in
-    let ps = places_in (buffer_of output h) in
+    let ps = indices_in (buffer_of output h) in
     let b = emptied output e h in
     let b' = buffer_of output (e ∷ h) in
     let at = frame_at (e ∷ h) rs in
     let a = arrival_of arriving (entries rs) in
-    let same : places_of_references (entries rs) b ≡ filter (is_entry rs) ps = kept rs n (buffer_of output h) (arrival e h).prior_pictures all alone stays low in
+    let same : indices_of_references (entries rs) b ≡ filter (is_entry rs) ps = kept rs n (buffer_of output h) (arrival e h).prior_pictures all alone stays low in
     let has_room : is_entry rs n ≡ true → HasRoom a b =
     λ own. let count = room output e h m marked is b same own in record { stored = stored own; room = omega (arith, limit, count) } in
-    let stay : places_of_references (entries rs) b' ≡ places_of_references (entries rs) b ++ (if is_entry rs n then n ∷ [] else []) =
-    sym (ap (places_of_references (entries rs)) (buffer_is output e h arriving m arrives)) ∙ references_stay output n a b before.rising has_room in
-    let places : filter (is_entry rs) (places_in b') ≡ filter (is_entry rs) (ps ++ n ∷ []) =
+    let stay : indices_of_references (entries rs) b' ≡ indices_of_references (entries rs) b ++ (if is_entry rs n then n ∷ [] else []) =
+    sym (ap (indices_of_references (entries rs)) (buffer_is output e h arriving m arrives)) ∙ references_stay output n a b before.rising has_room in
+    let places : filter (is_entry rs) (indices_in b') ≡ filter (is_entry rs) (ps ++ n ∷ []) =
     sym (kept_remain rs b') ∙ stay ∙ ap₂ (λ l r. l ++ r) same (last_own (is_entry rs n) n) ∙ sym (filter-append (is_entry rs) ps (n ∷ [])) in
-    ap (references_at (places_in b')) (ap (map marked_frame) after.frames ∙ map-map marked_frame (λ s. at s.entry) b'.frames ∙ sym (map-map (λ p. marked_frame (at p)) (λ s. s.entry) b'.frames))
-    ∙ by_places (e ∷ h) rs (places_in b')
+    ap (references_at (indices_in b')) (ap (map marked_frame) after.frames ∙ map-map marked_frame (λ s. at s.entry) b'.frames ∙ sym (map-map (λ p. marked_frame (at p)) (λ s. s.entry) b'.frames))
+    ∙ by_places (e ∷ h) rs (indices_in b')
     ∙ ap (map (λ p. reference_of p (marked_frame (at p)))) places
     ∙ sym (by_places (e ∷ h) rs (ps ++ n ∷ []))
     ∙ sym is.references
@@ -305,8 +305,8 @@ each_both : {A : Type 0} (P Q R : A → Type 0) (xs : List A) → ((x : A) → P
 each_both P Q R [] f h g = tt
 each_both P Q R (x ∷ xs) f h g = (f x h.0 g.0, each_both P Q R xs f h.1 g.1)
 
--- what holds of the places before and of the entry's own
-sized_after : (output : Output) (P : ℕ → Type 0) (e : Entry) (h : History) → P (length h) → Each (λ s. P s.entry) (emptied output e h).frames → Each P (places_in (buffer_of output (e ∷ h)))
+-- what holds of the decoding indices before and of the entry's own
+sized_after : (output : Output) (P : ℕ → Type 0) (e : Entry) (h : History) → P (length h) → Each (λ s. P s.entry) (emptied output e h).frames → Each P (indices_in (buffer_of output (e ∷ h)))
 sized_after output P e h own old =
     each_map P (λ s. s.entry) (buffer_of output (e ∷ h)).frames
     (each_after_frame P output (length (arrivals h)) (arrival e h) (emptied output e h) (subst P (sym (length-arrivals h)) own) old)
@@ -314,12 +314,12 @@ sized_after output P e h own old =
 own_sized : (e : Entry) (h : History) (width height : ℕ) → IfSome (planes_in (Some e)) (AreSized width height) → IfSome (planes_in (entry_at (e ∷ h) (length h))) (AreSized width height)
 own_sized e h width height sized = subst (λ o. IfSome (planes_in o) (AreSized width height)) (sym (entry_newest e h)) sized
 
-old_sized : (output : Output) (e : Entry) (h : History) (sps : Sps) → Each (λ p. p < length h) (places_in (buffer_of output h)) → Each (IsSizedAt h sps) (places_in (buffer_of output h)) →
+old_sized : (output : Output) (e : Entry) (h : History) (sps : Sps) → Each (λ p. p < length h) (indices_in (buffer_of output h)) → Each (IsSizedAt h sps) (indices_in (buffer_of output h)) →
     Each (λ s. IsSizedAt (e ∷ h) sps s.entry) (emptied output e h).frames
 old_sized output e h sps low sized =
     each_prior (IsSizedAt (e ∷ h) sps) (arrival e h).prior_pictures (buffer_of output h)
     (each_from_map (IsSizedAt (e ∷ h) sps) (λ s. s.entry) (buffer_of output h).frames
-    (each_both (λ p. p < length h) (IsSizedAt h sps) (IsSizedAt (e ∷ h) sps) (places_in (buffer_of output h))
+    (each_both (λ p. p < length h) (IsSizedAt h sps) (IsSizedAt (e ∷ h) sps) (indices_in (buffer_of output h))
     (λ p l old. subst (λ o. IfSome (planes_in o) (AreSized (width_in_mbs sps) (height_in_mbs sps))) (sym (entry_before e h p l)) old) low sized))
 
 -- nothing is in the buffer before the first entry
@@ -327,11 +327,11 @@ none_emptied : (output : Output) (e : Entry) (h : History) → h ≡ [] → (emp
 none_emptied output e h none = grind arith
 
 abbrev IsSized : Output → History → Sps → Type 0
-IsSized output h sps = Each (IsSizedAt h sps) (places_in (buffer_of output h))
+IsSized output h sps = Each (IsSizedAt h sps) (indices_in (buffer_of output h))
 
 -- of an entry with the parameter set of its sequence
 sized_in_sequence : (output : Output) (e : Entry) (h : History) → is_same_sps (sequence_sps h) (sps_of e) ≡ true →
-    IfSome (planes_in (Some e)) (AreSized (width_in_mbs (sps_of e)) (height_in_mbs (sps_of e))) → Each (λ p. p < length h) (places_in (buffer_of output h)) →
+    IfSome (planes_in (Some e)) (AreSized (width_in_mbs (sps_of e)) (height_in_mbs (sps_of e))) → Each (λ p. p < length h) (indices_in (buffer_of output h)) →
     IfSome (sequence_sps h) (IsSized output h) → IfSome (sequence_sps h) (IsSized output (e ∷ h))
 sized_in_sequence output e h same own low sized =
     if_some (IsSized output h) (IsSized output (e ∷ h)) (sequence_sps h)
@@ -341,7 +341,7 @@ sized_in_sequence output e h same own low sized =
     (old_sized output e h before low old))
     sized
 
-pub still_sized : (output : Output) (e : Entry) (h : History) → Follows e h → Each (λ p. p < length h) (places_in (buffer_of output h)) →
+pub still_sized : (output : Output) (e : Entry) (h : History) → Follows e h → Each (λ p. p < length h) (indices_in (buffer_of output h)) →
     IfSome (sequence_sps h) (IsSized output h) → IfSome (sequence_sps (e ∷ h)) (IsSized output (e ∷ h))
 still_sized output (missing_frame sps frame_num) h follows low sized = sized_in_sequence output (missing_frame sps frame_num) h follows tt low sized
 still_sized output (decoded_picture sps header planes) h follows low sized = by (is_idr header) refl
@@ -379,12 +379,12 @@ pub few_marked : (i : FrameBuffer) (frames : List (Frame 32)) (marked : List Mar
     marked ≡ map marked_frame frames → (length frames ≤ 16) × (length marked ≤ 16)
 few_marked i frames marked invariant on is marked_is = rw (marked_is, length-map, is) (few_needed i invariant on, few_needed i invariant on)
 
-frames_are : (h : History) (c : Contents) (idx : Option ℕ) (previous : ℕ) (s : IsStateAfter h c idx previous) → c.frames ≡ map (frame_at h (s.marks).references) (places_in (buffer_of c.output h))
+frames_are : (h : History) (c : Contents) (idx : Option ℕ) (previous : ℕ) (s : IsStateAfter h c idx previous) → c.frames ≡ map (frame_at h (s.marks).references) (indices_in (buffer_of c.output h))
 frames_are h c idx previous s = (s.buffer).frames ∙ sym (map-map (frame_at h (s.marks).references) (λ t. t.entry) (buffer_of c.output h).frames)
 
 pub are_stored : (h : History) (c : Contents) (idx : Option ℕ) (previous : ℕ) → IsStateAfter h c idx previous → AreStoredIn h c.frames
 are_stored h c idx previous s =
-    let ps = places_in (buffer_of c.output h) in
+    let ps = indices_in (buffer_of c.output h) in
     let rs = (s.marks).references in
     let at = frame_at h rs in
     let frames = frames_are h c idx previous s in
@@ -401,7 +401,7 @@ are_stored h c idx previous s =
 
 pub are_frames : (h : History) (c : Contents) (idx : Option ℕ) (previous : ℕ) → IsStateAfter h c idx previous → AreFramesIn h c.frames
 are_frames h c idx previous s =
-    let ps = places_in (buffer_of c.output h) in
+    let ps = indices_in (buffer_of c.output h) in
     let rs = (s.marks).references in
     if_some (λ sps. Each (IsSizedAt h sps) ps) (λ sps. AreFrames (width_in_mbs sps) (height_in_mbs sps) c.frames) (sequence_sps h)
     (λ sps is sized.
@@ -474,7 +474,7 @@ pub taken : (e : Entry) (h : History) (c : Contents) (idx : Option ℕ) (previou
     (new_previous : ℕ) → new_previous ≡ prev_ref_frame_num (marking_entries (e ∷ h)) → IsTaken c.output e h after_store new_idx new_previous prior out
 taken e h c idx previous s follows limits old new new_idx old_is long marks after_marks after_prior after_store set prior out outputs kept_prior frame k d last made arriving arrives_as stores kept_store new_previous previous_is =
     let n = length h in
-    let m = marks_at (places_in (buffer_of c.output h) ++ n ∷ []) new new_idx in
+    let m = marks_at (indices_in (buffer_of c.output h) ++ n ∷ []) new new_idx in
     let marked : marks_of (e ∷ h) ≡ Ok m = marked_then e h c idx previous s old new (Ok tt) new_idx old_is marks in
     let each : length new ≡ length c.frames + 1 = long ∙ ap (λ l. length l + 1) old_is ∙ ap (λ n. n + 1) (length-map c.frames marked_frame) in
     let is : IsMarked c.output e h m new = is_marked e h c idx previous s m new each marked refl in
@@ -483,13 +483,13 @@ taken e h c idx previous s follows limits old new new_idx old_is long marks afte
     let at = frame_at (e ∷ h) rs in
     let needed_for_output : after_prior.output ≡ c.output = kept_prior ∙ ap (λ v. v.output) set in
     let same : after_store.output ≡ c.output = kept_store ∙ needed_for_output in
-    let low = below (places_in (buffer_of c.output h)) n (rise (buffer_of c.output h).frames n (s.buffer).rising) in
+    let low = below (indices_in (buffer_of c.output h)) n (rise (buffer_of c.output h).frames n (s.buffer).rising) in
     let was = marked_buffer e h c idx previous s m new is after_marks set in
     let before = outputs (buffer_of c.output h) n at was in
     let own = own_frame c.output e h m new is k d last ∙ sym made in
     let has = stored_buffer c.output e h arriving m arrives after_prior after_store frame out before.buffer needed_for_output own stores in
     let after : marks_after (marking_entry e) n (marking_entry e).marking s.marks ≡ Ok m = sym (marks_then e h s.marks s.marked) ∙ marked in
-    let old_below : Each (λ r. r.entry < n) (s.marks).references = subst (Each (λ r. r.entry < n)) s.references (each_entry (λ p. p < n) (places_in (buffer_of c.output h)) (map marked_frame c.frames) low) in
+    let old_below : Each (λ r. r.entry < n) (s.marks).references = subst (Each (λ r. r.entry < n)) s.references (each_entry (λ p. p < n) (indices_in (buffer_of c.output h)) (map marked_frame c.frames) low) in
     let few = is_few e h s.marks m follows s.few after in
     let capacity : arriving.capacity ≡ dpb_size (sps_of e) = sym (ap (λ a. a.capacity) arrives) ∙ capacity_is e h in
     let limit : length rs ≤ arriving.capacity = omega (arith, few.1, room_of (sps_of e), capacity) in
@@ -506,11 +506,11 @@ taken e h c idx previous s follows limits old new new_idx old_is long marks afte
         previous_is = previous_is;
         buffer = subst (λ o. IsBuffer after_store (buffer_of o (e ∷ h)) (length (e ∷ h)) at) (sym same)
             (subst (λ k. IsBuffer after_store (buffer_of c.output (e ∷ h)) k at) next has.buffer);
-        references = subst (λ o. references_at (places_in (buffer_of o (e ∷ h))) (map marked_frame after_store.frames) ≡ rs) (sym same)
+        references = subst (λ o. references_at (indices_in (buffer_of o (e ∷ h))) (map marked_frame after_store.frames) ≡ rs) (sym same)
             (stored_references c.output e h arriving m new arrives is (unmarks_all (marking_entry e).marking) is.alone (prior_stays e h) low stored limit after_prior after_store before.buffer has.buffer);
         few = few.0;
         within = (within, s.within);
-        sized = subst (λ o. IfSome (sequence_sps (e ∷ h)) (λ sps. Each (IsSizedAt (e ∷ h) sps) (places_in (buffer_of o (e ∷ h))))) (sym same)
+        sized = subst (λ o. IfSome (sequence_sps (e ∷ h)) (λ sps. Each (IsSizedAt (e ∷ h) sps) (indices_in (buffer_of o (e ∷ h))))) (sym same)
             (still_sized c.output e h follows low s.sized);
       };
       kept = same;

@@ -5,10 +5,10 @@ pub use Rattle.std.proofs.Common.{◌%◌, eqb, take, min, lit<, ◌≤ℤ◌, r
 pub use Rattle.std.proofs.Math.Nat.{div-lt_iff_lt-mul, div-eq_of_lt, div-eq_of_lt-le, pow-succ', mod-lt, mod-eq_of_lt, pow-le-pow_right}
 pub use Rattle.std.proofs.Math.Pow.{mod-mod-pow}
 pub use Rattle.std.proofs.Math.Seq.{take-append_seam}
-pub use Rattle.std.proofs.lemmas.Bool.{and_parts, true_from_ne_false, leb-true, le-ltb, cases_lt, or_parts, ltb-true, lt-ltb, lt-leb, le-leb}
+pub use Rattle.std.proofs.lemmas.Bool.{and_parts, true_from_ne_false, leb-true, le-ltb, cases_lt, or_parts, ltb-true, lt-ltb, lt-leb, le-leb, or_from}
 pub use Rattle.std.proofs.lemmas.Int.{ints}
-pub use Rattle.std.proofs.lemmas.List.{get_or-map, get_or-replicate, take-take, take-append-le, take_all}
-pub use Rattle.std.proofs.lemmas.List.Folds.{list_all_at}
+pub use Rattle.std.proofs.lemmas.List.{get_or-map, get_or-replicate, take-take, take-append-le, take_all, get_or_read}
+pub use Rattle.std.proofs.lemmas.List.Folds.{list_all_at, list_any_more}
 pub use Rattle.std.proofs.lemmas.List.FromFn.{get_or-range_with_len, length-range_with_len, get_or-map-range_with_len, get_or-enumerate_from}
 pub use Rattle.std.proofs.lemmas.List.FromFn.{length-enumerate_from}
 pub use Rattle.std.proofs.lemmas.Nat.{pow-add, mod-pow-add, shr-shr, div-mul-add, pow_pos, leading_length, and_mask, one_shl}

@@ -3,7 +3,7 @@ pub mod Common
 unfoldable pub use Common.*
 use Rattle.avc_decoder_core.specs.History.{marking_entry}
 
--- ---- places of the history that rise
+-- ---- decoding indices of the history that rise
 
 pub each_implies : {A : Type 0} (P Q : A → Type 0) (xs : List A) → ((x : A) → P x → Q x) → Each P xs → Each Q xs
 each_implies P Q [] f h = h
@@ -48,7 +48,7 @@ pub below : (ps : List ℕ) (n : ℕ) → Rise ps n → Each (λ p. p < n) ps
 below [] n h = h
 below (p ∷ ps) n h = (h.0, below ps n h.2)
 
--- one place more
+-- one decoding index more
 pub rise_more : (ps : List ℕ) (n m : ℕ) → n < m → Rise ps n → Rise (ps ++ n ∷ []) m
 rise_more [] n m low h = (low, tt, tt)
 rise_more (p ∷ ps) n m low h = (omega (arith, low, h.0), each_append (λ q. p < q) ps (n ∷ []) h.1 (h.0, tt), rise_more ps n m low h.2)
@@ -70,10 +70,10 @@ increasing (p ∷ ps) n h = increasing-cons p ps h.1 (increasing ps n h.2)
 abbrev pub entries : List Reference → List ℕ
 entries references = map (λ r. r.entry) references
 
-abbrev pub is_entry : List Reference → (place : ℕ) → Bool
-is_entry references place = list_any (λ r. r == place) (entries references)
+abbrev pub is_entry : List Reference → (index : ℕ) → Bool
+is_entry references index = list_any (λ r. r == index) (entries references)
 
--- ---- the places of reference frames
+-- ---- the decoding indices of reference frames
 
 pub is_entry_marked : (rs : List Reference) (p : ℕ) → is_some (mark_in rs p) ≡ is_entry rs p
 is_entry_marked [] p = refl
@@ -84,20 +84,20 @@ pub is_entry-append : (xs ys : List Reference) (p : ℕ) → is_entry (xs ++ ys)
 is_entry-append [] ys p = refl
 is_entry-append (x ∷ xs) ys p = grind (arith, is_entry-append xs ys p)
 
--- ---- the reference frames of rising places
+-- ---- the reference frames of rising decoding indices
 
--- what holds of all places holds of the entries
+-- what holds of all decoding indices holds of the entries
 pub each_entry : (P : ℕ → Type 0) (ps : List ℕ) (fs : List MarkedFrame) → Each P ps → Each (λ r. P r.entry) (references_at ps fs)
 each_entry P [] fs h = tt
 each_entry P (p ∷ ps) [] h = tt
 each_entry P (p ∷ ps) (f ∷ fs) h = grind (arith, each_entry P ps fs h.1)
 
--- no reference frame stands at a place below all of them
+-- no reference frame stands with a decoding index below all of them
 unmarked_below : (rs : List Reference) (p : ℕ) → Each (λ r. p < r.entry) rs → mark_in rs p ≡ None
 unmarked_below [] p h = refl
 unmarked_below (r ∷ rs) p h = grind (arith, nat_tests, unmarked_below rs p h.1)
 
--- The mark at each place is that of its frame.
+-- The mark at each decoding index is that of its frame.
 pub marks_are : (ps : List ℕ) (n : ℕ) (fs : List MarkedFrame) → Rise ps n → length ps ≡ length fs → map (mark_in (references_at ps fs)) ps ≡ map (λ f. f.mark) fs
 marks_are [] n [] rise long = refl
 marks_are [] n (f ∷ fs) rise long = absurd (omega (arith, long))
@@ -111,9 +111,9 @@ marks_are (p ∷ ps) n (f ∷ fs) rise long = ap₂ (λ m ms. m ∷ ms) first (l
     later [] h = refl
     later (q ∷ qs) h = grind (arith, nat_tests, later qs h.1)
 
--- ---- frames that are given by their places
+-- ---- frames that are given by their decoding indices
 
--- the reference frames are those places that are marked
+-- the reference frames are those decoding indices that are marked
 pub references_by : (frame : ℕ → MarkedFrame) (ps : List ℕ) →
     references_at ps (map frame ps) ≡ map (λ p. reference_of p (frame p)) (filter (λ p. is_some (frame p).mark) ps)
 references_by frame [] = refl
@@ -124,7 +124,7 @@ pub record IsOf (frame : ℕ → MarkedFrame) (r : Reference) : Type 0 where
   pub frame_num : r.frame_num ≡ (frame r.entry).frame_num
   pub existing : r.existing ≡ (frame r.entry).existing
 
--- Frames whose marks and numbers are those of their places may stand for them.
+-- Frames whose marks and numbers are those of their decoding indices may stand for them.
 pub same_references : (frame : ℕ → MarkedFrame) (ps : List ℕ) (fs : List MarkedFrame) → length ps ≡ length fs →
     map (λ p. (frame p).mark) ps ≡ map (λ f. f.mark) fs → Each (IsOf frame) (references_at ps fs) → references_at ps fs ≡ references_at ps (map frame ps)
 same_references frame [] [] long marks each = refl
@@ -132,7 +132,7 @@ same_references frame [] (f ∷ fs) long marks each = absurd (omega (arith, long
 same_references frame (p ∷ ps) [] long marks each = absurd (omega (arith, long))
 same_references frame (p ∷ ps) (f ∷ fs) long marks each = grind (arith, same_references frame ps fs (omega (arith, long)))
 
--- what holds of the frame of each place
+-- what holds of the frame of each decoding index
 pub each_reference : (Q : Reference → Type 0) (frame : ℕ → MarkedFrame) (ps : List ℕ) → Each (λ p. Q (reference_of p (frame p))) ps → Each Q (references_at ps (map frame ps))
 each_reference Q frame [] h = tt
 each_reference Q frame (p ∷ ps) h = grind (arith, each_reference Q frame ps h.1)
@@ -182,7 +182,7 @@ entry_before e h p low = grind arith
 pub entry_newest : (e : Entry) (h : History) → entry_at (e ∷ h) (length h) ≡ Some e
 entry_newest e h = grind arith
 
--- ---- the frames at places
+-- ---- the frames with decoding indices
 
 -- the pictures that go out
 pub pictures_are : (h : History) (references : List Reference) (ps : List ℕ) → filter_map (λ p. shown_frame (frame_at h references p)) ps ≡ pictures_at h ps
@@ -238,24 +238,24 @@ pub marks_then : (e : Entry) (h : History) (m : Marks) → marks_of h ≡ Ok m �
 marks_then e h m is = grind (arith, length-map)
 
 stand_before : (h : History) (c : Contents) (b : Buffer) (frame : ℕ → Frame 32) (old : List MarkedFrame) → IsBuffer c b (length h) frame →
-    old ≡ map marked_frame c.frames → StandBefore (places_in b) (length h) old
+    old ≡ map marked_frame c.frames → StandBefore (indices_in b) (length h) old
 stand_before h c b frame old buffer is = record {
   each = length-map b.frames (λ s. s.entry) ∙ sym (ap length is ∙ length-map c.frames marked_frame ∙ ap length buffer.frames ∙ length-map b.frames (λ s. frame s.entry));
-  rising = increasing (places_in b ++ length h ∷ []) (length h + 1) (rise_more (places_in b) (length h) (length h + 1) (omega arith) (rise b.frames (length h) buffer.rising));
+  rising = increasing (indices_in b ++ length h ∷ []) (length h + 1) (rise_more (indices_in b) (length h) (length h + 1) (omega arith) (rise b.frames (length h) buffer.rising));
 }
 
 -- The marks of the longer history are those of the frames, or there is the fault.
 pub marked_then : (e : Entry) (h : History) (c : Contents) (idx : Option ℕ) (previous : ℕ) (s : IsStateAfter h c idx previous)
     (old new : List MarkedFrame) (r : Result (Unit {0}) Fault) (new_idx : Option ℕ) → old ≡ map marked_frame c.frames →
     MarksFrame (λ entry. marks_after (marking_entry e) entry (marking_entry e).marking) old idx r new new_idx →
-    marks_of (e ∷ h) ≡ or_fault r (marks_at (places_in (buffer_of c.output h) ++ length h ∷ []) new new_idx)
+    marks_of (e ∷ h) ≡ or_fault r (marks_at (indices_in (buffer_of c.output h) ++ length h ∷ []) new new_idx)
 marked_then e h c idx previous s old new r new_idx is marks = grind (arith, marks_then, stand_before)
 
 -- The marks with the entry, where `marked` are the frames of the buffer and the entry's own.
 pub record IsMarked (output : Output) (e : Entry) (h : History) (m : Marks) (marked : List MarkedFrame) : Type 0 where
   pub marks_is : marks_of (e ∷ h) ≡ Ok m
-  pub marks : map (mark_in m.references) (places_in (buffer_of output h) ++ length h ∷ []) ≡ map (λ f. f.mark) marked
-  pub references : m.references ≡ references_at (places_in (buffer_of output h) ++ length h ∷ []) (map (λ p. marked_frame (frame_at (e ∷ h) m.references p)) (places_in (buffer_of output h) ++ length h ∷ []))
+  pub marks : map (mark_in m.references) (indices_in (buffer_of output h) ++ length h ∷ []) ≡ map (λ f. f.mark) marked
+  pub references : m.references ≡ references_at (indices_in (buffer_of output h) ++ length h ∷ []) (map (λ p. marked_frame (frame_at (e ∷ h) m.references p)) (indices_in (buffer_of output h) ++ length h ∷ []))
   pub alone : unmarks_all (marking_entry e).marking ≡ true → Each (λ r. r.entry ≡ length h) m.references
   pub below : Each (λ r. r.entry < length h + 1) m.references
 
@@ -265,7 +265,7 @@ part_each Q same [] old part h = tt
 part_each Q same (r ∷ new) [] part h = absurd part
 part_each Q same (r ∷ new) (s ∷ old) part h = grind (arith, same, part_each Q same new old, part_each Q same (r ∷ new) old)
 
--- the frame at a place is that of its reference frame, which had this number before
+-- the frame with a decoding index is that of its reference frame, which had this number before
 own_is_of : (e : Entry) (h : History) (rs : List Reference) →
     IsOf (λ p. marked_frame (frame_at (e ∷ h) rs p)) (current_frame (marking_entry e) (length h) Short)
 own_is_of e h rs = let at = entry_newest e h in grind (arith, at)
@@ -279,11 +279,11 @@ same_of frame r s same h = grind arith
 
 pub is_marked : (e : Entry) (h : History) (c : Contents) (idx : Option ℕ) (previous : ℕ) (s : IsStateAfter h c idx previous)
     (m : Marks) (new : List MarkedFrame) → length new ≡ length c.frames + 1 → marks_of (e ∷ h) ≡ Ok m →
-    m.references ≡ references_at (places_in (buffer_of c.output h) ++ length h ∷ []) new → IsMarked c.output e h m new
+    m.references ≡ references_at (indices_in (buffer_of c.output h) ++ length h ∷ []) new → IsMarked c.output e h m new
 is_marked e h c idx previous s m new long is references =
     let n = length h in
     let b = buffer_of c.output h in
-    let ps = places_in b in
+    let ps = indices_in b in
     let qs = ps ++ n ∷ [] in
     let frame : ℕ → MarkedFrame = λ p. marked_frame (frame_at (e ∷ h) m.references p) in
     let before : ℕ → MarkedFrame = λ p. marked_frame (frame_at h (s.marks).references p) in
@@ -339,7 +339,7 @@ placed_by_room : (P : ℕ → Type 0) (t : Bool) (entry : ℕ) (a : Arrival) (b 
 placed_by_room P true entry a b own h = h
 placed_by_room P false entry a b own h = each_append (λ s. P s.entry) b.frames _ h (own, tt)
 
--- what holds of the places before, and of the entry's own
+-- what holds of the decoding indices before, and of the entry's own
 pub each_after_frame : (P : ℕ → Type 0) (output : Output) (entry : ℕ) (a : Arrival) (b : Buffer) → P entry → Stored_each P b.frames →
     Stored_each P (after_frame output entry a b).frames
 each_after_frame P output entry a b own h = search (rules, bumped_while, placed_by_room, is_full, each_filter)
@@ -393,7 +393,7 @@ length-all_marks c now ms is = ap (λ v. length v.frames) is ∙ length-with_mar
 
 -- ---- where the buffer's frames pass the test for a settled window: the reference frames among the buffer's frames
 
--- those of these frames, where `at` is the frame of each place
+-- those of these frames, where `at` is the frame of each decoding index
 abbrev references_in : (at : ℕ → Frame 32) → List Stored → List Reference
 references_in at ts = references_at (map (λ s. s.entry) ts) (map (λ s. marked_frame (at s.entry)) ts)
 
@@ -427,23 +427,23 @@ rest_staying at first low max s ts all = λ p within. let h = all (suc p) (omega
 
 -- ---- the frames that leave
 
-record AreLeaving (max low number place next : ℕ) (shorts : List Reference) (ts : List Stored) : Type 0 where
-  places : StandFrom place next shorts
+record AreLeaving (max low number index next : ℕ) (shorts : List Reference) (ts : List Stored) : Type 0 where
+  places : StandFrom index next shorts
   counts : CountFrom max low number shorts
   not_needed : AreNotNeeded shorts ts
   many : length shorts ≡ length ts
 
-are_leaving : (at : ℕ → Frame 32) (max low number place next : ℕ) (ts : List Stored) → low + length ts ≡ number → place ≤ next →
-    Each (λ p. place ≤ p) (map (λ s. s.entry) ts) → Rise (map (λ s. s.entry) ts) next →
-    AllPass at 0 low max ts → AreLeaving max low number place next (references_in at ts) ts
-are_leaving at max low number place next [] last less above rises all = record { places = less; counts = omega arith; not_needed = tt; many = refl }
-are_leaving at max low number place next (s ∷ ts) last less above rises all =
+are_leaving : (at : ℕ → Frame 32) (max low number index next : ℕ) (ts : List Stored) → low + length ts ≡ number → index ≤ next →
+    Each (λ p. index ≤ p) (map (λ s. s.entry) ts) → Rise (map (λ s. s.entry) ts) next →
+    AllPass at 0 low max ts → AreLeaving max low number index next (references_in at ts) ts
+are_leaving at max low number index next [] last less above rises all = record { places = less; counts = omega arith; not_needed = tt; many = refl }
+are_leaving at max low number index next (s ∷ ts) last less above rises all =
     let here = leaving low max s.needed_for_output (at s.entry) (all 0 (omega arith)) in
     let rest = are_leaving at max (low + 1) number (s.entry + 1) next ts (omega (arith, last)) (omega (arith, rises.0))
     (each_implies (λ p. s.entry < p) (λ p. s.entry + 1 ≤ p) (map (λ s. s.entry) ts) (λ p l. omega (arith, l)) rises.1) rises.2 (rest_leaving at low max s ts all) in
     let own : Reference = record { entry = s.entry; frame_num = (at s.entry).frame_num; existing = is_some (at s.entry).planes; mark = Short } in
     let first : references_in at (s ∷ ts) ≡ own ∷ references_in at ts = grind (arith, here) in
-    subst (λ rs. AreLeaving max low number place next rs (s ∷ ts)) (sym first) (record {
+    subst (λ rs. AreLeaving max low number index next rs (s ∷ ts)) (sym first) (record {
       places = (above.0, rest.places);
       counts = (low, (omega arith, record { frame_num = here.number; short = refl }, rest.counts));
       not_needed = (refl, here.not_needed, rest.not_needed);
@@ -459,9 +459,9 @@ no_shorts : (at : ℕ → Frame 32) (ts : List Stored) → AreStaying at ts → 
 no_shorts at [] h = refl
 no_shorts at (s ∷ ts) h = grind (arith, no_shorts at ts h.1)
 
-longs_before : (at : ℕ → Frame 32) (place : ℕ) (ts : List Stored) → AreBefore place ts → StandBelow place (references_in at ts)
-longs_before at place [] h = tt
-longs_before at place (s ∷ ts) h = grind (arith, longs_before at place ts h.1)
+longs_before : (at : ℕ → Frame 32) (index : ℕ) (ts : List Stored) → AreBefore index ts → StandBelow index (references_in at ts)
+longs_before at index [] h = tt
+longs_before at index (s ∷ ts) h = grind (arith, longs_before at index ts h.1)
 
 -- they are needed for output, or among these reference frames
 all_needed : (at : ℕ → Frame 32) (longs : List Reference) (ts : List Stored) → AreStaying at ts →
@@ -475,20 +475,20 @@ all_needed at longs (s ∷ ts) h among =
 -- ---- all frames
 
 record AreParts (at : ℕ → Frame 32) (max low first next : ℕ) (ts : List Stored) : Type 0 where
-  place : ℕ
+  index : ℕ
   frames : List Stored
   lasts : List Stored
   all : ts ≡ frames ++ lasts
   stay : AreStaying at frames
-  before : AreBefore place frames
-  above : (l : ℕ) → Each (λ q. l < q) (map (λ s. s.entry) ts) → l < place
-  leave : AreLeaving max low (low + length lasts) place next (references_in at lasts) lasts
+  before : AreBefore index frames
+  above : (l : ℕ) → Each (λ q. l < q) (map (λ s. s.entry) ts) → l < index
+  leave : AreLeaving max low (low + length lasts) index next (references_in at lasts) lasts
   many : length lasts + first ≡ length ts
 
 are_parts : (at : ℕ → Frame 32) (max low first next : ℕ) (ts : List Stored) → first < length ts → Rise (map (λ s. s.entry) ts) next → AllPass at first low max ts → AreParts at max low first next ts
 are_parts at max low first next [] some rises all = absurd (omega (arith, some))
 are_parts at max low zero next (s ∷ ts) some rises all = record {
-  place = s.entry;
+  index = s.entry;
   frames = [];
   lasts = s ∷ ts;
   all = refl;
@@ -503,7 +503,7 @@ are_parts at max low (suc first) next (s ∷ ts) some rises all =
     let r = are_parts at max low first next ts (omega (arith, some)) rises.2 (rest_staying at first low max s ts all) in
     let here = all 0 (omega arith) in
     record {
-      place = r.place;
+      index = r.index;
       frames = s ∷ r.frames;
       lasts = r.lasts;
       all = ap (λ l. s ∷ l) r.all;
@@ -532,7 +532,7 @@ pub long_gap : (h : History) (c : Contents) (idx : Option ℕ) (previous : ℕ) 
 long_gap h c idx previous state sps numbers number shorts first low count from' some many low_is near few counts full room all = record {
   low = low;
   number = number + max;
-  place = parts.place;
+  index = parts.index;
   stays = record { longs = longs; max_long_term_frame_idx = (state.marks).max_long_term_frame_idx; frames = parts.frames; out = (buffer_of c.output h).out };
   shorts = shorts_in;
   lasts = parts.lasts;
@@ -543,7 +543,7 @@ long_gap h c idx previous state sps numbers number shorts first low count from' 
       long = no_shorts at parts.frames parts.stay;
       full = sym (length-append longs shorts_in) ∙ ap length (sym apart) ∙ sym counted ∙ full;
       places = (parts.leave).places;
-      longs_before = longs_before at parts.place parts.frames parts.before;
+      longs_before = longs_before at parts.index parts.frames parts.before;
     };
     counts = subst (λ n. CountFrom max low n shorts_in) (omega (arith, parts.many, many, low_is, long)) (parts.leave).counts;
     not_needed = (parts.leave).not_needed;
@@ -590,12 +590,12 @@ long_gap h c idx previous state sps numbers number shorts first low count from' 
     marked = ap (map marked_frame) (state.buffer).frames ∙ map-map marked_frame (λ (s : Stored). at s.entry) ts
 
     references : references_in at ts ≡ (state.marks).references
-    references = ap (references_at (places_in (buffer_of c.output h))) (sym marked) ∙ state.references
+    references = ap (references_at (indices_in (buffer_of c.output h))) (sym marked) ∙ state.references
 
     counted : count ≡ length (references_in at ts)
     counted =
-        counts (places_in (buffer_of c.output h)) (record {
+        counts (indices_in (buffer_of c.output h)) (record {
           each = length-map ts (λ (s : Stored). s.entry) ∙ sym (length-map c.frames marked_frame ∙ long);
-          rising = increasing (places_in (buffer_of c.output h)) (length h) rises;
+          rising = increasing (indices_in (buffer_of c.output h)) (length h) rises;
         })
-        ∙ ap (λ l. length (references_at (places_in (buffer_of c.output h)) l)) marked
+        ∙ ap (λ l. length (references_at (indices_in (buffer_of c.output h)) l)) marked

@@ -23,12 +23,12 @@ abbrev pub all_of : Output → History → List Decoded
 all_of output h = pictures_at h (output_order output h)
 
 shown_in_turn : (h : History) (first others : List ℕ) → pictures_at h (first ++ others) ≡ pictures_at h first ++ pictures_at h others
-shown_in_turn h first others = flat_map-append (λ place. entry_pictures (entry_at h place)) first others
+shown_in_turn h first others = flat_map-append (λ index. entry_pictures (entry_at h index)) first others
 
 pub gone_and_held : (output : Output) (h : History) → gone output h ++ held_pictures output h ≡ all_of output h
 gone_and_held output h = sym (shown_in_turn h (buffer_of output h).out (all_held output h))
 
--- the places of what has gone out
+-- the decoding indices of what has gone out
 gone_below : (output : Output) (h : History) → All (λ p. p < length h) (buffer_of output h).out
 gone_below output h =
     let out = (buffer_of output h).out in

@@ -26,8 +26,8 @@ pub use Rattle.avc_dpb.specs.Bumping.{Stored, is_reference_in, Buffer, Arrival, 
 pub use Rattle.avc_dpb.specs.Bumping.{after_bumping, after_bumping_while, after_making_room, must_bump, with_frame, with_direct_output, is_full, after_placing}
 pub use Rattle.avc_dpb.specs.Bumping.{holds_too_many, after_frame, after_prior_pictures, new_output as bumped_output, empty_buffer, after_entry}
 pub use Rattle.avc_dpb.specs.Contents.{IsRising, Contents, IsBuffer, changed_at, with_mark, slot_of, HasBuffer, arrival_of, OutputsAll, OutputsSome}
-pub use Rattle.avc_dpb.specs.Laws.{occurrences, pictures, HasRoom, places_of_references, missing_arrival, missing_stored, IsWithin}
-pub use Rattle.avc_dpb.specs.Reordering.{references_after, last_emptying, limit_after, places_after, reordered, AllCanGoOutEarly, CanGoOutEarly}
+pub use Rattle.avc_dpb.specs.Laws.{occurrences, pictures, HasRoom, indices_of_references, missing_arrival, missing_stored, IsWithin}
+pub use Rattle.avc_dpb.specs.Reordering.{references_after, last_emptying, limit_after, indices_after, reordered, AllCanGoOutEarly, CanGoOutEarly}
 pub use Rattle.avc_dpb.specs.Reordering.{EarlyOutputKeepsTheOrder}
 pub use Rattle.avc_dpb.specs.StoredFrame.{shown_frame}
 pub use Rattle.avc_dpb.specs.declared.arriving_frame.ArrivingFrame.{ArrivingFrame}
@@ -63,7 +63,7 @@ pub use Rattle.avc_types.specs.declared.references.Mark.TheVariants.{Short}
 pub use Rattle.avc_types.specs.declared.references.Marking.{Marking}
 pub use Rattle.avc_types.specs.declared.references.Marking.TheVariants.{SlidingWindow}
 pub use Rattle.avc_types.specs.declared.references.Operation.{Operation}
-pub use Rattle.avc_decoder_core.specs.FrameBufferFields.{Each, with_marks, IsStateAfter, places_in, with_all_marks, IsSizedAt, history_of, OutputsPrior}
+pub use Rattle.avc_decoder_core.specs.FrameBufferFields.{Each, with_marks, IsStateAfter, indices_in, with_all_marks, IsSizedAt, history_of, OutputsPrior}
 pub use Rattle.avc_decoder_core.specs.FrameBufferFields.{IsFrameBufferState}
 pub use Rattle.avc_decoder_core.specs.FrameBufferState.{CanFollow, FrameBufferState, Refuses, BeginsSequence, at_sequence_of, empty_frame_buffer}
 pub use Rattle.avc_decoder_core.specs.Frames.{mark_in, frame_of, frame_at, coded_frame}

@@ -27,10 +27,10 @@ pub use Rattle.avc_dpb.specs.Bumping.{after_entry, new_output, buffer_after, is_
 pub use Rattle.avc_dpb.specs.Contents.{IsRising, slot_of, changed_at, Contents, IsBuffer, IsReferenceAmong, Stores, OutputsAll, OutputsSome, arrival_of}
 pub use Rattle.avc_dpb.specs.Contents.{changed_at as slot_changed_at, with_mark}
 pub use Rattle.avc_dpb.specs.Laws.{StandsInDecodingOrder, AllHeldGoOut, OutOnlyGrows, GoesOutInTurn, HoldsAtMost, needed_in_order, MissingFramesKeepTheOrder}
-pub use Rattle.avc_dpb.specs.Laws.{occurrences, pictures, GoesOutOnce, IsNextOutput, LeastGoesOut, AllGoOutByBumping, places_of_references, HasRoom}
+pub use Rattle.avc_dpb.specs.Laws.{occurrences, pictures, GoesOutOnce, IsNextOutput, LeastGoesOut, AllGoOutByBumping, indices_of_references, HasRoom}
 pub use Rattle.avc_dpb.specs.Laws.{ReferencesStay, MissingFramesFindRoom}
 pub use Rattle.avc_dpb.specs.Places.{first_of_two, first_output_from, are_needed, chosen, goes_on, no_longer_needed as slot_let_go}
-pub use Rattle.avc_dpb.specs.Reordering.{places_after, reordered, whole_output, last_emptying, limit_after, references_after, CanGoOutEarly, AllCanGoOutEarly}
+pub use Rattle.avc_dpb.specs.Reordering.{indices_after, reordered, whole_output, last_emptying, limit_after, references_after, CanGoOutEarly, AllCanGoOutEarly}
 pub use Rattle.avc_dpb.specs.Reordering.{EarlyOutputKeepsTheOrder}
 pub use Rattle.avc_dpb.specs.Steps.{StandFor, Become, ShowsFirst, goes_on_in, BumpsWhile, ShowsWhile, PlacesFrame}
 pub use Rattle.avc_dpb.specs.StoredFrame.{is_used_for_reference, shown_frame}
