@@ -1,6 +1,6 @@
 #!/bin/sh
 # wrong-bodies.sh [CRATE..]   Tries all wrong bodies: those of must-fail/, which the gate tries, and those of wrong-bodies/, which it leaves out.
-# It works in a copy of the repository with what is proved there. The last line is 'N passed, M failed'.
+# It works in a copy of the repository, with what is proved there, and ends with a line for each; its status is 0 where all were refused.
 set -eu
 cd "$(dirname "$0")/.."
 copy=$(mktemp -d)
