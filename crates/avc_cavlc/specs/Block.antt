@@ -4,7 +4,7 @@ use Rattle.std.specs.List.{flat_map, zip}
 use Rattle.avc_types.specs.declared.fault.Fault.TheVariants as faults
 use Rattle.avc_bits.specs.Bits.{Read, ◌>>=◌, ◌>>◌, give, check, times}
 use Rattle.avc_bits.specs.Codes.{u, flag, zeros_before_one}
-use Rattle.avc_vlc.specs.declared.token.Token.{Token}
+use Rattle.avc_vlc.specs.declared.coeff_token.Token.{Token}
 use Rattle.avc_vlc.specs.Reading.{coeff_token, total_zeros, run_before}
 
 -- ---- levels (9.2.2)

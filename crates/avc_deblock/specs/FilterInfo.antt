@@ -11,11 +11,11 @@ use Rattle.avc_motion.specs.Motion.{is_intra, zero_vector}
 use Rattle.avc_deblock.specs.Edges.{mb_at, slice_at, filter_qp, has_coefficients, picture_named}
 use Rattle.avc_deblock.specs.declared.mb_info.MbInfo.{MbInfo}
 
--- The numbers of stored frames: that with number n is this entry of the history. No two are one entry.
+-- The numbers of stored frames: the decoding index of that with number n. No two have one.
 pub record Names : Type 0 where
   pub count : ℕ
-  pub entry : ℕ → ℕ
-  pub apart : (m n : ℕ) → m < count → n < count → entry m ≡ entry n → m ≡ n
+  pub decoding_index : ℕ → ℕ
+  pub apart : (m n : ℕ) → m < count → n < count → decoding_index m ≡ decoding_index n → m ≡ n
 
 -- bit k of a mask
 abbrev pub has_bit : ℕ → ℕ → Bool
@@ -25,7 +25,7 @@ has_bit mask k = mask / 2 ^ k % 2 == 1
 pub record HasMotion (c : Coded) (names : Names) (a : ℕ) (f : MbInfo) (k : ℕ) (m : Motion) : Type 0 where
   pub reference : ℕ
   pub is : m ≡ inter reference (slice_index_or f.vectors k zero_vector)
-  pub picture : picture_named c a reference ≡ Some (names.entry (slice_index f.pictures (k / 4)))
+  pub picture : picture_named c a reference ≡ Some (names.decoding_index (slice_index f.pictures (k / 4)))
   pub named : slice_index f.pictures (k / 4) < names.count
 
 -- This is the info of macroblock a of the picture; `motion` is that of all its macroblocks.

@@ -8,8 +8,8 @@ use Rattle.avc_types.specs.Pictures.{Coded}
 use Rattle.avc_neigh.specs.declared.neighbour_info.Motion.{Motion}
 use Rattle.avc_plane.specs.Planes.{Planes}
 use Rattle.avc_deblock.specs.Edges.{line_filtered, luma_per_sample, setting_at, filters_vertical, filters_horizontal, filters_edge_to}
-use Rattle.avc_deblock.specs.declared.strengths.Strengths.{Strengths}
-use Rattle.avc_deblock.specs.declared.strengths.Strengths.TheVariants.{Four, BelowFour}
+use Rattle.avc_deblock.specs.declared.edge_strengths.Strengths.{Strengths}
+use Rattle.avc_deblock.specs.declared.edge_strengths.Strengths.TheVariants.{Four, BelowFour}
 use Rattle.avc_deblock.specs.declared.thresholds.EdgeQp.{EdgeQp}
 use Rattle.avc_deblock.specs.declared.thresholds.QpLimits.{QpLimits}
 

@@ -2,12 +2,12 @@ ghost use Rattle.std.specs.Prelude.{◌≡◌, ℕ, ◌+◌, ◌*◌, ◌<◌, �
 ghost use Rattle.avc_deblock.specs.Line.{filtered};
 ghost use Rattle.avc_deblock.specs.Rows.{line_near, IsNearSet};
 ghost use Rattle.avc_deblock.specs.OneEdge.{edge_filtered, chroma_setting, strength_along, AreStrengths, AreLimits};
-ghost use Rattle.avc_deblock.specs.declared.strengths.Strengths.TheVariants.{Four, BelowFour};
+ghost use Rattle.avc_deblock.specs.declared.edge_strengths.Strengths.TheVariants.{Four, BelowFour};
 ghost use Rattle.avc_deblock.specs.declared.thresholds.EdgeQp.{EdgeQp as Qps};
 
 use crate::block::{columns, rows_of, strong_chroma, weak_chroma};
+use crate::edge_strengths::Strengths;
 use crate::pair::{beside, half, joined, nearest};
-use crate::strengths::Strengths;
 use crate::thresholds::{QpLimits, chroma_tc1s};
 use avc_plane::Plane;
 

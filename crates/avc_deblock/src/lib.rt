@@ -17,7 +17,6 @@ mod mb_info;
 mod pair;
 mod planes_edge;
 mod still;
-mod strengths;
 mod thresholds;
 mod vertical_edges;
 

@@ -2,8 +2,8 @@ ghost use Rattle.std.specs.Prelude.{◌≡◌, ◌+◌, ◌<◌, ◌≤◌, true
 ghost use Rattle.avc_deblock.specs.OneEdge.{edge_filtered, luma_setting, strength_along, AreStrengths, AreLimits};
 ghost use Rattle.avc_deblock.specs.declared.thresholds.EdgeQp.{EdgeQp as Qps};
 
+use crate::edge_strengths::Strengths;
 use crate::kernels::{strong_horizontal, strong_vertical, weak_horizontal, weak_vertical};
-use crate::strengths::Strengths;
 use crate::thresholds::QpLimits;
 use avc_plane::Plane;
 

@@ -6,10 +6,9 @@ ghost use Rattle.avc_deblock.specs.declared.thresholds.EdgeQp.{EdgeQp as Qps};
 ghost use Rattle.avc_deblock.specs.ByInfo.{edge_by_info, luma_qp_of, chroma_qp_of, strength_of};
 
 use crate::chroma_edge::{horizontal_chroma, vertical_chroma};
-use crate::edge_strengths::edge_strengths;
+use crate::edge_strengths::{Strengths, edge_strengths};
 use crate::luma_edge::{horizontal_luma, vertical_luma};
 use crate::mb_info::MbInfo;
-use crate::strengths::Strengths;
 use crate::thresholds::{EdgeQp, QpLimits};
 use avc_plane::{Plane, Planes};
 use avc_transform::chroma_qp;

@@ -8,12 +8,11 @@ ghost use Rattle.avc_deblock.specs.MbLimits.{ArePairLimits};
 ghost use Rattle.avc_deblock.specs.ByInfo.{edges_by_info, luma_qp_of, chroma_qp_of, strength_of};
 
 use crate::chroma_edge::two_vertical_chroma;
-use crate::edge_strengths::edge_strengths;
+use crate::edge_strengths::{Strengths, edge_strengths};
 use crate::line::both;
 use crate::luma_edge::vertical_luma;
 use crate::mb_info::MbInfo;
 use crate::planes_edge::{PairLimits, Place, vertical_chroma_of};
-use crate::strengths::Strengths;
 use crate::thresholds::QpLimits;
 use avc_plane::{Plane, Planes};
 

@@ -1,7 +1,6 @@
 //! From bytes to pictures and refusals.
 #![tactic(auto)]
 
-mod active_sets;
 mod calls;
 mod close;
 mod decoder;

@@ -13,18 +13,24 @@ ghost use Rattle.avc_slice.specs.Within.{IsHeader};
 ghost use Rattle.avc_types.specs.declared.picture_error.PictureError.TheVariants.{OutOfMemory as NoMemory};
 ghost use Rattle.avc_units.specs.GrouperState.{IsSliceUnder};
 
-use crate::active_sets::ActiveSets;
 use crate::close::fail;
 use crate::phase::{CurrentPicture, Phase};
 use crate::stream::Stream;
 use avc_decoder_core::Sequence;
 use avc_decoder_core::laws::missing_numbers_keep_the_order;
-use avc_params::ParamTable;
+use avc_params::{ParamTable, Pps, Sps};
 use avc_picture::{PictureDecoder, PictureMemory};
 use avc_plane::{Frame, PADDING};
 use avc_slice::{Header, Slice};
 use avc_types::{Fault, OutOfMemory, PictureError};
 use avc_units::LastHeader;
+
+/// The parameter sets that a picture's slices name (7.4.1.2.1).
+#[derive(Clone, Copy)]
+pub struct ActiveSets<'a> {
+    pub sps: &'a Sps,
+    pub pps: &'a Pps,
+}
 
 /// So many frames can have left the buffer since a picture began: those that were stored, and the picture itself.
 const MOST_EMPTIED: usize = 17;

@@ -25,51 +25,51 @@ marked_after e older a b = sym (marks_then e older a.marks a.is) ∙ b.is
 
 -- the marks with the newest entry are those before it, and its own frame
 part_of_older : AddsOwnFrameAlone → (e : Entry) (older : History) (a : AreMarked older) (b : AreMarked (e ∷ older)) →
-    Each (λ r. r.entry < length older) (a.marks).references →
+    Each (λ r. r.decoding_index < length older) (a.marks).references →
     IsPartUpToMarks (b.marks).references ((a.marks).references ++ current_frame (marking_entry e) (length older) Short ∷ [])
 part_of_older law e older a b low =
-    law (marking_entry e) (length older) a.marks b.marks (each_all (λ r. r.entry < length older) (a.marks).references low) (marked_after e older a b)
+    law (marking_entry e) (length older) a.marks b.marks (each_all (λ r. r.decoding_index < length older) (a.marks).references low) (marked_after e older a b)
 
 -- the decoding indices of the reference frames are those of entries of the history
-marked_below : AddsOwnFrameAlone → (h : History) → is_ok (marks_of h) ≡ true → (b : AreMarked h) → Each (λ r. r.entry < length h) (b.marks).references
-marked_below law [] ok b = subst (Each (λ r. r.entry < 0)) (ap or_no_references b.is) tt
+marked_below : AddsOwnFrameAlone → (h : History) → is_ok (marks_of h) ≡ true → (b : AreMarked h) → Each (λ r. r.decoding_index < length h) (b.marks).references
+marked_below law [] ok b = subst (Each (λ r. r.decoding_index < 0)) (ap or_no_references b.is) tt
 marked_below law (e ∷ older) ok b =
     let n = length older in
     let before = marked_before e older ok in
     let a = marked older before in
     let low = marked_below law older before a in
-    part_each (λ r. r.entry < length (e ∷ older)) (λ r s same at. subst (λ k. k < length (e ∷ older)) (sym same.same_entry) at)
+    part_each (λ r. r.decoding_index < length (e ∷ older)) (λ r s same at. subst (λ k. k < length (e ∷ older)) (sym same.same_decoding_index) at)
     (b.marks).references ((a.marks).references ++ current_frame (marking_entry e) n Short ∷ [])
     (part_of_older law e older a b low)
-    (each_append (λ r. r.entry < length (e ∷ older)) (a.marks).references (current_frame (marking_entry e) n Short ∷ [])
-    (each_implies (λ r. r.entry < n) (λ r. r.entry < length (e ∷ older)) (a.marks).references (λ r at. omega (arith, at)) low)
+    (each_append (λ r. r.decoding_index < length (e ∷ older)) (a.marks).references (current_frame (marking_entry e) n Short ∷ [])
+    (each_implies (λ r. r.decoding_index < n) (λ r. r.decoding_index < length (e ∷ older)) (a.marks).references (λ r at. omega (arith, at)) low)
     (omega arith, tt))
 
 -- ---- an entry adds no reference frame but its own
 
 -- a decoding index of the first frames is one of the others
-index_of_part : (index : ℕ) (new old : List Reference) → IsPartUpToMarks new old → is_entry new index ≡ true → is_entry old index ≡ true
+index_of_part : (index : ℕ) (new old : List Reference) → IsPartUpToMarks new old → is_index_of new index ≡ true → is_index_of old index ≡ true
 index_of_part index [] old part here = wrong here
 index_of_part index (r ∷ new) [] part here = absurd part
 index_of_part index (r ∷ new) (s ∷ old) (inl both) here = grind (arith, nat_tests, both, index_of_part index new old both.1)
 index_of_part index (r ∷ new) (s ∷ old) (inr part) here = grind (arith, index_of_part index (r ∷ new) old part here)
 
-own_or_other : (index : ℕ) (old : List Reference) (own : Reference) → is_entry (old ++ own ∷ []) index ≡ true →
-    (index ≡ own.entry) ⊎ (is_entry old index ≡ true)
+own_or_other : (index : ℕ) (old : List Reference) (own : Reference) → is_index_of (old ++ own ∷ []) index ≡ true →
+    (index ≡ own.decoding_index) ⊎ (is_index_of old index ≡ true)
 own_or_other index [] own here = grind (arith, nat_tests)
 own_or_other index (s ∷ old) own here = grind (arith, nat_tests, own_or_other index old own)
 
-arriving_references : (e : Entry) (older : History) → (arrival e older).references ≡ entries (references_of (e ∷ older))
+arriving_references : (e : Entry) (older : History) → (arrival e older).references ≡ indices_of (references_of (e ∷ older))
 arriving_references (decoded_picture sps h planes) older = refl
 arriving_references (missing_frame sps frame_num) older = refl
 
-references_before : (h : History) → references_after (arrivals h) ≡ entries (references_of h)
+references_before : (h : History) → references_after (arrivals h) ≡ indices_of (references_of h)
 references_before [] = refl
 references_before (e ∷ older) = arriving_references e older
 
 -- the decoding indices of the reference frames of a history
 abbrev is_reference_index : History → (index : ℕ) → Bool
-is_reference_index h index = is_entry (references_of h) index
+is_reference_index h index = is_index_of (references_of h) index
 
 adds_own : AddsOwnFrameAlone → (e : Entry) (older : History) → is_ok (marks_of (e ∷ older)) ≡ true → (index : ℕ) →
     is_reference_index (e ∷ older) index ≡ true → (index ≡ length older) ⊎ (is_reference_index older index ≡ true)
@@ -79,8 +79,8 @@ adds_own law e older ok index here =
     let b = marked (e ∷ older) ok in
     let own = current_frame (marking_entry e) (length older) Short in
     let part = part_of_older law e older a b (marked_below law older before a) in
-    let now : is_entry (b.marks).references index ≡ true = sym (ap (λ r. is_entry (or_no_references r) index) b.is) ∙ here in
-    subst (λ rs. (index ≡ length older) ⊎ (is_entry rs index ≡ true)) (sym (ap or_no_references a.is))
+    let now : is_index_of (b.marks).references index ≡ true = sym (ap (λ r. is_index_of (or_no_references r) index) b.is) ∙ here in
+    subst (λ rs. (index ≡ length older) ⊎ (is_index_of rs index ≡ true)) (sym (ap or_no_references a.is))
     (own_or_other index (a.marks).references own
     (index_of_part index (b.marks).references ((a.marks).references ++ own ∷ []) part now))
 
@@ -95,15 +95,15 @@ adds_own_index law e older ok index here =
 
 -- ---- a non-existing frame is a reference frame
 
-own_is_entry : (old : List Reference) (own : Reference) → is_entry (old ++ own ∷ []) own.entry ≡ true
-own_is_entry [] own = grind (arith, nat_tests)
-own_is_entry (s ∷ old) own = grind (arith, own_is_entry old own)
+own_is_index_of : (old : List Reference) (own : Reference) → is_index_of (old ++ own ∷ []) own.decoding_index ≡ true
+own_is_index_of [] own = grind (arith, nat_tests)
+own_is_index_of (s ∷ old) own = grind (arith, own_is_index_of old own)
 
-slid : (s : MarkingEntry) (n : ℕ) (m m' : Marks) → marks_after s n (Some SlidingWindow) m ≡ Ok m' → is_entry m'.references n ≡ true
+slid : (s : MarkingEntry) (n : ℕ) (m m' : Marks) → marks_after s n (Some SlidingWindow) m ≡ Ok m' → is_index_of m'.references n ≡ true
 slid s n m m' is = by (after_sliding_window s m.references) is
   where
-    by : (r : Result (List Reference) Fault) → (r >>= λ references. Ok (record m { references = references ++ current_frame s n Short ∷ [] })) ≡ Ok m' → is_entry m'.references n ≡ true
-    by r is = let own = λ (rs : List Reference). own_is_entry rs (current_frame s n Short) in grind (arith, own)
+    by : (r : Result (List Reference) Fault) → (r >>= λ references. Ok (record m { references = references ++ current_frame s n Short ∷ [] })) ≡ Ok m' → is_index_of m'.references n ≡ true
+    by r is = let own = λ (rs : List Reference). own_is_index_of rs (current_frame s n Short) in grind (arith, own)
 
 pub missing_is_reference : (sps : Sps) (frame_num : ℕ) (older : History) → is_ok (marks_of (missing_frame sps frame_num ∷ older)) ≡ true →
     list_any (λ p. p == length (arrivals older)) (arrival (missing_frame sps frame_num) older).references ≡ true
@@ -112,7 +112,7 @@ missing_is_reference sps frame_num older ok =
     let a = marked older (marked_before e older ok) in
     let b = marked (e ∷ older) ok in
     subst (λ n. is_reference_index (e ∷ older) n ≡ true) (sym (length-arrivals older))
-    (ap (λ r. is_entry (or_no_references r) (length older)) b.is
+    (ap (λ r. is_index_of (or_no_references r) (length older)) b.is
     ∙ slid (marking_entry e) (length older) a.marks b.marks (marked_after e older a b))
 
 -- ---- where the reordering of pictures stays within its limits, early output hands them out in the order of full output: the limit of a sequence

@@ -59,7 +59,7 @@ Each P (x ∷ xs) = P x × Each P xs
 
 -- the decoding indices of the buffer's frames in the history
 abbrev pub indices_in : Buffer → List ℕ
-indices_in b = map (λ s. s.entry) b.frames
+indices_in b = map (λ s. s.decoding_index) b.frames
 
 -- Where the entry with this decoding index is a picture it has the size that the parameter set gives.
 abbrev pub IsSizedAt : History → Sps → (index : ℕ) → Type 0

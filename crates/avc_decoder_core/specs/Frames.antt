@@ -15,7 +15,7 @@ use Rattle.avc_decoder_core.specs.Pictures.{crop_of}
 
 -- how the frame with this decoding index is marked, where these are the reference frames (8.2.5)
 abbrev pub mark_in : List Reference → (index : ℕ) → Option Mark
-mark_in references index = option_map (λ r. r.mark) (find (λ r. r.entry == index) references)
+mark_in references index = option_map (λ r. r.mark) (find (λ r. r.decoding_index == index) references)
 
 -- planes as they are stored
 abbrev pub padded_of : Planes → PaddedPlanes 32

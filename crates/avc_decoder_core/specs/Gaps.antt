@@ -21,7 +21,7 @@ use Rattle.avc_decoder_core.specs.Pictures.{output_pictures}
 
 -- the frame for a missing number, with this decoding index (8.2.5.2)
 abbrev pub missing_reference : (frame_num index : ℕ) → Reference
-missing_reference frame_num index = record { entry = index; frame_num = frame_num; existing = false; mark = Short }
+missing_reference frame_num index = record { decoding_index = index; frame_num = frame_num; existing = false; mark = Short }
 
 -- those for n missing numbers from `number` on, modulo max
 abbrev pub missing_references : (max number index n : ℕ) → List Reference
@@ -38,12 +38,12 @@ abbrev pub AreNotNeeded : List Reference → List Stored → Type 0
 AreNotNeeded [] [] = Unit {0}
 AreNotNeeded [] (s ∷ frames) = ⊥
 AreNotNeeded (r ∷ rs) [] = ⊥
-AreNotNeeded (r ∷ rs) (s ∷ frames) = (s.entry ≡ r.entry) × (s.needed_for_output ≡ false) × AreNotNeeded rs frames
+AreNotNeeded (r ∷ rs) (s ∷ frames) = (s.decoding_index ≡ r.decoding_index) × (s.needed_for_output ≡ false) × AreNotNeeded rs frames
 
 -- each has a lower decoding index than this
 abbrev pub AreBefore : (index : ℕ) → List Stored → Type 0
 AreBefore index [] = Unit {0}
-AreBefore index (s ∷ frames) = (s.entry < index) × AreBefore index frames
+AreBefore index (s ∷ frames) = (s.decoding_index < index) × AreBefore index frames
 
 -- What stays through a gap: the long-term frames and MaxLongTermFrameIdx, the buffer's frames that are needed for output or long-term, and what has
 -- gone out.
@@ -62,7 +62,7 @@ pub record IsSettled (output : Output) (sps : Sps) (h : History) (low number ind
   pub window : IsFullWindow index (length h) (reference_limit sps) stays.longs shorts
   pub counts : CountFrom (max_frame_num sps) low number shorts
   pub not_needed : AreNotNeeded shorts lasts
-  pub needed : needed_frames (map (λ r. r.entry) stays.longs) stays.frames ≡ stays.frames
+  pub needed : needed_frames (map (λ r. r.decoding_index) stays.longs) stays.frames ≡ stays.frames
   pub before : AreBefore index stays.frames
   pub room : length stays.frames + length lasts ≤ dpb_size sps
 

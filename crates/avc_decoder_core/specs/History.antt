@@ -107,7 +107,7 @@ arrival (decoded_picture sps h planes) older = record {
   prior_pictures = prior_pictures_of h;
   capacity = dpb_size sps;
   max_num_reorder_frames = reorder_limit sps;
-  references = map (λ r. r.entry) (references_of (decoded_picture sps h planes ∷ older));
+  references = map (λ r. r.decoding_index) (references_of (decoded_picture sps h planes ∷ older));
 }
 arrival (missing_frame sps frame_num) older = record {
   pic_order_cnt = pos 0;
@@ -116,7 +116,7 @@ arrival (missing_frame sps frame_num) older = record {
   prior_pictures = remain;
   capacity = dpb_size sps;
   max_num_reorder_frames = None;
-  references = map (λ r. r.entry) (references_of (missing_frame sps frame_num ∷ older));
+  references = map (λ r. r.decoding_index) (references_of (missing_frame sps frame_num ∷ older));
 }
 
 -- that of all entries
@@ -134,7 +134,7 @@ new_output output old new = drop (length (buffer_of output old).out) (buffer_of 
 
 -- the decoding indices of the pictures that are needed for output, in the order in which they go out (C.4.5.3)
 abbrev pub all_held : Output → History → List ℕ
-all_held output h = map (λ s. s.entry) (needed_in_output_order (buffer_of output h).frames)
+all_held output h = map (λ s. s.decoding_index) (needed_in_output_order (buffer_of output h).frames)
 
 -- ---- entries by their decoding indices (this decoder's form of the buffer's frames)
 
@@ -150,7 +150,7 @@ planes_in None = None
 
 -- a reference frame with its planes; a non-existing one has none (8.2.5.2)
 abbrev pub stored : History → Reference → StoredFrame
-stored h r = record { reference = r; planes = planes_in (entry_at h r.entry) }
+stored h r = record { reference = r; planes = planes_in (entry_at h r.decoding_index) }
 
 -- the reference frames after all entries, with their planes, in decoding order (8.2.5)
 abbrev pub stored_frames : History → List StoredFrame

@@ -9,7 +9,7 @@ use Rattle.avc_decoder_core.specs.History.{History, earlier_in_sequence, history
 use Rattle.avc_decoder_core.specs.FrameBufferFields.{history_of}
 use Rattle.avc_decoder_core.specs.FrameBufferState.{FrameBufferState, CanFollow}
 use Rattle.avc_decoder_core.specs.SequenceState.{OpenPictureStart, SequenceState}
-use Rattle.avc_decoder_core.specs.declared.open_picture.OpenPicture.{OpenPicture}
+use Rattle.avc_decoder_core.specs.declared.opening.OpenPicture.{OpenPicture}
 use Rattle.avc_decoder_core.specs.declared.sequence.Sequence.TheInside.{Inside}
 
 -- the parameter set and the first header of the open picture

@@ -77,9 +77,9 @@ HoldsPictures s = held_pictures s.output (current_history s) ≢ []
 
 -- The frames of the buffer are those of some entries of the history, and those that are used for reference are the history's.
 pub record AreStoredIn {PAD : ℕ} (history : History) (frames : List (Frame PAD)) : Type 0 where
-  pub entries : List ℕ
-  pub stand : StandAt entries (map marked_frame frames)
-  pub stored : stored_at entries frames ≡ stored_frames history
+  pub indices : List ℕ
+  pub stand : StandAt indices (map marked_frame frames)
+  pub stored : stored_at indices frames ≡ stored_frames history
 
 -- At most 16 frames, those that are pictures of the size that the sequence's parameter set gives.
 abbrev pub AreFramesIn : History → List (Frame 32) → Type 0

@@ -7,7 +7,6 @@ mod history_entry;
 pub mod laws;
 mod long_gaps;
 mod missing_frames;
-mod open_picture;
 mod opening;
 mod sequence;
 

@@ -14,6 +14,18 @@ use avc_poc::Poc;
 use avc_slice::Header;
 use avc_types::Fault;
 
+/// A picture that is being decoded.
+#[derive(Drop)]
+pub struct OpenPicture {
+    pub sps: Sps,
+
+    /// Its first slice's header.
+    pub header: Header,
+
+    /// PicOrderCnt.
+    pub pic_order_cnt: i32,
+}
+
 /// What opening a picture finds.
 #[derive(Drop)]
 pub struct Opening {

@@ -4,7 +4,7 @@ use Rattle.std.specs.List.{filter_map, list_any}
 use Rattle.avc_types.specs.declared.picture.Picture.{Picture}
 use Rattle.avc_types.specs.declared.references.Mark.{Mark}
 use Rattle.avc_plane.specs.declared.frame.Frame.{Frame}
-use Rattle.avc_dpb.specs.declared.slot.Slot.{Slot}
+use Rattle.avc_dpb.specs.declared.waiting.Slot.{Slot}
 use Rattle.avc_dpb.specs.declared.arriving_frame.ArrivingFrame.{ArrivingFrame}
 use Rattle.avc_dpb.specs.declared.output.Output.{Output}
 use Rattle.avc_dpb.specs.Bumping.{Arrival, remain, Stored, Buffer, is_reference_in, new_output, after_frame, with_all_output}
@@ -21,8 +21,8 @@ pub record Contents : Type 0 where
 -- Later frames have later decoding indices, and all are below that of the next entry.
 abbrev pub IsRising : List Stored → (next : ℕ) → Type 0
 IsRising [] next = Unit {0}
-IsRising (s ∷ []) next = s.entry < next
-IsRising (s ∷ t ∷ frames) next = (s.entry < t.entry) × IsRising (t ∷ frames) next
+IsRising (s ∷ []) next = s.decoding_index < next
+IsRising (s ∷ t ∷ frames) next = (s.decoding_index < t.decoding_index) × IsRising (t ∷ frames) next
 
 -- what output keeps of a stored frame
 abbrev pub slot_of : Stored → Slot
@@ -33,7 +33,7 @@ slot_of s = record { pic_order_cnt = s.pic_order_cnt; needed_for_output = s.need
 pub record IsBuffer (c : Contents) (b : Buffer) (next : ℕ) (frame_of : ℕ → Frame 32) : Type 0 where
   pub works : c.failed ≡ false
   pub slots : c.slots ≡ map slot_of b.frames
-  pub frames : c.frames ≡ map (λ s. frame_of s.entry) b.frames
+  pub frames : c.frames ≡ map (λ s. frame_of s.decoding_index) b.frames
   pub rising : IsRising b.frames next
 
 -- The marks of the frames say which are among these reference frames.
@@ -54,13 +54,13 @@ arrival_of a references = record {
 }
 
 -- The mark of the frame of an entry says whether it is among these reference frames.
-abbrev pub IsReferenceAmong : Frame 32 → (entry : ℕ) → List ℕ → Type 0
-IsReferenceAmong frame entry references = is_used_for_reference frame ≡ list_any (λ r. r == entry) references
+abbrev pub IsReferenceAmong : Frame 32 → (index : ℕ) → List ℕ → Type 0
+IsReferenceAmong frame index references = is_used_for_reference frame ≡ list_any (λ r. r == index) references
 
 -- The buffer b became the buffer b', for which the contents stand, and what b' has put out was handed out.
 pub record HasBuffer (new : Contents) (out : List Picture) (b b' : Buffer) (next : ℕ) (frame_of : ℕ → Frame 32) : Type 0 where
   pub buffer : IsBuffer new b' next frame_of
-  pub pictures : out ≡ filter_map (λ entry. shown_frame (frame_of entry)) (new_output b b')
+  pub pictures : out ≡ filter_map (λ index. shown_frame (frame_of index)) (new_output b b')
 
 -- ---- what a call makes of every buffer that the contents stand for, and what it hands out
 
@@ -81,7 +81,7 @@ OutputsAll old out new =
 abbrev pub OutputsSome : (old : Contents) → Type 0
 OutputsSome old =
     (b : Buffer) (next : ℕ) (frame_of : ℕ → Frame 32) → IsBuffer old b next frame_of →
-    filter_map (λ entry. shown_frame (frame_of entry)) (new_output b (with_all_output b)) ≢ []
+    filter_map (λ index. shown_frame (frame_of index)) (new_output b (with_all_output b)) ≢ []
 
 -- the frame at a place is needed for output
 abbrev pub is_needed_for_output_at : List Slot → (place : ℕ) → Bool

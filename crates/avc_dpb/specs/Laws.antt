@@ -13,11 +13,11 @@ pub record IsNextOutput (frames : List Stored) (s : Stored) : Type 0 where
   pub among : slice_get frames index ≡ Some s
   pub needed_for_output : s.needed_for_output ≡ true
   pub least : (k : ℕ) (t : Stored) → slice_get frames k ≡ Some t → t.needed_for_output ≡ true → s.pic_order_cnt ≤ℤ t.pic_order_cnt
-  pub first : (k : ℕ) (t : Stored) → slice_get frames k ≡ Some t → t.needed_for_output ≡ true → t.pic_order_cnt ≡ s.pic_order_cnt → s.entry ≤ t.entry
+  pub first : (k : ℕ) (t : Stored) → slice_get frames k ≡ Some t → t.needed_for_output ≡ true → t.pic_order_cnt ≡ s.pic_order_cnt → s.decoding_index ≤ t.decoding_index
 
 -- Bumping puts out the picture that goes next; it does nothing only where no picture is needed for output.
 abbrev pub Bumps : (references : List ℕ) → Buffer → Option Stored → Type 0
-Bumps references b (Some s) = IsNextOutput b.frames s × ((after_bumping references b).out ≡ b.out ++ s.entry ∷ [])
+Bumps references b (Some s) = IsNextOutput b.frames s × ((after_bumping references b).out ≡ b.out ++ s.decoding_index ∷ [])
 Bumps references b None =
     ((k : ℕ) (t : Stored) → slice_get b.frames k ≡ Some t → t.needed_for_output ≡ true → ⊥) × (after_bumping references b ≡ b)
 
@@ -36,7 +36,7 @@ AllGoOutByBumping = (references : List ℕ) (b : Buffer) (next : ℕ) → IsRisi
 
 -- They are those that are needed for output, in the order in which they go out.
 abbrev pub AllHeldGoOut : Type 0
-AllHeldGoOut = (b : Buffer) → new_output b (with_all_output b) ≡ map (λ s. s.entry) (needed_in_output_order b.frames)
+AllHeldGoOut = (b : Buffer) → new_output b (with_all_output b) ≡ map (λ s. s.decoding_index) (needed_in_output_order b.frames)
 
 -- ---- over a history
 
@@ -46,14 +46,14 @@ StandsInDecodingOrder = (output : Output) (history : List Arrival) → IsRising 
 
 -- What has gone out stays so.
 abbrev pub OutOnlyGrows : Type 0
-OutOnlyGrows = (output : Output) (entry : ℕ) (a : Arrival) (b : Buffer)
-    → (after_entry output entry a b).out ≡ b.out ++ new_output b (after_entry output entry a b)
+OutOnlyGrows = (output : Output) (index : ℕ) (a : Arrival) (b : Buffer)
+    → (after_entry output index a b).out ≡ b.out ++ new_output b (after_entry output index a b)
 
 -- What an entry puts out is what goes out before it, and then what goes out to make room and for itself.
 abbrev pub GoesOutInTurn : Type 0
-GoesOutInTurn = (output : Output) (entry : ℕ) (a : Arrival) (b : Buffer)
-    → new_output b (after_entry output entry a b)
-    ≡ new_output b (after_prior_pictures a.prior_pictures b) ++ new_output (after_prior_pictures a.prior_pictures b) (after_entry output entry a b)
+GoesOutInTurn = (output : Output) (index : ℕ) (a : Arrival) (b : Buffer)
+    → new_output b (after_entry output index a b)
+    ≡ new_output b (after_prior_pictures a.prior_pictures b) ++ new_output (after_prior_pictures a.prior_pictures b) (after_entry output index a b)
 
 -- no entry's buffer is larger
 abbrev pub IsWithin : (most : ℕ) → List Arrival → Type 0
@@ -83,17 +83,17 @@ GoesOutOnce = (output : Output) (history : List Arrival) (index : ℕ)
 
 -- the decoding indices of the pictures needed for output, in the order in which they go out
 abbrev pub needed_in_order : Buffer → List ℕ
-needed_in_order b = map (λ s. s.entry) (needed_in_output_order b.frames)
+needed_in_order b = map (λ s. s.decoding_index) (needed_in_output_order b.frames)
 
 -- A non-existing frame is not needed for output: what goes out to make room for it is what goes first of those that are needed for output.
 abbrev pub MissingFramesKeepTheOrder : Type 0
-MissingFramesKeepTheOrder = (output : Output) (entry : ℕ) (a : Arrival) (b : Buffer)
-    → IsRising b.frames entry → a.existing ≡ false → a.prior_pictures ≡ remain
-    → needed_in_order b ≡ new_output b (after_entry output entry a b) ++ needed_in_order (after_entry output entry a b)
+MissingFramesKeepTheOrder = (output : Output) (index : ℕ) (a : Arrival) (b : Buffer)
+    → IsRising b.frames index → a.existing ≡ false → a.prior_pictures ≡ remain
+    → needed_in_order b ≡ new_output b (after_entry output index a b) ++ needed_in_order (after_entry output index a b)
 
 -- the decoding indices of the frames in the buffer that are among these reference frames
 abbrev pub indices_of_references : (references : List ℕ) → Buffer → List ℕ
-indices_of_references references b = map (λ s. s.entry) (filter (is_reference_in references) b.frames)
+indices_of_references references b = map (λ s. s.decoding_index) (filter (is_reference_in references) b.frames)
 
 -- The arriving frame is stored where bumping makes room for it, and the reference frames beside it leave room for one more.
 pub record HasRoom (a : Arrival) (b : Buffer) : Type 0 where
@@ -102,10 +102,10 @@ pub record HasRoom (a : Arrival) (b : Buffer) : Type 0 where
 
 -- Reference frames stay in the buffer; the arriving frame is the last of them if it is one.
 abbrev pub ReferencesStay : Type 0
-ReferencesStay = (output : Output) (entry : ℕ) (a : Arrival) (b : Buffer)
-    → IsRising b.frames entry → (list_any (λ r. r == entry) a.references ≡ true → HasRoom a b)
-    → indices_of_references a.references (after_frame output entry a b)
-    ≡ indices_of_references a.references b ++ (if list_any (λ r. r == entry) a.references then entry ∷ [] else [])
+ReferencesStay = (output : Output) (index : ℕ) (a : Arrival) (b : Buffer)
+    → IsRising b.frames index → (list_any (λ r. r == index) a.references ≡ true → HasRoom a b)
+    → indices_of_references a.references (after_frame output index a b)
+    ≡ indices_of_references a.references b ++ (if list_any (λ r. r == index) a.references then index ∷ [] else [])
 
 -- ---- missing frame numbers
 
@@ -122,12 +122,12 @@ missing_arrival capacity references = record {
 }
 
 -- that frame in the buffer (C.4.2)
-abbrev pub missing_stored : (entry : ℕ) → Stored
-missing_stored entry = record { entry = entry; pic_order_cnt = pos 0; needed_for_output = false }
+abbrev pub missing_stored : (index : ℕ) → Stored
+missing_stored index = record { decoding_index = index; pic_order_cnt = pos 0; needed_for_output = false }
 
 -- Where the frames that are still needed leave room for it, a non-existing frame is stored, and nothing goes out (C.4.2, C.4.5.3).
 abbrev pub MissingFramesFindRoom : Type 0
-MissingFramesFindRoom = (output : Output) (entry capacity : ℕ) (references : List ℕ) (b : Buffer)
+MissingFramesFindRoom = (output : Output) (index capacity : ℕ) (references : List ℕ) (b : Buffer)
     → length (needed_frames references b.frames) + 1 ≤ capacity
-    → after_entry output entry (missing_arrival capacity references) b
-    ≡ record { frames = needed_frames references b.frames ++ missing_stored entry ∷ []; out = b.out }
+    → after_entry output index (missing_arrival capacity references) b
+    ≡ record { frames = needed_frames references b.frames ++ missing_stored index ∷ []; out = b.out }

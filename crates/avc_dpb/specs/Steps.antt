@@ -3,7 +3,7 @@ use Rattle.std.specs.Prelude.{◌≡◌, ◌≢◌, ◌+◌, ℕ, Bool, true, Li
 use Rattle.std.specs.List.{filter_map}
 use Rattle.avc_types.specs.declared.picture.Picture.{Picture}
 use Rattle.avc_plane.specs.declared.frame.Frame.{Frame}
-use Rattle.avc_dpb.specs.declared.slot.Slot.{Slot}
+use Rattle.avc_dpb.specs.declared.waiting.Slot.{Slot}
 use Rattle.avc_dpb.specs.declared.arriving_frame.ArrivingFrame.{ArrivingFrame}
 use Rattle.avc_dpb.specs.declared.waiting.Bumping.{Bumping}
 use Rattle.avc_dpb.specs.declared.waiting.Bumping.TheVariants.{ForRoom, ForFew, ForNone}
@@ -14,7 +14,7 @@ use Rattle.avc_dpb.specs.StoredFrame.{shown_frame}
 -- The slots and frames are those of the buffer, whose frames have the marks of these reference frames.
 pub record StandFor (slots : List Slot) (frames : List (Frame 32)) (references : List ℕ) (b : Buffer) (next : ℕ) (frame_of : ℕ → Frame 32) : Type 0 where
   pub slots_are : slots ≡ map slot_of b.frames
-  pub frames_are : frames ≡ map (λ s. frame_of s.entry) b.frames
+  pub frames_are : frames ≡ map (λ s. frame_of s.decoding_index) b.frames
   pub marks : AreReferences frames references b
   pub rising : IsRising b.frames next
 
@@ -24,13 +24,13 @@ pub record Become (slots : List Slot) (frames : List (Frame 32)) (references : L
   pub since : List ℕ
   pub grows : b'.out ≡ b.out ++ since
   pub stand : StandFor slots frames references b' next frame_of
-  pub pictures : out' ≡ out ++ filter_map (λ entry. shown_frame (frame_of entry)) since
+  pub pictures : out' ≡ out ++ filter_map (λ index. shown_frame (frame_of index)) since
 
 -- Where b becomes b', some picture goes out.
 pub record ShowsSome (b b' : Buffer) (frame_of : ℕ → Frame 32) : Type 0 where
   pub since : List ℕ
   pub grows : b'.out ≡ b.out ++ since
-  pub some : filter_map (λ entry. shown_frame (frame_of entry)) since ≢ []
+  pub some : filter_map (λ index. shown_frame (frame_of index)) since ≢ []
 
 -- The picture that goes first has gone out (C.4.5.3).
 abbrev pub Bumps : (slots : List Slot) (frames : List (Frame 32)) (out : List Picture) (slots' : List Slot) (frames' : List (Frame 32))

@@ -7,7 +7,6 @@ mod dpb;
 mod emptied_frames;
 pub mod laws;
 mod output;
-mod slot;
 mod stored_frame;
 mod waiting;
 

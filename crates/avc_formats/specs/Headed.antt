@@ -5,8 +5,8 @@ use Rattle.avc_yuv.specs.I420.{shown_height, shown_width}
 use Rattle.avc_run.specs.Formats.{Format}
 use Rattle.avc_formats.specs.FrameMd5.{framemd5_head, framemd5_line}
 use Rattle.avc_formats.specs.Y4m.{y4m_frame, y4m_header}
-use Rattle.avc_formats.specs.declared.headed_format.HeadedFormat.{HeadedFormat}
-use Rattle.avc_formats.specs.declared.headed_format.HeadedFormat.TheVariants.{FrameMd5, Y4m}
+use Rattle.avc_formats.specs.declared.headed.HeadedFormat.{HeadedFormat}
+use Rattle.avc_formats.specs.declared.headed.HeadedFormat.TheVariants.{FrameMd5, Y4m}
 use Rattle.avc_formats.specs.declared.presentation.Presentation.{Presentation}
 
 -- the head

@@ -3,8 +3,7 @@ ghost use Rattle.avc_formats.specs.Headed.{headed};
 ghost use Rattle.avc_formats.specs.Selecting.{selected};
 
 use crate::front::read_front;
-use crate::headed::Headed;
-use crate::headed_format::HeadedFormat;
+use crate::headed::{Headed, HeadedFormat};
 use crate::selected::Selected;
 use avc_run::{Console, Ending, Output, Report, RunFault, Watch, run_behind, tell};
 use std::alloc::Global;

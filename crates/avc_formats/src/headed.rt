@@ -1,3 +1,5 @@
+//! Pictures in a format with a head in front of the first.
+
 ghost use Rattle.std.specs.Prelude.{◌≡◌, ◌++◌, true, IfOk, IfErr, OnOk, string_bytes};
 ghost use Rattle.std.specs.Io.KnownBytes.{Appends};
 ghost use Rattle.avc_types.specs.Whole.{IsWhole};
@@ -6,13 +8,22 @@ ghost use Rattle.avc_run.specs.Formats.{StopsPicture};
 ghost use Rattle.avc_formats.specs.Headed.{before_first, has_size, head_of, headed, picture_text};
 
 use crate::framemd5::{add_framemd5_head, write_line};
-use crate::headed_format::HeadedFormat;
 use crate::presentation::Presentation;
 use crate::y4m::{add_y4m_header, write_frame};
 use avc_run::{PictureFormat, RunFault};
 use avc_types::{OutOfMemory, Picture};
 use std::alloc::Global;
 use std::io::Write;
+
+/// A format with a head in front of the first picture, which says how pictures are shown. All pictures have the size that it says.
+#[derive(Clone, Copy, Debug, PartialEq, Eq)]
+pub enum HeadedFormat {
+    /// YUV4MPEG2: each picture as I420 behind a line of its own.
+    Y4m,
+
+    /// The MD5 of each picture as I420, in a line of its own, as ffmpeg's framemd5 writes it.
+    FrameMd5,
+}
 
 /// A format with a head that says this. A picture of another size is a fault.
 #[derive(Drop)]

@@ -6,7 +6,7 @@ use Rattle.avc_annexb.specs.Units.{forbidden_zero_bit, units}
 use Rattle.avc_annexb.specs.declared.unit.Unit.{Unit}
 use Rattle.avc_params.specs.Reading.{sps_of, pps_of}
 use Rattle.avc_params.specs.Tables.{Sets, refused, sets_after}
-use Rattle.avc_params.specs.declared.set_fault.SetFault.{SetFault}
+use Rattle.avc_params.specs.declared.set_unit.SetFault.{SetFault}
 use Rattle.avc_params.specs.declared.set_unit.SetUnit.{SetUnit}
 use Rattle.avc_slice.specs.declared.slice.Slice.{Slice}
 use Rattle.avc_units.specs.Grouping.{Kind, slice, partition, sps, pps, kind, rbsp_of, set_units, slice_in}

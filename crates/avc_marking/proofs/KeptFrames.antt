@@ -6,7 +6,7 @@ use Rattle.avc_types.specs.declared.fault.Fault.TheVariants as faults
 -- ---- a part of reference frames in their order, where only marks may differ: the relation
 
 pub same-refl : (r : Reference) → IsSameFrame r r
-same-refl r = record { same_entry = refl; same_frame_num = refl; same_existing = refl }
+same-refl r = record { same_decoding_index = refl; same_frame_num = refl; same_existing = refl }
 
 pub same-trans : (r s t : Reference) → IsSameFrame r s → IsSameFrame s t → IsSameFrame r t
 same-trans r s t h k = grind arith
@@ -88,110 +88,110 @@ long-part named index max_long_term_frame_idx xs ys h = grind (arith, mark-left)
 -- ---- the operations
 
 -- the entry's own frame, once it has been marked: its frame_num is still that of the slice header
-abbrev own_frame : MarkingEntry → (entry : ℕ) → (assigned : Bool) → List Reference
-own_frame s entry true = long_term_current s entry 0 ∷ []
-own_frame s entry false = []
+abbrev own_frame : MarkingEntry → (decoding_index : ℕ) → (assigned : Bool) → List Reference
+own_frame s decoding_index true = long_term_current s decoding_index 0 ∷ []
+own_frame s decoding_index false = []
 
 -- of these frames and the entry's own
-abbrev IsLeft : MarkingEntry → (entry : ℕ) → List Reference → OperationState → Type 0
-IsLeft s entry ys t = IsPartUpToMarks t.references (ys ++ own_frame s entry t.assigned)
+abbrev IsLeft : MarkingEntry → (decoding_index : ℕ) → List Reference → OperationState → Type 0
+IsLeft s decoding_index ys t = IsPartUpToMarks t.references (ys ++ own_frame s decoding_index t.assigned)
 
-left-kept : (s : MarkingEntry) (entry : ℕ) (ys : List Reference) (t t' : OperationState) → t'.assigned ≡ t.assigned → IsPartUpToMarks t'.references t.references →
-    IsLeft s entry ys t → IsLeft s entry ys t'
-left-kept s entry ys t t' same part left = grind (arith, part-trans)
+left-kept : (s : MarkingEntry) (decoding_index : ℕ) (ys : List Reference) (t t' : OperationState) → t'.assigned ≡ t.assigned → IsPartUpToMarks t'.references t.references →
+    IsLeft s decoding_index ys t → IsLeft s decoding_index ys t'
+left-kept s decoding_index ys t t' same part left = grind (arith, part-trans)
 
-left-changed : (s : MarkingEntry) (entry : ℕ) (ys : List Reference) (t t' : OperationState) (changed : Result (List Reference) Fault) →
-    ((xs : List Reference) → changed ≡ Ok xs → IsPartUpToMarks xs t.references) → IsLeft s entry ys t → with_references t changed ≡ Ok t' → IsLeft s entry ys t'
-left-changed s entry ys t t' (Ok xs) part left h = grind (arith, left-kept, part xs refl)
-left-changed s entry ys t t' (Err f) part left h = cc
+left-changed : (s : MarkingEntry) (decoding_index : ℕ) (ys : List Reference) (t t' : OperationState) (changed : Result (List Reference) Fault) →
+    ((xs : List Reference) → changed ≡ Ok xs → IsPartUpToMarks xs t.references) → IsLeft s decoding_index ys t → with_references t changed ≡ Ok t' → IsLeft s decoding_index ys t'
+left-changed s decoding_index ys t t' (Ok xs) part left h = grind (arith, left-kept, part xs refl)
+left-changed s decoding_index ys t t' (Err f) part left h = cc
 
-left-own : (s : MarkingEntry) (entry index : ℕ) (ys xs : List Reference) → IsPartUpToMarks xs (ys ++ []) →
-    IsPartUpToMarks (with_long_term_current s index entry xs) (ys ++ long_term_current s entry 0 ∷ [])
-left-own s entry index ys xs h =
+left-own : (s : MarkingEntry) (decoding_index index : ℕ) (ys xs : List Reference) → IsPartUpToMarks xs (ys ++ []) →
+    IsPartUpToMarks (with_long_term_current s index decoding_index xs) (ys ++ long_term_current s decoding_index 0 ∷ [])
+left-own s decoding_index index ys xs h =
     part-append _ _ _ _ (part-trans _ _ _ (part-filter (λ t. not (has_long_term_frame_idx index t)) xs) (rw append-nil at h))
-    (inl (record { same_entry = refl; same_frame_num = refl; same_existing = refl }, tt))
+    (inl (record { same_decoding_index = refl; same_frame_num = refl; same_existing = refl }, tt))
 
-left-filtered : (s : MarkingEntry) (entry : ℕ) (ys : List Reference) (t : OperationState) (keep : Reference → Bool) → IsLeft s entry ys t →
-    IsPartUpToMarks (filter keep t.references) (ys ++ own_frame s entry t.assigned)
-left-filtered s entry ys t keep left = part-trans _ _ _ (part-filter keep t.references) left
+left-filtered : (s : MarkingEntry) (decoding_index : ℕ) (ys : List Reference) (t : OperationState) (keep : Reference → Bool) → IsLeft s decoding_index ys t →
+    IsPartUpToMarks (filter keep t.references) (ys ++ own_frame s decoding_index t.assigned)
+left-filtered s decoding_index ys t keep left = part-trans _ _ _ (part-filter keep t.references) left
 
-left-operation : (s : MarkingEntry) (entry : ℕ) (ys : List Reference) (t t' : OperationState) (o : Operation) → IsLeft s entry ys t → after_operation s entry t o ≡ Ok t' → IsLeft s entry ys t'
-left-operation s entry ys t t' o left h = grind (arith, left-changed, without-part, long-part, left-filtered, left-own)
+left-operation : (s : MarkingEntry) (decoding_index : ℕ) (ys : List Reference) (t t' : OperationState) (o : Operation) → IsLeft s decoding_index ys t → after_operation s decoding_index t o ≡ Ok t' → IsLeft s decoding_index ys t'
+left-operation s decoding_index ys t t' o left h = grind (arith, left-changed, without-part, long-part, left-filtered, left-own)
 
-left-operations : (s : MarkingEntry) (entry : ℕ) (ys : List Reference) (t t' : OperationState) (os : List Operation) → IsLeft s entry ys t → after_operations s entry t os ≡ Ok t' → IsLeft s entry ys t'
-left-operations s entry ys t t' [] left h = grind arith
-left-operations s entry ys t t' (o ∷ os) left h = after h (λ u e k. left-operations s entry ys u t' os (left-operation s entry ys t u o left e) k)
+left-operations : (s : MarkingEntry) (decoding_index : ℕ) (ys : List Reference) (t t' : OperationState) (os : List Operation) → IsLeft s decoding_index ys t → after_operations s decoding_index t os ≡ Ok t' → IsLeft s decoding_index ys t'
+left-operations s decoding_index ys t t' [] left h = grind arith
+left-operations s decoding_index ys t t' (o ∷ os) left h = after h (λ u e k. left-operations s decoding_index ys u t' os (left-operation s decoding_index ys t u o left e) k)
 
 -- operation 5 leaves none of the frames before it
-unmarks-or-later : (s : MarkingEntry) (entry : ℕ) (t u : OperationState) (o : Operation) (later : Bool) → (is_unmark_all o || later) ≡ true →
-    after_operation s entry t o ≡ Ok u →
-    IsLeft s entry [] u ⊎ (later ≡ true)
-unmarks-or-later s entry t u o later any h = grind arith
+unmarks-or-later : (s : MarkingEntry) (decoding_index : ℕ) (t u : OperationState) (o : Operation) (later : Bool) → (is_unmark_all o || later) ≡ true →
+    after_operation s decoding_index t o ≡ Ok u →
+    IsLeft s decoding_index [] u ⊎ (later ≡ true)
+unmarks-or-later s decoding_index t u o later any h = grind arith
 
-left-unmarked : (s : MarkingEntry) (entry : ℕ) (t t' : OperationState) (os : List Operation) → list_any is_unmark_all os ≡ true → after_operations s entry t os ≡ Ok t' → IsLeft s entry [] t'
-left-unmarked s entry t t' [] any h = cc
-left-unmarked s entry t t' (o ∷ os) any h =
-    after h (λ u e k. elim (unmarks-or-later s entry t u o (list_any is_unmark_all os) any e) [
-      | inl left ↦ left-operations s entry [] u t' os left k
-      | inr later ↦ left-unmarked s entry u t' os later k
+left-unmarked : (s : MarkingEntry) (decoding_index : ℕ) (t t' : OperationState) (os : List Operation) → list_any is_unmark_all os ≡ true → after_operations s decoding_index t os ≡ Ok t' → IsLeft s decoding_index [] t'
+left-unmarked s decoding_index t t' [] any h = cc
+left-unmarked s decoding_index t t' (o ∷ os) any h =
+    after h (λ u e k. elim (unmarks-or-later s decoding_index t u o (list_any is_unmark_all os) any e) [
+      | inl left ↦ left-operations s decoding_index [] u t' os left k
+      | inr later ↦ left-unmarked s decoding_index u t' os later k
     ])
 
 -- ---- the entry's own frame gets its number
 
-own_frame-named : (s : MarkingEntry) (entry : ℕ) (x : Reference) → x.entry ≡ entry →
-    IsSameFrame (if x.entry == entry then current_frame s entry x.mark else x) (current_frame s entry Short)
-own_frame-named s entry x same = grind (arith, nat_tests)
+own_frame-named : (s : MarkingEntry) (decoding_index : ℕ) (x : Reference) → x.decoding_index ≡ decoding_index →
+    IsSameFrame (if x.decoding_index == decoding_index then current_frame s decoding_index x.mark else x) (current_frame s decoding_index Short)
+own_frame-named s decoding_index x same = grind (arith, nat_tests)
 
-other_frame-kept : (s : MarkingEntry) (entry : ℕ) (x : Reference) → x.entry < entry → (if x.entry == entry then current_frame s entry x.mark else x) ≡ x
-other_frame-kept s entry x below = grind (arith, nat_tests)
+other_frame-kept : (s : MarkingEntry) (decoding_index : ℕ) (x : Reference) → x.decoding_index < decoding_index → (if x.decoding_index == decoding_index then current_frame s decoding_index x.mark else x) ≡ x
+other_frame-kept s decoding_index x below = grind (arith, nat_tests)
 
-part-named : (s : MarkingEntry) (entry : ℕ) (xs ys : List Reference) → All (λ r. r.entry < entry) ys → IsPartUpToMarks xs (ys ++ long_term_current s entry 0 ∷ []) →
-    IsPartUpToMarks (map (λ r. if r.entry == entry then current_frame s entry r.mark else r) xs) (ys ++ current_frame s entry Short ∷ [])
-part-named s entry [] ys all h = tt
-part-named s entry (x ∷ xs) [] all h = grind (arith, own_frame-named, part-none)
-part-named s entry (x ∷ xs) (y ∷ ys) all (inl h) =
-    let more = part-named s entry xs ys (All-tail (λ r. r.entry < entry) y ys all) h.1 in
-    grind (arith, other_frame-kept, All-head (λ r. r.entry < entry) y ys all)
-part-named s entry (x ∷ xs) (y ∷ ys) all (inr h) = inr (part-named s entry (x ∷ xs) ys (All-tail (λ r. r.entry < entry) y ys all) h)
+part-named : (s : MarkingEntry) (decoding_index : ℕ) (xs ys : List Reference) → All (λ r. r.decoding_index < decoding_index) ys → IsPartUpToMarks xs (ys ++ long_term_current s decoding_index 0 ∷ []) →
+    IsPartUpToMarks (map (λ r. if r.decoding_index == decoding_index then current_frame s decoding_index r.mark else r) xs) (ys ++ current_frame s decoding_index Short ∷ [])
+part-named s decoding_index [] ys all h = tt
+part-named s decoding_index (x ∷ xs) [] all h = grind (arith, own_frame-named, part-none)
+part-named s decoding_index (x ∷ xs) (y ∷ ys) all (inl h) =
+    let more = part-named s decoding_index xs ys (All-tail (λ r. r.decoding_index < decoding_index) y ys all) h.1 in
+    grind (arith, other_frame-kept, All-head (λ r. r.decoding_index < decoding_index) y ys all)
+part-named s decoding_index (x ∷ xs) (y ∷ ys) all (inr h) = inr (part-named s decoding_index (x ∷ xs) ys (All-tail (λ r. r.decoding_index < decoding_index) y ys all) h)
 
-part-current : (s : MarkingEntry) (entry : ℕ) (ys : List Reference) (t : OperationState) → All (λ r. r.entry < entry) ys → IsLeft s entry ys t →
-    IsPartUpToMarks (with_current_frame s entry t).references (ys ++ current_frame s entry Short ∷ [])
-part-current s entry ys t all left = grind (arith, part-named, part-append, append-nil, part-refl)
+part-current : (s : MarkingEntry) (decoding_index : ℕ) (ys : List Reference) (t : OperationState) → All (λ r. r.decoding_index < decoding_index) ys → IsLeft s decoding_index ys t →
+    IsPartUpToMarks (with_current_frame s decoding_index t).references (ys ++ current_frame s decoding_index Short ∷ [])
+part-current s decoding_index ys t all left = grind (arith, part-named, part-append, append-nil, part-refl)
 
 -- ---- an entry
 
-own-part : (s : MarkingEntry) (entry : ℕ) (mark : Mark) (ys : List Reference) → IsPartUpToMarks (current_frame s entry mark ∷ []) (ys ++ current_frame s entry Short ∷ [])
-own-part s entry mark [] = inl (record { same_entry = refl; same_frame_num = refl; same_existing = refl }, tt)
-own-part s entry mark (y ∷ ys) = inr (own-part s entry mark ys)
+own-part : (s : MarkingEntry) (decoding_index : ℕ) (mark : Mark) (ys : List Reference) → IsPartUpToMarks (current_frame s decoding_index mark ∷ []) (ys ++ current_frame s decoding_index Short ∷ [])
+own-part s decoding_index mark [] = inl (record { same_decoding_index = refl; same_frame_num = refl; same_existing = refl }, tt)
+own-part s decoding_index mark (y ∷ ys) = inr (own-part s decoding_index mark ys)
 
 window-part : (s : MarkingEntry) (xs ys : List Reference) → after_sliding_window s xs ≡ Ok ys → IsPartUpToMarks ys xs
 window-part s xs ys h = grind (arith, part-refl, without-part)
 
-adaptive-part : (s : MarkingEntry) (entry : ℕ) (m : Marks) (t : OperationState) (ys : List Reference) → All (λ r. r.entry < entry) ys → IsLeft s entry ys t →
-    within_limit s (with_current_frame s entry t) ≡ Ok m → IsPartUpToMarks m.references (ys ++ current_frame s entry Short ∷ [])
-adaptive-part s entry m t ys all left h = grind (arith, within, part-current)
+adaptive-part : (s : MarkingEntry) (decoding_index : ℕ) (m : Marks) (t : OperationState) (ys : List Reference) → All (λ r. r.decoding_index < decoding_index) ys → IsLeft s decoding_index ys t →
+    within_limit s (with_current_frame s decoding_index t) ≡ Ok m → IsPartUpToMarks m.references (ys ++ current_frame s decoding_index Short ∷ [])
+adaptive-part s decoding_index m t ys all left h = grind (arith, within, part-current)
 
 pub adds_own_frame_alone : AddsOwnFrameAlone
-adds_own_frame_alone s entry m m' all h = by_marking s.marking h
+adds_own_frame_alone s decoding_index m m' all h = by_marking s.marking h
   where
-    by_marking : (marking : Option Marking) → marks_after s entry marking m ≡ Ok m' → IsPartUpToMarks m'.references (m.references ++ current_frame s entry Short ∷ [])
+    by_marking : (marking : Option Marking) → marks_after s decoding_index marking m ≡ Ok m' → IsPartUpToMarks m'.references (m.references ++ current_frame s decoding_index Short ∷ [])
     by_marking None k = grind (arith, part-front)
-    by_marking (Some (Idr no_output false)) k = grind (arith, own-part s entry Short m.references)
-    by_marking (Some (Idr no_output true)) k = grind (arith, own-part s entry (Long 0) m.references)
+    by_marking (Some (Idr no_output false)) k = grind (arith, own-part s decoding_index Short m.references)
+    by_marking (Some (Idr no_output true)) k = grind (arith, own-part s decoding_index (Long 0) m.references)
     by_marking (Some SlidingWindow) k = grind (arith, window-part, part-own)
     by_marking (Some (Adaptive operations)) k =
-        after k (λ t e. adaptive-part s entry m' t m.references all
-        (left-operations s entry m.references (before_operations m) t operations (rw append-nil (part-refl m.references)) e))
+        after k (λ t e. adaptive-part s decoding_index m' t m.references all
+        (left-operations s decoding_index m.references (before_operations m) t operations (rw append-nil (part-refl m.references)) e))
 
 pub leaves_own_frame_alone : LeavesOwnFrameAlone
-leaves_own_frame_alone s entry m m' emptied h = by_marking s.marking emptied h
+leaves_own_frame_alone s decoding_index m m' emptied h = by_marking s.marking emptied h
   where
-    by_marking : (marking : Option Marking) → unmarks_all marking ≡ true → marks_after s entry marking m ≡ Ok m' → IsPartUpToMarks m'.references (current_frame s entry Short ∷ [])
+    by_marking : (marking : Option Marking) → unmarks_all marking ≡ true → marks_after s decoding_index marking m ≡ Ok m' → IsPartUpToMarks m'.references (current_frame s decoding_index Short ∷ [])
     by_marking None e k = cc
-    by_marking (Some (Idr no_output long)) e k = grind (arith, own-part s entry Short [], own-part s entry (Long 0) [])
+    by_marking (Some (Idr no_output long)) e k = grind (arith, own-part s decoding_index Short [], own-part s decoding_index (Long 0) [])
     by_marking (Some SlidingWindow) e k = cc
     by_marking (Some (Adaptive operations)) e k =
-        after k (λ t e'. adaptive-part s entry m' t [] (All-nil (λ r. r.entry < entry)) (left-unmarked s entry (before_operations m) t operations e e'))
+        after k (λ t e'. adaptive-part s decoding_index m' t [] (All-nil (λ r. r.decoding_index < decoding_index)) (left-unmarked s decoding_index (before_operations m) t operations e e'))
 
 -- ---- the window slides again
 
@@ -204,23 +204,23 @@ first-some current [] h = cc
 first-some current (x ∷ xs) h = grind (arith, placed-some, (first-some current xs))
 
 -- where there is a short-term frame, an entry can be marked by the sliding window
-pub slides : (s : MarkingEntry) (entry : ℕ) (m : Marks) → list_any is_short m.references ≡ true → is_ok (marks_after s entry (Some SlidingWindow) m) ≡ true
-slides s entry m short = grind (arith, first-some s.current m.references short)
+pub slides : (s : MarkingEntry) (decoding_index : ℕ) (m : Marks) → list_any is_short m.references ≡ true → is_ok (marks_after s decoding_index (Some SlidingWindow) m) ≡ true
+slides s decoding_index m short = grind (arith, first-some s.current m.references short)
 
 last-short : (xs : List Reference) (last : Reference) → is_short last ≡ true → list_any is_short (xs ++ last ∷ []) ≡ true
 last-short xs last h = grind (arith, list_any-append)
 
 -- the entry's own frame is a short-term one
-pub window-short : (s : MarkingEntry) (entry : ℕ) (m m' : Marks) → marks_after s entry (Some SlidingWindow) m ≡ Ok m' → list_any is_short m'.references ≡ true
-window-short s entry m m' h = grind (arith, after, last-short)
+pub window-short : (s : MarkingEntry) (decoding_index : ℕ) (m m' : Marks) → marks_after s decoding_index (Some SlidingWindow) m ≡ Ok m' → list_any is_short m'.references ≡ true
+window-short s decoding_index m m' h = grind (arith, after, last-short)
 
 pub slides_again : SlidesAgain
-slides_again s s' entry entry' m m' h = slides s' entry' m' (window-short s entry m m' h)
+slides_again s s' decoding_index decoding_index' m m' h = slides s' decoding_index' m' (window-short s decoding_index m m' h)
 
 -- ---- how many reference frames there may be: the frame that slides is one of them
 
 abbrev is_there : Reference → List Reference → Bool
-is_there r references = list_any (λ s. s.entry == r.entry) references
+is_there r references = list_any (λ s. s.decoding_index == r.decoding_index) references
 
 later_too : (a b c : Bool) → (b ≡ true → c ≡ true) → (a || b) ≡ true → (a || c) ≡ true
 later_too true b c h k = refl
@@ -251,7 +251,7 @@ within-limit : (n : ℕ) (s : MarkingEntry) (m m' : Marks) → limit_of s ≤ n 
 within-limit n s m m' most h = grind (arith, nat_tests)
 
 pub stays-with_max_long_term_frame_idx : StaysLimited
-stays-with_max_long_term_frame_idx n s entry m m' most few h = grind (arith, after_sliding_window-fewer n s m.references, within-limit n s, length-append)
+stays-with_max_long_term_frame_idx n s decoding_index m m' most few h = grind (arith, after_sliding_window-fewer n s m.references, within-limit n s, length-append)
 
 pub is-with_max_long_term_frame_idx : IsLimited
 is-with_max_long_term_frame_idx n [] m all h = grind arith
@@ -276,7 +276,7 @@ abbrev p : ℕ → MarkingEntry
 p n = entry_row n (Some SlidingWindow)
 
 abbrev seen_row : Result Marks Fault → Result (List (ℕ × ℕ × Mark)) Fault
-seen_row (Ok m) = Ok (map (λ r. (r.entry, r.frame_num, r.mark)) m.references)
+seen_row (Ok m) = Ok (map (λ r. (r.decoding_index, r.frame_num, r.mark)) m.references)
 seen_row (Err f) = Err f
 
 -- a long-term frame, then operations that name it and that limit the indices

@@ -23,22 +23,22 @@ marking_entry new marking = record {
 }
 
 -- The frames are these entries of the history, in decoding order, and a later entry is the new frame.
-pub record StandBefore (entries : List ℕ) (entry : ℕ) (frames : List MarkedFrame) : Type 0 where
-  pub each : length entries ≡ length frames
-  pub rising : IsStrictlyIncreasing (entries ++ entry ∷ [])
+pub record StandBefore (indices : List ℕ) (decoding_index : ℕ) (frames : List MarkedFrame) : Type 0 where
+  pub each : length indices ≡ length frames
+  pub rising : IsStrictlyIncreasing (indices ++ decoding_index ∷ [])
 
 -- the frame of an entry with this mark and its own frame_num
-abbrev pub marked_frame : MarkingEntry → (entry : ℕ) → Mark → Reference
-marked_frame s entry mark = record {
-  entry = entry;
+abbrev pub marked_frame : MarkingEntry → (decoding_index : ℕ) → Mark → Reference
+marked_frame s decoding_index mark = record {
+  decoding_index = decoding_index;
   frame_num = s.current.frame_num;
   existing = s.existing;
   mark = mark;
 }
 
 -- the marks of frames that are these entries of the history
-abbrev pub marks_at : (entries : List ℕ) → List MarkedFrame → (idx : Option ℕ) → Marks
-marks_at entries frames idx = record { references = references_at entries frames; max_long_term_frame_idx = idx }
+abbrev pub marks_at : (indices : List ℕ) → List MarkedFrame → (idx : Option ℕ) → Marks
+marks_at indices frames idx = record { references = references_at indices frames; max_long_term_frame_idx = idx }
 
 -- The call's answer with what it has left, where that was no fault.
 abbrev pub or_fault : {A B : Type 0} → Result A Fault → B → Result B Fault
@@ -48,20 +48,20 @@ or_fault (Err f) left = Err f
 -- ---- while the operations of a picture are gone through
 
 -- the entries of the frames: the picture's own frame has come to them once it is assigned
-abbrev pub entries_with : (assigned : Bool) → (entries : List ℕ) → (own : ℕ) → List ℕ
-entries_with true entries own = entries ++ own ∷ []
-entries_with false entries own = entries
+abbrev pub indices_with : (assigned : Bool) → (indices : List ℕ) → (own : ℕ) → List ℕ
+indices_with true indices own = indices ++ own ∷ []
+indices_with false indices own = indices
 
 -- The frames are these entries of the history, and the picture's own one once that is assigned.
-pub record StandWith (assigned : Bool) (entries : List ℕ) (own : ℕ) (frames : List MarkedFrame) : Type 0 where
-  pub each : length (entries_with assigned entries own) ≡ length frames
-  pub rising : IsStrictlyIncreasing (entries ++ own ∷ [])
+pub record StandWith (assigned : Bool) (indices : List ℕ) (own : ℕ) (frames : List MarkedFrame) : Type 0 where
+  pub each : length (indices_with assigned indices own) ≡ length frames
+  pub rising : IsStrictlyIncreasing (indices ++ own ∷ [])
 
 -- the marks of these frames while the operations are gone through (8.2.5.4)
-abbrev pub operation_state : (entries : List ℕ) → (own : ℕ) → List MarkedFrame →
+abbrev pub operation_state : (indices : List ℕ) → (own : ℕ) → List MarkedFrame →
     (idx : Option ℕ) → (assigned : Bool) → OperationState
-operation_state entries own frames idx assigned = record {
-  references = references_at (entries_with assigned entries own) frames;
+operation_state indices own frames idx assigned = record {
+  references = references_at (indices_with assigned indices own) frames;
   max_long_term_frame_idx = idx;
   assigned = assigned;
 }
@@ -85,7 +85,7 @@ unmarked_if test f = elim (is_marked test f) [ true ↦ unmarked f | false ↦ f
 -- so many of them are used for reference
 abbrev pub CountsReferences : List MarkedFrame → (count : ℕ) → Type 0
 CountsReferences frames count =
-    (entries : List ℕ) → StandAt entries frames → count ≡ length (references_at entries frames)
+    (indices : List ℕ) → StandAt indices frames → count ≡ length (references_at indices frames)
 
 -- each frame that passes the test has become unused for reference
 abbrev pub UnmarksEach : (Reference → Bool) → (old new : List MarkedFrame) → Type 0
@@ -95,54 +95,54 @@ UnmarksEach test old new =
 -- The reference frames are what `change` makes of those before.
 abbrev pub ChangesFrames : (change : List Reference → List Reference) → (old new : List MarkedFrame) → Type 0
 ChangesFrames change old new =
-    (entries : List ℕ) → StandAt entries old → references_at entries new ≡ change (references_at entries old)
+    (indices : List ℕ) → StandAt indices old → references_at indices new ≡ change (references_at indices old)
 
 -- the frame at a place is no more among them
 abbrev pub UnmarksPlace : (place : ℕ) → (old new : List MarkedFrame) → Type 0
 UnmarksPlace place old new =
-    (entries : List ℕ) → StandAt entries old →
-    references_at entries new ≡ without_frame (reference_at entries old place) (references_at entries old)
+    (indices : List ℕ) → StandAt indices old →
+    references_at indices new ≡ without_frame (reference_at indices old place) (references_at indices old)
 
 -- They are what `change` makes of those before, or the call has its fault.
 abbrev pub MayChangeFrames : (change : List Reference → Result (List Reference) Fault) →
     (old : List MarkedFrame) → Result (Unit {0}) Fault → (new : List MarkedFrame) → Type 0
 MayChangeFrames change old result new =
-    (entries : List ℕ) → StandAt entries old →
-    change (references_at entries old) ≡ or_fault result (references_at entries new)
+    (indices : List ℕ) → StandAt indices old →
+    change (references_at indices old) ≡ or_fault result (references_at indices new)
 
 -- The current picture's frame has come last, and the reference frames are what `change` makes of its entry and those before.
 abbrev pub AddsFrame : (change : ℕ → List Reference → List Reference) → (old new : List MarkedFrame) → Type 0
 AddsFrame change old new =
-    (entries : List ℕ) (entry : ℕ) → StandBefore entries entry old →
-    references_at (entries ++ entry ∷ []) new ≡ change entry (references_at entries old)
+    (indices : List ℕ) (decoding_index : ℕ) → StandBefore indices decoding_index old →
+    references_at (indices ++ decoding_index ∷ []) new ≡ change decoding_index (references_at indices old)
 
 -- `step` takes the state of operations from the frames before to those after, or the call has its fault.
 abbrev pub Operates : (assigned : Bool) → (step : ℕ → OperationState → Result OperationState Fault) →
     (old : List MarkedFrame) (old_idx : Option ℕ) → Result Bool Fault → (new : List MarkedFrame) (new_idx : Option ℕ) → Type 0
 Operates assigned step old old_idx result new new_idx =
-    (entries : List ℕ) (own : ℕ) → StandWith assigned entries own old →
-    step own (operation_state entries own old old_idx assigned) ≡ result_map (operation_state entries own new new_idx) result
+    (indices : List ℕ) (own : ℕ) → StandWith assigned indices own old →
+    step own (operation_state indices own old old_idx assigned) ≡ result_map (operation_state indices own new new_idx) result
 
 -- the same from before the first operation
 abbrev pub OperatesAll : (steps : ℕ → OperationState → Result OperationState Fault) →
     (old : List MarkedFrame) (old_idx : Option ℕ) → Result Bool Fault → (new : List MarkedFrame) (new_idx : Option ℕ) → Type 0
 OperatesAll steps old old_idx result new new_idx =
-    (entries : List ℕ) (own : ℕ) → StandBefore entries own old →
-    steps own (operation_state entries own old old_idx false) ≡ result_map (operation_state entries own new new_idx) result
+    (indices : List ℕ) (own : ℕ) → StandBefore indices own old →
+    steps own (operation_state indices own old old_idx false) ≡ result_map (operation_state indices own new new_idx) result
 
 -- The current picture's frame stands last, and is short-term where the operations have not marked it.
 abbrev pub MarksCurrent : MarkingEntry → (assigned : Bool) → (old new : List MarkedFrame) → Type 0
 MarksCurrent s assigned old new =
-    (entries : List ℕ) (entry : ℕ) (idx : Option ℕ) → StandWith assigned entries entry old →
-    with_current_frame s entry (operation_state entries entry old idx assigned) ≡ marks_at (entries ++ entry ∷ []) new idx
+    (indices : List ℕ) (decoding_index : ℕ) (idx : Option ℕ) → StandWith assigned indices decoding_index old →
+    with_current_frame s decoding_index (operation_state indices decoding_index old idx assigned) ≡ marks_at (indices ++ decoding_index ∷ []) new idx
 
 -- The current picture's frame has come last, and the marks are what `marking` makes of its entry and those before; or the call
 -- has its fault.
 abbrev pub MarksFrame : (marking : ℕ → Marks → Result Marks Fault) →
     (old : List MarkedFrame) (old_idx : Option ℕ) → Result (Unit {0}) Fault → (new : List MarkedFrame) (new_idx : Option ℕ) → Type 0
 MarksFrame marking old old_idx result new new_idx =
-    (entries : List ℕ) (entry : ℕ) → StandBefore entries entry old →
-    marking entry (marks_at entries old old_idx) ≡ or_fault result (marks_at (entries ++ entry ∷ []) new new_idx)
+    (indices : List ℕ) (decoding_index : ℕ) → StandBefore indices decoding_index old →
+    marking decoding_index (marks_at indices old old_idx) ≡ or_fault result (marks_at (indices ++ decoding_index ∷ []) new new_idx)
 
 -- ---- the sliding window
 
@@ -164,6 +164,6 @@ IsShortAt frames place is = is_marked is_short (slice_index_or frames place no_f
 -- the same of places
 abbrev pub IsFirstOf : CurrentFrameNum → List MarkedFrame → (place : ℕ) (later first : Option ℕ) → Type 0
 IsFirstOf current frames place later first =
-    (entries : List ℕ) → StandAt entries frames →
-    option_map (reference_at entries frames) first
-    ≡ first_in_window_of current (reference_at entries frames place) (option_map (reference_at entries frames) later)
+    (indices : List ℕ) → StandAt indices frames →
+    option_map (reference_at indices frames) first
+    ≡ first_in_window_of current (reference_at indices frames place) (option_map (reference_at indices frames) later)

@@ -11,8 +11,8 @@ use Rattle.avc_marking.specs.Marks.{MarkingEntry, Marks, limit_of, current_frame
 -- An entry leaves no more reference frames than n, where there were no more before it and it allows no more.
 abbrev pub StaysLimited : Type 0
 StaysLimited =
-    (n : ℕ) (s : MarkingEntry) (entry : ℕ) (m m' : Marks) → limit_of s ≤ n → length m.references ≤ n →
-    marks_after s entry s.marking m ≡ Ok m' → length m'.references ≤ n
+    (n : ℕ) (s : MarkingEntry) (decoding_index : ℕ) (m m' : Marks) → limit_of s ≤ n → length m.references ≤ n →
+    marks_after s decoding_index s.marking m ≡ Ok m' → length m'.references ≤ n
 
 -- nor do all entries of a history
 abbrev pub IsLimited : Type 0
@@ -24,7 +24,7 @@ IsLimited =
 
 -- the same frame, whose mark may be another
 pub record IsSameFrame (new old : Reference) : Type 0 where
-  pub same_entry : new.entry ≡ old.entry
+  pub same_decoding_index : new.decoding_index ≡ old.decoding_index
   pub same_frame_num : new.frame_num ≡ old.frame_num
   pub same_existing : new.existing ≡ old.existing
 
@@ -37,9 +37,9 @@ IsPartUpToMarks (r ∷ new) (s ∷ old) = (IsSameFrame r s × IsPartUpToMarks ne
 -- An entry adds no frame but its own, which is the last (8.2.5.1).
 abbrev pub AddsOwnFrameAlone : Type 0
 AddsOwnFrameAlone =
-    (s : MarkingEntry) (entry : ℕ) (m m' : Marks) → All (λ r. r.entry < entry) m.references →
-    marks_after s entry s.marking m ≡ Ok m' →
-    IsPartUpToMarks m'.references (m.references ++ current_frame s entry Short ∷ [])
+    (s : MarkingEntry) (decoding_index : ℕ) (m m' : Marks) → All (λ r. r.decoding_index < decoding_index) m.references →
+    marks_after s decoding_index s.marking m ≡ Ok m' →
+    IsPartUpToMarks m'.references (m.references ++ current_frame s decoding_index Short ∷ [])
 
 -- It marks all earlier frames as unused for reference: an IDR picture, or one with operation 5 (8.2.5.1,
 -- 8.2.5.4.5).
@@ -52,28 +52,28 @@ unmarks_all (Some (Adaptive operations)) = list_any is_unmark_all operations
 -- Such an entry leaves no frame but its own (8.2.5.1).
 abbrev pub LeavesOwnFrameAlone : Type 0
 LeavesOwnFrameAlone =
-    (s : MarkingEntry) (entry : ℕ) (m m' : Marks) → unmarks_all s.marking ≡ true →
-    marks_after s entry s.marking m ≡ Ok m' →
-    IsPartUpToMarks m'.references (current_frame s entry Short ∷ [])
+    (s : MarkingEntry) (decoding_index : ℕ) (m m' : Marks) → unmarks_all s.marking ≡ true →
+    marks_after s decoding_index s.marking m ≡ Ok m' →
+    IsPartUpToMarks m'.references (current_frame s decoding_index Short ∷ [])
 
 -- After an entry that was marked by the sliding window the window can slide again: that entry's frame is a
 -- short-term one (8.2.5.3).
 abbrev pub SlidesAgain : Type 0
 SlidesAgain =
-    (s s' : MarkingEntry) (entry entry' : ℕ) (m m' : Marks) → marks_after s entry (Some SlidingWindow) m ≡ Ok m' →
-    is_ok (marks_after s' entry' (Some SlidingWindow) m') ≡ true
+    (s s' : MarkingEntry) (decoding_index decoding_index' : ℕ) (m m' : Marks) → marks_after s decoding_index (Some SlidingWindow) m ≡ Ok m' →
+    is_ok (marks_after s' decoding_index' (Some SlidingWindow) m') ≡ true
 
 -- ---- gaps in frame_num (8.2.5.2)
 
--- each of the frames stands before this place
-abbrev pub StandBelow : (place : ℕ) → List Reference → Type 0
-StandBelow place [] = Unit {0}
-StandBelow place (r ∷ rs) = (r.entry < place) × StandBelow place rs
+-- each of the frames has a decoding index below this one
+abbrev pub StandBelow : (index : ℕ) → List Reference → Type 0
+StandBelow index [] = Unit {0}
+StandBelow index (r ∷ rs) = (r.decoding_index < index) × StandBelow index rs
 
--- later frames stand at later places: from `low` on, and before `next`
+-- later frames have later decoding indices: from `low` on, and before `next`
 abbrev pub StandFrom : (low next : ℕ) → List Reference → Type 0
 StandFrom low next [] = low ≤ next
-StandFrom low next (r ∷ rs) = (low ≤ r.entry) × StandFrom (r.entry + 1) next rs
+StandFrom low next (r ∷ rs) = (low ≤ r.decoding_index) × StandFrom (r.decoding_index + 1) next rs
 
 -- a short-term frame whose FrameNum is this number modulo MaxFrameNum
 pub record IsShortTerm (max number : ℕ) (r : Reference) : Type 0 where
@@ -85,19 +85,19 @@ abbrev pub CountFrom : (max low next : ℕ) → List Reference → Type 0
 CountFrom max low next [] = low ≤ next
 CountFrom max low next (r ∷ rs) = (number : ℕ) × (low ≤ number × IsShortTerm max number r × CountFrom max (number + 1) next rs)
 
--- As many frames are marked as may be: long-term ones, which stand before `place`, and short-term ones, from there on and before `next`.
-pub record IsFullWindow (place next limit : ℕ) (longs shorts : List Reference) : Type 0 where
+-- As many frames are marked as may be: long-term ones, whose decoding indices are below `start`, and short-term ones, from there on and before `next`.
+pub record IsFullWindow (start next limit : ℕ) (longs shorts : List Reference) : Type 0 where
   pub long : filter is_short longs ≡ []
   pub full : length longs + length shorts ≡ limit
-  pub places : StandFrom place next shorts
-  pub longs_before : StandBelow place longs
+  pub indices : StandFrom start next shorts
+  pub longs_before : StandBelow start longs
 
 -- The sliding window takes the first of short-term frames whose numbers rise up to the current one, if less than MaxFrameNum apart
 -- (8.2.5.3).
 abbrev pub WindowTakesTheFirst : Type 0
 WindowTakesTheFirst =
-    (s : MarkingEntry) (entry max low number place : ℕ) (longs shorts : List Reference) (first : Reference) (m : Marks) →
+    (s : MarkingEntry) (decoding_index max low number start : ℕ) (longs shorts : List Reference) (first : Reference) (m : Marks) →
     s.current ≡ record { frame_num = number % max; max_frame_num = max } →
-    IsFullWindow place entry (limit_of s) longs (first ∷ shorts) → CountFrom max low number (first ∷ shorts) → number < low + max →
+    IsFullWindow start decoding_index (limit_of s) longs (first ∷ shorts) → CountFrom max low number (first ∷ shorts) → number < low + max →
     m.references ≡ longs ++ first ∷ shorts →
-    marks_after s entry (Some SlidingWindow) m ≡ Ok (record m { references = (longs ++ shorts) ++ current_frame s entry Short ∷ [] })
+    marks_after s decoding_index (Some SlidingWindow) m ≡ Ok (record m { references = (longs ++ shorts) ++ current_frame s decoding_index Short ∷ [] })

@@ -51,7 +51,7 @@ refuse_unless false x = Err faults.BadMarking
 
 -- this frame becomes unused for reference (8.2.5.3, 8.2.5.4)
 abbrev pub without_frame : Reference → List Reference → List Reference
-without_frame r references = filter (λ s. not (s.entry == r.entry)) references
+without_frame r references = filter (λ s. not (s.decoding_index == r.decoding_index)) references
 
 -- the frame with this mark
 abbrev pub with_other_mark : Reference → Mark → Reference
@@ -63,7 +63,7 @@ without_long_term_frame_idx index references = filter (λ s. not (has_long_term_
 
 -- the frames, one of them with this mark
 abbrev pub with_mark : Reference → Mark → List Reference → List Reference
-with_mark r mark references = map (λ s. if s.entry == r.entry then with_other_mark s mark else s) references
+with_mark r mark references = map (λ s. if s.decoding_index == r.decoding_index then with_other_mark s mark else s) references
 
 -- the index is not above MaxLongTermFrameIdx, if there is one (7.4.3.3)
 abbrev pub is_index_allowed : ℕ → Option ℕ → Bool
@@ -139,45 +139,45 @@ abbrev pub with_references : OperationState → Result (List Reference) Fault �
 with_references t changed = changed >>= λ references. Ok (record t { references = references })
 
 -- 6: the picture's own frame (8.2.5.4.6)
-abbrev pub long_term_current : MarkingEntry → (entry index : ℕ) → Reference
-long_term_current s entry index = record {
-  entry = entry;
+abbrev pub long_term_current : MarkingEntry → (decoding_index index : ℕ) → Reference
+long_term_current s decoding_index index = record {
+  decoding_index = decoding_index;
   frame_num = s.current.frame_num;
   existing = s.existing;
   mark = Long index;
 }
 
 -- 6: it becomes long-term (8.2.5.4.6)
-abbrev pub with_long_term_current : MarkingEntry → (index entry : ℕ) → List Reference → List Reference
-with_long_term_current s index entry references =
-    without_long_term_frame_idx index references ++ long_term_current s entry index ∷ []
+abbrev pub with_long_term_current : MarkingEntry → (index decoding_index : ℕ) → List Reference → List Reference
+with_long_term_current s index decoding_index references =
+    without_long_term_frame_idx index references ++ long_term_current s decoding_index index ∷ []
 
 -- One memory_management_control_operation (8.2.5.4, Table 7-9): s is the picture's own entry, `entry` its
 -- decoding index. 5 (UnmarkAll) leaves no frame and no long-term indices (8.2.5.4.5).
-abbrev pub after_operation : MarkingEntry → (entry : ℕ) → OperationState → Operation → Result OperationState Fault
-after_operation s entry t (UnmarkShortTerm d) = with_references t (without_short_term s d t.references)
-after_operation s entry t (UnmarkLongTerm index) = with_references t (without_long_term index t.references)
-after_operation s entry t (AssignLongTerm d index) =
+abbrev pub after_operation : MarkingEntry → (decoding_index : ℕ) → OperationState → Operation → Result OperationState Fault
+after_operation s decoding_index t (UnmarkShortTerm d) = with_references t (without_short_term s d t.references)
+after_operation s decoding_index t (UnmarkLongTerm index) = with_references t (without_long_term index t.references)
+after_operation s decoding_index t (AssignLongTerm d index) =
     with_references t (with_long_term s d index t.max_long_term_frame_idx t.references)
-after_operation s entry t (MaxLongTermFrameIdx plus1) =
+after_operation s decoding_index t (MaxLongTermFrameIdx plus1) =
     refuse_unless (nat_le plus1 s.max_num_ref_frames)
     (record t {
       references = with_max_long_term_frame_idx plus1 t.references;
       max_long_term_frame_idx = max_long_term_frame_idx_below plus1;
     })
-after_operation s entry t UnmarkAll = Ok (record t { references = []; max_long_term_frame_idx = None })
-after_operation s entry t (CurrentToLongTerm index) =
+after_operation s decoding_index t UnmarkAll = Ok (record t { references = []; max_long_term_frame_idx = None })
+after_operation s decoding_index t (CurrentToLongTerm index) =
     refuse_unless (not t.assigned && is_index_allowed index t.max_long_term_frame_idx)
     (record t {
-      references = with_long_term_current s index entry t.references;
+      references = with_long_term_current s index decoding_index t.references;
       assigned = true;
     })
 
 -- all of them in their order (8.2.5.4)
-abbrev pub after_operations : MarkingEntry → (entry : ℕ) → OperationState → List Operation → Result OperationState Fault
-after_operations s entry t [] = Ok t
-after_operations s entry t (o ∷ operations) =
-    after_operation s entry t o >>= λ t'. after_operations s entry t' operations
+abbrev pub after_operations : MarkingEntry → (decoding_index : ℕ) → OperationState → List Operation → Result OperationState Fault
+after_operations s decoding_index t [] = Ok t
+after_operations s decoding_index t (o ∷ operations) =
+    after_operation s decoding_index t o >>= λ t'. after_operations s decoding_index t' operations
 
 -- memory_management_control_operation 5 (Table 7-9)
 abbrev pub is_unmark_all : Operation → Bool
@@ -193,21 +193,21 @@ frame_num_after_marking s = elim s.marking [ None ↦ s.current.frame_num | Some
     number_under _ = s.current.frame_num
 
 -- the entry's own frame (8.2.5.1)
-abbrev pub current_frame : MarkingEntry → (entry : ℕ) → Mark → Reference
-current_frame s entry mark = record {
-  entry = entry;
+abbrev pub current_frame : MarkingEntry → (decoding_index : ℕ) → Mark → Reference
+current_frame s decoding_index mark = record {
+  decoding_index = decoding_index;
   frame_num = frame_num_after_marking s;
   existing = s.existing;
   mark = mark;
 }
 
 -- the operations leave this, where the frame that has got no mark by them becomes short-term (8.2.5.1)
-abbrev pub with_current_frame : MarkingEntry → (entry : ℕ) → OperationState → Marks
-with_current_frame s entry t =
+abbrev pub with_current_frame : MarkingEntry → (decoding_index : ℕ) → OperationState → Marks
+with_current_frame s decoding_index t =
     record {
       references = elim t.assigned [
-        | true ↦ map (λ r. if r.entry == entry then current_frame s entry r.mark else r) t.references
-        | false ↦ t.references ++ current_frame s entry Short ∷ []
+        | true ↦ map (λ r. if r.decoding_index == decoding_index then current_frame s decoding_index r.mark else r) t.references
+        | false ↦ t.references ++ current_frame s decoding_index Short ∷ []
       ];
       max_long_term_frame_idx = t.max_long_term_frame_idx;
     }
@@ -226,24 +226,24 @@ before_operations m = record {
 }
 
 -- the marks after all the operations (8.2.5.4)
-abbrev pub after_adaptive_marking : MarkingEntry → (entry : ℕ) → Marks → List Operation → Result Marks Fault
-after_adaptive_marking s entry m operations =
-    after_operations s entry (before_operations m) operations
-    >>= λ t. within_limit s (with_current_frame s entry t)
+abbrev pub after_adaptive_marking : MarkingEntry → (decoding_index : ℕ) → Marks → List Operation → Result Marks Fault
+after_adaptive_marking s decoding_index m operations =
+    after_operations s decoding_index (before_operations m) operations
+    >>= λ t. within_limit s (with_current_frame s decoding_index t)
 
 -- ---- the whole history (8.2.5.1)
 
 -- The marks after an entry, from those before it (8.2.5.1).
-abbrev pub marks_after : MarkingEntry → (entry : ℕ) → Option Marking → Marks → Result Marks Fault
-marks_after s entry None m = Ok m
-marks_after s entry (Some (Idr no_output false)) m =
-    Ok (record { references = current_frame s entry Short ∷ []; max_long_term_frame_idx = None })
-marks_after s entry (Some (Idr no_output true)) m =
-    Ok (record { references = current_frame s entry (Long 0) ∷ []; max_long_term_frame_idx = Some 0 })
-marks_after s entry (Some SlidingWindow) m =
+abbrev pub marks_after : MarkingEntry → (decoding_index : ℕ) → Option Marking → Marks → Result Marks Fault
+marks_after s decoding_index None m = Ok m
+marks_after s decoding_index (Some (Idr no_output false)) m =
+    Ok (record { references = current_frame s decoding_index Short ∷ []; max_long_term_frame_idx = None })
+marks_after s decoding_index (Some (Idr no_output true)) m =
+    Ok (record { references = current_frame s decoding_index (Long 0) ∷ []; max_long_term_frame_idx = Some 0 })
+marks_after s decoding_index (Some SlidingWindow) m =
     after_sliding_window s m.references
-    >>= λ references. Ok (record m { references = references ++ current_frame s entry Short ∷ [] })
-marks_after s entry (Some (Adaptive operations)) m = after_adaptive_marking s entry m operations
+    >>= λ references. Ok (record m { references = references ++ current_frame s decoding_index Short ∷ [] })
+marks_after s decoding_index (Some (Adaptive operations)) m = after_adaptive_marking s decoding_index m operations
 
 -- The marks that a history leaves, or the first fault. An entry's decoding index is the
 -- number of those before it (8.2.5.1).

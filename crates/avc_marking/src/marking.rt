@@ -37,7 +37,7 @@ pub fn frame_num_after_marking(new: NewFrame, marking: &Option<Marking>) -> u32
 fn mark_idr(frames: &mut ArrayVec<MarkedFrame, 17>, new: NewFrame, mark: Mark)
     requires { length frames.old.items ≤ 16 }
     ensures length { length frames.new.items ≡ length frames.old.items + 1 }
-    ensures references { AddsFrame (λ entry _. marked_frame (marking_entry new None) entry mark ∷ []) frames.old.items frames.new.items }
+    ensures references { AddsFrame (λ decoding_index _. marked_frame (marking_entry new None) decoding_index mark ∷ []) frames.old.items frames.new.items }
 {
     unmark_frames(frames.as_mut_slice(), FramesToUnmark::Every);
     frames.push(MarkedFrame {
@@ -88,7 +88,7 @@ fn adaptive_marking(
 ) -> Result<(), Fault>
     requires { length frames.old.items ≤ 16 }
     ensures length { OnOk result (length frames.new.items ≡ length frames.old.items + 1) }
-    ensures marks { MarksFrame (λ entry m. after_adaptive_marking (marking_entry new marking.now) entry m operations.now)
+    ensures marks { MarksFrame (λ decoding_index m. after_adaptive_marking (marking_entry new marking.now) decoding_index m operations.now)
         frames.old.items max_long_term_frame_idx.old result frames.new.items max_long_term_frame_idx.new }
 {
     let assigned = operate_all(frames, max_long_term_frame_idx, new, operations)?;
@@ -115,7 +115,7 @@ pub fn mark(
 ) -> Result<(), Fault>
     requires { length frames.old.items ≤ 16 }
     ensures length { OnOk result (length frames.new.items ≡ length frames.old.items + 1) }
-    ensures marks { MarksFrame (λ entry. marks_after (marking_entry new marking.now) entry marking.now)
+    ensures marks { MarksFrame (λ decoding_index. marks_after (marking_entry new marking.now) decoding_index marking.now)
         frames.old.items max_long_term_frame_idx.old result frames.new.items max_long_term_frame_idx.new }
 {
     match marking {

@@ -96,7 +96,7 @@ fn free_a_frame(frames: &mut [MarkedFrame], new: NewFrame) -> Result<(), Fault>
 pub fn sliding_window(frames: &mut ArrayVec<MarkedFrame, 17>, new: NewFrame) -> Result<(), Fault>
     requires { length frames.old.items ≤ 16 }
     ensures length { OnOk result (length frames.new.items ≡ length frames.old.items + 1) }
-    ensures marks { (idx : Option ℕ) → MarksFrame (λ entry. marks_after (marking_entry new (Some SlidingWindow)) entry (Some SlidingWindow))
+    ensures marks { (idx : Option ℕ) → MarksFrame (λ decoding_index. marks_after (marking_entry new (Some SlidingWindow)) decoding_index (Some SlidingWindow))
         frames.old.items idx result frames.new.items idx }
 {
     free_a_frame(frames.as_mut_slice(), new)?;

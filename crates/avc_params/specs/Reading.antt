@@ -7,7 +7,7 @@ use Rattle.avc_bits.specs.Codes.{ue_to}
 use Rattle.avc_params.specs.PpsReading.{pps}
 use Rattle.avc_params.specs.SpsReading.{identity, sps}
 use Rattle.avc_params.specs.declared.pps.Pps.{Pps}
-use Rattle.avc_params.specs.declared.set_fault.SetFault.{SetFault}
+use Rattle.avc_params.specs.declared.set_unit.SetFault.{SetFault}
 use Rattle.avc_params.specs.declared.sps.Sps.{Sps}
 
 -- what the part reads; none where it is refused

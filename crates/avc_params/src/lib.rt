@@ -6,8 +6,6 @@ pub mod laws;
 mod levels;
 mod pps;
 mod pps_reading;
-mod same;
-mod set_fault;
 mod set_unit;
 mod sizes;
 mod sps;
@@ -20,8 +18,7 @@ mod vui_reading;
 
 pub use pps::Pps;
 pub use pps_reading::read_pps;
-pub use set_fault::SetFault;
-pub use set_unit::{Seen, SetUnit};
+pub use set_unit::{Seen, SetFault, SetUnit};
 pub use sps::{ConstraintFlags, Cropping, OrderCount, Sps};
 pub use sps_reading::read_sps;
 pub use syntax::{Syntax, read_optional, read_times, read_where};

@@ -4,7 +4,7 @@ ghost use Rattle.avc_params.specs.PpsReading.{default_counts, pps_after, quantis
 ghost use Rattle.avc_params.specs.Reading.{pps_of};
 
 use crate::pps::Pps;
-use crate::set_fault::SetFault;
+use crate::set_unit::SetFault;
 use crate::syntax::Syntax;
 use avc_bits::BitReader;
 use avc_types::Fault;

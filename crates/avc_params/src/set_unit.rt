@@ -1,7 +1,17 @@
+//! Units that bring a parameter set (7.3.2), and why one was refused.
+
 ghost use Rattle.std.specs.Prelude.{◌≡◌};
 
-use avc_types::History;
+use avc_types::{Fault, History};
 use std::marker::Model;
+
+/// Why a parameter set was refused.
+#[derive(Clone, Copy)]
+pub struct SetFault {
+    /// The set's id, where that had been read in range.
+    pub id: Option<u8>,
+    pub fault: Fault,
+}
 
 /// The RBSP of a unit, as only proofs read it: it takes no memory. A contract sees its bytes.
 #[derive(Drop)]

@@ -1,3 +1,6 @@
+ghost use Rattle.std.specs.Prelude.{◌≡◌};
+ghost use Rattle.avc_params.specs.Same.{same_sps};
+
 use crate::vui::Vui;
 use avc_types::UpTo;
 
@@ -67,4 +70,13 @@ pub struct Sps {
     pub direct_8x8_inference_flag: bool,
     pub frame_cropping: Option<Cropping>,
     pub vui: Option<Vui>,
+}
+
+impl Sps {
+    /// Whether this set has the contents of the other: each field is equal (7.4.1.2.1).
+    pub fn is_same(&self, other: &Sps) -> bool
+        ensures { result ≡ same_sps self.now other.now }
+    {
+        *self == *other
+    }
 }

@@ -6,7 +6,7 @@ ghost use Rattle.avc_params.specs.Reading.{sps_of};
 ghost use Rattle.avc_params.specs.SpsReading.{constraint_flags, cropping, cycle, identity, lsb, order_count, size, sps_after};
 
 use crate::levels::max_dpb_mbs;
-use crate::set_fault::SetFault;
+use crate::set_unit::SetFault;
 use crate::sps::{ConstraintFlags, Cropping, OrderCount, Sps};
 use crate::syntax::{Syntax, read_optional, read_times};
 use avc_bits::BitReader;

@@ -6,8 +6,7 @@ ghost use Rattle.avc_params.specs.Within.{PpsIsInForce, SpsIsInForce};
 
 use crate::pps::Pps;
 use crate::pps_reading::read_pps;
-use crate::set_fault::SetFault;
-use crate::set_unit::{Seen, SetUnit};
+use crate::set_unit::{Seen, SetFault, SetUnit};
 use crate::sps::Sps;
 use crate::sps_reading::read_sps;
 use crate::stored::{erase, get, put};

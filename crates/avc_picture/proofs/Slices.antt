@@ -162,7 +162,7 @@ same-place es rising m n h k e =
     omega arith
 
 abbrev pub names-of : (es : List ℕ) → IsStrictlyIncreasing es → Names
-names-of es rising = record { count = length es; entry = λ n. slice_index es n; apart = same-place es rising }
+names-of es rising = record { count = length es; decoding_index = λ n. slice_index es n; apart = same-place es rising }
 
 pub are-names : (es : List ℕ) (rising : IsStrictlyIncreasing es) → AreNames es (names-of es rising)
 are-names es rising = record { all = refl; each = λ n h. refl }
@@ -427,7 +427,7 @@ module _ {PAD : ℕ} {sps : Sps} {pps : Pps} {fs : List (Frame PAD)} {slices : L
   held es stand = (kept es stand).decoded.holds _ _ (begins-itself (coded_of (begun es) (progress (begun es) slices))) (are-names es stand.rising)
 
   pub well-somewhere : IsWellSomewhere sps pps fs count read m
-  well-somewhere = record { entries = places-of fs; stand = stand-somewhere fs; so_far = progress (begun (places-of fs)) slices; well = kept (places-of fs) (stand-somewhere fs) }
+  well-somewhere = record { indices = places-of fs; stand = stand-somewhere fs; so_far = progress (begun (places-of fs)) slices; well = kept (places-of fs) (stand-somewhere fs) }
 
   counted : (es : List ℕ) → FramesStandAt es fs → length (progress (begun es) slices).mbs ≡ read
   counted es stand = let well = kept es stand in well.decoded.next ∙ well.reached
@@ -594,7 +594,7 @@ abbrev half_left : List MbSyntax
 half_left = p_inter P16x16 (0 ∷ []) (record { x = pos 2; y = pos 0 } ∷ []) no_levels ∷ p_skip ∷ []
 
 abbrev frame_of : Samples → Option WorkedFrame
-frame_of s = Some (record { entry = 0; existing = true; samples = s })
+frame_of s = Some (record { decoding_index = 0; existing = true; samples = s })
 
 abbrev stripes : List ℕ → Samples
 stripes row c x y = slice_index row x

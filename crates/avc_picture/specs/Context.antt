@@ -13,23 +13,23 @@ use Rattle.avc_plane.specs.Frames.{marked_frame, stored_at}
 use Rattle.avc_plane.specs.declared.frame.Frame.{Frame}
 use Rattle.avc_plane.specs.declared.frame.PaddedPlanes.{PaddedPlanes}
 use Rattle.avc_deblock.specs.FilterInfo.{Names}
-use Rattle.avc_picture_core.specs.declared.references.ReferencePicture.{ReferencePicture}
+use Rattle.avc_picture_core.specs.declared.inter.ReferencePicture.{ReferencePicture}
 use Rattle.avc_picture.specs.FirstMbs.{IsSlice}
 use Rattle.avc_picture.specs.Slices.{PictureStart, deblocking_of, info_of, list_of}
 use Rattle.avc_picture.specs.declared.slice_context.SliceContext.{SliceContext}
 
 -- what a picture is decoded with, where its frames have these decoding indices
-abbrev pub picture_start : {PAD : ℕ} → Sps → Pps → (entries : List ℕ) → List (Frame PAD) → PictureStart
-picture_start sps pps entries frames = record { sps = sps; pps = pps; frames = stored_at entries frames }
+abbrev pub picture_start : {PAD : ℕ} → Sps → Pps → (indices : List ℕ) → List (Frame PAD) → PictureStart
+picture_start sps pps indices frames = record { sps = sps; pps = pps; frames = stored_at indices frames }
 
 -- the frames can have these decoding indices
-abbrev pub FramesStandAt : {PAD : ℕ} → (entries : List ℕ) → List (Frame PAD) → Type 0
-FramesStandAt entries frames = StandAt entries (map marked_frame frames)
+abbrev pub FramesStandAt : {PAD : ℕ} → (indices : List ℕ) → List (Frame PAD) → Type 0
+FramesStandAt indices frames = StandAt indices (map marked_frame frames)
 
 -- a stored frame's number is its place among the frames in the buffer
-pub record AreNames (entries : List ℕ) (names : Names) : Type 0 where
-  pub all : names.count ≡ length entries
-  pub each : (n : ℕ) → n < names.count → names.entry n ≡ slice_index entries n
+pub record AreNames (indices : List ℕ) (names : Names) : Type 0 where
+  pub all : names.count ≡ length indices
+  pub each : (n : ℕ) → n < names.count → names.decoding_index n ≡ slice_index indices n
 
 -- ---- RefPicList0 by the places of its frames in the buffer
 
@@ -38,19 +38,19 @@ abbrev pub ArePlacesIn : {PAD : ℕ} → List (Frame PAD) → List (Option ℕ) 
 ArePlacesIn frames places = All (λ entry. IfSome entry (λ place. place < length frames)) places
 
 -- Entry by entry the list has the frames at these places.
-abbrev pub HasPlaces : {PAD : ℕ} → (entries : List ℕ) → List (Frame PAD) → List (Option Reference) → List (Option ℕ) → Type 0
-HasPlaces entries frames list places =
-    (r : ℕ) → slice_index_or list r None ≡ option_map (reference_at entries (map marked_frame frames)) (slice_index_or places r None)
+abbrev pub HasPlaces : {PAD : ℕ} → (indices : List ℕ) → List (Frame PAD) → List (Option Reference) → List (Option ℕ) → Type 0
+HasPlaces indices frames list places =
+    (r : ℕ) → slice_index_or list r None ≡ option_map (reference_at indices (map marked_frame frames)) (slice_index_or places r None)
 
 -- The list of the slice has these places, or there is none, by this fault.
-abbrev pub IsListAt : {PAD : ℕ} → PictureStart → (entries : List ℕ) → List (Frame PAD) → Header → Result (List (Option ℕ)) Fault → Type 0
-IsListAt p entries frames h (Ok places) = (list : List (Option Reference)) × (list_of p h ≡ Ok list) × HasPlaces entries frames list places
-IsListAt p entries frames h (Err f) = list_of p h ≡ Err f
+abbrev pub IsListAt : {PAD : ℕ} → PictureStart → (indices : List ℕ) → List (Frame PAD) → Header → Result (List (Option ℕ)) Fault → Type 0
+IsListAt p indices frames h (Ok places) = (list : List (Option Reference)) × (list_of p h ≡ Ok list) × HasPlaces indices frames list places
+IsListAt p indices frames h (Err f) = list_of p h ≡ Err f
 
 -- The answer is RefPicList0 as places among the frames, or its fault (8.2.4), whatever entries the frames have.
 abbrev pub HasList : {PAD : ℕ} → Sps → List (Frame PAD) → Header → Result (List (Option ℕ)) Fault → Type 0
 HasList sps frames h answer =
-    (pps : Pps) (entries : List ℕ) → FramesStandAt entries frames → IsListAt (picture_start sps pps entries frames) entries frames h answer
+    (pps : Pps) (indices : List ℕ) → FramesStandAt indices frames → IsListAt (picture_start sps pps indices frames) indices frames h answer
 
 -- ---- the reference pictures
 
@@ -77,9 +77,9 @@ ArePicturesAt frames h count places pictures =
 -- ---- the whole
 
 -- In every picture in which the slice with this number has the info of the header and the list, this is what the code knows of it.
-abbrev pub IsContextOf : {PAD : ℕ} → PictureStart → (entries : List ℕ) → Header → List (Option Reference) → SliceContext PAD → Type 0
-IsContextOf p entries h list s =
-    (c : Coded) (names : Names) → AreNames entries names → slice_info c s.number ≡ info_of p h list → IsSlice c names s
+abbrev pub IsContextOf : {PAD : ℕ} → PictureStart → (indices : List ℕ) → Header → List (Option Reference) → SliceContext PAD → Type 0
+IsContextOf p indices h list s =
+    (c : Coded) (names : Names) → AreNames indices names → slice_info c s.number ≡ info_of p h list → IsSlice c names s
 
 -- each of the first `count` reference indices has the place of its frame as its number; 0 without a place
 abbrev pub AreNumbersAt : (count : ℕ) → List (Option ℕ) → (numbers : List ℕ) → Type 0

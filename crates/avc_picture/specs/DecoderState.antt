@@ -94,49 +94,49 @@ address_fault expected first =
     if nat_lt expected first then Some MissingMacroblocks else (if nat_lt first expected then Some ArbitrarySliceOrder else None)
 
 -- The macroblocks so far are decoded, in each picture that begins with them.
-pub record AreDecoded (p : PictureStart) (entries : List ℕ) (g : Progress) (slice_count : ℕ) (m : MbsState) : Type 0 where
+pub record AreDecoded (p : PictureStart) (indices : List ℕ) (g : Progress) (slice_count : ℕ) (m : MbsState) : Type 0 where
   pub next : length g.mbs ≡ m.next
   pub count : length g.slices ≡ slice_count
-  pub holds : (c : Coded) (names : Names) → BeginsWith c (coded_of p g) → AreNames entries names → HoldsFirst c names m
+  pub holds : (c : Coded) (names : Names) → BeginsWith c (coded_of p g) → AreNames indices names → HoldsFirst c names m
 
 -- The slices so far have no fault, and `read` macroblocks.
-pub record IsWellSoFar (p : PictureStart) (entries : List ℕ) (g : Progress) (slice_count read : ℕ) (m : MbsState) : Type 0 where
+pub record IsWellSoFar (p : PictureStart) (indices : List ℕ) (g : Progress) (slice_count read : ℕ) (m : MbsState) : Type 0 where
   pub none : g.fault ≡ None
   pub read_is : g.read ≡ read
   pub reached : m.next ≡ read
   pub few : slice_count ≤ read
-  pub decoded : AreDecoded p entries g slice_count m
+  pub decoded : AreDecoded p indices g slice_count m
 
 -- the number of the slice behind one with this number, in which the picture goes from so many macroblocks to so many
 abbrev pub number_after : (number before after : ℕ) → ℕ
 number_after number before after = if before == after then number else suc number
 
 -- after a slice of this unit
-abbrev pub IsStateOrFault : PictureStart → (entries : List ℕ) → Progress → (unit slice_count : ℕ) → Result (Unit {0}) Fault → (read : ℕ) → MbsState → Type 0
-IsStateOrFault p entries g unit slice_count (Ok done) read m = IsWellSoFar p entries g slice_count read m
-IsStateOrFault p entries g unit slice_count (Err f) read m = (g.fault ≡ Some (unit, f)) × (g.read ≡ read)
+abbrev pub IsStateOrFault : PictureStart → (indices : List ℕ) → Progress → (unit slice_count : ℕ) → Result (Unit {0}) Fault → (read : ℕ) → MbsState → Type 0
+IsStateOrFault p indices g unit slice_count (Ok done) read m = IsWellSoFar p indices g slice_count read m
+IsStateOrFault p indices g unit slice_count (Err f) read m = (g.fault ≡ Some (unit, f)) × (g.read ≡ read)
 
 -- The frames can stand somewhere, and the slices so far have no fault then.
 pub record IsWellSomewhere {PAD : ℕ} (sps : Sps) (pps : Pps) (frames : List (Frame PAD)) (slice_count read : ℕ) (m : MbsState) : Type 0 where
-  pub entries : List ℕ
-  pub stand : FramesStandAt entries frames
+  pub indices : List ℕ
+  pub stand : FramesStandAt indices frames
   pub so_far : Progress
-  pub well : IsWellSoFar (picture_start sps pps entries frames) entries so_far slice_count read m
+  pub well : IsWellSoFar (picture_start sps pps indices frames) indices so_far slice_count read m
 
 -- After the slice the macroblocks so far are decoded, or it is refused, wherever the frames stand.
 abbrev pub IsDecodedSlice : {PAD : ℕ} → Sps → Pps → List (Frame PAD) → Slice → (number before : ℕ) → MbsState → Result (Unit {0}) Fault → (read : ℕ) → MbsState → Type 0
 IsDecodedSlice sps pps frames slice number before m result read m' =
-    (entries : List ℕ) (g : Progress) → FramesStandAt entries frames
-    → IsWellSoFar (picture_start sps pps entries frames) entries g number before m
-    → IsStateOrFault (picture_start sps pps entries frames) entries (with_slice (picture_start sps pps entries frames) slice g) slice.unit
+    (indices : List ℕ) (g : Progress) → FramesStandAt indices frames
+    → IsWellSoFar (picture_start sps pps indices frames) indices g number before m
+    → IsStateOrFault (picture_start sps pps indices frames) indices (with_slice (picture_start sps pps indices frames) slice g) slice.unit
     (number_after number before read) result read m'
 
 -- ---- the picture
 
 -- what is kept: the first fault, or the macroblocks
-abbrev pub IsKeptAfter : PictureStart → (entries : List ℕ) → Progress → Option Fault → (slice_count read : ℕ) → MbsState → Type 0
-IsKeptAfter p entries g None slice_count read m = IsWellSoFar p entries g slice_count read m
-IsKeptAfter p entries g (Some f) slice_count read m = (option_map (λ found. found.1) g.fault ≡ Some f) × (g.read ≡ read)
+abbrev pub IsKeptAfter : PictureStart → (indices : List ℕ) → Progress → Option Fault → (slice_count read : ℕ) → MbsState → Type 0
+IsKeptAfter p indices g None slice_count read m = IsWellSoFar p indices g slice_count read m
+IsKeptAfter p indices g (Some f) slice_count read m = (option_map (λ found. found.1) g.fault ≡ Some f) × (g.read ≡ read)
 
 -- The decoder's fields say of the slices so far, the newest first, how many macroblocks have been read, the first
 -- fault, and, where there is none, what the macroblocks are.
@@ -147,5 +147,5 @@ pub record IsDecoderState {PAD : ℕ} (sps : Sps) (pps : Pps) (frames : List (Fr
   pub width : m.canvas.width ≡ width_in_mbs sps
   pub height : m.canvas.height ≡ height_in_mbs sps
   pub within : read ≤ size_in_mbs sps
-  pub keeps : (entries : List ℕ) → FramesStandAt entries frames →
-      IsKeptAfter (picture_start sps pps entries frames) entries (progress (picture_start sps pps entries frames) slices) fault slice_count read m
+  pub keeps : (indices : List ℕ) → FramesStandAt indices frames →
+      IsKeptAfter (picture_start sps pps indices frames) indices (progress (picture_start sps pps indices frames) slices) fault slice_count read m

@@ -36,25 +36,25 @@ AreFramesOf sps frames = AreFrames (width_in_mbs sps) (height_in_mbs sps) frames
 
 -- the frames can have these decoding indices
 abbrev pub CanStandAt : {PAD : ℕ} → List ℕ → Decoding PAD → Type 0
-CanStandAt entries d = StandAt entries (map marked_frame d.frames)
+CanStandAt indices d = StandAt indices (map marked_frame d.frames)
 
 -- what the slices are decoded with, where the frames have these decoding indices
 abbrev pub start_at : {PAD : ℕ} → List ℕ → Decoding PAD → PictureStart
-start_at entries d = record { sps = d.sps; pps = d.pps; frames = stored_at entries d.frames }
+start_at indices d = record { sps = d.sps; pps = d.pps; frames = stored_at indices d.frames }
 
 -- how far the picture is then decoded
 abbrev pub progress_at : {PAD : ℕ} → List ℕ → Decoding PAD → Progress
-progress_at entries d = progress (start_at entries d) d.slices
+progress_at indices d = progress (start_at indices d) d.slices
 
 -- No slice so far has a fault.
 abbrev pub HasNoFault : {PAD : ℕ} → Decoding PAD → Type 0
-HasNoFault d = (entries : List ℕ) → CanStandAt entries d → (progress_at entries d).fault ≡ None
+HasNoFault d = (indices : List ℕ) → CanStandAt indices d → (progress_at indices d).fault ≡ None
 
 -- One slice more was refused with this fault: it is the first fault in the slices so far, and it stands in this slice where none
 -- was in those before.
 pub record Refuses {PAD : ℕ} (old : Decoding PAD) (s : Slice) (f : Fault) (new : Decoding PAD) : Type 0 where
-  pub fault : (entries : List ℕ) → CanStandAt entries new → option_map (λ found. found.1) (progress_at entries new).fault ≡ Some f
-  pub unit : HasNoFault old → (entries : List ℕ) → CanStandAt entries new → (progress_at entries new).fault ≡ Some (s.unit, f)
+  pub fault : (indices : List ℕ) → CanStandAt indices new → option_map (λ found. found.1) (progress_at indices new).fault ≡ Some f
+  pub unit : HasNoFault old → (indices : List ℕ) → CanStandAt indices new → (progress_at indices new).fault ≡ Some (s.unit, f)
 
 -- From `old`, one slice more may be answered so and leave `new`. No memory is wanted.
 abbrev pub IsSliceAnswer : {PAD : ℕ} → Decoding PAD → Slice → Result (Unit {0}) PictureError → (new : Decoding PAD) → Type 0
@@ -64,11 +64,11 @@ IsSliceAnswer old s (Err OutOfMemory) new = ⊥
 
 -- The next expected address is the number of macroblocks.
 abbrev pub IsFull : {PAD : ℕ} → (full : Bool) → Decoding PAD → Type 0
-IsFull full d = (entries : List ℕ) → CanStandAt entries d → is_full (start_at entries d) (progress_at entries d) ≡ full
+IsFull full d = (indices : List ℕ) → CanStandAt indices d → is_full (start_at indices d) (progress_at indices d) ≡ full
 
 -- so many macroblocks have been read, up to the first fault
 abbrev pub HasRead : {PAD : ℕ} → (count : ℕ) → Decoding PAD → Type 0
-HasRead count d = (entries : List ℕ) → CanStandAt entries d → (progress_at entries d).read ≡ count
+HasRead count d = (indices : List ℕ) → CanStandAt indices d → (progress_at indices d).read ≡ count
 
 -- why there is no picture of the slices so far: the first fault in them, or else macroblocks that are missing
 abbrev pub fault_at_end : (first_fault : Option (ℕ × Fault)) → (full : Bool) → Option Fault
@@ -78,12 +78,12 @@ fault_at_end None false = Some MissingMacroblocks
 
 -- the fault of a picture that is to be closed now: of its slices, or that macroblocks are missing
 abbrev pub end_fault : {PAD : ℕ} → List ℕ → Decoding PAD → Option Fault
-end_fault entries d = fault_at_end (progress_at entries d).fault (is_full (start_at entries d) (progress_at entries d))
+end_fault indices d = fault_at_end (progress_at indices d).fault (is_full (start_at indices d) (progress_at indices d))
 
 -- The picture, or why there is none. No memory is wanted.
 abbrev pub IsFinishAnswer : {PAD : ℕ} → Decoding PAD → Result (PaddedPlanes PAD) PictureError → Type 0
 IsFinishAnswer d (Ok planes) =
-    ((entries : List ℕ) → CanStandAt entries d → end_fault entries d ≡ None)
-    × ((entries : List ℕ) → CanStandAt entries d → padded_planes_of planes ≡ planes_after_slices (start_at entries d) d.slices)
-IsFinishAnswer d (Err (Faulty f)) = (entries : List ℕ) → CanStandAt entries d → end_fault entries d ≡ Some f
+    ((indices : List ℕ) → CanStandAt indices d → end_fault indices d ≡ None)
+    × ((indices : List ℕ) → CanStandAt indices d → padded_planes_of planes ≡ planes_after_slices (start_at indices d) d.slices)
+IsFinishAnswer d (Err (Faulty f)) = (indices : List ℕ) → CanStandAt indices d → end_fault indices d ≡ Some f
 IsFinishAnswer d (Err OutOfMemory) = ⊥

@@ -86,7 +86,7 @@ pub record HoldsFirst (c : Coded) (names : Names) (m : MbsState) : Type 0 where
 pub record HasNumber (c : Coded) (names : Names) (slice r number : ℕ) : Type 0 where
   pub frame : Frame
   pub named : frame_named c slice r ≡ Some frame
-  pub entry : frame.entry ≡ names.entry number
+  pub decoding_index : frame.decoding_index ≡ names.decoding_index number
   pub within : number < names.count
 
 -- What the code knows of a slice is what the picture says of it.

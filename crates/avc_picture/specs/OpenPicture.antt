@@ -9,21 +9,21 @@ use Rattle.avc_picture.specs.Slices.{coded_of}
 
 -- the planes of the slices so far, filtered one row late (8.7)
 abbrev pub planes_so_far : {PAD : ℕ} → List ℕ → Decoding PAD → Planes
-planes_so_far entries d =
-    let c = coded_of (start_at entries d) (progress_at entries d) in
+planes_so_far indices d =
+    let c = coded_of (start_at indices d) (progress_at indices d) in
     rows_filtered c (filtered_rows c.width (length c.mbs)) (built c)
 
 -- so many rows of macroblocks are filtered
 abbrev pub HasFiltered : {PAD : ℕ} → (rows : ℕ) → Decoding PAD → Type 0
 HasFiltered rows d =
-    (entries : List ℕ) → CanStandAt entries d → filtered_rows (width_in_mbs d.sps) (length (progress_at entries d).mbs) ≡ rows
+    (indices : List ℕ) → CanStandAt indices d → filtered_rows (width_in_mbs d.sps) (length (progress_at indices d).mbs) ≡ rows
 
 -- the sample (x, y) of a component is of a macroblock that has been read
 abbrev pub IsCovered : {PAD : ℕ} → (component x y : ℕ) → Decoding PAD → Type 0
 IsCovered component x y d =
-    (entries : List ℕ) → CanStandAt entries d → covering_address (width_in_mbs d.sps) component x y < (progress_at entries d).read
+    (indices : List ℕ) → CanStandAt indices d → covering_address (width_in_mbs d.sps) component x y < (progress_at indices d).read
 
 -- the sample (x, y) of a component, after the line filters of those rows and no others
 abbrev pub HasSample : {PAD : ℕ} → (component x y value : ℕ) → Decoding PAD → Type 0
 HasSample component x y value d =
-    (entries : List ℕ) → CanStandAt entries d → samples_of (planes_so_far entries d) component x y ≡ value
+    (indices : List ℕ) → CanStandAt indices d → samples_of (planes_so_far indices d) component x y ≡ value

@@ -51,9 +51,9 @@ samples_in (Some f) = elim f.planes [ Some planes ↦ samples_of planes | None �
 -- a reference frame as predictions name it (8.4.2.1)
 abbrev pub frame_of : PictureStart → Reference → Frame
 frame_of p r = record {
-  entry = r.entry;
+  decoding_index = r.decoding_index;
   existing = r.existing;
-  samples = samples_in (find (λ f. (f.reference).entry == r.entry) p.frames);
+  samples = samples_in (find (λ f. (f.reference).decoding_index == r.decoding_index) p.frames);
 }
 
 -- ---- one slice

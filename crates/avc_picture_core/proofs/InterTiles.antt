@@ -565,7 +565,7 @@ whole_is references column row motion p v old new shape named moved set =
 -- ---- worked example of explicit weights: two reference indices that name one frame have each their own
 
 abbrev grey : Frame
-grey = record { entry = 0; existing = true; samples = λ k x y. 128 }
+grey = record { decoding_index = 0; existing = true; samples = λ k x y. 128 }
 
 -- in halves
 abbrev halves : ℤ → ℤ → Weight

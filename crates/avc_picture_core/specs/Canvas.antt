@@ -13,7 +13,7 @@ use Rattle.avc_plane.specs.Planes.{Planes, empty_planes}
 use Rattle.avc_picture_core.specs.Built.{Place, planes_after, sides_of}
 use Rattle.avc_picture_core.specs.Faults.{refusal}
 use Rattle.avc_picture_core.specs.References.{AreReferences}
-use Rattle.avc_picture_core.specs.declared.references.ReferencePicture.{ReferencePicture}
+use Rattle.avc_picture_core.specs.declared.inter.ReferencePicture.{ReferencePicture}
 
 -- Its size in macroblocks, what its picture parameter set says of all its macroblocks, and its planes with those so far in them.
 pub record CanvasState : Type 0 where

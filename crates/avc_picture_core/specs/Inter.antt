@@ -18,7 +18,7 @@ use Rattle.avc_inter.specs.Chroma.{inter_chroma}
 use Rattle.avc_picture_core.specs.Built.{size_of, luma_place, inter_predicted, reference_of, component_weight, weighted_by}
 use Rattle.avc_picture_core.specs.Faults.{is_picture}
 use Rattle.avc_picture_core.specs.References.{AreWeights}
-use Rattle.avc_picture_core.specs.declared.references.ReferencePicture.{ReferencePicture}
+use Rattle.avc_picture_core.specs.declared.inter.ReferencePicture.{ReferencePicture}
 use Rattle.avc_picture_core.specs.declared.shape.Shape.{Shape}
 use Rattle.avc_picture_core.specs.declared.shape.Shape.TheVariants.{Whole, WideHalves, TallHalves, Quarters}
 

@@ -11,7 +11,7 @@ use Rattle.avc_plane.specs.Planes.{Planes}
 use Rattle.avc_picture_core.specs.Built.{Place, planes_after, sides_of}
 use Rattle.avc_picture_core.specs.Faults.{refusal}
 use Rattle.avc_picture_core.specs.References.{AreReferences}
-use Rattle.avc_picture_core.specs.declared.references.ReferencePicture.{ReferencePicture}
+use Rattle.avc_picture_core.specs.declared.inter.ReferencePicture.{ReferencePicture}
 use Rattle.avc_picture_core.specs.Sides.{readable_sides, AreInside}
 use Rattle.avc_picture_core.specs.declared.sides.ReadableNeighbours.{ReadableNeighbours}
 

@@ -8,12 +8,12 @@ use Rattle.avc_plane.specs.Planes.{samples_of}
 use Rattle.avc_plane.specs.Frames.{AreSized, padded_planes_of}
 use Rattle.avc_inter.specs.Bounds.{IsWithin}
 use Rattle.avc_picture_core.specs.Faults.{is_picture}
-use Rattle.avc_picture_core.specs.declared.references.ReferencePicture.{ReferencePicture}
+use Rattle.avc_picture_core.specs.declared.inter.ReferencePicture.{ReferencePicture}
 
 -- Reference index r of the slice names this picture and these weights.
 pub record IsReference {PAD : ℕ} (c : Coded) (slice r : ℕ) (p : ReferencePicture PAD) : Type 0 where
-  pub entry : ℕ
-  pub frame : frame_named c slice r ≡ Some (record { entry = entry; existing = true; samples = samples_of (padded_planes_of p.planes.now) })
+  pub decoding_index : ℕ
+  pub frame : frame_named c slice r ≡ Some (record { decoding_index = decoding_index; existing = true; samples = samples_of (padded_planes_of p.planes.now) })
   pub weights : slice_get (slice_info c slice).weights r ≡ p.weights
 
 -- the entry is the frame that reference index r names in the slice; there is none where it names no picture (8.4.2.1)

@@ -10,10 +10,10 @@ ghost use Rattle.avc_picture_core.specs.CanvasFields.{with_planes};
 ghost use Rattle.avc_picture_core.specs.References.{AreUsable};
 ghost use Rattle.avc_picture_core.specs.Sides.{readable_near};
 
+use crate::inter::ReferencePicture;
 use crate::macroblock::build_macroblock;
 use crate::places::{MbPlace, PictureSize};
-use crate::quantisers::Quantisers;
-use crate::references::ReferencePicture;
+use crate::residual::Quantisers;
 use crate::sides::ReadableNeighbours;
 use avc_neigh::{NeighbourInfo, Neighbours};
 use avc_plane::Planes;

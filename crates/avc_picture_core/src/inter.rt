@@ -14,11 +14,19 @@ ghost use Rattle.avc_picture_core.specs.Inter.{IsMacroblockShape, have_pictures,
 
 use crate::parts::{set_macroblock, set_part};
 use crate::places::{Corner, MbPlace, PictureSize};
-use crate::references::ReferencePicture;
 use crate::shape::{Shape, macroblock_shape, quarter_shape};
 use avc_neigh::Motion;
-use avc_plane::Planes;
-use avc_types::{Fault, Mv};
+use avc_plane::{PaddedPlanes, Planes};
+use avc_types::{Fault, Mv, Weights};
+
+/// The picture that a reference index names (8.4.2.1).
+#[derive(Clone, Copy)]
+pub struct ReferencePicture<'a, const PAD: usize> {
+    pub planes: &'a PaddedPlanes<PAD>,
+
+    /// By what predictions from this index are weighted (8.4.2.3); nothing where they are not.
+    pub weights: Option<Weights>,
+}
 
 /// The picture that a block is predicted from.
 fn picture_of<'r, 'a, const PAD: usize>(

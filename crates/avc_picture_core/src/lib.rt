@@ -12,12 +12,10 @@ mod macroblock;
 mod modes;
 mod parts;
 mod places;
-mod quantisers;
-mod references;
 mod residual;
 mod shape;
 mod sides;
 
 pub use canvas::{Canvas, Sources};
-pub use references::ReferencePicture;
+pub use inter::ReferencePicture;
 pub use sides::ReadableNeighbours;

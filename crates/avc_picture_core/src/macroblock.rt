@@ -17,12 +17,10 @@ ghost use Rattle.avc_picture_core.specs.References.{AreReferences, AreUsable};
 ghost use Rattle.avc_picture_core.specs.Residuals.{with_residual};
 
 use crate::corner::{first_column, first_row};
-use crate::inter::predict_inter;
+use crate::inter::{ReferencePicture, predict_inter};
 use crate::intra::{build_i_16x16, build_i_nxn};
 use crate::places::{MbPlace, PictureSize};
-use crate::quantisers::Quantisers;
-use crate::references::ReferencePicture;
-use crate::residual::{add_chroma_residual, add_luma_residual};
+use crate::residual::{Quantisers, add_chroma_residual, add_luma_residual};
 use crate::sides::ReadableNeighbours;
 use avc_motion::is_one_partition;
 use avc_neigh::{Motion, NeighbourInfo};

@@ -10,8 +10,8 @@ ghost use Rattle.avc_picture_core.specs.Built.{component_weight, size_of, weight
 ghost use Rattle.avc_picture_core.specs.References.{AreWeights, IsWeight};
 ghost use Rattle.avc_picture_core.specs.Inter.{CoverMacroblock, IsCopied, IsUsableAt, predicted_from, with_part};
 
+use crate::inter::ReferencePicture;
 use crate::places::{Corner, MbPlace};
-use crate::references::ReferencePicture;
 use avc_inter::{chroma, copy_chroma, copy_luma, luma, predict_chroma, predict_luma, weight};
 use avc_plane::{PaddedPlane, Plane, Planes};
 use avc_types::{Block, Mv, Weight, Weights};

@@ -17,6 +17,16 @@ use avc_transform::{
 };
 use avc_types::{BlockLevels, Levels};
 
+/// The quantisers of a macroblock.
+#[derive(Clone, Copy)]
+pub(crate) struct Quantisers {
+    /// QP_Y, 0 to 51.
+    pub luma: u8,
+
+    /// QP_C, 0 to 39 (8.5.8).
+    pub chroma: u8,
+}
+
 /// Adds a residual to a 4x4 block.
 #[tactic(auto, using(crate::proofs::InterTiles::with_block_same))]
 fn add_residual4x4<const PAD: usize>(

@@ -21,15 +21,15 @@ abbrev pub marked_frame : {PAD : ℕ} → Frame PAD → MarkedFrame
 marked_frame f = record { frame_num = f.frame_num; existing = is_some f.planes; mark = f.mark }
 
 -- the frame of an entry of the history, with its mark
-abbrev pub stored_frame : {PAD : ℕ} → (entry : ℕ) → Frame PAD → StoredFrame
-stored_frame entry f = record { reference = reference_of entry (marked_frame f); planes = option_map padded_planes_of f.planes }
+abbrev pub stored_frame : {PAD : ℕ} → (index : ℕ) → Frame PAD → StoredFrame
+stored_frame index f = record { reference = reference_of index (marked_frame f); planes = option_map padded_planes_of f.planes }
 
 -- Of frames in decoding order, which have these decoding indices, the ones that are used for reference.
-abbrev pub stored_at : {PAD : ℕ} → (entries : List ℕ) → List (Frame PAD) → List StoredFrame
+abbrev pub stored_at : {PAD : ℕ} → (indices : List ℕ) → List (Frame PAD) → List StoredFrame
 stored_at [] frames = []
-stored_at (e ∷ entries) [] = []
-stored_at (e ∷ entries) (f ∷ frames) =
-    let others = stored_at entries frames in
+stored_at (e ∷ indices) [] = []
+stored_at (e ∷ indices) (f ∷ frames) =
+    let others = stored_at indices frames in
     elim (is_some f.mark) [ true ↦ stored_frame e f ∷ others | false ↦ others ]
 
 -- ---- sizes

@@ -1,5 +1,5 @@
 -- The padded rows of a plane, while they are lent to be changed.
-use Rattle.std.specs.Prelude.{ℕ, ◌≡◌, ◌+◌, ◌*◌, ◌<◌, List, length, slice_index, slice_index_or}
+use Rattle.std.specs.Prelude.{ℕ, List, slice_index_or}
 use Rattle.std.specs.Borrow.{Lends, MutBor, Fml, RattleType, Array, u8}
 use Rattle.avc_plane.specs.Plane.{Plane, plane_of, sample}
 use Rattle.avc_plane.specs.Padded.{stored_place}

@@ -7,7 +7,7 @@ use Rattle.avc_params.specs.declared.sps.Sps.{Sps}
 use Rattle.avc_params.specs.Limits.{max_frame_num}
 use Rattle.avc_slice.specs.declared.header.Header.{Header}
 use Rattle.avc_slice.specs.Header.{is_idr, is_reference, has_operation_5}
-use Rattle.avc_poc.specs.declared.previous.Previous.{Previous}
+use Rattle.avc_poc.specs.declared.most_significant.Previous.{Previous}
 use Rattle.avc_poc.specs.OrderCounts.{Counts, Past, missing, past_number, previous_of, no_previous, frame_num_offset, resets_order_counts, previous_for, previous_from, counts_from, counts_by, number_in_range}
 
 -- What is kept between pictures.

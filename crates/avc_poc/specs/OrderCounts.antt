@@ -12,7 +12,7 @@ use Rattle.avc_slice.specs.declared.header.CodedOrder.{CodedOrder}
 use Rattle.avc_slice.specs.declared.header.CodedOrder.TheVariants.{Type0, Type1}
 use Rattle.avc_slice.specs.declared.header.Header.{Header}
 use Rattle.avc_slice.specs.Header.{is_idr, is_reference, has_operation_5}
-use Rattle.avc_poc.specs.declared.previous.Previous.{Previous}
+use Rattle.avc_poc.specs.declared.most_significant.Previous.{Previous}
 
 -- an entry of the history: a coded picture, or a missing frame number (8.2.5.2)
 pub data Past : Type 0 where

@@ -3,7 +3,7 @@ ghost use Rattle.avc_params.specs.Within.{IsOrderCount};
 ghost use Rattle.avc_poc.specs.OrderCountState.{IsPrevious, count_pair, raw_counts};
 ghost use Rattle.avc_poc.specs.OrderCounts.{counts_from};
 
-use crate::previous::Previous;
+use crate::most_significant::Previous;
 use crate::range::{in_range, narrow_number};
 use crate::type_0::counts_0;
 use crate::types_1_and_2::{counts_1, counts_2};

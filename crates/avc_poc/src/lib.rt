@@ -7,7 +7,6 @@ mod frame_number;
 pub mod laws;
 mod most_significant;
 mod poc;
-mod previous;
 mod range;
 mod type_0;
 mod types_1_and_2;

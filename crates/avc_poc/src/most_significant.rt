@@ -1,11 +1,19 @@
+//! PicOrderCntMsb (8.2.1.1), and what of an order count of type 0 is coded.
+
 ghost use Rattle.std.specs.Prelude.{◌≡◌, ◌^◌, pos, false};
 ghost use Rattle.avc_params.specs.Within.{IsOrderCount};
 ghost use Rattle.avc_poc.specs.OrderCountState.{IsNear};
 ghost use Rattle.avc_poc.specs.OrderCounts.{delta_bottom, lsb_of, max_lsb, msb_of};
 
-use crate::previous::Previous;
 use avc_params::OrderCount;
 use avc_slice::CodedOrder;
+
+/// prevPicOrderCntMsb and prevPicOrderCntLsb (8.2.1.1): what the last reference picture leaves.
+#[derive(Clone, Copy)]
+pub struct Previous {
+    pub msb: i64,
+    pub lsb: i64,
+}
 
 /// MaxPicOrderCntLsb, 0 where order counts are not of type 0.
 pub(crate) fn max_lsb(order_count: &OrderCount) -> i64

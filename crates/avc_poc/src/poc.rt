@@ -10,7 +10,7 @@ ghost use Rattle.avc_poc.specs.OrderCounts.{Past, missing, order_counts, picture
 use crate::counting::counts_from;
 use crate::frame_number::{next_offset, offset_at};
 use crate::laws::gaps_count_at_once;
-use crate::previous::Previous;
+use crate::most_significant::Previous;
 use crate::type_0::previous_from;
 use avc_params::Sps;
 use avc_slice::Header;

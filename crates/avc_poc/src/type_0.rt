@@ -4,8 +4,7 @@ ghost use Rattle.avc_params.specs.Within.{IsOrderCount};
 ghost use Rattle.avc_poc.specs.OrderCountState.{IsCounted, IsPrevious, IsNear, pair};
 ghost use Rattle.avc_poc.specs.OrderCounts.{counts_0, previous_from};
 
-use crate::most_significant::{coded_lsb, delta_bottom, max_lsb, msb_of};
-use crate::previous::Previous;
+use crate::most_significant::{Previous, coded_lsb, delta_bottom, max_lsb, msb_of};
 use avc_params::Sps;
 use avc_slice::Header;
 

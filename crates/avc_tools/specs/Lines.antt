@@ -14,7 +14,7 @@ use Rattle.avc_params.specs.declared.sps.Cropping.{Cropping}
 use Rattle.avc_params.specs.declared.sps.OrderCount.TheVariants as orders
 use Rattle.avc_params.specs.Limits.{width_in_mbs, height_in_mbs, dpb_size}
 use Rattle.avc_params.specs.Reading.{sps_of, pps_of}
-use Rattle.avc_params.specs.declared.set_fault.SetFault.{SetFault}
+use Rattle.avc_params.specs.declared.set_unit.SetFault.{SetFault}
 use Rattle.avc_params.specs.Tables.{Sets}
 use Rattle.avc_slice.specs.declared.header.Header.{Header}
 use Rattle.avc_slice.specs.declared.slice.Slice.{Slice}

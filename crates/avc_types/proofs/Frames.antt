@@ -60,15 +60,15 @@ pub placed_here : {A : Type 0} (before : A → A → Bool) (x y : A) (ys : List 
 placed_here before x y ys h = ap (λ b. elim b [ true ↦ y ∷ placed_by before x ys | false ↦ x ∷ y ∷ ys ]) h
 
 -- Those from a place on, where the frame at the place is used for reference, and where it is not.
-pub references_with : (entries : List ℕ) (frames : List MarkedFrame) (place next : ℕ) → next ≡ suc place → place < length entries → place < length frames →
+pub references_with : (indices : List ℕ) (frames : List MarkedFrame) (place next : ℕ) → next ≡ suc place → place < length indices → place < length frames →
     is_some (slice_index_or frames place no_frame).mark ≡ true →
-    references_at (drop place entries) (drop place frames) ≡ reference_at entries frames place ∷ references_at (drop next entries) (drop next frames)
-references_with entries frames place next e within within' marked = search (rules, drop-cons)
+    references_at (drop place indices) (drop place frames) ≡ reference_at indices frames place ∷ references_at (drop next indices) (drop next frames)
+references_with indices frames place next e within within' marked = search (rules, drop-cons)
 
-pub references_without : (entries : List ℕ) (frames : List MarkedFrame) (place next : ℕ) → next ≡ suc place → place < length entries → place < length frames →
+pub references_without : (indices : List ℕ) (frames : List MarkedFrame) (place next : ℕ) → next ≡ suc place → place < length indices → place < length frames →
     is_some (slice_index_or frames place no_frame).mark ≡ false →
-    references_at (drop place entries) (drop place frames) ≡ references_at (drop next entries) (drop next frames)
-references_without entries frames place next e within within' unmarked = rw (e, drop-cons entries place 0 within, drop-cons frames place no_frame within') (search rules)
+    references_at (drop place indices) (drop place frames) ≡ references_at (drop next indices) (drop next frames)
+references_without indices frames place next e within within' unmarked = rw (e, drop-cons indices place 0 within, drop-cons frames place no_frame within') (search rules)
 
 -- ---- frames as reference frames: which of them a test finds: rising entries
 
@@ -84,7 +84,7 @@ stand_rest e es f fs s = record { each = omega (arith, s.each); rising = rising_
 -- ---- a test that reads no entry
 
 abbrev pub falling : Reference → Reference → Bool
-falling a b = nat_lt b.entry a.entry
+falling a b = nat_lt b.decoding_index a.decoding_index
 
 first-placed : (before : Reference → Reference → Bool) (r x : Reference) (ys : List Reference) → slice_get ys 0 ≡ Some x → before x r ≡ true → slice_get (placed_by before r ys) 0 ≡ Some x
 first-placed before r x [] h b = cc
@@ -133,7 +133,7 @@ find-filter q (x ∷ xs) = search (rules, find-filter q xs)
 
 -- ---- which places are seen
 
-none-seen : (x : ℕ) (es : List ℕ) (fs : List MarkedFrame) → ((k : ℕ) → k < length es → x < slice_index es k) → list_any (λ r. r.entry == x) (references_at es fs) ≡ false
+none-seen : (x : ℕ) (es : List ℕ) (fs : List MarkedFrame) → ((k : ℕ) → k < length es → x < slice_index es k) → list_any (λ r. r.decoding_index == x) (references_at es fs) ≡ false
 none-seen x (e ∷ es) (f ∷ fs) above =
     let h : x < e = above 0 (omega arith) in
     let other : (e == x) ≡ false = grind (arith, nat_tests) in
@@ -143,7 +143,7 @@ none-seen x [] fs above = refl
 none-seen x es [] above = refl
 
 pub seen-at : (es : List ℕ) (fs : List MarkedFrame) (p : ℕ) → StandAt es fs → p < length fs →
-    list_any (λ r. r.entry == slice_index es p) (references_at es fs) ≡ is_some (slice_index_or fs p no_frame).mark
+    list_any (λ r. r.decoding_index == slice_index es p) (references_at es fs) ≡ is_some (slice_index_or fs p no_frame).mark
 seen-at (e ∷ es) (f ∷ fs) zero stand within =
     let same : (e == e) ≡ true = grind (arith, nat_tests) in
     let more = none-seen e es fs (λ k h. below_rest e es k stand.rising h) in

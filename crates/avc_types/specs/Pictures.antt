@@ -9,10 +9,10 @@ abbrev pub Samples : Type 0
 Samples = (c x y : ℕ) → ℕ
 
 -- A frame that an inter prediction can name (8.4.2.1). Two frames are one picture
--- where their entries are equal.
+-- where their decoding indices are equal.
 pub record Frame : Type 0 where
   -- its decoding index in the history
-  pub entry : ℕ
+  pub decoding_index : ℕ
   -- no for a non-existing frame, which has no samples
   pub existing : Bool
   pub samples : Samples

@@ -8,7 +8,7 @@ use Rattle.avc_annexb.specs.Escapes.{rbsp}
 use Rattle.avc_bits.specs.Bits.{Bits, start}
 use Rattle.avc_bits.specs.Codes.{ue}
 use Rattle.avc_params.specs.Reading.{sps_of, pps_of}
-use Rattle.avc_params.specs.declared.set_fault.SetFault.{SetFault}
+use Rattle.avc_params.specs.declared.set_unit.SetFault.{SetFault}
 use Rattle.avc_params.specs.Tables.{Sets, sets_after}
 use Rattle.avc_params.specs.declared.set_unit.SetUnit.{SetUnit}
 use Rattle.avc_params.specs.declared.set_unit.SetUnit.TheVariants.{OfSps, OfPps}

@@ -4,7 +4,7 @@ use Rattle.std.specs.List.{enumerate_from, list_all, list_any, range_with_len}
 use Rattle.avc_bits.specs.Bits.{bits_of}
 use Rattle.avc_vlc.specs.declared.code.Code.{Code}
 use Rattle.avc_vlc.specs.declared.entry.Entry.{Entry}
-use Rattle.avc_vlc.specs.declared.token.Token.{Token}
+use Rattle.avc_vlc.specs.declared.coeff_token.Token.{Token}
 use Rattle.avc_vlc.specs.Reading.{Table, after_word, is_prefix, lookup, token}
 use Rattle.avc_vlc.specs.Writing.{word_of}
 

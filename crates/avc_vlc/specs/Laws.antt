@@ -4,7 +4,7 @@ use Rattle.std.specs.Option.{IsSome}
 use Rattle.avc_types.specs.declared.fault.Fault.TheVariants as faults
 use Rattle.avc_bits.specs.Bits.{Bits, Read}
 use Rattle.avc_bits.specs.Codes.{IsReadBy, IsPrefixFree}
-use Rattle.avc_vlc.specs.declared.token.Token.{Token}
+use Rattle.avc_vlc.specs.declared.coeff_token.Token.{Token}
 use Rattle.avc_vlc.specs.Reading.{Table, IsIn, IsToken, coeff_token, run_before, run_table, table_code, token_table, total_zeros, zeros_table}
 use Rattle.avc_vlc.specs.Writing.{run_word, token_word, zeros_word}
 

@@ -5,7 +5,7 @@ use Rattle.avc_types.specs.declared.fault.Fault.{Fault}
 use Rattle.avc_types.specs.declared.fault.Fault.TheVariants as faults
 use Rattle.avc_bits.specs.Bits.{Bits, Read, ◌>>=◌, ◌>>◌, give, refuse, check, bits_of}
 use Rattle.avc_bits.specs.Codes.{ue, Code}
-use Rattle.avc_vlc.specs.declared.token.Token.{Token}
+use Rattle.avc_vlc.specs.declared.coeff_token.Token.{Token}
 use Rattle.avc_vlc.specs.Tables.{coeff_token_0, coeff_token_2, coeff_token_4, coeff_token_chroma_dc, total_zeros_4x4, total_zeros_chroma_dc, run_before_codes, cbp_intra, cbp_inter}
 
 -- codewords with their values (9.2)

@@ -4,7 +4,7 @@ use Rattle.std.proofs.Common.{◌≡◌, true, false, refl, ap, sym, ◌∙◌}
 use Rattle.std.proofs.lemmas.Bool.{eqb-true}
 use Rattle.avc_bits.specs.Bits.{bits_of}
 use Rattle.avc_vlc.specs.declared.codeword.Codeword.{Codeword}
-use Rattle.avc_vlc.specs.declared.token.Token.{Token}
+use Rattle.avc_vlc.specs.declared.coeff_token.Token.{Token}
 use Rattle.avc_vlc.specs.Reading.{Table, run_table, token_table, zeros_table}
 
 both_true : (a b : Bool) → (a && b) ≡ true → (a ≡ true) × (b ≡ true)

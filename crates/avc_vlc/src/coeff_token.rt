@@ -11,9 +11,17 @@ ghost use Rattle.std.specs.Option.{option_map};
 use crate::code::Code;
 use crate::codeword::Codeword;
 use crate::entry::{Entry, entry, row8};
-use crate::token::Token;
 use avc_bits::BitReader;
 use avc_types::Fault;
+
+/// What coeff_token says of a block (9.2.1).
+#[derive(Clone, Copy, Debug, PartialEq, Eq)]
+pub struct Token {
+    /// TotalCoeff: how many levels are not 0, at most 16.
+    pub total: u8,
+    /// TrailingOnes: how many of the last ones are 1 or -1, at most 3.
+    pub ones: u8,
+}
 
 /// Reads TotalCoeff and TrailingOnes of a block. `nc` is nC: how many levels the blocks beside it have, -1 for chroma DC.
 /// Answers `Truncated`, or `BadCode` where no codeword stands; the reader then stays.

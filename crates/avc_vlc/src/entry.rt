@@ -5,7 +5,7 @@ ghost use Rattle.avc_vlc.specs.Reading.{Table, table_code};
 ghost use Rattle.avc_vlc.specs.Indexing.{AreFronts, AreIndexed, Decides, IsIndexed, Shows, holds};
 
 use crate::code::Code;
-use crate::token::Token;
+use crate::coeff_token::Token;
 use avc_bits::BitReader;
 use avc_types::Fault;
 

@@ -8,13 +8,11 @@ mod coeff_token;
 mod entry;
 pub mod laws;
 mod run_before;
-mod token;
 mod total_zeros;
 
 pub use code::Code;
 pub use coded_block_pattern::{cbp_of, read_cbp};
 pub use codeword::Codeword;
-pub use coeff_token::{coeff_token_word, read_coeff_token};
+pub use coeff_token::{Token, coeff_token_word, read_coeff_token};
 pub use run_before::{read_run_before, run_before_word};
-pub use token::Token;
 pub use total_zeros::{read_total_zeros, total_zeros_word};

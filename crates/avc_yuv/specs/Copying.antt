@@ -5,7 +5,7 @@ use Rattle.avc_types.specs.declared.picture.Picture.{Picture}
 use Rattle.avc_yuv.specs.I420.{part_of_row, shown_width, shown_height}
 use Rattle.avc_yuv.specs.declared.component.Component.{Component}
 use Rattle.avc_yuv.specs.declared.component.Component.TheVariants.{Luma, Cb, Cr}
-use Rattle.avc_yuv.specs.declared.window.Window.{Window}
+use Rattle.avc_yuv.specs.declared.window_rows.Window.{Window}
 
 -- the samples of a component
 abbrev pub samples_of : Picture → Component → List ℕ

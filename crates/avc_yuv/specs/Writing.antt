@@ -1,7 +1,7 @@
 -- What a writer was given.
 use Rattle.std.specs.Prelude.{◌≡◌, ℕ, ◌+◌, ◌-◌, ◌<◌, ◌≤◌, ◌==◌, List, length, take, Option, MatchResult, Result, Ok, Err, if◌then◌else◌}
 use Rattle.std.specs.Io.KnownBytes.{Appends}
-use Rattle.avc_yuv.specs.declared.fault.WriteFault.{WriteFault}
+use Rattle.avc_yuv.specs.declared.write.WriteFault.{WriteFault}
 
 -- After `before` bytes, these bytes were written to a writer that held `old` and holds `new`: all of them, with the number of bytes
 -- written by then, or the first of them and not all, with the number that was written by then.

@@ -2,7 +2,7 @@ ghost use Rattle.std.specs.Prelude.{◌≡◌, ◌+◌, ◌<◌, ◌≤◌, ◌^
 ghost use Rattle.std.specs.Io.KnownBytes.{Appends};
 ghost use Rattle.avc_yuv.specs.Writing.{done_after, Writes};
 
-use crate::fault::WriteFault;
+use crate::write::WriteFault;
 use std::io::Write;
 
 /// Writes all bytes, where `before` bytes went out already, and answers how many are out then. It stops at the first `write` that

@@ -4,7 +4,7 @@ ghost use Rattle.avc_yuv.specs.I420.{i420, window};
 ghost use Rattle.avc_yuv.specs.Copying.{halved, IsInside, laid, laid_at, rows_in, shown_rows, plane_room, samples_of, window_of};
 
 use crate::component::Component;
-use crate::window::Window;
+use crate::window_rows::Window;
 use avc_types::Picture;
 
 /// How many bytes `copy_i420` fills.

@@ -1,11 +1,23 @@
+//! A window of a plane, written row by row.
+
 ghost use Rattle.std.specs.Prelude.{◌≡◌, ◌+◌, ◌++◌, ◌*◌, ◌<◌, ◌≤◌, ◌^◌, length, take};
 ghost use Rattle.avc_yuv.specs.I420.{window};
 ghost use Rattle.avc_yuv.specs.Writing.{Writes};
 
 use crate::bytes::write_bytes;
-use crate::fault::WriteFault;
-use crate::window::Window;
+use crate::write::WriteFault;
 use std::io::Write;
+
+/// A rectangle inside a plane.
+#[derive(Clone, Copy)]
+pub struct Window {
+    /// Samples in a row of the plane.
+    pub row_length: usize,
+    pub left: usize,
+    pub top: usize,
+    pub width: usize,
+    pub height: usize,
+}
 
 /// Writes a window of a plane, row by row. `before` bytes went out already, and so many are out afterwards. Where the window is as
 /// wide as the plane that is one piece; else rows are gathered in `room`, as many as it holds.

@@ -1,13 +1,22 @@
+//! Pictures written as I420.
+
 ghost use Rattle.std.specs.Prelude.{◌≡◌, ◌+◌, ◌-◌, ◌*◌, ◌/◌, ◌<◌, ◌≤◌, ◌^◌, true, nat_le, length, take, IfErr, OnOk};
 ghost use Rattle.std.specs.Io.KnownBytes.{Appends, Keeps};
 ghost use Rattle.avc_types.specs.Whole.{IsWhole};
 ghost use Rattle.avc_yuv.specs.I420.{i420, shown_width, shown_height};
 
-use crate::fault::WriteFault;
-use crate::window::Window;
-use crate::window_rows::write_window;
+use crate::window_rows::{Window, write_window};
 use avc_types::Picture;
 use std::io::Write;
+use thiserror::Error;
+
+/// A `write` answered an error, or took no byte.
+#[derive(Debug, Drop, Error)]
+#[error("write fault after {written} bytes")]
+pub struct WriteFault {
+    /// How many bytes the writer took before that.
+    pub written: u64,
+}
 
 /// How many bytes of rows are written at once, where a row is not as long as the plane's.
 const ROOM: usize = 131_072;

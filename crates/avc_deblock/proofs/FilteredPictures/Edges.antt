@@ -425,8 +425,8 @@ edges_room column row offset p q s t is a b h =
 -- ---- the strength of info is that of the picture
 
 -- entries are equal where the numbers are
-same_entry : (names : Names) (m n : ℕ) → m < names.count → n < names.count → (names.entry m == names.entry n) ≡ (m == n)
-same_entry names m n m_low n_low = grind (arith, nat_tests, cases_eq)
+same_index : (names : Names) (m n : ℕ) → m < names.count → n < names.count → (names.decoding_index m == names.decoding_index n) ≡ (m == n)
+same_index names m n m_low n_low = grind (arith, nat_tests, cases_eq)
 
 named_both : (c : Coded) (pa qa r s : ℕ) (u v : Mv) (x y : ℕ) → picture_named c pa r ≡ Some x → picture_named c qa s ≡ Some y →
     moves_differently c pa qa (inter_motion r u) (inter_motion s v) ≡ (not (x == y) || are_far u v)
@@ -434,7 +434,7 @@ named_both c pa qa r s u v x y e f = rw (e, f) (or_assoc (not (x == y)) (nat_le 
 
 pub inter_between : (c : Coded) (motion : List (List Motion)) (names : Names) (pa qa : ℕ) (p : MbInfo) (kp : ℕ) (q : MbInfo) (kq : ℕ) → kp < 16 → kq < 16 →
     HasInfo c motion names pa p → HasInfo c motion names qa q → p.is_intra ≡ false → q.is_intra ≡ false → inter_strength p kp q kq ≡ strength_between c motion pa kp qa kq
-inter_between c motion names pa qa p kp q kq kp_low kq_low hp hq np nq = grind (arith, nat_tests, named_both, same_entry)
+inter_between c motion names pa qa p kp q kq kp_low kq_low hp hq np nq = grind (arith, nat_tests, named_both, same_index)
 
 pub intra_between : (c : Coded) (motion : List (List Motion)) (names : Names) (pa qa : ℕ) (p : MbInfo) (kp : ℕ) (q : MbInfo) (kq : ℕ) →
     HasInfo c motion names pa p → HasInfo c motion names qa q → (p.is_intra || q.is_intra) ≡ true → strength_between c motion pa kp qa kq ≡ (if pa == qa then 3 else 4)

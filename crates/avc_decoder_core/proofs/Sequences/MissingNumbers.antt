@@ -330,29 +330,29 @@ missing_numbers_keep_the_order output sps h history full e =
 
 -- ---- one more missing number in a settled window: entries among those of reference frames
 
-below_all : (low next p : ℕ) (rs : List Reference) → p < low → StandFrom low next rs → is_entry rs p ≡ false
+below_all : (low next p : ℕ) (rs : List Reference) → p < low → StandFrom low next rs → is_index_of rs p ≡ false
 below_all low next p [] before h = refl
-below_all low next p (r ∷ rs) before h = grind (arith, nat_tests, below_all (r.entry + 1) next p rs (omega arith) h.1)
+below_all low next p (r ∷ rs) before h = grind (arith, nat_tests, below_all (r.decoding_index + 1) next p rs (omega arith) h.1)
 
-above_all : (index p : ℕ) (rs : List Reference) → index ≤ p → StandBelow index rs → is_entry rs p ≡ false
+above_all : (index p : ℕ) (rs : List Reference) → index ≤ p → StandBelow index rs → is_index_of rs p ≡ false
 above_all index p [] low h = refl
 above_all index p (r ∷ rs) low h = grind (arith, nat_tests, above_all index p rs low h.1)
 
 -- ---- frames that stay, and frames that leave
 
-stays_below : (index : ℕ) (rs all : List Reference) (frames : List Stored) → ((p : ℕ) → p < index → is_entry all p ≡ is_entry rs p) → AreBefore index frames →
-    needed_frames (entries all) frames ≡ needed_frames (entries rs) frames
+stays_below : (index : ℕ) (rs all : List Reference) (frames : List Stored) → ((p : ℕ) → p < index → is_index_of all p ≡ is_index_of rs p) → AreBefore index frames →
+    needed_frames (indices_of all) frames ≡ needed_frames (indices_of rs) frames
 stays_below index rs all [] same h = refl
-stays_below index rs all (s ∷ frames) same h = grind (arith, same s.entry h.0, stays_below index rs all frames same h.1)
+stays_below index rs all (s ∷ frames) same h = grind (arith, same s.decoding_index h.0, stays_below index rs all frames same h.1)
 
 -- the frames of reference frames are among them
-lasts_stay : (all rs : List Reference) (frames : List Stored) → ((p : ℕ) → is_entry rs p ≡ true → is_entry all p ≡ true) → AreNotNeeded rs frames →
-    needed_frames (entries all) frames ≡ frames
+lasts_stay : (all rs : List Reference) (frames : List Stored) → ((p : ℕ) → is_index_of rs p ≡ true → is_index_of all p ≡ true) → AreNotNeeded rs frames →
+    needed_frames (indices_of all) frames ≡ frames
 lasts_stay all [] [] among h = refl
 lasts_stay all [] (s ∷ frames) among h = absurd h
 lasts_stay all (r ∷ rs) [] among h = absurd h
 lasts_stay all (r ∷ rs) (s ∷ frames) among h =
-    let own = among r.entry in
+    let own = among r.decoding_index in
     let rest = lasts_stay all rs frames (λ p here. let there = among p in grind (arith, there)) h.2 in
     grind (arith, nat_tests, own, rest)
 
@@ -360,7 +360,7 @@ lasts_stay all (r ∷ rs) (s ∷ frames) among h =
 
 stand_on : (low lower next number : ℕ) (rs : List Reference) → lower ≤ low → StandFrom low next rs → StandFrom lower (suc next) (rs ++ missing_reference number next ∷ [])
 stand_on low lower next number [] less h = omega arith
-stand_on low lower next number (r ∷ rs) less h = grind (arith, stand_on (r.entry + 1) (r.entry + 1) next number rs (omega arith) h.1)
+stand_on low lower next number (r ∷ rs) less h = grind (arith, stand_on (r.decoding_index + 1) (r.decoding_index + 1) next number rs (omega arith) h.1)
 
 count_on : (max low lower number index : ℕ) (rs : List Reference) → lower ≤ low → CountFrom max low number rs →
     CountFrom max lower (number + 1) (rs ++ missing_reference (number % max) index ∷ [])
@@ -387,7 +387,7 @@ settled_once output sps h low number index stays r rs s ss settled near = record
   window = record {
     long = (settled.window).long;
     full = ap (λ n. length stays.longs + n) (length-append rs (new ∷ [])) ∙ is_full;
-    places = behind;
+    indices = behind;
     longs_before = (settled.window).longs_before;
   };
   counts = count_on max (counts.0 + 1) low number n rs (omega (arith, (counts.1).0)) (counts.1).2;
@@ -422,10 +422,10 @@ settled_once output sps h low number index stays r rs s ss settled near = record
     room = let l = length-append ss (missing_stored n ∷ []) in omega (arith, settled.room, l)
 
     behind : StandFrom index (suc n) (rs ++ new ∷ [])
-    behind = stand_on (r.entry + 1) index n (number % max) rs (let p = ((settled.window).places).0 in omega (arith, p)) ((settled.window).places).1
+    behind = stand_on (r.decoding_index + 1) index n (number % max) rs (let p = ((settled.window).indices).0 in omega (arith, p)) ((settled.window).indices).1
 
-    behind_first : StandFrom (r.entry + 1) (suc n) (rs ++ new ∷ [])
-    behind_first = stand_on (r.entry + 1) (r.entry + 1) n (number % max) rs (omega arith) ((settled.window).places).1
+    behind_first : StandFrom (r.decoding_index + 1) (suc n) (rs ++ new ∷ [])
+    behind_first = stand_on (r.decoding_index + 1) (r.decoding_index + 1) n (number % max) rs (omega arith) ((settled.window).indices).1
 
     m : Marks
     m = record { references = stays.longs ++ r ∷ rs; max_long_term_frame_idx = stays.max_long_term_frame_idx }
@@ -437,27 +437,27 @@ settled_once output sps h low number index stays r rs s ss settled near = record
         ∙ ap (λ l. Ok (record { references = l; max_long_term_frame_idx = stays.max_long_term_frame_idx })) (append_assoc stays.longs rs (new ∷ []))
 
     -- the first short-term frame leaves the buffer, and all others stay
-    stay : needed_frames (entries all) (stays.frames ++ s ∷ ss) ≡ stays.frames ++ ss
+    stay : needed_frames (indices_of all) (stays.frames ++ s ∷ ss) ≡ stays.frames ++ ss
     stay =
-        let among : (p : ℕ) → is_entry all p ≡ (is_entry stays.longs p || (is_entry rs p || (n == p))) = λ p. grind (arith, is_entry-append) in
-        let first = below_all (r.entry + 1) (suc n) r.entry (rs ++ new ∷ []) (omega arith) behind_first in
-        let long = above_all index r.entry stays.longs ((settled.window).places).0 (settled.window).longs_before in
-        let before = stays_below index stays.longs all stays.frames (λ p low. let none = below_all index (suc n) p (rs ++ new ∷ []) low behind in grind (arith, is_entry-append, none)) settled.before in
+        let among : (p : ℕ) → is_index_of all p ≡ (is_index_of stays.longs p || (is_index_of rs p || (n == p))) = λ p. grind (arith, is_index_of-append) in
+        let first = below_all (r.decoding_index + 1) (suc n) r.decoding_index (rs ++ new ∷ []) (omega arith) behind_first in
+        let long = above_all index r.decoding_index stays.longs ((settled.window).indices).0 (settled.window).longs_before in
+        let before = stays_below index stays.longs all stays.frames (λ p low. let none = below_all index (suc n) p (rs ++ new ∷ []) low behind in grind (arith, is_index_of-append, none)) settled.before in
         let rest = lasts_stay all rs ss (λ p here. let there = among p in grind (arith, there)) (settled.not_needed).2 in
-        let gone : is_entry all r.entry ≡ false = is_entry-append stays.longs (rs ++ new ∷ []) r.entry ∙ ap₂ (λ a b. a || b) long first in
-        let test : (s.needed_for_output || is_entry all s.entry) ≡ false = rw ((settled.not_needed).1, (settled.not_needed).0) gone in
-        let out : needed_frames (entries all) (s ∷ ss) ≡ ss =
-        ap (λ b. cond b (s ∷ needed_frames (entries all) ss) (needed_frames (entries all) ss)) test ∙ rest in
-        filter-append (λ s. s.needed_for_output || is_entry all s.entry) stays.frames (s ∷ ss) ∙ ap₂ (λ l r. l ++ r) (before ∙ settled.needed) out
+        let gone : is_index_of all r.decoding_index ≡ false = is_index_of-append stays.longs (rs ++ new ∷ []) r.decoding_index ∙ ap₂ (λ a b. a || b) long first in
+        let test : (s.needed_for_output || is_index_of all s.decoding_index) ≡ false = rw ((settled.not_needed).1, (settled.not_needed).0) gone in
+        let out : needed_frames (indices_of all) (s ∷ ss) ≡ ss =
+        ap (λ b. cond b (s ∷ needed_frames (indices_of all) ss) (needed_frames (indices_of all) ss)) test ∙ rest in
+        filter-append (λ s. s.needed_for_output || is_index_of all s.decoding_index) stays.frames (s ∷ ss) ∙ ap₂ (λ l r. l ++ r) (before ∙ settled.needed) out
 
-    fits : length (needed_frames (entries all) (stays.frames ++ s ∷ ss)) + 1 ≤ dpb_size sps
+    fits : length (needed_frames (indices_of all) (stays.frames ++ s ∷ ss)) + 1 ≤ dpb_size sps
     fits = let l = ap length stay ∙ length-append stays.frames ss in omega (arith, settled.room, l)
 
     buffer : buffer_of output (e ∷ h) ≡ record { frames = stays.frames ++ (ss ++ missing_stored n ∷ []); out = stays.out }
     buffer =
-        ap₂ (λ k b. after_entry output k (missing_arrival (dpb_size sps) (entries (or_no_references (marks_of (e ∷ h))))) b) (length-arrivals h) settled.buffer
-        ∙ ap (λ r. after_entry output n (missing_arrival (dpb_size sps) (entries (or_no_references r))) (record { frames = stays.frames ++ s ∷ ss; out = stays.out })) marked
-        ∙ missing_frames_find_room output n (dpb_size sps) (entries all) (record { frames = stays.frames ++ s ∷ ss; out = stays.out }) fits
+        ap₂ (λ k b. after_entry output k (missing_arrival (dpb_size sps) (indices_of (or_no_references (marks_of (e ∷ h))))) b) (length-arrivals h) settled.buffer
+        ∙ ap (λ r. after_entry output n (missing_arrival (dpb_size sps) (indices_of (or_no_references r))) (record { frames = stays.frames ++ s ∷ ss; out = stays.out })) marked
+        ∙ missing_frames_find_room output n (dpb_size sps) (indices_of all) (record { frames = stays.frames ++ s ∷ ss; out = stays.out }) fits
         ∙ ap (λ (l : List Stored). record { frames = l ++ missing_stored n ∷ []; out = stays.out }) stay
         ∙ ap (λ (l : List Stored). record { frames = l; out = stays.out }) (append_assoc stays.frames ss (missing_stored n ∷ []))
 
@@ -587,15 +587,15 @@ missing_of sps n = coded_frame sps None n (Some Short)
 
 -- what the frames of the missing numbers show, and what those before show
 at_missing : {A : Type 0} (f g : ℕ → A) (max w t q : ℕ) → ((i : ℕ) → i < w → f (q + i) ≡ g ((t + i) % max)) →
-    map (λ s. f s.entry) (stored_missing q w) ≡ map g (frame_nums_from max t w)
+    map (λ s. f s.decoding_index) (stored_missing q w) ≡ map g (frame_nums_from max t w)
 at_missing f g max zero t q each = refl
 at_missing f g max (suc w) t q each =
     let rest = at_missing f g max w (t + 1) (q + 1) (λ i low. let e = each (suc i) (omega arith) in grind (arith, e)) in grind (arith, rest, each 0)
 
 at_before : {A : Type 0} (f g : ℕ → A) (index : ℕ) (frames : List Stored) → ((p : ℕ) → p < index → f p ≡ g p) → AreBefore index frames →
-    map (λ s. f s.entry) frames ≡ map (λ s. g s.entry) frames
+    map (λ s. f s.decoding_index) frames ≡ map (λ s. g s.decoding_index) frames
 at_before f g index [] same h = refl
-at_before f g index (s ∷ frames) same h = grind (arith, same s.entry h.0, at_before f g index frames same h.1)
+at_before f g index (s ∷ frames) same h = grind (arith, same s.decoding_index h.0, at_before f g index frames same h.1)
 
 same_slots : (w q q' : ℕ) → map slot_of (stored_missing q w) ≡ map slot_of (stored_missing q' w)
 same_slots zero q q' = refl
@@ -610,7 +610,7 @@ references_at-append (p ∷ ps) qs [] gs long = absurd (omega (arith, long))
 references_at-append (p ∷ ps) qs (f ∷ fs) gs long = grind (arith, references_at-append ps qs fs gs (omega (arith, long)))
 
 references_missing : (sps : Sps) (max w t q : ℕ) →
-    references_at (map (λ s. s.entry) (stored_missing q w)) (map marked_frame (map (missing_of sps) (frame_nums_from max t w))) ≡ missing_references max t q w
+    references_at (map (λ s. s.decoding_index) (stored_missing q w)) (map marked_frame (map (missing_of sps) (frame_nums_from max t w))) ≡ missing_references max t q w
 references_missing sps max zero t q = refl
 references_missing sps max (suc w) t q = ap (λ l. missing_reference (t % max) q ∷ l) (references_missing sps max w (t + 1) (q + 1))
 
@@ -633,7 +633,7 @@ record EndsIn (output : Output) (sps : Sps) (h H : History) (t q w index : ℕ) 
 
 not_above : (low next : ℕ) (rs : List Reference) → StandFrom low next rs → low ≤ next
 not_above low next [] h = h
-not_above low next (r ∷ rs) h = let e = not_above (r.entry + 1) next rs h.1 in omega (arith, h.0, e)
+not_above low next (r ∷ rs) h = let e = not_above (r.decoding_index + 1) next rs h.1 in omega (arith, h.0, e)
 
 -- where the numbers from a on are missing, as many as the window has frames and k more
 ends_in : (output : Output) (sps : Sps) (h : History) (low number index : ℕ) (stays : Staying) (shorts : List Reference) (lasts : List Stored) (a k : ℕ) →
@@ -643,7 +643,7 @@ ends_in output sps h low number index stays shorts lasts a k settled some less n
     let max = max_frame_num sps in
     let w = length shorts in
     let numbers = frame_nums_from max a (w + k) in
-    let first = not_above index (length h) shorts (settled.window).places in
+    let first = not_above index (length h) shorts (settled.window).indices in
     record {
       low = low;
       later = a + (w + k);
@@ -713,22 +713,22 @@ same_state sps h S L t qs qf w index stays c idx previous shorter longer within 
 
     entries_of : (H : History) (q : ℕ) → EndsIn c.output sps h H t q w index stays →
         map (entry_at H) (indices_in (buffer_of c.output H))
-        ≡ map (λ s. entry_at h s.entry) stays.frames ++ map (λ n. Some (missing_frame sps n)) (frame_nums_from max t w)
+        ≡ map (λ s. entry_at h s.decoding_index) stays.frames ++ map (λ n. Some (missing_frame sps n)) (frame_nums_from max t w)
     entries_of H q x =
-        map-map (entry_at H) (λ s. s.entry) (buffer_of c.output H).frames ∙ whole (λ s. entry_at H s.entry) H q x
+        map-map (entry_at H) (λ s. s.decoding_index) (buffer_of c.output H).frames ∙ whole (λ s. entry_at H s.decoding_index) H q x
         ∙ ap₂ (λ l r. l ++ r) (at_before (entry_at H) (entry_at h) index stays.frames x.before (x.settled).before)
         (at_missing (entry_at H) (λ n. Some (missing_frame sps n)) max w t q x.last)
 
     stayed : List (Frame 32)
-    stayed = map (λ s. frame_of (entry_at h s.entry) (mark_in stays.longs s.entry)) stays.frames
+    stayed = map (λ s. frame_of (entry_at h s.decoding_index) (mark_in stays.longs s.decoding_index)) stays.frames
 
     came : List (Frame 32)
     came = map (missing_of sps) (frame_nums_from max t w)
 
     frames_of : (H : History) (q : ℕ) → EndsIn c.output sps h H t q w index stays →
-        map (λ s. frame_at H (references q) s.entry) (buffer_of c.output H).frames ≡ stayed ++ came
+        map (λ s. frame_at H (references q) s.decoding_index) (buffer_of c.output H).frames ≡ stayed ++ came
     frames_of H q x =
-        whole (λ s. frame_at H (references q) s.entry) H q x
+        whole (λ s. frame_at H (references q) s.decoding_index) H q x
         ∙ ap₂ (λ l r. l ++ r)
         (at_before (frame_at H (references q)) (λ p. frame_of (entry_at h p) (mark_in stays.longs p)) index stays.frames
         (λ p low. ap₂ frame_of (x.before p low) (mark_first stays.longs new p (missing_unmarked max t q w p (omega (arith, low, x.behind))))) (x.settled).before)
@@ -740,17 +740,17 @@ same_state sps h S L t qs qf w index stays c idx previous shorter longer within 
         new = missing_references max t q w
 
     frames_are : c.frames ≡ stayed ++ came
-    frames_are = (s.buffer).frames ∙ ap (λ (m : Marks). map (λ x. frame_at S m.references x.entry) (buffer_of c.output S).frames) same_marks ∙ frames_of S qs shorter
+    frames_are = (s.buffer).frames ∙ ap (λ (m : Marks). map (λ x. frame_at S m.references x.decoding_index) (buffer_of c.output S).frames) same_marks ∙ frames_of S qs shorter
 
     stayed_references : List Reference
-    stayed_references = references_at (map (λ s. s.entry) stays.frames) (map marked_frame stayed)
+    stayed_references = references_at (map (λ s. s.decoding_index) stays.frames) (map marked_frame stayed)
 
     references_of_frames : (H : History) (q : ℕ) → EndsIn c.output sps h H t q w index stays →
         references_at (indices_in (buffer_of c.output H)) (map marked_frame (stayed ++ came)) ≡ stayed_references ++ missing_references max t q w
     references_of_frames H q x =
-        let long = length-map stays.frames (λ (s : Stored). s.entry) ∙ sym (length-map stayed marked_frame ∙ length-map stays.frames _) in
-        ap₂ references_at (whole (λ s. s.entry) H q x) (map-append marked_frame stayed came)
-        ∙ references_at-append (map (λ s. s.entry) stays.frames) (map (λ s. s.entry) (stored_missing q w)) (map marked_frame stayed) (map marked_frame came) long
+        let long = length-map stays.frames (λ (s : Stored). s.decoding_index) ∙ sym (length-map stayed marked_frame ∙ length-map stays.frames _) in
+        ap₂ references_at (whole (λ s. s.decoding_index) H q x) (map-append marked_frame stayed came)
+        ∙ references_at-append (map (λ s. s.decoding_index) stays.frames) (map (λ s. s.decoding_index) (stored_missing q w)) (map marked_frame stayed) (map marked_frame came) long
         ∙ ap (λ l. stayed_references ++ l) (references_missing sps max w t q)
 
     old_references : stayed_references ≡ stays.longs

@@ -7,15 +7,15 @@ use Rattle.avc_dpb.specs.Steps.{Bumps}
 -- ---- what slots and frames stand for while a frame is stored, or all pictures go out: the marks of all frames
 
 abbrev Tells : (frame_of : ℕ → Frame 32) (references : List ℕ) → ℕ → Type 0
-Tells frame_of references entry = IsReferenceAmong (frame_of entry) entry references
+Tells frame_of references index = IsReferenceAmong (frame_of index) index references
 
 tells_each : (frame_of : ℕ → Frame 32) (references : List ℕ) (frames : List Stored)
-    → map is_used_for_reference (map (λ s. frame_of s.entry) frames) ≡ map (is_reference_in references) frames → Each (Tells frame_of references) frames
+    → map is_used_for_reference (map (λ s. frame_of s.decoding_index) frames) ≡ map (is_reference_in references) frames → Each (Tells frame_of references) frames
 tells_each frame_of references [] e = tt
 tells_each frame_of references (s ∷ frames) e = (same_head _ _ _ _ e, tells_each frame_of references frames (same_tail _ _ _ _ e))
 
 each_tells : (frame_of : ℕ → Frame 32) (references : List ℕ) (frames : List Stored)
-    → Each (Tells frame_of references) frames → map is_used_for_reference (map (λ s. frame_of s.entry) frames) ≡ map (is_reference_in references) frames
+    → Each (Tells frame_of references) frames → map is_used_for_reference (map (λ s. frame_of s.decoding_index) frames) ≡ map (is_reference_in references) frames
 each_tells frame_of references [] h = refl
 each_tells frame_of references (s ∷ frames) h = ap₂ (λ x l. x ∷ l) h.0 (each_tells frame_of references frames h.1)
 
@@ -24,7 +24,7 @@ told : {slots : List Slot} {frames : List (Frame 32)} {references : List ℕ} {b
 told {frames = frames} {references = references} {b = b} {frame_of = frame_of} h = grind (arith, tells_each)
 
 stand_for : (slots : List Slot) (frames : List (Frame 32)) (references : List ℕ) (b : Buffer) (next : ℕ) (frame_of : ℕ → Frame 32)
-    → slots ≡ map slot_of b.frames → frames ≡ map (λ s. frame_of s.entry) b.frames → Each (Tells frame_of references) b.frames → IsRising b.frames next
+    → slots ≡ map slot_of b.frames → frames ≡ map (λ s. frame_of s.decoding_index) b.frames → Each (Tells frame_of references) b.frames → IsRising b.frames next
     → StandFor slots frames references b next frame_of
 stand_for slots frames references b next frame_of slots_are frames_are tells rising = grind (arith, each_tells)
 
@@ -46,7 +46,7 @@ chosen_map p f [] = refl
 chosen_map {A} p f (x ∷ fs) = grind (arith, (chosen_map p f fs))
 
 needed_are : (references : List ℕ) (frame_of : ℕ → Frame 32) (fs : List Stored) → Each (Tells frame_of references) fs
-    → are_needed (map slot_of fs) (map (λ s. frame_of s.entry) fs) ≡ map (keep references) fs
+    → are_needed (map slot_of fs) (map (λ s. frame_of s.decoding_index) fs) ≡ map (keep references) fs
 needed_are references frame_of [] h = refl
 needed_are references frame_of (s ∷ fs) h = ap₂ (λ (r : Bool) (l : List Bool). (s.needed_for_output || r) ∷ l) h.0 (needed_are references frame_of fs h.1)
 
@@ -58,7 +58,7 @@ needless_leave {slots} {frames} {references} {b} {next} {frame_of} slots' frames
     let kept : are_needed slots frames ≡ map (keep references) b.frames = ap₂ are_needed h.slots_are h.frames_are ∙ needed_are references frame_of b.frames (told h) in
     stand_for slots' frames' references (record b { frames = needed_frames references b.frames }) next frame_of
     (slots_is ∙ ap₂ chosen kept h.slots_are ∙ chosen_map (keep references) slot_of b.frames)
-    (frames_is ∙ ap₂ chosen kept h.frames_are ∙ chosen_map (keep references) (λ s. frame_of s.entry) b.frames)
+    (frames_is ∙ ap₂ chosen kept h.frames_are ∙ chosen_map (keep references) (λ s. frame_of s.decoding_index) b.frames)
     (each_filter (Tells frame_of references) (keep references) b.frames (told h))
     (filter_rising (keep references) b.frames next h.rising)
 
@@ -72,9 +72,9 @@ find_by frames k (Some s) p a e = (s, refl, grind (arith, none-some, same_Some))
 find_none : (frames : List Stored) (o : Option Stored) (p : Option (ℕ × ℤ)) → Agree frames 0 o p → None ≡ option_map (λ (p : ℕ × ℤ). p.0) p → o ≡ None
 find_none frames o p a e = grind (arith, none-some)
 
-unneeded_entries : {A : Type 0} (g : ℕ → A) (first : Stored) (fs : List Stored) → map (λ s. g s.entry) (map (no_longer_needed first) fs) ≡ map (λ s. g s.entry) fs
-unneeded_entries g first [] = refl
-unneeded_entries g first (s ∷ fs) = grind (arith, not_needed, (unneeded_entries g first fs))
+unneeded_indices : {A : Type 0} (g : ℕ → A) (first : Stored) (fs : List Stored) → map (λ s. g s.decoding_index) (map (no_longer_needed first) fs) ≡ map (λ s. g s.decoding_index) fs
+unneeded_indices g first [] = refl
+unneeded_indices g first (s ∷ fs) = grind (arith, not_needed, (unneeded_indices g first fs))
 
 read_at : {A : Type 0} (xs : List A) (k : ℕ) (d x : A) → slice_get xs k ≡ Some x → get_or xs k d ≡ x
 read_at [] k d x e = absurd (none-some x e)
@@ -90,8 +90,8 @@ changed_there change (y ∷ xs) (suc k) x e = ap (λ l. y ∷ l) (changed_there 
 record IsFound (frames : List (Frame 32)) (k : ℕ) (references : List ℕ) (b : Buffer) (frame_of : ℕ → Frame 32) : Type 0 where
   first : Stored
   there : slice_get b.frames k ≡ Some first
-  after : after_bumping references b ≡ record { frames = needed_frames references (map (no_longer_needed first) b.frames); out = b.out ++ first.entry ∷ [] }
-  frame : (d : Frame 32) → get_or frames k d ≡ frame_of first.entry
+  after : after_bumping references b ≡ record { frames = needed_frames references (map (no_longer_needed first) b.frames); out = b.out ++ first.decoding_index ∷ [] }
+  frame : (d : Frame 32) → get_or frames k d ≡ frame_of first.decoding_index
 
 found : (slots : List Slot) (frames : List (Frame 32)) (k : ℕ) (references : List ℕ) (b : Buffer) (next : ℕ) (frame_of : ℕ → Frame 32)
     → Some k ≡ option_map (λ (p : ℕ × ℤ). p.0) (first_output_from 0 slots) → StandFor slots frames references b next frame_of → IsFound frames k references b frame_of
@@ -102,8 +102,8 @@ found slots frames k references b next frame_of is h =
       first = f.0;
       there = f.2;
       after = bumped_some references b f.0 (head_needed b.frames ∙ f.1);
-      frame = λ d. read_at frames k d (frame_of (f.0).entry)
-          (ap (λ l. slice_get l k) h.frames_are ∙ slice_get-map (λ s. frame_of s.entry) b.frames k ∙ ap (option_map (λ s. frame_of s.entry)) f.2);
+      frame = λ d. read_at frames k d (frame_of (f.0).decoding_index)
+          (ap (λ l. slice_get l k) h.frames_are ∙ slice_get-map (λ s. frame_of s.decoding_index) b.frames k ∙ ap (option_map (λ s. frame_of s.decoding_index)) f.2);
     }
 
 pub slot_bumped : (slots slots1 slots' : List Slot) (frames frames' : List (Frame 32)) (out out' : List Picture) (k : ℕ) (f : Frame 32)
@@ -113,17 +113,17 @@ pub slot_bumped : (slots slots1 slots' : List Slot) (frames frames' : List (Fram
 slot_bumped slots slots1 slots' frames frames' out out' k f is f_is set slots_is frames_is out_is = λ b next frame_of references h.
     let o = found slots frames k references b next frame_of is h in
     let first = o.first in
-    let mid : Buffer = record { frames = map (no_longer_needed first) b.frames; out = b.out ++ first.entry ∷ [] } in
+    let mid : Buffer = record { frames = map (no_longer_needed first) b.frames; out = b.out ++ first.decoding_index ∷ [] } in
     let changed : mid.frames ≡ slice_set b.frames k (not_needed first) = not_needed_at b.frames next k first h.rising o.there in
     let slots_are : slots1 ≡ map slot_of mid.frames =
     set ∙ ap (λ l. slot_changed_at slot_let_go l k) h.slots_are
     ∙ changed_there slot_let_go (map slot_of b.frames) k (slot_of first) (slice_get-map slot_of b.frames k ∙ ap (option_map slot_of) o.there)
     ∙ sym (map-set slot_of b.frames k (not_needed first)) ∙ ap (map slot_of) (sym changed) in
-    let stands = stand_for slots1 frames references mid next frame_of slots_are (h.frames_are ∙ sym (unneeded_entries frame_of first b.frames))
+    let stands = stand_for slots1 frames references mid next frame_of slots_are (h.frames_are ∙ sym (unneeded_indices frame_of first b.frames))
     (each_unneeded (Tells frame_of references) first b.frames (told h))
     (unneeded_rising first b.frames next h.rising) in
     record {
-      since = first.entry ∷ [];
+      since = first.decoding_index ∷ [];
       grows = ap (λ c. c.out) o.after;
       stand = subst (λ c. StandFor slots' frames' references c next frame_of) (sym o.after) (needless_leave slots' frames' stands slots_is frames_is);
       pictures = out_is ∙ ap (λ z. out ++ filter_map shown_frame (z ∷ [])) (f_is ∙ o.frame f);
@@ -142,7 +142,7 @@ pub shows_first : (slots : List Slot) (frames : List (Frame 32)) (k : ℕ) (f : 
 shows_first slots frames k f is f_is some = λ b next frame_of references h.
     let o = found slots frames k references b next frame_of is h in
     record {
-      since = o.first.entry ∷ [];
+      since = o.first.decoding_index ∷ [];
       grows = ap (λ c. c.out) o.after;
       some = λ nil. some (ap (λ z. filter_map shown_frame (z ∷ [])) (f_is ∙ o.frame f) ∙ nil);
     }
@@ -296,11 +296,11 @@ among_filtered p e (x ∷ es) = grind (arith, nat_tests, (among_filtered p e es)
 stands_filtered : (p : ℕ → Bool) (e : ℕ) (es : List ℕ) → stands_in es e ≡ true → stands_in (filter p es) e ≡ p e
 stands_filtered p e es h = grind (arith, among_filtered p e es)
 
-each_among : (es : List ℕ) (frames : List Stored) → ((e : ℕ) → stands_in (map (λ s. s.entry) frames) e ≡ true → stands_in es e ≡ true)
+each_among : (es : List ℕ) (frames : List Stored) → ((e : ℕ) → stands_in (map (λ s. s.decoding_index) frames) e ≡ true → stands_in es e ≡ true)
     → Each (λ e. stands_in es e ≡ true) frames
 each_among es [] up = tt
 each_among es (s ∷ frames) up =
-    grind (arith, or_left, or_right, eq-eqb, (each_among es frames (λ e h. up e (or_right (s.entry == e) (stands_in (map (λ s. s.entry) frames) e) h))))
+    grind (arith, or_left, or_right, eq-eqb, (each_among es frames (λ e h. up e (or_right (s.decoding_index == e) (stands_in (map (λ s. s.decoding_index) frames) e) h))))
 
 -- the reference frames that the marks tell of
 record HasReferences (c : Contents) (b : Buffer) (next : ℕ) (frame_of : ℕ → Frame 32) : Type 0 where
@@ -309,13 +309,13 @@ record HasReferences (c : Contents) (b : Buffer) (next : ℕ) (frame_of : ℕ �
 
 has_references : (c : Contents) (b : Buffer) (next : ℕ) (frame_of : ℕ → Frame 32) → IsBuffer c b next frame_of → HasReferences c b next frame_of
 has_references c b next frame_of h =
-    let entries : List ℕ = map (λ s. s.entry) b.frames in
+    let indices : List ℕ = map (λ s. s.decoding_index) b.frames in
     let p : ℕ → Bool = λ e. is_used_for_reference (frame_of e) in
     record {
-      references = filter p entries;
-      stand = stand_for c.slots c.frames (filter p entries) b next frame_of h.slots h.frames
-          (each_also (λ e. stands_in entries e ≡ true) (Tells frame_of (filter p entries)) (λ e among. sym (stands_filtered p e entries among)) b.frames
-          (each_among entries b.frames (λ e among. among))) h.rising;
+      references = filter p indices;
+      stand = stand_for c.slots c.frames (filter p indices) b next frame_of h.slots h.frames
+          (each_also (λ e. stands_in indices e ≡ true) (Tells frame_of (filter p indices)) (λ e among. sym (stands_filtered p e indices among)) b.frames
+          (each_among indices b.frames (λ e among. among))) h.rising;
     }
 
 pub all_slots_out : (c new : Contents) (slots : List Slot) (frames : List (Frame 32)) (out : List Picture) → BumpsWhile ForNone c.slots c.frames [] slots frames out

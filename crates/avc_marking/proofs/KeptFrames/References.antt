@@ -34,7 +34,7 @@ references-unmarked_if q free (e ∷ es) (f ∷ fs) (g ∷ gs) same same' each =
 
 -- none is an earlier entry
 others-kept : (x : ℕ) (es : List ℕ) (fs : List MarkedFrame) → ((k : ℕ) → k < length es → x < slice_index es k) →
-    filter (λ s. not (s.entry == x)) (references_at es fs) ≡ references_at es fs
+    filter (λ s. not (s.decoding_index == x)) (references_at es fs) ≡ references_at es fs
 others-kept x [] fs above = refl
 others-kept x (e ∷ es) [] above = refl
 others-kept x (e ∷ es) (f ∷ fs) above = grind (arith, nat_tests, above 0 (omega arith), others-kept x es fs (λ k h. above (suc k) (omega arith)))
@@ -51,14 +51,14 @@ references_forgotten (e ∷ es) (f ∷ fs) (suc p) stand within =
 -- ---- one frame is changed
 
 others-left : (x : ℕ) (change : Reference → Reference) (es : List ℕ) (fs : List MarkedFrame) → ((k : ℕ) → k < length es → x < slice_index es k) →
-    map (λ s. if s.entry == x then change s else s) (references_at es fs) ≡ references_at es fs
+    map (λ s. if s.decoding_index == x then change s else s) (references_at es fs) ≡ references_at es fs
 others-left x change [] fs above = refl
 others-left x change (e ∷ es) [] above = refl
 others-left x change (e ∷ es) (f ∷ fs) above = grind (arith, nat_tests, above 0 (omega arith), others-left x change es fs (λ k h. above (suc k) (omega arith)))
 
 pub references-changed : (change : Reference → Reference) (es : List ℕ) (fs : List MarkedFrame) (p : ℕ) (g : MarkedFrame) → StandAt es fs → p < length fs →
     is_some g.mark ≡ is_some (slice_index_or fs p no_frame).mark → reference_of (slice_index es p) g ≡ change (reference_at es fs p) →
-    references_at es (slice_set fs p g) ≡ map (λ s. if s.entry == slice_index es p then change s else s) (references_at es fs)
+    references_at es (slice_set fs p g) ≡ map (λ s. if s.decoding_index == slice_index es p then change s else s) (references_at es fs)
 references-changed change [] fs p g stand within marked same = absurd (omega (arith, stand.each))
 references-changed change (e ∷ es) [] p g stand within marked same = absurd (omega (arith, within))
 references-changed change (e ∷ es) (f ∷ fs) zero g stand within marked same =
@@ -77,15 +77,15 @@ stand_as es xs zs same stand = record { each = omega (arith, stand.each, ap leng
 
 -- ---- one operation on the frames, and what it makes of the marks
 
-rising_front : (entries : List ℕ) (own : ℕ) → IsStrictlyIncreasing (entries ++ own ∷ []) → IsStrictlyIncreasing entries
-rising_front entries own rising = grind (arith, length-append, get_or_append_left)
+rising_front : (indices : List ℕ) (own : ℕ) → IsStrictlyIncreasing (indices ++ own ∷ []) → IsStrictlyIncreasing indices
+rising_front indices own rising = grind (arith, length-append, get_or_append_left)
 
-pub stand_with : (assigned : Bool) (entries : List ℕ) (own : ℕ) (fs : List MarkedFrame) → StandWith assigned entries own fs → StandAt (entries_with assigned entries own) fs
-stand_with true entries own fs s = record { each = s.each; rising = s.rising }
-stand_with false entries own fs s = record { each = s.each; rising = rising_front entries own s.rising }
+pub stand_with : (assigned : Bool) (indices : List ℕ) (own : ℕ) (fs : List MarkedFrame) → StandWith assigned indices own fs → StandAt (indices_with assigned indices own) fs
+stand_with true indices own fs s = record { each = s.each; rising = s.rising }
+stand_with false indices own fs s = record { each = s.each; rising = rising_front indices own s.rising }
 
-pub stand_before : (entries : List ℕ) (own : ℕ) (fs : List MarkedFrame) → StandBefore entries own fs → StandAt entries fs
-stand_before entries own fs s = record { each = s.each; rising = rising_front entries own s.rising }
+pub stand_before : (indices : List ℕ) (own : ℕ) (fs : List MarkedFrame) → StandBefore indices own fs → StandAt indices fs
+stand_before indices own fs s = record { each = s.each; rising = rising_front indices own s.rising }
 
 -- ---- operations 4, 5 and 6
 
@@ -120,9 +120,9 @@ pub ruleset operating = (nat_tests, stand_as, stand_with, refilled, err_from_is_
 
 -- ---- all operations
 
-pub stand_turned : (assigned : Bool) (entries : List ℕ) (own : ℕ) (xs ys : List MarkedFrame) → StandBefore entries own xs → length ys ≡ length xs + (if assigned then 1 else 0) → StandWith assigned entries own ys
-stand_turned true entries own xs ys stand h = record { each = omega (arith, stand.each, h, length-append entries (own ∷ [])); rising = stand.rising }
-stand_turned false entries own xs ys stand h = record { each = omega (arith, stand.each, h); rising = stand.rising }
+pub stand_turned : (assigned : Bool) (indices : List ℕ) (own : ℕ) (xs ys : List MarkedFrame) → StandBefore indices own xs → length ys ≡ length xs + (if assigned then 1 else 0) → StandWith assigned indices own ys
+stand_turned true indices own xs ys stand h = record { each = omega (arith, stand.each, h, length-append indices (own ∷ [])); rising = stand.rising }
+stand_turned false indices own xs ys stand h = record { each = omega (arith, stand.each, h); rising = stand.rising }
 
 -- an operation does not read the marking
 operation-any : (new : NewFrame) (m n : Option Marking) (own : ℕ) (t : OperationState) (o : Operation) → after_operation (marking_entry new m) own t o ≡ after_operation (marking_entry new n) own t o
@@ -132,30 +132,30 @@ pub operations-any : (new : NewFrame) (m n : Option Marking) (own : ℕ) (t : Op
 operations-any new m n own t [] = refl
 operations-any new m n own t (o ∷ os) = grind (arith, operation-any, (λ (u : OperationState). operations-any new m n own u os))
 
-pub stand_settled : (assigned : Bool) (entries : List ℕ) (own : ℕ) (xs ys zs : List MarkedFrame) → StandBefore entries own xs → length ys ≡ length xs + (if assigned then 1 else 0) →
-    length zs + (if assigned then 1 else 0) ≡ length ys + 1 → StandAt (entries ++ own ∷ []) zs
-stand_settled assigned entries own xs ys zs stand h k = record { each = grind (arith, length-append); rising = stand.rising }
+pub stand_settled : (assigned : Bool) (indices : List ℕ) (own : ℕ) (xs ys zs : List MarkedFrame) → StandBefore indices own xs → length ys ≡ length xs + (if assigned then 1 else 0) →
+    length zs + (if assigned then 1 else 0) ≡ length ys + 1 → StandAt (indices ++ own ∷ []) zs
+stand_settled assigned indices own xs ys zs stand h k = record { each = grind (arith, length-append); rising = stand.rising }
 
 -- ---- the picture's own frame among the others, and the limit: after the operations
 
-pub settled-assigned : (s : MarkingEntry) (entries : List ℕ) (entry : ℕ) (max_long_term_frame_idx : Option ℕ) (xs zs ys : List MarkedFrame) (last kept : ℕ) → zs ≡ xs → ys ≡ xs →
-    StandWith true entries entry xs → last + 1 ≡ length xs → kept ≡ frame_num_after_marking s →
-    with_current_frame s entry (operation_state entries entry xs max_long_term_frame_idx true)
-    ≡ marks_at (entries ++ entry ∷ []) (refill (length xs) xs (slice_set zs last (record { frame_num = kept; existing = s.existing; mark = (slice_index_or ys last no_frame).mark }))) max_long_term_frame_idx
-settled-assigned s entries entry max_long_term_frame_idx xs zs ys last kept same same' stand place number =
-    let es = entries ++ entry ∷ [] in
+pub settled-assigned : (s : MarkingEntry) (indices : List ℕ) (decoding_index : ℕ) (max_long_term_frame_idx : Option ℕ) (xs zs ys : List MarkedFrame) (last kept : ℕ) → zs ≡ xs → ys ≡ xs →
+    StandWith true indices decoding_index xs → last + 1 ≡ length xs → kept ≡ frame_num_after_marking s →
+    with_current_frame s decoding_index (operation_state indices decoding_index xs max_long_term_frame_idx true)
+    ≡ marks_at (indices ++ decoding_index ∷ []) (refill (length xs) xs (slice_set zs last (record { frame_num = kept; existing = s.existing; mark = (slice_index_or ys last no_frame).mark }))) max_long_term_frame_idx
+settled-assigned s indices decoding_index max_long_term_frame_idx xs zs ys last kept same same' stand place number =
+    let es = indices ++ decoding_index ∷ [] in
     let g : MarkedFrame = record { frame_num = kept; existing = s.existing; mark = (slice_index_or ys last no_frame).mark } in
-    let here : slice_index (entries ++ entry ∷ []) last ≡ entry = get_or_at entries entry [] 0 last (omega (arith, stand.each, place, length-append entries (entry ∷ []))) in
+    let here : slice_index (indices ++ decoding_index ∷ []) last ≡ decoding_index = get_or_at indices decoding_index [] 0 last (omega (arith, stand.each, place, length-append indices (decoding_index ∷ []))) in
     let changed =
-    references-changed (λ r. current_frame s entry r.mark) es xs last g (stand_with true entries entry xs stand) (omega (arith, place)) (cc) (cc) in
+    references-changed (λ r. current_frame s decoding_index r.mark) es xs last g (stand_with true indices decoding_index xs stand) (omega (arith, place)) (cc) (cc) in
     grind (arith, changed, refilled, length-set)
 
 -- ---- the sliding window: no reference picture
 
-pub unmarked_added : (new : NewFrame) (marking : Option Marking) (entries : List ℕ) (entry : ℕ) (max_long_term_frame_idx : Option ℕ) (xs ys : List MarkedFrame) → marking ≡ None → length entries ≡ length xs →
+pub unmarked_added : (new : NewFrame) (marking : Option Marking) (indices : List ℕ) (decoding_index : ℕ) (max_long_term_frame_idx : Option ℕ) (xs ys : List MarkedFrame) → marking ≡ None → length indices ≡ length xs →
     ys ≡ xs ++ record { frame_num = new.current.frame_num; existing = new.existing; mark = None } ∷ [] →
-    marks_after (marking_entry new marking) entry marking (marks_at entries xs max_long_term_frame_idx) ≡ Ok (marks_at (entries ++ entry ∷ []) ys max_long_term_frame_idx)
-unmarked_added new marking entries entry max_long_term_frame_idx xs ys is each added = grind (arith, references-append, append-nil)
+    marks_after (marking_entry new marking) decoding_index marking (marks_at indices xs max_long_term_frame_idx) ≡ Ok (marks_at (indices ++ decoding_index ∷ []) ys max_long_term_frame_idx)
+unmarked_added new marking indices decoding_index max_long_term_frame_idx xs ys is each added = grind (arith, references-append, append-nil)
 
 -- ---- frame numbers modulo MaxFrameNum
 
@@ -206,8 +206,8 @@ pub first-without_frame : (current : CurrentFrameNum) (es : List ℕ) (fs : List
     first_in_window current (references_at (drop p es) (drop p fs)) ≡ first_in_window current (references_at (drop n es) (drop n fs))
 first-without_frame current es fs p n e same within h = grind (arith, references_without, references_with)
 
-pub entry_above : (es : List ℕ) (fs : List MarkedFrame) (p q : ℕ) → StandAt es fs → p < q → q < length fs → slice_index es p < slice_index es q
-entry_above es fs p q stand h within = AllPairs-from_increasing es stand.rising p q 0 h (omega (arith, within, stand.each))
+pub index_above : (es : List ℕ) (fs : List MarkedFrame) (p q : ℕ) → StandAt es fs → p < q → q < length fs → slice_index es p < slice_index es q
+index_above es fs p q stand h within = AllPairs-from_increasing es stand.rising p q 0 h (omega (arith, within, stand.each))
 
 pub first-step : (current : CurrentFrameNum) (es : List ℕ) (fs : List MarkedFrame) (p n : ℕ) (first before : Option ℕ) → n ≡ suc p → StandAt es fs → p < length fs →
     (is_marked is_short (slice_index_or fs p no_frame) ≡ false → first ≡ before) →
@@ -281,7 +281,7 @@ goes_first current r rs h = grind (arith, first-placed, sorted_head)
 abbrev at : (number max : ℕ) → CurrentFrameNum
 at number max = record { frame_num = number % max; max_frame_num = max }
 
-not_before : (max number v w : ℕ) (r s : Reference) → r.frame_num ≡ v % max → s.frame_num ≡ w % max → v < w → w < number → number < v + max → r.entry < s.entry →
+not_before : (max number v w : ℕ) (r s : Reference) → r.frame_num ≡ v % max → s.frame_num ≡ w % max → v < w → w < number → number < v + max → r.decoding_index < s.decoding_index →
     precedes_in_window (record { frame_num = number % max; max_frame_num = max }) s r ≡ false
 not_before max number v w r s r_is s_is low high near later =
     let one = seen max number v (omega (arith, low, high)) near in
@@ -290,14 +290,14 @@ not_before max number v w r s r_is s_is low high near later =
     grind (arith, nat_tests)
 
 none_before : (max number v low next lower : ℕ) (r : Reference) (rs : List Reference) → r.frame_num ≡ v % max → v < low → number < v + max →
-    CountFrom max low number rs → r.entry < lower → StandFrom lower next rs →
+    CountFrom max low number rs → r.decoding_index < lower → StandFrom lower next rs →
     NoneBefore (record { frame_num = number % max; max_frame_num = max }) r rs
-none_before max number v low next lower r [] is before near counts behind places = tt
-none_before max number v low next lower r (s ∷ rs) is before near counts behind places =
+none_before max number v low next lower r [] is before near counts behind indices = tt
+none_before max number v low next lower r (s ∷ rs) is before near counts behind indices =
     let w = counts.0 in
     let rest = counts.1 in (
-      not_before max number v w r s is (rest.1).frame_num (omega (arith, before, rest.0)) (omega (arith, counted max (w + 1) number rs rest.2)) near (omega (arith, behind, places.0)),
-      none_before max number v (w + 1) next (s.entry + 1) r rs is (omega (arith, before, rest.0)) near rest.2 (omega (arith, behind, places.0)) places.1,
+      not_before max number v w r s is (rest.1).frame_num (omega (arith, before, rest.0)) (omega (arith, counted max (w + 1) number rs rest.2)) near (omega (arith, behind, indices.0)),
+      none_before max number v (w + 1) next (s.decoding_index + 1) r rs is (omega (arith, before, rest.0)) near rest.2 (omega (arith, behind, indices.0)) indices.1,
     )
   where
     counted : (max low number : ℕ) (rs : List Reference) → CountFrom max low number rs → low ≤ number
@@ -310,18 +310,18 @@ all_short : (max low next : ℕ) (rs : List Reference) → CountFrom max low nex
 all_short max low next [] h = refl
 all_short max low next (r ∷ rs) h = grind (arith, (all_short max (h.0 + 1) next rs (h.1).2))
 
-kept_below : (r : Reference) (place : ℕ) (rs : List Reference) → place ≤ r.entry → StandBelow place rs → without_frame r rs ≡ rs
-kept_below r place [] low h = refl
-kept_below r place (s ∷ rs) low h = grind (arith, ne_eqb, (kept_below r place rs low h.1))
+kept_below : (r : Reference) (index : ℕ) (rs : List Reference) → index ≤ r.decoding_index → StandBelow index rs → without_frame r rs ≡ rs
+kept_below r index [] low h = refl
+kept_below r index (s ∷ rs) low h = grind (arith, ne_eqb, (kept_below r index rs low h.1))
 
-kept_above : (r : Reference) (low next : ℕ) (rs : List Reference) → r.entry < low → StandFrom low next rs → without_frame r rs ≡ rs
+kept_above : (r : Reference) (low next : ℕ) (rs : List Reference) → r.decoding_index < low → StandFrom low next rs → without_frame r rs ≡ rs
 kept_above r low next [] before h = refl
-kept_above r low next (s ∷ rs) before h = grind (arith, ne_eqb, (kept_above r (s.entry + 1) next rs (omega (arith, before, h.0)) h.1))
+kept_above r low next (s ∷ rs) before h = grind (arith, ne_eqb, (kept_above r (s.decoding_index + 1) next rs (omega (arith, before, h.0)) h.1))
 
-without_first : (longs shorts : List Reference) (first : Reference) (place next : ℕ) → StandBelow place longs → StandFrom place next (first ∷ shorts) →
+without_first : (longs shorts : List Reference) (first : Reference) (start next : ℕ) → StandBelow start longs → StandFrom start next (first ∷ shorts) →
     without_frame first (longs ++ first ∷ shorts) ≡ longs ++ shorts
-without_first longs shorts first place next below places = grind (arith, filter-append, kept_below, eq-eqb, kept_above)
+without_first longs shorts first start next below indices = grind (arith, filter-append, kept_below, eq-eqb, kept_above)
 
 pub window_takes_the_first : WindowTakesTheFirst
-window_takes_the_first s entry max low number place longs shorts first m current full counts near is =
+window_takes_the_first s decoding_index max low number start longs shorts first m current full counts near is =
     grind (arith, filter-append, all_short, goes_first, none_before, length-append, nat_tests, without_first)

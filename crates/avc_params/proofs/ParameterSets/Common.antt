@@ -26,7 +26,7 @@ pub use Rattle.avc_params.specs.Within.{IsPps, IsCropping, IsOrderCount, IsSps, 
 pub use Rattle.avc_params.specs.declared.pps.Pps.{Pps}
 pub use Rattle.avc_params.specs.declared.pps_reading.DefaultCounts.{DefaultCounts}
 pub use Rattle.avc_params.specs.declared.pps_reading.Quantisation.{Quantisation}
-pub use Rattle.avc_params.specs.declared.set_fault.SetFault.{SetFault}
+pub use Rattle.avc_params.specs.declared.set_unit.SetFault.{SetFault}
 pub use Rattle.avc_params.specs.declared.set_unit.SetUnit.{SetUnit}
 pub use Rattle.avc_params.specs.declared.set_unit.SetUnit.TheVariants.{OfSps, OfPps}
 pub use Rattle.avc_params.specs.declared.sps.Cropping.{Cropping}

@@ -39,7 +39,7 @@ module _ (P : Reference → Type 0) (current : CurrentFrameNum) (references : Li
   named : (number : ℕ) (m : Modification) → IfSome (modification_frame current number m references) P
   named number (LongTerm index) = holds-found P (has_long_term_frame_idx index) references all
   named number m =
-      holds-first P _ (keeps-sorted P (λ a b. nat_lt b.entry a.entry) _ (All-filter (has_pic_num current (pic_num_of current number)) P references all))
+      holds-first P _ (keeps-sorted P (λ a b. nat_lt b.decoding_index a.decoding_index) _ (All-filter (has_pic_num current (pic_num_of current number)) P references all))
 
   both : (r : Result Reference Fault) (others : Result (List Reference) Fault) → IfOk r P → IfOk others (All P) → IfOk (cons_result r others) (All P)
   both (Ok r) (Ok others) p ps = All-cons P r others p ps
@@ -89,12 +89,12 @@ pub listed-length : (current : CurrentFrameNum) (count : ℕ) (ms : List Modific
 listed-length current count ms references = from-length count (initial_list current references) (modification_frames current current.frame_num ms references)
 
 -- each of them is found by its entry
-pub own-entries : (rs : List Reference) → All (λ r. list_any (λ s. s.entry == r.entry) rs ≡ true) rs
-own-entries [] = All-nil _
-own-entries (r ∷ rs) =
-    let here : (r.entry == r.entry) ≡ true = grind (arith, nat_tests) in
-    All-cons (λ x. list_any (λ s. s.entry == x.entry) (r ∷ rs) ≡ true) r rs (rw here refl)
-    (All-weaker (λ x. list_any (λ s. s.entry == x.entry) rs ≡ true) (λ x. list_any (λ s. s.entry == x.entry) (r ∷ rs) ≡ true) (λ x h. grind (arith, nat_tests)) rs (own-entries rs))
+pub own-indices : (rs : List Reference) → All (λ r. list_any (λ s. s.decoding_index == r.decoding_index) rs ≡ true) rs
+own-indices [] = All-nil _
+own-indices (r ∷ rs) =
+    let here : (r.decoding_index == r.decoding_index) ≡ true = grind (arith, nat_tests) in
+    All-cons (λ x. list_any (λ s. s.decoding_index == x.decoding_index) (r ∷ rs) ≡ true) r rs (rw here refl)
+    (All-weaker (λ x. list_any (λ s. s.decoding_index == x.decoding_index) rs ≡ true) (λ x. list_any (λ s. s.decoding_index == x.decoding_index) (r ∷ rs) ≡ true) (λ x h. grind (arith, nat_tests)) rs (own-indices rs))
 
 -- ---- frames of the buffer as the reference frames of a picture: which they are
 
@@ -110,14 +110,14 @@ marked-at fs k f at = get_or_from_slice_get (map marked_frame fs) k (marked_fram
 
 -- a frame whose entry is that of a reference frame is one
 pub listed-is-marked : {PAD : ℕ} (es : List ℕ) (fs : List (Frame PAD)) (k : ℕ) (f : Frame PAD) → FramesStandAt es fs → slice_get fs k ≡ Some f
-    → list_any (λ r. r.entry == slice_index es k) (references_at es (map marked_frame fs)) ≡ true → is_some f.mark ≡ true
+    → list_any (λ r. r.decoding_index == slice_index es k) (references_at es (map marked_frame fs)) ≡ true → is_some f.mark ≡ true
 listed-is-marked es fs k f stand at listed =
     let within : k < length fs = slice_get_within fs k f at in
     let within' : k < length (map marked_frame fs) = omega (arith, within, length-map fs marked_frame) in
     sym (ap (λ (m : _). is_some m.mark) (marked-at fs k f at)) ∙ sym (seen-at es (map marked_frame fs) k stand within') ∙ listed
 
 pub found-stored : {PAD : ℕ} (es : List ℕ) (fs : List (Frame PAD)) (k : ℕ) (f : Frame PAD) → FramesStandAt es fs → slice_get fs k ≡ Some f → is_some f.mark ≡ true
-    → find (λ g. (g.reference).entry == slice_index es k) (stored_at es fs) ≡ Some (stored_frame (slice_index es k) f)
+    → find (λ g. (g.reference).decoding_index == slice_index es k) (stored_at es fs) ≡ Some (stored_frame (slice_index es k) f)
 found-stored [] fs k f stand got marked = absurd (omega (arith, stand.each, length-map fs marked_frame, slice_get_within fs k f got))
 found-stored (e ∷ es) [] k f stand got marked = cc
 found-stored (e ∷ es) (g ∷ gs) zero f stand got marked =
@@ -140,7 +140,7 @@ module _ {PAD : ℕ} (sps : Sps) (pps : Pps) (es : List ℕ) (fs : List (Frame P
   named-missing none = ap (λ m. m.existing) (marked-at fs k f at) ∙ ap is_some none
 
   pub named-picture : (planes : PaddedPlanes PAD) → is_some f.mark ≡ true → f.planes ≡ Some planes
-      → stored_named ≡ record { entry = slice_index es k; existing = true; samples = samples_of (padded_planes_of planes) }
+      → stored_named ≡ record { decoding_index = slice_index es k; existing = true; samples = samples_of (padded_planes_of planes) }
   named-picture planes marked some = rw (marked-at fs k f at, found-stored es fs k f stand at marked, some) refl
 
 -- ---- what the code knows of a slice
@@ -208,13 +208,13 @@ module _ {PAD : ℕ} (sps : Sps) (pps : Pps) (es : List ℕ) (fs : List (Frame P
   context_parts = picture_start sps pps es fs
 
   abbrev IsListed : Reference → Type 0
-  IsListed r = list_any (λ s. s.entry == r.entry) (references_in context_parts) ≡ true
+  IsListed r = list_any (λ s. s.decoding_index == r.decoding_index) (references_in context_parts) ≡ true
 
   abbrev listed-by : Bool → Result (List (Option Reference)) Fault
   listed-by b = elim b [ true ↦ reference_list (current_of context_parts h) h.num_ref_idx_active (or_empty h.modifications) (references_in context_parts) | false ↦ Ok [] ]
 
   all-listed-by : (b : Bool) → IfOk (listed-by b) (All (λ o. IfSome o IsListed))
-  all-listed-by true = all-listed IsListed (current_of context_parts h) (references_in context_parts) (own-entries (references_in context_parts)) h.num_ref_idx_active (or_empty h.modifications)
+  all-listed-by true = all-listed IsListed (current_of context_parts h) (references_in context_parts) (own-indices (references_in context_parts)) h.num_ref_idx_active (or_empty h.modifications)
   all-listed-by false = All-nil (λ o. IfSome o IsListed)
 
   all-in-list : (list : List (Option Reference)) → list_of context_parts h ≡ Ok list → All (λ o. IfSome o IsListed) list
@@ -225,7 +225,7 @@ module _ {PAD : ℕ} (sps : Sps) (pps : Pps) (es : List ℕ) (fs : List (Frame P
   marked list places r k f e has place at =
       let named : slice_index_or list r None ≡ Some (reference_at es (map marked_frame fs) k) = has r ∙ ap (option_map (reference_at es (map marked_frame fs))) place in
       let listed = subst (λ o. IfSome o IsListed) named (some_at IsListed list r (all-in-list list e)) in
-      listed-is-marked es fs k f stand at (ap (list_any (λ s. s.entry == slice_index es k)) (sym (stored-references es fs)) ∙ listed)
+      listed-is-marked es fs k f stand at (ap (list_any (λ s. s.decoding_index == slice_index es k)) (sym (stored-references es fs)) ∙ listed)
 
   -- ---- what the code knows
 
@@ -254,7 +254,7 @@ module _ {PAD : ℕ} (sps : Sps) (pps : Pps) (es : List ℕ) (fs : List (Frame P
     by-frame r k f (Some q) place got shown =
         let some : f.planes ≡ Some q.planes.now = rw got at shown.0 in
         record {
-          entry = slice_index es k;
+          decoding_index = slice_index es k;
           frame = named-at r (Some k) place ∙ ap Some (named-picture sps pps es fs k f stand got q.planes.now (marked list places r k f is has place got) some);
           weights = ap (λ x. slice_get x.weights r) info ∙ shown.1;
         }
@@ -286,7 +286,7 @@ module _ {PAD : ℕ} (sps : Sps) (pps : Pps) (es : List ℕ) (fs : List (Frame P
         record {
           frame = frame_of context_parts (reference k);
           named = named-at r (Some k) e;
-          entry = sym (are.each k there) ∙ ap names.entry (sym number);
+          decoding_index = sym (are.each k there) ∙ ap names.decoding_index (sym number);
           within = omega (arith, number, there);
         }
 

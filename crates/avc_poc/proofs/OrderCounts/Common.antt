@@ -31,4 +31,4 @@ pub use Rattle.avc_poc.specs.OrderCounts.{msb_of, sum_ℤ, expected_order_count,
 pub use Rattle.avc_poc.specs.OrderCounts.{in_range, number_in_range, counts_by, counts_0, counts_from, max_lsb, lsb_of, Past, missing, picture}
 pub use Rattle.avc_poc.specs.OrderCounts.{frame_num_offset, previous_for, previous_of, order_counts, resets_order_counts, past_number, previous_from}
 pub use Rattle.avc_poc.specs.OrderCounts.{no_previous, delta_bottom}
-pub use Rattle.avc_poc.specs.declared.previous.Previous.{Previous}
+pub use Rattle.avc_poc.specs.declared.most_significant.Previous.{Previous}

@@ -17,7 +17,7 @@ pub use Rattle.avc_bits.specs.Codes.{ue}
 pub use Rattle.avc_params.specs.Reading.{pps_of, sps_of, pps_id, sps_id}
 pub use Rattle.avc_params.specs.Tables.{last, refused, Sets, accepted, is_id, is_pps, is_sps, pps_in_force, pps_record, sets_after, sps_in_force, sps_record}
 pub use Rattle.avc_params.specs.Within.{PpsInForceKeepsLimits, SpsInForceKeepsLimits}
-pub use Rattle.avc_params.specs.declared.set_fault.SetFault.{SetFault}
+pub use Rattle.avc_params.specs.declared.set_unit.SetFault.{SetFault}
 pub use Rattle.avc_params.specs.declared.set_unit.SetUnit.{SetUnit}
 pub use Rattle.avc_params.specs.declared.set_unit.SetUnit.TheVariants.{OfPps, OfSps}
 pub use Rattle.avc_slice.specs.Begins.{begins}

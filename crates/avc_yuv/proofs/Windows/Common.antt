@@ -20,5 +20,5 @@ pub use Rattle.avc_yuv.specs.Copying.{halved, laid, laid_at, luma_rectangle, row
 pub use Rattle.avc_yuv.specs.I420.{part_of_row, window, luma_window, chroma_window, i420, shown_width, shown_height}
 pub use Rattle.avc_yuv.specs.Writing.{Writes, done_after}
 pub use Rattle.avc_yuv.specs.declared.component.Component.TheVariants.{Luma, Cb}
-pub use Rattle.avc_yuv.specs.declared.fault.WriteFault.{WriteFault}
-pub use Rattle.avc_yuv.specs.declared.window.Window.{Window}
+pub use Rattle.avc_yuv.specs.declared.write.WriteFault.{WriteFault}
+pub use Rattle.avc_yuv.specs.declared.window_rows.Window.{Window}

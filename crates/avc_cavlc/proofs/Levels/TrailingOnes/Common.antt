@@ -27,5 +27,5 @@ pub use Rattle.avc_types.specs.declared.fault.Fault.{Fault}
 pub use Rattle.avc_types.specs.declared.fault.Fault.TheVariants.{Truncated, BadCode}
 pub use Rattle.avc_vlc.proofs.Entries.{skip-ok, skip-err}
 pub use Rattle.avc_vlc.specs.Reading.{run_before, run_table, table_code, coeff_token, total_zeros}
-pub use Rattle.avc_vlc.specs.declared.token.Token.{Token}
+pub use Rattle.avc_vlc.specs.declared.coeff_token.Token.{Token}
 pub use Rattle.avc_cavlc.specs.Steps.{placed_before, placed_by_runs, one_of_sign, levels_after, raised}

@@ -1,5 +1,5 @@
-use Rattle.avc_deblock.proofs.FilteredPictures.{◌≡◌, ◌∙◌, ◌<◌, ℕ, ◌+◌, List, [], arith, sym, ap, slice_index_or, None, Coded, PicMb, SliceInfo, Motion, absent}
-use Rattle.avc_deblock.proofs.FilteredPictures.{is_intra, Names, HasInfo, HasMotion, MbInfo, mb_at, slice_at, entry_of_frame, filter_qp, has_coefficients}
+use Rattle.avc_deblock.proofs.FilteredPictures.{◌≡◌, ℕ, List, [], arith, slice_index_or, Coded, Motion, absent}
+use Rattle.avc_deblock.proofs.FilteredPictures.{is_intra, Names, HasInfo, HasMotion, MbInfo, mb_at, slice_at}
 use Rattle.avc_deblock.proofs.laws.info_of_first_macroblocks_stays.Goals as goal
 
 module _ (c d : Coded) (names : Names) (a : ℕ) (f : MbInfo) (same_mb : mb_at d a ≡ mb_at c a) (same_slice : slice_at d a ≡ slice_at c a) where

@@ -1,4 +1,4 @@
-use Rattle.avc_deblock.proofs.FilteredPictures.{◌/◌, arith, subst, true, luma_setting, strength_along, AreStrengths, fits_weak, fits_strong}
+use Rattle.avc_deblock.proofs.FilteredPictures.{arith, fits_weak, fits_strong}
 use Rattle.avc_deblock.proofs.luma_edge.vertical_luma.Goals as goal
 
 pub returns-in-Four : goal.returns-in-Four

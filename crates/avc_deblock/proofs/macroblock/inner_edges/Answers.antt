@@ -1,4 +1,4 @@
-use Rattle.avc_deblock.proofs.FilteredPictures.{◌∙◌, ℕ, Bool, arith, sym, ap, if◌then◌else◌, planes_of, Planes, edge_by_info}
+use Rattle.avc_deblock.proofs.FilteredPictures.{arith, planes_of}
 use Rattle.avc_deblock.proofs.macroblock.inner_edges.Goals as goal
 
 pub edge_between-requires-then-filters : goal.edge_between-requires-then-filters

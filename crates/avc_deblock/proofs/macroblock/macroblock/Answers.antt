@@ -1,4 +1,4 @@
-use Rattle.avc_deblock.proofs.FilteredPictures.{◌≡◌, ◌∙◌, ◌≤◌, Bool, true, false, arith, refl, ap, ◌&&◌, not, Planes, planes_of, filters_between}
+use Rattle.avc_deblock.proofs.FilteredPictures.{◌≡◌, ◌∙◌, ◌≤◌, Bool, true, false, arith, ap, ◌&&◌, not, Planes, planes_of, filters_between}
 use Rattle.avc_deblock.proofs.FilteredPictures.{edges_by_info, some_coded, mb_kept}
 use Rattle.avc_deblock.proofs.macroblock.macroblock.Goals as goal
 

@@ -1,4 +1,4 @@
-use Rattle.avc_deblock.proofs.FilteredPictures.{ℕ, ◌<◌, w8, get_or, arith, refl, ap, ◌∙◌, SwzOk-from_below, Each1-from_get_or, get_or-swz_l_below}
+use Rattle.avc_deblock.proofs.FilteredPictures.{ℕ, ◌<◌, w8, arith, refl, SwzOk-from_below, Each1-from_get_or, get_or-swz_l_below}
 use Rattle.avc_deblock.proofs.thresholds.looked_up.Goals as goal
 
 pub swizzle : goal.swizzle

@@ -1,4 +1,4 @@
-use Rattle.avc_deblock.proofs.FilteredPictures.{ℕ, ◌≤◌, arith, sym, subst, ◌∙◌, slice_index}
+use Rattle.avc_deblock.proofs.FilteredPictures.{arith, ◌∙◌, slice_index}
 use Rattle.avc_deblock.proofs.thresholds.tc1s.Goals as goal
 
 pub returns-clause-value : goal.returns-clause-value

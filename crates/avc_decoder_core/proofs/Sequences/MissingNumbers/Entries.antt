@@ -27,19 +27,19 @@ none_above [] index low = refl
 none_above (a ∷ older) index low = let none = none_above older index (omega arith) in grind (arith, nat_tests, occurrences-append, none)
 
 -- of the pictures that have gone out and of those that are needed for output
-pub places_below : (output : Output) (history : History) → All (λ p. p < length history) ((buffer_of output history).out ++ all_held output history)
-places_below output history = grind (arith, length-arrivals, all_below, goes_out_once, none_above)
+pub all_indices_below : (output : Output) (history : History) → All (λ p. p < length history) ((buffer_of output history).out ++ all_held output history)
+all_indices_below output history = grind (arith, length-arrivals, all_below, goes_out_once, none_above)
 
 all_parts : (P : ℕ → Type 0) (xs ys : List ℕ) → All P (xs ++ ys) → All P xs × All P ys
 all_parts P [] ys a = (All-nil P, a)
 all_parts P (x ∷ xs) ys a =
     let rest = all_parts P xs ys (All-tail P x (xs ++ ys) a) in (All-cons P x xs (All-head P x (xs ++ ys) a) rest.0, rest.1)
 
-pub pictures_stay : (e : Entry) (history : History) (places : List ℕ) → All (λ p. p < length history) places → pictures_at (e ∷ history) places ≡ pictures_at history places
+pub pictures_stay : (e : Entry) (history : History) (indices : List ℕ) → All (λ p. p < length history) indices → pictures_at (e ∷ history) indices ≡ pictures_at history indices
 pictures_stay e history [] a = refl
-pictures_stay e history (p ∷ places) a =
-    ap₂ (λ x rest. entry_pictures x ++ rest) (entry_before e history p (All-head (λ p. p < length history) p places a))
-    (pictures_stay e history places (All-tail (λ p. p < length history) p places a))
+pictures_stay e history (p ∷ indices) a =
+    ap₂ (λ x rest. entry_pictures x ++ rest) (entry_before e history p (All-head (λ p. p < length history) p indices a))
+    (pictures_stay e history indices (All-tail (λ p. p < length history) p indices a))
 
 -- ---- what goes out over several entries
 
@@ -72,11 +72,11 @@ extends_more output e old history x = output_longer output e old history x ∙ a
 
 out_below : (output : Output) (old history : History) → Extends output old history → All (λ p. p < length history) (new_output output old history)
 out_below output old history x =
-    let out = (all_parts (λ p. p < length history) (buffer_of output history).out (all_held output history) (places_below output history)).0 in
+    let out = (all_parts (λ p. p < length history) (buffer_of output history).out (all_held output history) (all_indices_below output history)).0 in
     (all_parts (λ p. p < length history) (buffer_of output old).out (new_output output old history) (subst (All (λ p. p < length history)) x out)).1
 
 pub needed_below : (output : Output) (history : History) → All (λ p. p < length history) (all_held output history)
-needed_below output history = (all_parts (λ p. p < length history) (buffer_of output history).out (all_held output history) (places_below output history)).1
+needed_below output history = (all_parts (λ p. p < length history) (buffer_of output history).out (all_held output history) (all_indices_below output history)).1
 
 -- what goes out with one entry more
 pub output_more : (output : Output) (e : Entry) (old history : History) → Extends output old history
@@ -150,38 +150,38 @@ marked_buffer e h c idx previous s m marked is new set =
       works = (s.buffer).works;
       slots = (s.buffer).slots;
       frames =
-          ap (λ fs. with_marks fs marked) ((s.buffer).frames ∙ sym (map-map old (λ t. t.entry) b.frames))
+          ap (λ fs. with_marks fs marked) ((s.buffer).frames ∙ sym (map-map old (λ t. t.decoding_index) b.frames))
           ∙ marked_again e h (s.marks).references m.references (indices_in b) (length h ∷ []) marked low is.marks
-          ∙ map-map frame (λ t. t.entry) b.frames;
+          ∙ map-map frame (λ t. t.decoding_index) b.frames;
       rising = (s.buffer).rising;
     } in
     subst (λ v. IsBuffer v b (length h) frame) (sym set) there
 
 -- ---- the reference frames before the entry's own
 
-kept_remain : (rs : List Reference) (b : Buffer) → indices_of_references (entries rs) b ≡ filter (is_entry rs) (indices_in b)
-kept_remain rs b = sym (filter_map_places (λ s. s.entry) (is_entry rs) b.frames)
+kept_remain : (rs : List Reference) (b : Buffer) → indices_of_references (indices_of rs) b ≡ filter (is_index_of rs) (indices_in b)
+kept_remain rs b = sym (filter_map_indices (λ s. s.decoding_index) (is_index_of rs) b.frames)
 
-kept_alone : (rs : List Reference) (n : ℕ) (ps : List ℕ) → Each (λ r. r.entry ≡ n) rs → Each (λ p. p < n) ps → [] ≡ filter (is_entry rs) ps
-kept_alone rs n ps alone low = sym (no_filter (is_entry rs) ps (each_implies (λ p. p < n) (λ p. is_entry rs p ≡ false) ps (λ p l. no_entry rs n p l alone) low))
+kept_alone : (rs : List Reference) (n : ℕ) (ps : List ℕ) → Each (λ r. r.decoding_index ≡ n) rs → Each (λ p. p < n) ps → [] ≡ filter (is_index_of rs) ps
+kept_alone rs n ps alone low = sym (no_filter (is_index_of rs) ps (each_implies (λ p. p < n) (λ p. is_index_of rs p ≡ false) ps (λ p l. no_index_of rs n p l alone) low))
 
 -- they are in the buffer once the pictures before have gone out, or are none
-pub kept : (rs : List Reference) (n : ℕ) (b : Buffer) (prior : PriorPictures) (all : Bool) → (all ≡ true → Each (λ r. r.entry ≡ n) rs) → (all ≡ false → prior ≡ remain) →
-    Each (λ p. p < n) (indices_in b) → indices_of_references (entries rs) (after_prior_pictures prior b) ≡ filter (is_entry rs) (indices_in b)
+pub kept : (rs : List Reference) (n : ℕ) (b : Buffer) (prior : PriorPictures) (all : Bool) → (all ≡ true → Each (λ r. r.decoding_index ≡ n) rs) → (all ≡ false → prior ≡ remain) →
+    Each (λ p. p < n) (indices_in b) → indices_of_references (indices_of rs) (after_prior_pictures prior b) ≡ filter (is_index_of rs) (indices_in b)
 kept rs n b prior all alone stays low = grind (arith, kept_remain, kept_alone)
 
 -- ---- the entry's own
 
 -- the call knows of the arriving frame what the history says of the entry
 abbrev pub Arrives : Entry → History → ArrivingFrame → Marks → Type 0
-Arrives e h arriving m = arrival e h ≡ record (arrival_of arriving (entries m.references)) { prior_pictures = (arrival e h).prior_pictures }
+Arrives e h arriving m = arrival e h ≡ record (arrival_of arriving (indices_of m.references)) { prior_pictures = (arrival e h).prior_pictures }
 
 -- the buffer once the pictures before have gone out
 abbrev pub emptied : Output → Entry → History → Buffer
 emptied output e h = after_prior_pictures (arrival e h).prior_pictures (buffer_of output h)
 
 buffer_is : (output : Output) (e : Entry) (h : History) (arriving : ArrivingFrame) (m : Marks) → Arrives e h arriving m →
-    after_frame output (length h) (arrival_of arriving (entries m.references)) (emptied output e h) ≡ buffer_of output (e ∷ h)
+    after_frame output (length h) (arrival_of arriving (indices_of m.references)) (emptied output e h) ≡ buffer_of output (e ∷ h)
 buffer_is output e h arriving m arrives =
     ap (λ a. after_frame output (length h) a (emptied output e h)) (sym arrives)
     ∙ ap (λ n. after_frame output n (arrival e h) (emptied output e h)) (sym (length-arrivals h))
@@ -193,45 +193,45 @@ pub stored_buffer : (output : Output) (e : Entry) (h : History) (arriving : Arri
 stored_buffer output e h arriving m arrives old new frame out is same own stores =
     let n = length h in
     let at = frame_at (e ∷ h) m.references in
-    let has = stores (emptied output e h) n at (entries m.references) is
+    let has = stores (emptied output e h) n at (indices_of m.references) is
     (ap (map (λ f. is_some f.mark)) is.frames ∙ referenced_are (e ∷ h) m.references (emptied output e h).frames)
     own (ap (λ f. is_some f.mark) (sym own) ∙ referenced_is (e ∷ h) m.references n) in
     subst (λ b. HasBuffer new out (emptied output e h) b (n + 1) at)
-    (ap (λ o. after_frame o n (arrival_of arriving (entries m.references)) (emptied output e h)) same ∙ buffer_is output e h arriving m arrives) has
+    (ap (λ o. after_frame o n (arrival_of arriving (indices_of m.references)) (emptied output e h)) same ∙ buffer_is output e h arriving m arrives) has
 
 -- ---- the reference frames
 
 -- they are those of the decoding indices
-by_places : (h : History) (rs : List Reference) (qs : List ℕ) →
-    references_at qs (map (λ p. marked_frame (frame_at h rs p)) qs) ≡ map (λ p. reference_of p (marked_frame (frame_at h rs p))) (filter (is_entry rs) qs)
-by_places h rs qs = grind (arith, references_by, same_filter, referenced_is)
+by_indices : (h : History) (rs : List Reference) (qs : List ℕ) →
+    references_at qs (map (λ p. marked_frame (frame_at h rs p)) qs) ≡ map (λ p. reference_of p (marked_frame (frame_at h rs p))) (filter (is_index_of rs) qs)
+by_indices h rs qs = grind (arith, references_by, same_filter, referenced_is)
 
 -- there is room for the entry's own
 room : (output : Output) (e : Entry) (h : History) (m : Marks) (marked : List MarkedFrame) → IsMarked output e h m marked → (b : Buffer) →
-    indices_of_references (entries m.references) b ≡ filter (is_entry m.references) (indices_in (buffer_of output h)) → is_entry m.references (length h) ≡ true →
-    count_by (is_reference_in (entries m.references)) b.frames + 1 ≡ length m.references
+    indices_of_references (indices_of m.references) b ≡ filter (is_index_of m.references) (indices_in (buffer_of output h)) → is_index_of m.references (length h) ≡ true →
+    count_by (is_reference_in (indices_of m.references)) b.frames + 1 ≡ length m.references
 room output e h m marked is b same own =
     let n = length h in
     let ps = indices_in (buffer_of output h) in
     let rs = m.references in
     let frame : ℕ → Reference = λ p. reference_of p (marked_frame (frame_at (e ∷ h) rs p)) in
-    let counted : count_by (is_reference_in (entries rs)) b.frames ≡ length (filter (is_entry rs) ps) =
-    sym (length-filter (is_reference_in (entries rs)) b.frames) ∙ sym (length-map (filter (is_reference_in (entries rs)) b.frames) (λ s. s.entry)) ∙ ap length same in
+    let counted : count_by (is_reference_in (indices_of rs)) b.frames ≡ length (filter (is_index_of rs) ps) =
+    sym (length-filter (is_reference_in (indices_of rs)) b.frames) ∙ sym (length-map (filter (is_reference_in (indices_of rs)) b.frames) (λ s. s.decoding_index)) ∙ ap length same in
     ap (λ k. k + 1) counted
-    ∙ ap (λ l. length (filter (is_entry rs) ps) + length l) (sym (ap (λ t. cond t (n ∷ []) []) own))
-    ∙ sym (length-append (filter (is_entry rs) ps) (filter (is_entry rs) (n ∷ [])))
-    ∙ sym (ap length (filter-append (is_entry rs) ps (n ∷ [])))
-    ∙ sym (length-map (filter (is_entry rs) (ps ++ n ∷ [])) frame)
-    ∙ sym (ap length (is.references ∙ by_places (e ∷ h) rs (ps ++ n ∷ [])))
+    ∙ ap (λ l. length (filter (is_index_of rs) ps) + length l) (sym (ap (λ t. cond t (n ∷ []) []) own))
+    ∙ sym (length-append (filter (is_index_of rs) ps) (filter (is_index_of rs) (n ∷ [])))
+    ∙ sym (ap length (filter-append (is_index_of rs) ps (n ∷ [])))
+    ∙ sym (length-map (filter (is_index_of rs) (ps ++ n ∷ [])) frame)
+    ∙ sym (ap length (is.references ∙ by_indices (e ∷ h) rs (ps ++ n ∷ [])))
 
 last_own : (t : Bool) (n : ℕ) → (if t then n ∷ [] else []) ≡ cond t (n ∷ []) []
 last_own t n = grind arith
 
 -- The buffer has the reference frames of the longer history.
 pub stored_references : (output : Output) (e : Entry) (h : History) (arriving : ArrivingFrame) (m : Marks) (marked : List MarkedFrame) → Arrives e h arriving m → IsMarked output e h m marked →
-    (all : Bool) → (all ≡ true → Each (λ r. r.entry ≡ length h) m.references) → (all ≡ false → (arrival e h).prior_pictures ≡ remain) →
+    (all : Bool) → (all ≡ true → Each (λ r. r.decoding_index ≡ length h) m.references) → (all ≡ false → (arrival e h).prior_pictures ≡ remain) →
     Each (λ p. p < length h) (indices_in (buffer_of output h)) →
-    (is_entry m.references (length h) ≡ true → (arriving.is_reference || not arriving.existing) ≡ true) → length m.references ≤ arriving.capacity →
+    (is_index_of m.references (length h) ≡ true → (arriving.is_reference || not arriving.existing) ≡ true) → length m.references ≤ arriving.capacity →
     (old new : Contents) → IsBuffer old (emptied output e h) (length h) (frame_at (e ∷ h) m.references) →
     IsBuffer new (buffer_of output (e ∷ h)) (length h + 1) (frame_at (e ∷ h) m.references) →
     references_at (indices_in (buffer_of output (e ∷ h))) (map marked_frame new.frames) ≡ m.references
@@ -242,18 +242,18 @@ stored_references output e h arriving m marked arrives is all alone stays low st
     let b = emptied output e h in
     let b' = buffer_of output (e ∷ h) in
     let at = frame_at (e ∷ h) rs in
-    let a = arrival_of arriving (entries rs) in
-    let same : indices_of_references (entries rs) b ≡ filter (is_entry rs) ps = kept rs n (buffer_of output h) (arrival e h).prior_pictures all alone stays low in
-    let has_room : is_entry rs n ≡ true → HasRoom a b =
+    let a = arrival_of arriving (indices_of rs) in
+    let same : indices_of_references (indices_of rs) b ≡ filter (is_index_of rs) ps = kept rs n (buffer_of output h) (arrival e h).prior_pictures all alone stays low in
+    let has_room : is_index_of rs n ≡ true → HasRoom a b =
     λ own. let count = room output e h m marked is b same own in record { stored = stored own; room = omega (arith, limit, count) } in
-    let stay : indices_of_references (entries rs) b' ≡ indices_of_references (entries rs) b ++ (if is_entry rs n then n ∷ [] else []) =
-    sym (ap (indices_of_references (entries rs)) (buffer_is output e h arriving m arrives)) ∙ references_stay output n a b before.rising has_room in
-    let places : filter (is_entry rs) (indices_in b') ≡ filter (is_entry rs) (ps ++ n ∷ []) =
-    sym (kept_remain rs b') ∙ stay ∙ ap₂ (λ l r. l ++ r) same (last_own (is_entry rs n) n) ∙ sym (filter-append (is_entry rs) ps (n ∷ [])) in
-    ap (references_at (indices_in b')) (ap (map marked_frame) after.frames ∙ map-map marked_frame (λ s. at s.entry) b'.frames ∙ sym (map-map (λ p. marked_frame (at p)) (λ s. s.entry) b'.frames))
-    ∙ by_places (e ∷ h) rs (indices_in b')
-    ∙ ap (map (λ p. reference_of p (marked_frame (at p)))) places
-    ∙ sym (by_places (e ∷ h) rs (ps ++ n ∷ []))
+    let stay : indices_of_references (indices_of rs) b' ≡ indices_of_references (indices_of rs) b ++ (if is_index_of rs n then n ∷ [] else []) =
+    sym (ap (indices_of_references (indices_of rs)) (buffer_is output e h arriving m arrives)) ∙ references_stay output n a b before.rising has_room in
+    let indices : filter (is_index_of rs) (indices_in b') ≡ filter (is_index_of rs) (ps ++ n ∷ []) =
+    sym (kept_remain rs b') ∙ stay ∙ ap₂ (λ l r. l ++ r) same (last_own (is_index_of rs n) n) ∙ sym (filter-append (is_index_of rs) ps (n ∷ [])) in
+    ap (references_at (indices_in b')) (ap (map marked_frame) after.frames ∙ map-map marked_frame (λ s. at s.decoding_index) b'.frames ∙ sym (map-map (λ p. marked_frame (at p)) (λ s. s.decoding_index) b'.frames))
+    ∙ by_indices (e ∷ h) rs (indices_in b')
+    ∙ ap (map (λ p. reference_of p (marked_frame (at p)))) indices
+    ∙ sym (by_indices (e ∷ h) rs (ps ++ n ∷ []))
     ∙ sym is.references
 
 -- ---- the state once an entry's frame is stored, and the pictures that go out
@@ -306,19 +306,19 @@ each_both P Q R [] f h g = tt
 each_both P Q R (x ∷ xs) f h g = (f x h.0 g.0, each_both P Q R xs f h.1 g.1)
 
 -- what holds of the decoding indices before and of the entry's own
-sized_after : (output : Output) (P : ℕ → Type 0) (e : Entry) (h : History) → P (length h) → Each (λ s. P s.entry) (emptied output e h).frames → Each P (indices_in (buffer_of output (e ∷ h)))
+sized_after : (output : Output) (P : ℕ → Type 0) (e : Entry) (h : History) → P (length h) → Each (λ s. P s.decoding_index) (emptied output e h).frames → Each P (indices_in (buffer_of output (e ∷ h)))
 sized_after output P e h own old =
-    each_map P (λ s. s.entry) (buffer_of output (e ∷ h)).frames
+    each_map P (λ s. s.decoding_index) (buffer_of output (e ∷ h)).frames
     (each_after_frame P output (length (arrivals h)) (arrival e h) (emptied output e h) (subst P (sym (length-arrivals h)) own) old)
 
 own_sized : (e : Entry) (h : History) (width height : ℕ) → IfSome (planes_in (Some e)) (AreSized width height) → IfSome (planes_in (entry_at (e ∷ h) (length h))) (AreSized width height)
 own_sized e h width height sized = subst (λ o. IfSome (planes_in o) (AreSized width height)) (sym (entry_newest e h)) sized
 
 old_sized : (output : Output) (e : Entry) (h : History) (sps : Sps) → Each (λ p. p < length h) (indices_in (buffer_of output h)) → Each (IsSizedAt h sps) (indices_in (buffer_of output h)) →
-    Each (λ s. IsSizedAt (e ∷ h) sps s.entry) (emptied output e h).frames
+    Each (λ s. IsSizedAt (e ∷ h) sps s.decoding_index) (emptied output e h).frames
 old_sized output e h sps low sized =
     each_prior (IsSizedAt (e ∷ h) sps) (arrival e h).prior_pictures (buffer_of output h)
-    (each_from_map (IsSizedAt (e ∷ h) sps) (λ s. s.entry) (buffer_of output h).frames
+    (each_from_map (IsSizedAt (e ∷ h) sps) (λ s. s.decoding_index) (buffer_of output h).frames
     (each_both (λ p. p < length h) (IsSizedAt h sps) (IsSizedAt (e ∷ h) sps) (indices_in (buffer_of output h))
     (λ p l old. subst (λ o. IfSome (planes_in o) (AreSized (width_in_mbs sps) (height_in_mbs sps))) (sym (entry_before e h p l)) old) low sized))
 
@@ -352,7 +352,7 @@ still_sized output (decoded_picture sps header planes) h follows low sized = by 
     by : (idr : Bool) → is_idr header ≡ idr → IfSome (elim idr as (λ _. Option Sps) [ true ↦ Some sps | false ↦ sequence_sps h ]) (IsSized output (e ∷ h))
     by true idr =
         sized_after output (IsSizedAt (e ∷ h) sps) e h (own_sized e h (width_in_mbs sps) (height_in_mbs sps) follows.1)
-        (subst (Each (λ s. IsSizedAt (e ∷ h) sps s.entry)) (sym (none_emptied output e h (follows.2 idr))) tt)
+        (subst (Each (λ s. IsSizedAt (e ∷ h) sps s.decoding_index)) (sym (none_emptied output e h (follows.2 idr))) tt)
     by false idr = sized_in_sequence output e h ((follows.0).same idr) follows.1 low sized
 
 -- ---- the pictures that go out
@@ -380,7 +380,7 @@ pub few_marked : (i : FrameBuffer) (frames : List (Frame 32)) (marked : List Mar
 few_marked i frames marked invariant on is marked_is = rw (marked_is, length-map, is) (few_needed i invariant on, few_needed i invariant on)
 
 frames_are : (h : History) (c : Contents) (idx : Option ℕ) (previous : ℕ) (s : IsStateAfter h c idx previous) → c.frames ≡ map (frame_at h (s.marks).references) (indices_in (buffer_of c.output h))
-frames_are h c idx previous s = (s.buffer).frames ∙ sym (map-map (frame_at h (s.marks).references) (λ t. t.entry) (buffer_of c.output h).frames)
+frames_are h c idx previous s = (s.buffer).frames ∙ sym (map-map (frame_at h (s.marks).references) (λ t. t.decoding_index) (buffer_of c.output h).frames)
 
 pub are_stored : (h : History) (c : Contents) (idx : Option ℕ) (previous : ℕ) → IsStateAfter h c idx previous → AreStoredIn h c.frames
 are_stored h c idx previous s =
@@ -391,7 +391,7 @@ are_stored h c idx previous s =
     let references : references_at ps (map (λ p. marked_frame (at p)) ps) ≡ rs =
     ap (references_at ps) (sym (ap (map marked_frame) frames ∙ map-map marked_frame at ps)) ∙ s.references in
     record {
-      entries = ps;
+      indices = ps;
       stand = record {
         each = sym (length-map c.frames marked_frame ∙ ap length frames ∙ length-map ps at);
         rising = increasing ps (length h) (rise (buffer_of c.output h).frames (length h) (s.buffer).rising);
@@ -426,13 +426,13 @@ room_of sps = grind arith
 capacity_is : (e : Entry) (h : History) → (arrival e h).capacity ≡ dpb_size (sps_of e)
 capacity_is e h = grind arith
 
-not_entry : (rs : List Reference) (n : ℕ) → Each (λ r. r.entry < n) rs → is_entry rs n ≡ false
-not_entry [] n h = refl
-not_entry (r ∷ rs) n h = grind (arith, nat_tests, not_entry rs n h.1)
+not_index_of : (rs : List Reference) (n : ℕ) → Each (λ r. r.decoding_index < n) rs → is_index_of rs n ≡ false
+not_index_of [] n h = refl
+not_index_of (r ∷ rs) n h = grind (arith, nat_tests, not_index_of rs n h.1)
 
 -- an entry whose frame is a reference frame is stored by making room for it
-stored_by : (e : Entry) (h : History) (m m' : Marks) → Follows e h → Each (λ r. r.entry < length h) m.references →
-    marks_after (marking_entry e) (length h) (marking_entry e).marking m ≡ Ok m' → is_entry m'.references (length h) ≡ true →
+stored_by : (e : Entry) (h : History) (m m' : Marks) → Follows e h → Each (λ r. r.decoding_index < length h) m.references →
+    marks_after (marking_entry e) (length h) (marking_entry e).marking m ≡ Ok m' → is_index_of m'.references (length h) ≡ true →
     ((arrival e h).is_reference || not (arrival e h).existing) ≡ true
 stored_by (missing_frame sps frame_num) h m m' follows low after own = refl
 stored_by (decoded_picture sps header planes) h m m' follows low after own = ap (λ b. b || false) (by_marking header.marking refl)
@@ -444,7 +444,7 @@ stored_by (decoded_picture sps header planes) h m m' follows low after own = ap 
     by_marking (Some marking) is = sym (follows.0).reference ∙ ap is_some is
     by_marking None is =
         let same = same_marks (ap (λ x. marks_after (marking_entry (decoded_picture sps header planes)) (length h) x m) (sym is) ∙ after) in
-        wrong (sym (not_entry m.references (length h) low) ∙ ap (λ rs. is_entry rs (length h)) same ∙ own)
+        wrong (sym (not_index_of m.references (length h) low) ∙ ap (λ rs. is_index_of rs (length h)) same ∙ own)
 
 prior_stays : (e : Entry) (h : History) → unmarks_all (marking_entry e).marking ≡ false → (arrival e h).prior_pictures ≡ remain
 prior_stays e h none = grind (arith, prior_remains)
@@ -465,7 +465,7 @@ pub record IsTaken (output : Output) (e : Entry) (h : History) (c : Contents) (i
 
 pub taken : (e : Entry) (h : History) (c : Contents) (idx : Option ℕ) (previous : ℕ) → IsStateAfter h c idx previous → Follows e h → IsSps (sps_of e) →
     (old new : List MarkedFrame) (new_idx : Option ℕ) → old ≡ map marked_frame c.frames → length new ≡ length old + 1 →
-    MarksFrame (λ entry. marks_after (marking_entry e) entry (marking_entry e).marking) old idx (Ok tt) new new_idx →
+    MarksFrame (λ index. marks_after (marking_entry e) index (marking_entry e).marking) old idx (Ok tt) new new_idx →
     (after_marks after_prior after_store : Contents) → after_marks ≡ with_all_marks c new →
     (prior out : List Picture) → OutputsPrior (arrival e h).prior_pictures after_marks prior after_prior → after_prior.output ≡ after_marks.output →
     (frame : Frame 32) (k : ℕ) (d : MarkedFrame) → k + 1 ≡ length new → frame ≡ frame_of (Some e) (slice_index_or new k d).mark →
@@ -489,12 +489,12 @@ taken e h c idx previous s follows limits old new new_idx old_is long marks afte
     let own = own_frame c.output e h m new is k d last ∙ sym made in
     let has = stored_buffer c.output e h arriving m arrives after_prior after_store frame out before.buffer needed_for_output own stores in
     let after : marks_after (marking_entry e) n (marking_entry e).marking s.marks ≡ Ok m = sym (marks_then e h s.marks s.marked) ∙ marked in
-    let old_below : Each (λ r. r.entry < n) (s.marks).references = subst (Each (λ r. r.entry < n)) s.references (each_entry (λ p. p < n) (indices_in (buffer_of c.output h)) (map marked_frame c.frames) low) in
+    let old_below : Each (λ r. r.decoding_index < n) (s.marks).references = subst (Each (λ r. r.decoding_index < n)) s.references (each_index (λ p. p < n) (indices_in (buffer_of c.output h)) (map marked_frame c.frames) low) in
     let few = is_few e h s.marks m follows s.few after in
     let capacity : arriving.capacity ≡ dpb_size (sps_of e) = sym (ap (λ a. a.capacity) arrives) ∙ capacity_is e h in
     let limit : length rs ≤ arriving.capacity = omega (arith, few.1, room_of (sps_of e), capacity) in
     let within : (arrival e h).capacity ≤ 16 = subst (λ k. k ≤ 16) (sym (capacity_is e h)) (capacity_of (sps_of e) limits.references) in
-    let stored : is_entry rs n ≡ true → (arriving.is_reference || not arriving.existing) ≡ true =
+    let stored : is_index_of rs n ≡ true → (arriving.is_reference || not arriving.existing) ≡ true =
     λ here. sym (ap (λ a. a.is_reference || not a.existing) arrives) ∙ stored_by e h s.marks m follows old_below after here in
     let next : n + 1 ≡ length (e ∷ h) = omega arith in
     record {

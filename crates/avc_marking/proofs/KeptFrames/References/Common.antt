@@ -31,7 +31,7 @@ pub use Rattle.avc_types.specs.declared.references.Marking.TheVariants.{Idr, Sli
 pub use Rattle.avc_types.specs.declared.references.Operation.{Operation}
 pub use Rattle.avc_types.specs.declared.references.Operation.TheVariants.{UnmarkShortTerm, UnmarkLongTerm, UnmarkAll, AssignLongTerm, MaxLongTermFrameIdx}
 pub use Rattle.avc_types.specs.declared.references.Operation.TheVariants.{CurrentToLongTerm}
-pub use Rattle.avc_marking.specs.Frames.{unmarked, unmarked_if, entries_with, StandWith, StandBefore, is_to_unmark, marking_entry, marks_at, operation_state}
+pub use Rattle.avc_marking.specs.Frames.{unmarked, unmarked_if, indices_with, StandWith, StandBefore, is_to_unmark, marking_entry, marks_at, operation_state}
 pub use Rattle.avc_marking.specs.Frames.{first_in_window_of}
 pub use Rattle.avc_marking.specs.Laws.{StandBelow, StandFrom, CountFrom, WindowTakesTheFirst, IsSameFrame, IsPartUpToMarks, AddsOwnFrameAlone, unmarks_all}
 pub use Rattle.avc_marking.specs.Laws.{LeavesOwnFrameAlone, SlidesAgain, StaysLimited, IsLimited}

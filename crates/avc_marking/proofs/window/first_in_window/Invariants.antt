@@ -5,6 +5,6 @@ abbrev pub invariant-loop-place : goal.invariant-loop-place
 invariant-loop-place l = record {
   later : IfSome l.first (λ other. l.place ≤ other);
   within : IfSome l.first (λ other. other < length l.frames);
-  first : (entries : List ℕ) → StandAt entries l.frames →
-      first_in_window l.new.current (references_at (drop l.place entries) (drop l.place l.frames)) ≡ option_map (reference_at entries l.frames) l.first;
+  first : (indices : List ℕ) → StandAt indices l.frames →
+      first_in_window l.new.current (references_at (drop l.place indices) (drop l.place l.frames)) ≡ option_map (reference_at indices l.frames) l.first;
 }

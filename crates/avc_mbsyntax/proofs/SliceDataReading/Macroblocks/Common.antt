@@ -35,7 +35,7 @@ pub use Rattle.avc_types.specs.declared.macroblock.SubMbType.{SubMbType}
 pub use Rattle.avc_types.specs.declared.macroblock.SubMbType.TheVariants.{Sub8x8, Sub8x4, Sub4x8, Sub4x4}
 pub use Rattle.avc_types.specs.declared.mb.BlockLevels.{BlockLevels}
 pub use Rattle.avc_vlc.specs.Reading.{Table, table_code, token_table, tokens_8, total_zeros}
-pub use Rattle.avc_vlc.specs.declared.token.Token.{Token}
+pub use Rattle.avc_vlc.specs.declared.coeff_token.Token.{Token}
 pub use Rattle.avc_mbsyntax.specs.Ranges.{AreSmall, IsResidual, IsSyntax}
 pub use Rattle.avc_mbsyntax.specs.Reading.{block_where, is_coded, no_levels, after_pattern, cb_side, cr_side, i_16x16_mb, luma_dc_levels, luma_pattern_of}
 pub use Rattle.avc_mbsyntax.specs.Reading.{luma_side, qp_after, qp_delta, qp_delta_where, residual_blocks, with_residual, i_mb, i_pcm_mb, block_mode, rem_mode}

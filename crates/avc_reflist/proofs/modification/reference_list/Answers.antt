@@ -11,11 +11,11 @@ returns-clause-within c =
     (places-within P c.args.count c.in_ok-named.named.items c.deref.result.now c.in_ok-named.ensures.within others))
 
 pub returns-clause-list : goal.returns-clause-list
-returns-clause-list c = λ entries stand.
-    let ref = reference_at entries c.args.frames.now in
+returns-clause-list c = λ indices stand.
+    let ref = reference_at indices c.args.frames.now in
     let others : All (λ place. place < length c.args.frames.now) c.deref.result.now = rw c.deref.ensures.0 c.initial_list-others.ensures.within in
     rw (c.new.ensures, c.with_initial_list.ensures)
-    (list_of_places entries c.args.frames.now c.args.count c.in_ok-named.named.items c.deref.result.now
-    (initial_list c.args.current (references_at entries c.args.frames.now))
-    (modification_frames c.args.current c.args.current.frame_num c.args.modifications.now (references_at entries c.args.frames.now))
-    stand c.in_ok-named.ensures.within others (c.in_ok-named.ensures.named entries stand) (ap (map ref) c.deref.ensures.0 ∙ sym (c.initial_list-others.ensures.list entries stand)))
+    (list_of_places indices c.args.frames.now c.args.count c.in_ok-named.named.items c.deref.result.now
+    (initial_list c.args.current (references_at indices c.args.frames.now))
+    (modification_frames c.args.current c.args.current.frame_num c.args.modifications.now (references_at indices c.args.frames.now))
+    stand c.in_ok-named.ensures.within others (c.in_ok-named.ensures.named indices stand) (ap (map ref) c.deref.ensures.0 ∙ sym (c.initial_list-others.ensures.list indices stand)))

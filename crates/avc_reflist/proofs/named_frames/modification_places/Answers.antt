@@ -10,11 +10,11 @@ loop-modification-preserved c =
       few = rw c.add.ensures (omega (arith, length-take {A = ℕ}));
       within = rw c.add.ensures (All-take P c.args.count (loop.list.items ++ c.in_ok-place.place ∷ [])
           (All-push P loop.list.items c.in_ok-place.place loop.invariant.within c.in_ok-place.ensures.within));
-      frames = λ entries stand.
-          let ref = reference_at entries c.args.frames.now in
-          loop.invariant.frames entries stand
+      frames = λ indices stand.
+          let ref = reference_at indices c.args.frames.now in
+          loop.invariant.frames indices stand
           ∙ rw (c.add.ensures, map-cut ref c.args.count loop.list.items c.in_ok-place.place)
-          (names-step c.args.count (references_at entries c.args.frames.now) (map ref loop.list.items) c.args.current loop.number
+          (names-step c.args.count (references_at indices c.args.frames.now) (map ref loop.list.items) c.args.current loop.number
           c.pic_num_no_wrap-number.result loop.modification-index c.args.modifications.now (ref c.in_ok-place.place) (omega arith) c.pic_num_no_wrap-number.ensures
-          (c.in_ok-place.ensures.named entries stand));
+          (c.in_ok-place.ensures.named indices stand));
     }

@@ -6,8 +6,8 @@ abbrev pub invariant-loop-modification : goal.invariant-loop-modification
 invariant-loop-modification l = record {
   few : length l.list.items ≤ l.count;
   within : All (λ place. place < length l.frames) l.list.items;
-  frames : (entries : List ℕ) → StandAt entries l.frames →
-      result_map (take l.count) (modification_frames l.current l.current.frame_num l.modifications (references_at entries l.frames))
-      ≡ result_map (λ rest. take l.count (map (reference_at entries l.frames) l.list.items ++ rest))
-      (modification_frames l.current l.number (drop l.modification-index l.modifications) (references_at entries l.frames));
+  frames : (indices : List ℕ) → StandAt indices l.frames →
+      result_map (take l.count) (modification_frames l.current l.current.frame_num l.modifications (references_at indices l.frames))
+      ≡ result_map (λ rest. take l.count (map (reference_at indices l.frames) l.list.items ++ rest))
+      (modification_frames l.current l.number (drop l.modification-index l.modifications) (references_at indices l.frames));
 }

@@ -34,4 +34,4 @@ pub use Rattle.avc_vlc.specs.Tables.{coeff_token_0, coeff_token_2, coeff_token_4
 pub use Rattle.avc_vlc.specs.Tables.{coeff_token_chroma_dc, cbp_intra, cbp_inter}
 pub use Rattle.avc_vlc.specs.Writing.{is_number_same, is_token_same, run_word, token_word, word_of, zeros_word, number_is_same, token_is_same}
 pub use Rattle.avc_vlc.specs.declared.entry.Entry.{Entry}
-pub use Rattle.avc_vlc.specs.declared.token.Token.{Token}
+pub use Rattle.avc_vlc.specs.declared.coeff_token.Token.{Token}

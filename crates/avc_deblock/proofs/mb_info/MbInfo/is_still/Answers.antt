@@ -1,4 +1,4 @@
-use Rattle.avc_deblock.proofs.FilteredPictures.{◌≡◌, ◌∙◌, true, arith, sym, ◌&&◌, and_parts, nat_tests, one_motion}
+use Rattle.avc_deblock.proofs.FilteredPictures.{arith, and_parts, one_motion}
 use Rattle.avc_deblock.proofs.mb_info.MbInfo.is_still.Goals as goal
 
 pub returns-clause-strengths : goal.returns-clause-strengths

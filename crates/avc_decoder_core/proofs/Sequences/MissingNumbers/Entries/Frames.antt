@@ -37,12 +37,12 @@ Rise (p ∷ ps) n = (p < n) × Each (λ q. p < q) ps × Rise ps n
 above : (p q : ℕ) → p < q → (ps : List ℕ) → Each (λ r. q < r) ps → Each (λ r. p < r) ps
 above p q low ps h = each_implies (λ r. q < r) (λ r. p < r) ps (λ r higher. omega (arith, low, higher)) h
 
-pub rise : (frames : List Stored) (n : ℕ) → IsRising frames n → Rise (map (λ s. s.entry) frames) n
+pub rise : (frames : List Stored) (n : ℕ) → IsRising frames n → Rise (map (λ s. s.decoding_index) frames) n
 rise [] n h = h
 rise (s ∷ []) n h = (h, tt, tt)
 rise (s ∷ t ∷ frames) n h =
     let rest = rise (t ∷ frames) n h.1 in
-    (omega (arith, h.0, rest.0), (h.0, above s.entry t.entry h.0 (map (λ s. s.entry) frames) rest.1), rest)
+    (omega (arith, h.0, rest.0), (h.0, above s.decoding_index t.decoding_index h.0 (map (λ s. s.decoding_index) frames) rest.1), rest)
 
 pub below : (ps : List ℕ) (n : ℕ) → Rise ps n → Each (λ p. p < n) ps
 below [] n h = h
@@ -67,33 +67,33 @@ increasing (p ∷ ps) n h = increasing-cons p ps h.1 (increasing ps n h.2)
 
 -- ---- the reference frames among frames of the buffer
 
-abbrev pub entries : List Reference → List ℕ
-entries references = map (λ r. r.entry) references
+abbrev pub indices_of : List Reference → List ℕ
+indices_of references = map (λ r. r.decoding_index) references
 
-abbrev pub is_entry : List Reference → (index : ℕ) → Bool
-is_entry references index = list_any (λ r. r == index) (entries references)
+abbrev pub is_index_of : List Reference → (index : ℕ) → Bool
+is_index_of references index = list_any (λ r. r == index) (indices_of references)
 
 -- ---- the decoding indices of reference frames
 
-pub is_entry_marked : (rs : List Reference) (p : ℕ) → is_some (mark_in rs p) ≡ is_entry rs p
-is_entry_marked [] p = refl
-is_entry_marked (r ∷ rs) p = grind (arith, is_entry_marked rs p)
+pub is_index_of_marked : (rs : List Reference) (p : ℕ) → is_some (mark_in rs p) ≡ is_index_of rs p
+is_index_of_marked [] p = refl
+is_index_of_marked (r ∷ rs) p = grind (arith, is_index_of_marked rs p)
 
 -- an entry among frames and others
-pub is_entry-append : (xs ys : List Reference) (p : ℕ) → is_entry (xs ++ ys) p ≡ (is_entry xs p || is_entry ys p)
-is_entry-append [] ys p = refl
-is_entry-append (x ∷ xs) ys p = grind (arith, is_entry-append xs ys p)
+pub is_index_of-append : (xs ys : List Reference) (p : ℕ) → is_index_of (xs ++ ys) p ≡ (is_index_of xs p || is_index_of ys p)
+is_index_of-append [] ys p = refl
+is_index_of-append (x ∷ xs) ys p = grind (arith, is_index_of-append xs ys p)
 
 -- ---- the reference frames of rising decoding indices
 
 -- what holds of all decoding indices holds of the entries
-pub each_entry : (P : ℕ → Type 0) (ps : List ℕ) (fs : List MarkedFrame) → Each P ps → Each (λ r. P r.entry) (references_at ps fs)
-each_entry P [] fs h = tt
-each_entry P (p ∷ ps) [] h = tt
-each_entry P (p ∷ ps) (f ∷ fs) h = grind (arith, each_entry P ps fs h.1)
+pub each_index : (P : ℕ → Type 0) (ps : List ℕ) (fs : List MarkedFrame) → Each P ps → Each (λ r. P r.decoding_index) (references_at ps fs)
+each_index P [] fs h = tt
+each_index P (p ∷ ps) [] h = tt
+each_index P (p ∷ ps) (f ∷ fs) h = grind (arith, each_index P ps fs h.1)
 
 -- no reference frame stands with a decoding index below all of them
-unmarked_below : (rs : List Reference) (p : ℕ) → Each (λ r. p < r.entry) rs → mark_in rs p ≡ None
+unmarked_below : (rs : List Reference) (p : ℕ) → Each (λ r. p < r.decoding_index) rs → mark_in rs p ≡ None
 unmarked_below [] p h = refl
 unmarked_below (r ∷ rs) p h = grind (arith, nat_tests, unmarked_below rs p h.1)
 
@@ -105,7 +105,7 @@ marks_are (p ∷ ps) n [] rise long = absurd (omega (arith, long))
 marks_are (p ∷ ps) n (f ∷ fs) rise long = ap₂ (λ m ms. m ∷ ms) first (later ps rise.1 ∙ marks_are ps n fs rise.2 (omega (arith, long)))
   where
     first : mark_in (references_at (p ∷ ps) (f ∷ fs)) p ≡ f.mark
-    first = let none = unmarked_below (references_at ps fs) p (each_entry (λ q. p < q) ps fs rise.1) in grind (arith, nat_tests, none)
+    first = let none = unmarked_below (references_at ps fs) p (each_index (λ q. p < q) ps fs rise.1) in grind (arith, nat_tests, none)
 
     later : (qs : List ℕ) → Each (λ q. p < q) qs → map (mark_in (references_at (p ∷ ps) (f ∷ fs))) qs ≡ map (mark_in (references_at ps fs)) qs
     later [] h = refl
@@ -121,8 +121,8 @@ references_by frame (p ∷ ps) = grind (arith, references_by frame ps)
 
 -- the same number, and both or neither a picture
 pub record IsOf (frame : ℕ → MarkedFrame) (r : Reference) : Type 0 where
-  pub frame_num : r.frame_num ≡ (frame r.entry).frame_num
-  pub existing : r.existing ≡ (frame r.entry).existing
+  pub frame_num : r.frame_num ≡ (frame r.decoding_index).frame_num
+  pub existing : r.existing ≡ (frame r.decoding_index).existing
 
 -- Frames whose marks and numbers are those of their decoding indices may stand for them.
 pub same_references : (frame : ℕ → MarkedFrame) (ps : List ℕ) (fs : List MarkedFrame) → length ps ≡ length fs →
@@ -143,18 +143,18 @@ pub same_filter : {A : Type 0} (p q : A → Bool) (xs : List A) → ((x : A) →
 same_filter p q [] same = refl
 same_filter p q (x ∷ xs) same = grind (arith, same x, same_filter p q xs same)
 
-pub filter_map_places : {A B : Type 0} (f : A → B) (p : B → Bool) (xs : List A) → filter p (map f xs) ≡ map f (filter (λ x. p (f x)) xs)
-filter_map_places f p [] = refl
-filter_map_places f p (x ∷ xs) = grind (arith, filter_map_places f p xs)
+pub filter_map_indices : {A B : Type 0} (f : A → B) (p : B → Bool) (xs : List A) → filter p (map f xs) ≡ map f (filter (λ x. p (f x)) xs)
+filter_map_indices f p [] = refl
+filter_map_indices f p (x ∷ xs) = grind (arith, filter_map_indices f p xs)
 
 pub no_filter : {A : Type 0} (p : A → Bool) (xs : List A) → Each (λ x. p x ≡ false) xs → filter p xs ≡ []
 no_filter p [] h = refl
 no_filter p (x ∷ xs) h = grind (arith, no_filter p xs h.1)
 
 -- no reference frame has an entry that all of them differ from
-pub no_entry : (rs : List Reference) (n p : ℕ) → p < n → Each (λ r. r.entry ≡ n) rs → is_entry rs p ≡ false
-no_entry [] n p low h = refl
-no_entry (r ∷ rs) n p low h = grind (arith, nat_tests, no_entry rs n p low h.1)
+pub no_index_of : (rs : List Reference) (n p : ℕ) → p < n → Each (λ r. r.decoding_index ≡ n) rs → is_index_of rs p ≡ false
+no_index_of [] n p low h = refl
+no_index_of (r ∷ rs) n p low h = grind (arith, nat_tests, no_index_of rs n p low h.1)
 
 -- ---- the frames of a history, as the buffer stores them: of an entry
 
@@ -191,13 +191,13 @@ pictures_are h references (p ∷ ps) =
     ap (cons_option (shown_frame (frame_at h references p))) (pictures_are h references ps) ∙ shown_one (entry_at h p) (mark_in references p) (pictures_at h ps)
 
 -- which are reference frames
-pub referenced_is : (h : History) (references : List Reference) (p : ℕ) → is_some (frame_at h references p).mark ≡ is_entry references p
-referenced_is h references p = ap is_some (mark_is (entry_at h p) (mark_in references p)) ∙ is_entry_marked references p
+pub referenced_is : (h : History) (references : List Reference) (p : ℕ) → is_some (frame_at h references p).mark ≡ is_index_of references p
+referenced_is h references p = ap is_some (mark_is (entry_at h p) (mark_in references p)) ∙ is_index_of_marked references p
 
 pub referenced_are : (h : History) (references : List Reference) (frames : List Stored) →
-    map (λ f. is_some f.mark) (map (λ s. frame_at h references s.entry) frames) ≡ map (is_reference_in (entries references)) frames
+    map (λ f. is_some f.mark) (map (λ s. frame_at h references s.decoding_index) frames) ≡ map (is_reference_in (indices_of references)) frames
 referenced_are h references [] = refl
-referenced_are h references (s ∷ frames) = ap₂ (λ b bs. b ∷ bs) (referenced_is h references s.entry) (referenced_are h references frames)
+referenced_are h references (s ∷ frames) = ap₂ (λ b bs. b ∷ bs) (referenced_is h references s.decoding_index) (referenced_are h references frames)
 
 -- the reference frames with their planes
 stored_one : (h : History) (references : List Reference) (p : ℕ) → stored_frame p (frame_at h references p) ≡ stored h (reference_of p (marked_frame (frame_at h references p)))
@@ -240,14 +240,14 @@ marks_then e h m is = grind (arith, length-map)
 stand_before : (h : History) (c : Contents) (b : Buffer) (frame : ℕ → Frame 32) (old : List MarkedFrame) → IsBuffer c b (length h) frame →
     old ≡ map marked_frame c.frames → StandBefore (indices_in b) (length h) old
 stand_before h c b frame old buffer is = record {
-  each = length-map b.frames (λ s. s.entry) ∙ sym (ap length is ∙ length-map c.frames marked_frame ∙ ap length buffer.frames ∙ length-map b.frames (λ s. frame s.entry));
+  each = length-map b.frames (λ s. s.decoding_index) ∙ sym (ap length is ∙ length-map c.frames marked_frame ∙ ap length buffer.frames ∙ length-map b.frames (λ s. frame s.decoding_index));
   rising = increasing (indices_in b ++ length h ∷ []) (length h + 1) (rise_more (indices_in b) (length h) (length h + 1) (omega arith) (rise b.frames (length h) buffer.rising));
 }
 
 -- The marks of the longer history are those of the frames, or there is the fault.
 pub marked_then : (e : Entry) (h : History) (c : Contents) (idx : Option ℕ) (previous : ℕ) (s : IsStateAfter h c idx previous)
     (old new : List MarkedFrame) (r : Result (Unit {0}) Fault) (new_idx : Option ℕ) → old ≡ map marked_frame c.frames →
-    MarksFrame (λ entry. marks_after (marking_entry e) entry (marking_entry e).marking) old idx r new new_idx →
+    MarksFrame (λ index. marks_after (marking_entry e) index (marking_entry e).marking) old idx r new new_idx →
     marks_of (e ∷ h) ≡ or_fault r (marks_at (indices_in (buffer_of c.output h) ++ length h ∷ []) new new_idx)
 marked_then e h c idx previous s old new r new_idx is marks = grind (arith, marks_then, stand_before)
 
@@ -256,8 +256,8 @@ pub record IsMarked (output : Output) (e : Entry) (h : History) (m : Marks) (mar
   pub marks_is : marks_of (e ∷ h) ≡ Ok m
   pub marks : map (mark_in m.references) (indices_in (buffer_of output h) ++ length h ∷ []) ≡ map (λ f. f.mark) marked
   pub references : m.references ≡ references_at (indices_in (buffer_of output h) ++ length h ∷ []) (map (λ p. marked_frame (frame_at (e ∷ h) m.references p)) (indices_in (buffer_of output h) ++ length h ∷ []))
-  pub alone : unmarks_all (marking_entry e).marking ≡ true → Each (λ r. r.entry ≡ length h) m.references
-  pub below : Each (λ r. r.entry < length h + 1) m.references
+  pub alone : unmarks_all (marking_entry e).marking ≡ true → Each (λ r. r.decoding_index ≡ length h) m.references
+  pub below : Each (λ r. r.decoding_index < length h + 1) m.references
 
 -- what holds of the frames before holds of those that an entry leaves
 pub part_each : (Q : Reference → Type 0) → ((r s : Reference) → IsSameFrame r s → Q s → Q r) → (new old : List Reference) → IsPartUpToMarks new old → Each Q old → Each Q new
@@ -290,28 +290,28 @@ is_marked e h c idx previous s m new long is references =
     let own = current_frame (marking_entry e) n Short in
     let rising = rise b.frames n (s.buffer).rising in
     let each : length qs ≡ length new =
-    length-append ps (n ∷ []) ∙ ap (λ k. k + 1) (length-map b.frames (λ s. s.entry) ∙ sym (ap length (s.buffer).frames ∙ length-map b.frames (λ t. frame_at h (s.marks).references t.entry))) ∙ sym long in
+    length-append ps (n ∷ []) ∙ ap (λ k. k + 1) (length-map b.frames (λ s. s.decoding_index) ∙ sym (ap length (s.buffer).frames ∙ length-map b.frames (λ t. frame_at h (s.marks).references t.decoding_index))) ∙ sym long in
     let marks : map (mark_in m.references) qs ≡ map (λ f. f.mark) new =
     ap (λ rs. map (mark_in rs) qs) references ∙ marks_are qs (n + 1) new (rise_more ps n (n + 1) (omega arith) rising) each in
     let after : marks_after (marking_entry e) n (marking_entry e).marking s.marks ≡ Ok m = sym (marks_then e h s.marks s.marked) ∙ is in
     let old : references_at ps (map before ps) ≡ (s.marks).references =
-    ap (references_at ps) (map-map before (λ t. t.entry) b.frames ∙ sym (ap (map marked_frame) (s.buffer).frames ∙ map-map marked_frame (λ t. frame_at h (s.marks).references t.entry) b.frames)) ∙ s.references in
-    let entries_below : Each (λ r. r.entry < n) (s.marks).references = subst (Each (λ r. r.entry < n)) old (each_entry (λ p. p < n) ps (map before ps) (below ps n rising)) in
-    let part = adds_own_frame_alone (marking_entry e) n s.marks m (each_all (λ r. r.entry < n) (s.marks).references entries_below) after in
+    ap (references_at ps) (map-map before (λ t. t.decoding_index) b.frames ∙ sym (ap (map marked_frame) (s.buffer).frames ∙ map-map marked_frame (λ t. frame_at h (s.marks).references t.decoding_index) b.frames)) ∙ s.references in
+    let indices_below : Each (λ r. r.decoding_index < n) (s.marks).references = subst (Each (λ r. r.decoding_index < n)) old (each_index (λ p. p < n) ps (map before ps) (below ps n rising)) in
+    let part = adds_own_frame_alone (marking_entry e) n s.marks m (each_all (λ r. r.decoding_index < n) (s.marks).references indices_below) after in
     let of_old : Each (IsOf frame) (s.marks).references =
     subst (Each (IsOf frame)) old (each_reference (IsOf frame) before ps
     (each_implies (λ p. p < n) (λ p. IsOf frame (reference_of p (before p))) ps (old_is_of e h m.references (s.marks).references) (below ps n rising))) in
     let of_own : IsOf frame own = own_is_of e h m.references in
     let of : Each (IsOf frame) m.references = part_each (IsOf frame) (same_of frame) m.references ((s.marks).references ++ own ∷ []) part (each_append (IsOf frame) (s.marks).references (own ∷ []) of_old (of_own, tt)) in
-    let near : Each (λ r. r.entry < n + 1) (s.marks).references = each_implies (λ r. r.entry < n) (λ r. r.entry < n + 1) (s.marks).references (λ r low. omega (arith, low)) entries_below in
+    let near : Each (λ r. r.decoding_index < n + 1) (s.marks).references = each_implies (λ r. r.decoding_index < n) (λ r. r.decoding_index < n + 1) (s.marks).references (λ r low. omega (arith, low)) indices_below in
     record {
       marks_is = is;
       marks = marks;
       references = references ∙ same_references frame qs new each (same_marks (e ∷ h) m.references qs ∙ marks) (subst (Each (IsOf frame)) references of);
-      alone = λ all. part_each (λ r. r.entry ≡ n) (λ r t same at. same.same_entry ∙ at) m.references (own ∷ [])
+      alone = λ all. part_each (λ r. r.decoding_index ≡ n) (λ r t same at. same.same_decoding_index ∙ at) m.references (own ∷ [])
           (leaves_own_frame_alone (marking_entry e) n s.marks m all after) (refl, tt);
-      below = part_each (λ r. r.entry < n + 1) (λ r t same low. subst (λ k. k < n + 1) (sym same.same_entry) low) m.references ((s.marks).references ++ own ∷ []) part
-          (each_append (λ r. r.entry < n + 1) (s.marks).references (own ∷ []) near (omega arith, tt));
+      below = part_each (λ r. r.decoding_index < n + 1) (λ r t same low. subst (λ k. k < n + 1) (sym same.same_decoding_index) low) m.references ((s.marks).references ++ own ∷ []) part
+          (each_append (λ r. r.decoding_index < n + 1) (s.marks).references (own ∷ []) near (omega arith, tt));
     }
   where
     same_marks : (h : History) (references : List Reference) (qs : List ℕ) → map (λ p. (marked_frame (frame_at h references p)).mark) qs ≡ map (mark_in references) qs
@@ -321,7 +321,7 @@ is_marked e h c idx previous s m new long is references =
 -- ---- the frames that are in the buffer once an entry has come were there before, but for its own
 
 abbrev Stored_each : (ℕ → Type 0) → List Stored → Type 0
-Stored_each P frames = Each (λ s. P s.entry) frames
+Stored_each P frames = Each (λ s. P s.decoding_index) frames
 
 each_not_needed : (P : ℕ → Type 0) (first : Stored) (frames : List Stored) → Stored_each P frames → Stored_each P (map (no_longer_needed first) frames)
 each_not_needed P first [] h = tt
@@ -334,15 +334,15 @@ bumped_while : (P : ℕ → Type 0) (test : Buffer → Bool) (references : List 
 bumped_while P test references zero b h = h
 bumped_while P test references (suc n) b h = grind (arith, bumped_while P test references n (after_bumping references b) (bumped P references b h))
 
-placed_by_room : (P : ℕ → Type 0) (t : Bool) (entry : ℕ) (a : Arrival) (b : Buffer) → P entry → Stored_each P b.frames →
-    Stored_each P (if t then with_direct_output entry a b else with_frame entry a b).frames
-placed_by_room P true entry a b own h = h
-placed_by_room P false entry a b own h = each_append (λ s. P s.entry) b.frames _ h (own, tt)
+placed_by_room : (P : ℕ → Type 0) (t : Bool) (index : ℕ) (a : Arrival) (b : Buffer) → P index → Stored_each P b.frames →
+    Stored_each P (if t then with_direct_output index a b else with_frame index a b).frames
+placed_by_room P true index a b own h = h
+placed_by_room P false index a b own h = each_append (λ s. P s.decoding_index) b.frames _ h (own, tt)
 
 -- what holds of the decoding indices before, and of the entry's own
-pub each_after_frame : (P : ℕ → Type 0) (output : Output) (entry : ℕ) (a : Arrival) (b : Buffer) → P entry → Stored_each P b.frames →
-    Stored_each P (after_frame output entry a b).frames
-each_after_frame P output entry a b own h = search (rules, bumped_while, placed_by_room, is_full, each_filter)
+pub each_after_frame : (P : ℕ → Type 0) (output : Output) (index : ℕ) (a : Arrival) (b : Buffer) → P index → Stored_each P b.frames →
+    Stored_each P (after_frame output index a b).frames
+each_after_frame P output index a b own h = search (rules, bumped_while, placed_by_room, is_full, each_filter)
 
 pub each_prior : (P : ℕ → Type 0) (prior : PriorPictures) (b : Buffer) → Stored_each P b.frames → Stored_each P (after_prior_pictures prior b).frames
 each_prior P remain b h = h
@@ -395,7 +395,7 @@ length-all_marks c now ms is = ap (λ v. length v.frames) is ∙ length-with_mar
 
 -- those of these frames, where `at` is the frame of each decoding index
 abbrev references_in : (at : ℕ → Frame 32) → List Stored → List Reference
-references_in at ts = references_at (map (λ s. s.entry) ts) (map (λ s. marked_frame (at s.entry)) ts)
+references_in at ts = references_at (map (λ s. s.decoding_index) ts) (map (λ s. marked_frame (at s.decoding_index)) ts)
 
 references_apart : (at : ℕ → Frame 32) (ts us : List Stored) → references_in at (ts ++ us) ≡ references_in at ts ++ references_in at us
 references_apart at [] us = refl
@@ -404,7 +404,7 @@ references_apart at (s ∷ ts) us = grind (arith, references_apart at ts us)
 -- ---- what the test says of each frame
 
 abbrev test_of : (at : ℕ → Frame 32) → (first low max place : ℕ) → Option Stored → Bool
-test_of at first low max place o = elim o [ None ↦ false | Some s ↦ has_its_place first low max place s.needed_for_output (at s.entry) ]
+test_of at first low max place o = elim o [ None ↦ false | Some s ↦ has_its_place first low max place s.needed_for_output (at s.decoding_index) ]
 
 abbrev AllPass : (at : ℕ → Frame 32) → (first low max : ℕ) → List Stored → Type 0
 AllPass at first low max ts = (p : ℕ) → p < length ts → test_of at first low max p (slice_get ts p) ≡ true
@@ -428,23 +428,23 @@ rest_staying at first low max s ts all = λ p within. let h = all (suc p) (omega
 -- ---- the frames that leave
 
 record AreLeaving (max low number index next : ℕ) (shorts : List Reference) (ts : List Stored) : Type 0 where
-  places : StandFrom index next shorts
+  indices : StandFrom index next shorts
   counts : CountFrom max low number shorts
   not_needed : AreNotNeeded shorts ts
   many : length shorts ≡ length ts
 
 are_leaving : (at : ℕ → Frame 32) (max low number index next : ℕ) (ts : List Stored) → low + length ts ≡ number → index ≤ next →
-    Each (λ p. index ≤ p) (map (λ s. s.entry) ts) → Rise (map (λ s. s.entry) ts) next →
+    Each (λ p. index ≤ p) (map (λ s. s.decoding_index) ts) → Rise (map (λ s. s.decoding_index) ts) next →
     AllPass at 0 low max ts → AreLeaving max low number index next (references_in at ts) ts
-are_leaving at max low number index next [] last less above rises all = record { places = less; counts = omega arith; not_needed = tt; many = refl }
+are_leaving at max low number index next [] last less above rises all = record { indices = less; counts = omega arith; not_needed = tt; many = refl }
 are_leaving at max low number index next (s ∷ ts) last less above rises all =
-    let here = leaving low max s.needed_for_output (at s.entry) (all 0 (omega arith)) in
-    let rest = are_leaving at max (low + 1) number (s.entry + 1) next ts (omega (arith, last)) (omega (arith, rises.0))
-    (each_implies (λ p. s.entry < p) (λ p. s.entry + 1 ≤ p) (map (λ s. s.entry) ts) (λ p l. omega (arith, l)) rises.1) rises.2 (rest_leaving at low max s ts all) in
-    let own : Reference = record { entry = s.entry; frame_num = (at s.entry).frame_num; existing = is_some (at s.entry).planes; mark = Short } in
+    let here = leaving low max s.needed_for_output (at s.decoding_index) (all 0 (omega arith)) in
+    let rest = are_leaving at max (low + 1) number (s.decoding_index + 1) next ts (omega (arith, last)) (omega (arith, rises.0))
+    (each_implies (λ p. s.decoding_index < p) (λ p. s.decoding_index + 1 ≤ p) (map (λ s. s.decoding_index) ts) (λ p l. omega (arith, l)) rises.1) rises.2 (rest_leaving at low max s ts all) in
+    let own : Reference = record { decoding_index = s.decoding_index; frame_num = (at s.decoding_index).frame_num; existing = is_some (at s.decoding_index).planes; mark = Short } in
     let first : references_in at (s ∷ ts) ≡ own ∷ references_in at ts = grind (arith, here) in
     subst (λ rs. AreLeaving max low number index next rs (s ∷ ts)) (sym first) (record {
-      places = (above.0, rest.places);
+      indices = (above.0, rest.indices);
       counts = (low, (omega arith, record { frame_num = here.number; short = refl }, rest.counts));
       not_needed = (refl, here.not_needed, rest.not_needed);
       many = ap suc rest.many;
@@ -453,7 +453,7 @@ are_leaving at max low number index next (s ∷ ts) last less above rises all =
 -- ---- the frames that stay
 
 abbrev AreStaying : (at : ℕ → Frame 32) → List Stored → Type 0
-AreStaying at ts = Each (λ s. is_staying s.needed_for_output (at s.entry).mark ≡ true) ts
+AreStaying at ts = Each (λ s. is_staying s.needed_for_output (at s.decoding_index).mark ≡ true) ts
 
 no_shorts : (at : ℕ → Frame 32) (ts : List Stored) → AreStaying at ts → filter is_short (references_in at ts) ≡ []
 no_shorts at [] h = refl
@@ -465,11 +465,11 @@ longs_before at index (s ∷ ts) h = grind (arith, longs_before at index ts h.1)
 
 -- they are needed for output, or among these reference frames
 all_needed : (at : ℕ → Frame 32) (longs : List Reference) (ts : List Stored) → AreStaying at ts →
-    ((p : ℕ) → is_entry (references_in at ts) p ≡ true → is_entry longs p ≡ true) → needed_frames (entries longs) ts ≡ ts
+    ((p : ℕ) → is_index_of (references_in at ts) p ≡ true → is_index_of longs p ≡ true) → needed_frames (indices_of longs) ts ≡ ts
 all_needed at longs [] h among = refl
 all_needed at longs (s ∷ ts) h among =
     let rest = all_needed at longs ts h.1 (λ p here. let there = among p in grind (arith, there)) in
-    let own = among s.entry in
+    let own = among s.decoding_index in
     grind (arith, nat_tests, rest, own)
 
 -- ---- all frames
@@ -481,22 +481,22 @@ record AreParts (at : ℕ → Frame 32) (max low first next : ℕ) (ts : List St
   all : ts ≡ frames ++ lasts
   stay : AreStaying at frames
   before : AreBefore index frames
-  above : (l : ℕ) → Each (λ q. l < q) (map (λ s. s.entry) ts) → l < index
+  above : (l : ℕ) → Each (λ q. l < q) (map (λ s. s.decoding_index) ts) → l < index
   leave : AreLeaving max low (low + length lasts) index next (references_in at lasts) lasts
   many : length lasts + first ≡ length ts
 
-are_parts : (at : ℕ → Frame 32) (max low first next : ℕ) (ts : List Stored) → first < length ts → Rise (map (λ s. s.entry) ts) next → AllPass at first low max ts → AreParts at max low first next ts
+are_parts : (at : ℕ → Frame 32) (max low first next : ℕ) (ts : List Stored) → first < length ts → Rise (map (λ s. s.decoding_index) ts) next → AllPass at first low max ts → AreParts at max low first next ts
 are_parts at max low first next [] some rises all = absurd (omega (arith, some))
 are_parts at max low zero next (s ∷ ts) some rises all = record {
-  index = s.entry;
+  index = s.decoding_index;
   frames = [];
   lasts = s ∷ ts;
   all = refl;
   stay = tt;
   before = tt;
   above = λ low each. each.0;
-  leave = are_leaving at max low (low + length (s ∷ ts)) s.entry next (s ∷ ts) refl (omega (arith, rises.0))
-      (omega arith, each_implies (λ p. s.entry < p) (λ p. s.entry ≤ p) (map (λ s. s.entry) ts) (λ p l. omega (arith, l)) rises.1) rises all;
+  leave = are_leaving at max low (low + length (s ∷ ts)) s.decoding_index next (s ∷ ts) refl (omega (arith, rises.0))
+      (omega arith, each_implies (λ p. s.decoding_index < p) (λ p. s.decoding_index ≤ p) (map (λ s. s.decoding_index) ts) (λ p l. omega (arith, l)) rises.1) rises all;
   many = omega arith;
 }
 are_parts at max low (suc first) next (s ∷ ts) some rises all =
@@ -508,7 +508,7 @@ are_parts at max low (suc first) next (s ∷ ts) some rises all =
       lasts = r.lasts;
       all = ap (λ l. s ∷ l) r.all;
       stay = (grind (arith, nat_tests, here), r.stay);
-      before = (r.above s.entry rises.1, r.before);
+      before = (r.above s.decoding_index rises.1, r.before);
       above = λ l each. r.above l each.1;
       leave = r.leave;
       many = omega (arith, r.many);
@@ -516,12 +516,12 @@ are_parts at max low (suc first) next (s ∷ ts) some rises all =
 
 -- ---- from the contents
 
-passes : (at : ℕ → Frame 32) (first low max : ℕ) (c : Contents) (ts : List Stored) → c.frames ≡ map (λ s. at s.entry) ts → c.slots ≡ map slot_of ts →
+passes : (at : ℕ → Frame 32) (first low max : ℕ) (c : Contents) (ts : List Stored) → c.frames ≡ map (λ s. at s.decoding_index) ts → c.slots ≡ map slot_of ts →
     ((p : ℕ) → p < length c.frames → settles_at c first low max p ≡ true) → AllPass at first low max ts
 passes at first low max c ts frames slots all = λ p within.
-    let frame = ap (λ l. slice_get l p) frames ∙ slice_get-map (λ s. at s.entry) ts p in
+    let frame = ap (λ l. slice_get l p) frames ∙ slice_get-map (λ s. at s.decoding_index) ts p in
     let slot = ap (λ l. slice_get l p) slots ∙ slice_get-map slot_of ts p in
-    let test = all p (let l = ap length frames ∙ length-map ts (λ (s : Stored). at s.entry) in omega (arith, within, l)) in
+    let test = all p (let l = ap length frames ∙ length-map ts (λ (s : Stored). at s.decoding_index) in omega (arith, within, l)) in
     grind (arith, frame, slot, test)
 
 -- The test finds a long gap.
@@ -542,7 +542,7 @@ long_gap h c idx previous state sps numbers number shorts first low count from' 
     window = record {
       long = no_shorts at parts.frames parts.stay;
       full = sym (length-append longs shorts_in) ∙ ap length (sym apart) ∙ sym counted ∙ full;
-      places = (parts.leave).places;
+      indices = (parts.leave).indices;
       longs_before = longs_before at parts.index parts.frames parts.before;
     };
     counts = subst (λ n. CountFrom max low n shorts_in) (omega (arith, parts.many, many, low_is, long)) (parts.leave).counts;
@@ -569,9 +569,9 @@ long_gap h c idx previous state sps numbers number shorts first low count from' 
     at = frame_at h (state.marks).references
 
     long : length c.frames ≡ length ts
-    long = ap length (state.buffer).frames ∙ length-map ts (λ (s : Stored). at s.entry)
+    long = ap length (state.buffer).frames ∙ length-map ts (λ (s : Stored). at s.decoding_index)
 
-    rises : Rise (map (λ s. s.entry) ts) (length h)
+    rises : Rise (map (λ s. s.decoding_index) ts) (length h)
     rises = rise ts (length h) (state.buffer).rising
 
     parts : AreParts at max low first (length h) ts
@@ -586,8 +586,8 @@ long_gap h c idx previous state sps numbers number shorts first low count from' 
     apart : references_in at ts ≡ longs ++ shorts_in
     apart = ap (references_in at) parts.all ∙ references_apart at parts.frames parts.lasts
 
-    marked : map marked_frame c.frames ≡ map (λ s. marked_frame (at s.entry)) ts
-    marked = ap (map marked_frame) (state.buffer).frames ∙ map-map marked_frame (λ (s : Stored). at s.entry) ts
+    marked : map marked_frame c.frames ≡ map (λ s. marked_frame (at s.decoding_index)) ts
+    marked = ap (map marked_frame) (state.buffer).frames ∙ map-map marked_frame (λ (s : Stored). at s.decoding_index) ts
 
     references : references_in at ts ≡ (state.marks).references
     references = ap (references_at (indices_in (buffer_of c.output h))) (sym marked) ∙ state.references
@@ -595,7 +595,7 @@ long_gap h c idx previous state sps numbers number shorts first low count from' 
     counted : count ≡ length (references_in at ts)
     counted =
         counts (indices_in (buffer_of c.output h)) (record {
-          each = length-map ts (λ (s : Stored). s.entry) ∙ sym (length-map c.frames marked_frame ∙ long);
+          each = length-map ts (λ (s : Stored). s.decoding_index) ∙ sym (length-map c.frames marked_frame ∙ long);
           rising = increasing (indices_in (buffer_of c.output h)) (length h) rises;
         })
         ∙ ap (λ l. length (references_at (indices_in (buffer_of c.output h)) l)) marked

@@ -281,7 +281,7 @@ pub info_more : (c : Coded) (all : List (List Motion)) (names : Names) (a : ℕ)
 info_more c all names a info f long have has = λ k other below. grind (arith, length-append, cases_lt, get_or_append_left, get_or-append_right)
 
 picture_of : (c : Coded) (a slice i : ℕ) (frame : Frame) → (mb_at c a).slice ≡ slice → frame_named c slice i ≡ Some frame
-    → picture_named c a i ≡ Some frame.entry
+    → picture_named c a i ≡ Some frame.decoding_index
 picture_of c a slice i frame e n = rw (e, n) refl
 
 -- a block that has a picture, with the number of its quarter
@@ -315,7 +315,7 @@ module _ {PAD : ℕ} (c : Coded) (names : Names) (s : SliceContext PAD) (slice :
         record {
           reference = i;
           is = ap (λ u. inter_motion i u) (sym (ap (λ vs. slice_index_or vs k zero_vector) told.vectors_are ∙ get_or-map vector_of motion k absent_motion zero_vector (omega (arith, h, long)) ∙ ap vector_of e));
-          picture = picture_of c a s.number i n.frame (ap (λ x. x.slice) mb_is) n.named ∙ ap Some (n.entry ∙ ap names.entry (sym number));
+          picture = picture_of c a s.number i n.frame (ap (λ x. x.slice) mb_is) n.named ∙ ap Some (n.decoding_index ∙ ap names.decoding_index (sym number));
           named = subst (λ j. j < names.count) (sym number) n.within;
         }
     block_has k h m e there from = cc

@@ -80,6 +80,6 @@ pub use Rattle.avc_picture_core.specs.Places.{ArePlanesBuilt, IsPlaceIn, MayRead
 pub use Rattle.avc_picture_core.specs.References.{AreReferences, AreUsable, IsReference, IsUsable, ShowsReference}
 pub use Rattle.avc_picture_core.specs.Residuals.{with_residual}
 pub use Rattle.avc_picture_core.specs.Sides.{AreInside, is_readable, readable_near, readable_sides}
-pub use Rattle.avc_picture_core.specs.declared.references.ReferencePicture.{ReferencePicture}
+pub use Rattle.avc_picture_core.specs.declared.inter.ReferencePicture.{ReferencePicture}
 pub use Rattle.avc_picture_core.specs.declared.shape.Shape.TheVariants.{Whole, WideHalves, TallHalves}
 pub use Rattle.avc_picture_core.specs.declared.sides.ReadableNeighbours.{ReadableNeighbours}

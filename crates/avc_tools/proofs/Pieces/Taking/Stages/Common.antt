@@ -44,7 +44,7 @@ pub use Rattle.avc_params.specs.Stored.{stored}
 pub use Rattle.avc_params.specs.Tables.{accepted, is_id, is_pps, is_sps, last, pps_in_force, pps_record, sps_in_force, sps_record, sets_after, Sets}
 pub use Rattle.avc_params.specs.Within.{PpsInForceKeepsLimits, SpsInForceKeepsLimits}
 pub use Rattle.avc_params.specs.declared.pps.Pps.{Pps}
-pub use Rattle.avc_params.specs.declared.set_fault.SetFault.{SetFault}
+pub use Rattle.avc_params.specs.declared.set_unit.SetFault.{SetFault}
 pub use Rattle.avc_params.specs.declared.set_unit.SetUnit.{SetUnit}
 pub use Rattle.avc_params.specs.declared.set_unit.SetUnit.TheVariants.{OfPps, OfSps}
 pub use Rattle.avc_params.specs.declared.sps.Sps.{Sps}

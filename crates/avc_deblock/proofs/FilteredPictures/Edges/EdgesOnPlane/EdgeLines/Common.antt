@@ -33,7 +33,7 @@ pub use Rattle.avc_deblock.specs.ByInfo.{strength_of, luma_qp_of, chroma_qp_of, 
 pub use Rattle.avc_deblock.specs.Edges.{with_line, line_filtered, slice_at, strength_between, address_of, component_qp, setting_at, luma_per_sample, line_at}
 pub use Rattle.avc_deblock.specs.Edges.{LineFilter, in_component, step_filtered, all_filtered, filters_edge_to, filters_vertical, filters_horizontal}
 pub use Rattle.avc_deblock.specs.Edges.{edges_below, vertical_lines, horizontal_lines, component_lines, mb_at, mb_lines, picture_named, moves_differently}
-pub use Rattle.avc_deblock.specs.Edges.{entry_of_frame, filter_qp, has_coefficients}
+pub use Rattle.avc_deblock.specs.Edges.{index_of_frame, filter_qp, has_coefficients}
 unfoldable pub use Rattle.avc_deblock.specs.Edges.{row_lines}
 pub use Rattle.avc_deblock.specs.FilterInfo.{edge_block, p_address, IsAt, Names, HasInfo, HaveInfo, filters_at, filters_between, are_far, inter_strength}
 pub use Rattle.avc_deblock.specs.FilterInfo.{has_bit, HasMotion}
@@ -46,7 +46,7 @@ unfoldable pub use Rattle.avc_deblock.specs.OneEdge.{edge_filtered}
 pub use Rattle.avc_deblock.specs.Rows.{line, line_of, line_of_rows, line_within, line_inside, line_across, line_down, line_near, IsTransposed, IsRowSet}
 pub use Rattle.avc_deblock.specs.Rows.{IsNearSet, IsWeak, slope, bend, held, IsStrong, IsRiffled}
 pub use Rattle.avc_deblock.specs.declared.mb_info.MbInfo.{MbInfo}
-pub use Rattle.avc_deblock.specs.declared.strengths.Strengths.{Strengths}
-pub use Rattle.avc_deblock.specs.declared.strengths.Strengths.TheVariants.{Four, BelowFour}
+pub use Rattle.avc_deblock.specs.declared.edge_strengths.Strengths.{Strengths}
+pub use Rattle.avc_deblock.specs.declared.edge_strengths.Strengths.TheVariants.{Four, BelowFour}
 pub use Rattle.avc_deblock.specs.declared.thresholds.EdgeQp.{EdgeQp}
 pub use Rattle.avc_deblock.specs.declared.thresholds.QpLimits.{QpLimits}

@@ -32,7 +32,7 @@ gone_and_held output h = sym (shown_in_turn h (buffer_of output h).out (all_held
 gone_below : (output : Output) (h : History) → All (λ p. p < length h) (buffer_of output h).out
 gone_below output h =
     let out = (buffer_of output h).out in
-    subst (All (λ p. p < length h)) (take-append_seam out (all_held output h)) (All-take (λ p. p < length h) (length out) (out ++ all_held output h) (places_below output h))
+    subst (All (λ p. p < length h)) (take-append_seam out (all_held output h)) (All-take (λ p. p < length h) (length out) (out ++ all_held output h) (all_indices_below output h))
 
 -- with one entry more
 gone_more : (output : Output) (e : Entry) (h : History) → gone output h ++ output_pictures output h (e ∷ h) ≡ gone output (e ∷ h)

@@ -81,6 +81,6 @@ pub use Rattle.avc_decoder_core.specs.SequenceOrder.{CanCome, EachCanCome, EachI
 pub use Rattle.avc_decoder_core.specs.SequenceState.{AreFramesIn, AreStoredIn, OpenPictureStart, SequenceState, current_history, IsClosed}
 pub use Rattle.avc_decoder_core.specs.declared.frame_buffer.FrameBuffer.TheInside.{Inside as FrameBuffer}
 pub use Rattle.avc_decoder_core.specs.declared.history_entry.HistoryEntry.{HistoryEntry}
-pub use Rattle.avc_decoder_core.specs.declared.open_picture.OpenPicture.{OpenPicture}
+pub use Rattle.avc_decoder_core.specs.declared.opening.OpenPicture.{OpenPicture}
 pub use Rattle.avc_decoder_core.specs.declared.opening.Opening.{Opening}
 pub use Rattle.avc_decoder_core.specs.declared.sequence.Sequence.TheInside.{Inside}

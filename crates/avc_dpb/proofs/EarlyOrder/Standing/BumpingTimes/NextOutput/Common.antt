@@ -37,6 +37,6 @@ pub use Rattle.avc_dpb.specs.StoredFrame.{is_used_for_reference, shown_frame}
 pub use Rattle.avc_dpb.specs.declared.arriving_frame.ArrivingFrame.{ArrivingFrame}
 pub use Rattle.avc_dpb.specs.declared.output.Output.{Output}
 pub use Rattle.avc_dpb.specs.declared.output.Output.TheVariants.{Full, Early}
-pub use Rattle.avc_dpb.specs.declared.slot.Slot.{Slot}
+pub use Rattle.avc_dpb.specs.declared.waiting.Slot.{Slot}
 pub use Rattle.avc_dpb.specs.declared.waiting.Bumping.{Bumping}
 pub use Rattle.avc_dpb.specs.declared.waiting.Bumping.TheVariants.{ForRoom, ForFew, ForNone}

@@ -72,7 +72,7 @@ pub use Rattle.avc_picture_core.specs.Canvas.{sides_near, IsInRange, CanvasState
 pub use Rattle.avc_picture_core.specs.CanvasFields.{with_planes}
 pub use Rattle.avc_picture_core.specs.Faults.{is_picture, fault_at, fault_of, has_references, macroblock_fault, refusal}
 pub use Rattle.avc_picture_core.specs.References.{AreUsable, AreWeights, IsUsable, IsWeight, ShowsReference, AreReferences}
-pub use Rattle.avc_picture_core.specs.declared.references.ReferencePicture.{ReferencePicture}
+pub use Rattle.avc_picture_core.specs.declared.inter.ReferencePicture.{ReferencePicture}
 pub use Rattle.avc_plane.proofs.PlaneMaps.{length-plane_of}
 pub use Rattle.avc_plane.specs.Frames.{AreSized, marked_frame, padded_planes_of, stored_at, stored_frame, AreFrames, planes_of}
 pub use Rattle.avc_plane.specs.Plane.{Plane, sample, is_inside, plane_of, with_sample, with_block}

@@ -232,30 +232,30 @@ closes_by o h (Err g) s e f c = cc (s.first, s.stands, e, f, c)
 
 -- Places at which the frames can stand; the picture is decoded there as on the history.
 pub record StandsOn (history : History) (d : Decoding 32) : Type 0 where
-  pub entries : List ℕ
-  pub stand : CanStandAt entries d
-  pub same : progress_at entries d ≡ progress_on_history history d
+  pub indices : List ℕ
+  pub stand : CanStandAt indices d
+  pub same : progress_at indices d ≡ progress_on_history history d
 
 none_rises : IsStrictlyIncreasing []
 none_rises k below = search arith
 
 stands_by : (idr : Bool) (s : SequenceState) (d : Decoding 32) → d.frames ≡ elim idr [ true ↦ [] | false ↦ s.frames ] → (idr ≡ true → All IsISlice d.slices) → (idr ≡ false → AreStoredIn (current_history s) s.frames)
     → StandsOn (current_history s) d
-stands_by true s d e intra stored = record { entries = []; stand = rw e (record { each = refl; rising = none_rises }); same = progress-other (start_at [] d) (stored_frames (current_history s)) d.slices (intra refl) }
+stands_by true s d e intra stored = record { indices = []; stand = rw e (record { each = refl; rising = none_rises }); same = progress-other (start_at [] d) (stored_frames (current_history s)) d.slices (intra refl) }
 stands_by false s d e intra stored =
     let a = stored refl in
     record {
-      entries = a.entries;
-      stand = subst (λ (fs : List (Frame 32)). StandAt a.entries (map marked_frame fs)) (sym e) a.stand;
-      same = ap (λ fs. progress (start_with fs d) d.slices) (ap (stored_at a.entries) e ∙ a.stored);
+      indices = a.indices;
+      stand = subst (λ (fs : List (Frame 32)). StandAt a.indices (map marked_frame fs)) (sym e) a.stand;
+      same = ap (λ fs. progress (start_with fs d) d.slices) (ap (stored_at a.indices) e ∙ a.stored);
     }
 
 -- ---- what the picture decoder says
 
 -- wherever it can stand, holds on the history
 pub on_history : (s : SequenceState) (h : Header) (d : Decoding 32) → HasItsFrames s h d → (Says : Progress → Type 0)
-    → ((entries : List ℕ) → CanStandAt entries d → Says (progress_at entries d)) → Says (progress_on_history (current_history s) d)
-on_history s h d f Says says = let k = stands_by (is_idr h) s d f.frames f.intra f.stored in subst Says k.same (says k.entries k.stand)
+    → ((indices : List ℕ) → CanStandAt indices d → Says (progress_at indices d)) → Says (progress_on_history (current_history s) d)
+on_history s h d f Says says = let k = stands_by (is_idr h) s d f.frames f.intra f.stored in subst Says k.same (says k.indices k.stand)
 
 pub with_one_more : (s : SequenceState) (d : Decoding 32) (slice : Slice) → CanHave s d slice → HasItsFrames s slice.header (with_slice_more slice d)
 with_one_more s d slice can = record {
@@ -333,7 +333,7 @@ opened_phase s c w = ap (λ ss. running s.history (open_picture_from s.history (
 
 -- what the picture decoder says, wherever it can stand, holds of it
 pub on_open : (s : SequenceState) (c : CurrentPicture) (w : IsOpenIn s c) (Says : Progress → Type 0)
-    → ((entries : List ℕ) → CanStandAt entries c.decoder → Says (progress_at entries c.decoder))
+    → ((indices : List ℕ) → CanStandAt indices c.decoder → Says (progress_at indices c.decoder))
     → Says (progress_on (opened_as s c.decoder w.last w.earlier) (current_history s))
 on_open s c w Says says =
     subst (λ ss. Says (progress (start_with (stored_frames (current_history s)) c.decoder) ss)) w.slices

@@ -102,7 +102,7 @@ pub use Rattle.avc_vlc.specs.Laws.{IsReadBack, IsRead}
 pub use Rattle.avc_vlc.specs.Reading.{IsToken, coeff_token, run_before, token, total_zeros, IsIn, token_table, coded_block_pattern, pattern_at}
 pub use Rattle.avc_vlc.specs.Tables.{cbp_intra, cbp_inter}
 pub use Rattle.avc_vlc.specs.Writing.{run_word, token_word, zeros_word, is_token_same, word_of, word_bits}
-pub use Rattle.avc_vlc.specs.declared.token.Token.{Token}
+pub use Rattle.avc_vlc.specs.declared.coeff_token.Token.{Token}
 pub use Rattle.avc_make.specs.BlockWriting.{AreCodes, BlocksAreRead, HasCodes, IsCode, after_zeros, block_bits, code_of_level, coded, first_length, least_code}
 pub use Rattle.avc_make.specs.BlockWriting.{level_bits, levels_bits, ones_first, prefix_of, run_bits, runs_bits, runs_of, sign_bits, values_of, zeros_bits}
 pub use Rattle.avc_make.specs.BlockWriting.{BlocksAreWritable, SmallAreWritable}

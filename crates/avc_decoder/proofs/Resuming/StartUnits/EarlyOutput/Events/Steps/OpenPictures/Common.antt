@@ -28,7 +28,7 @@ pub use Rattle.avc_bits.specs.Bits.{Bits, check, start, where_set}
 pub use Rattle.avc_bits.specs.Codes.{u, ue, ue_to}
 pub use Rattle.avc_decoder_core.proofs.Sequences.MissingNumbers.{ok_same, opened_by, set_at_opening, opened_idr}
 pub use Rattle.avc_decoder_core.proofs.Sequences.MissingNumbers.Entries.{Extends, extends_itself, extends_more, nothing_goes_out, output_more, pictures_stay}
-pub use Rattle.avc_decoder_core.proofs.Sequences.MissingNumbers.Entries.{places_below}
+pub use Rattle.avc_decoder_core.proofs.Sequences.MissingNumbers.Entries.{all_indices_below}
 pub use Rattle.avc_decoder_core.specs.History.{History, history_at_opening, is_same_sps, stored_frames, history_after_closing, buffer_of, Entry, all_held}
 pub use Rattle.avc_decoder_core.specs.History.{arrival, arrivals, decoded_picture, earlier_in_sequence, entry_at, marks_of, missing_frame, new_output}
 pub use Rattle.avc_decoder_core.specs.History.{with_missing, with_picture, pasts}
