@@ -46,6 +46,29 @@ pub fewer_wait : (max : ℕ) (s new : SplitterState) (unit : Option Unit) → un
 fewer_wait max s new None is after = tt
 fewer_wait max s new (Some unit) is after = grind (arith, there_is)
 
+-- how many units there are, where the scan stands at the end of the bytes: those that were given out, and those that are ready
+count_so_far : (max : ℕ) (s : Scanner max) (bytes : List ℕ) → HasScanned max s bytes → length (units max bytes false) ≡ length s.ready.given.items + length s.ready.units.items
+count_so_far max s bytes is =
+    ap (λ d. length (numbered max 0 d)) (scanned_so_far bytes is.done is.current s.zeros is.scanned) ∙ ap length (sym is.ready.units)
+    ∙ length-append s.ready.given.items s.ready.units.items
+
+-- bytes were taken up to the end of a unit
+pub splitter_took : (max : ℕ) (s new : Scanner max) (bytes piece : List ℕ) (used : ℕ) → HasScanned max s bytes → HasTaken max s piece used new →
+    (used < length piece → HasOneMore s.ready new.ready) → new.ready.given.items ≡ s.ready.given.items →
+    TakesUnit max (record { bytes = bytes; ended = false; taken = length s.ready.given.items; failed = false }) piece used
+    (record { bytes = bytes ++ take used piece; ended = false; taken = length new.ready.given.items; failed = false })
+splitter_took max s new bytes piece used is took ended given =
+    let before = count_so_far max s bytes is in
+    let after = count_so_far max new (bytes ++ take used piece) (took.scans bytes is) in
+    let same = ap length given in
+    record {
+      within = took.within;
+      some = took.some;
+      is = ap (λ n. record { bytes = bytes ++ take used piece; ended = false; taken = n; failed = false }) same;
+      one = omega (arith, before, after, same, took.few.no_more);
+      all = λ less. omega (arith, before, after, same, ended less);
+    }
+
 -- ---- the units that are over stay, and a unit's bytes have no boundary in them
 
 -- the bytes of a unit

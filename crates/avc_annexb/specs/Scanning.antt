@@ -1,5 +1,5 @@
 -- How a splitter goes through a stream: these words are the crate's own, and callers need none of them.
-use Rattle.std.specs.Prelude.{◌≡◌, ◌≢◌, ℕ, ◌+◌, ◌-◌, ◌<◌, ◌≤◌, List, [], ◌++◌, length, drop, slice_index, replicate, Bool, true, false, nat_le, if◌then◌else◌, Option, Some, None}
+use Rattle.std.specs.Prelude.{◌≡◌, ◌≢◌, ℕ, ◌+◌, ◌-◌, ◌<◌, ◌≤◌, List, [], ◌++◌, length, take, drop, slice_index, replicate, Bool, true, false, nat_le, if◌then◌else◌, Option, Some, None}
 use Rattle.std.specs.Option.{option_map}
 use Rattle.avc_annexb.specs.Units.{PlacedUnit, saturated, placed_units, unit_at, unit_bytes, numbered, before_end, without_last_zeros}
 use Rattle.avc_annexb.specs.SplitterState.{SplitterState}
@@ -75,6 +75,15 @@ AddsUnitIfAny {max} old new unit =
     (done : List PlacedUnit) (placed : Option PlacedUnit) → AreReady max old done → IsOpenUnitIfAny max unit placed →
     AreReady max new (done ++ closed_unit placed)
 
+-- One unit more is ready.
+abbrev pub HasOneMore : {max : ℕ} → (old new : Ready max) → Type 0
+HasOneMore old new = length new.units.items ≡ length old.units.items + 1
+
+-- One unit more is ready, or none.
+pub record HasOneMoreAtMost {max : ℕ} (old new : Ready max) : Type 0 where
+  pub no_fewer : length old.units.items ≤ length new.units.items
+  pub no_more : length new.units.items ≤ length old.units.items + 1
+
 -- what the units from here on are, whatever comes: n bytes came, and of the last of them zeros are not yet in the unit
 abbrev pub placed_units_after : ℕ → Option PlacedUnit → ℕ → Bool → List ℕ → List PlacedUnit
 placed_units_after n None zeros ended more = placed_units (n - zeros) ended (replicate zeros 0 ++ more)
@@ -107,6 +116,13 @@ pub record HasScanned (max : ℕ) (s : Scanner max) (bytes : List ℕ) : Type 0 
   pub unit : IsOpenUnitIfAny max s.unit current
   pub ready : AreReady max s.ready done
   pub position : s.position ≡ saturated (length bytes)
+
+-- Of these bytes so many were scanned, at least one where there is one, and one unit more is ready, or none.
+pub record HasTaken (max : ℕ) (old : Scanner max) (piece : List ℕ) (used : ℕ) (new : Scanner max) : Type 0 where
+  pub within : used ≤ length piece
+  pub some : 0 < length piece → 0 < used
+  pub scans : (bytes : List ℕ) → HasScanned max old bytes → HasScanned max new (bytes ++ take used piece)
+  pub few : HasOneMoreAtMost old.ready new.ready
 
 -- what a splitter is seen as
 abbrev pub has_ended : SplitterPhase → Bool

@@ -1,5 +1,5 @@
 -- What a splitter is seen as.
-use Rattle.std.specs.Prelude.{ℕ, ◌+◌, ◌-◌, List, [], ◌++◌, length, Bool, true, false, if◌then◌else◌, Option, None, Some, slice_get}
+use Rattle.std.specs.Prelude.{◌≡◌, ℕ, ◌+◌, ◌-◌, ◌<◌, ◌≤◌, List, [], ◌++◌, length, take, Bool, true, false, if◌then◌else◌, Option, None, Some, slice_get}
 use Rattle.avc_annexb.specs.declared.unit.Unit.{Unit}
 use Rattle.avc_annexb.specs.Units.{units}
 
@@ -17,6 +17,19 @@ new_splitter = record { bytes = []; ended = false; taken = 0; failed = false }
 -- after a piece. Past the end nothing changes
 abbrev pub after_feed : SplitterState → List ℕ → SplitterState
 after_feed s piece = if s.ended then s else record s { bytes = s.bytes ++ piece }
+
+-- how many units there are whose end has been seen
+abbrev pub unit_count : (max : ℕ) → SplitterState → ℕ
+unit_count max s = length (units max s.bytes s.ended)
+
+-- So many of these bytes were taken: all, unless a unit has ended with them. At most one has, and at least one byte was taken where
+-- there is one.
+pub record TakesUnit (max : ℕ) (old : SplitterState) (bytes : List ℕ) (used : ℕ) (new : SplitterState) : Type 0 where
+  pub within : used ≤ length bytes
+  pub some : 0 < length bytes → 0 < used
+  pub is : new ≡ after_feed old (take used bytes)
+  pub one : unit_count max new ≤ unit_count max old + 1
+  pub all : used < length bytes → unit_count max new ≡ unit_count max old + 1
 
 -- after the end
 abbrev pub after_finish : SplitterState → SplitterState

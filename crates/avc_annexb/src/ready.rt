@@ -1,6 +1,6 @@
 ghost use Rattle.std.specs.Prelude.{◌≡◌, [], ◌++◌, List, OnOk, Option, slice_get, length};
 ghost use Rattle.std.specs.Option.{option_to_list};
-ghost use Rattle.avc_annexb.specs.Scanning.{AddsUnit, AddsUnitIfAny, AreReady};
+ghost use Rattle.avc_annexb.specs.Scanning.{AddsUnit, AddsUnitIfAny, AreReady, HasOneMoreAtMost};
 ghost use Rattle.avc_annexb.specs.Units.{PlacedUnit, numbered};
 
 use crate::open_unit::OpenUnit;
@@ -31,10 +31,18 @@ impl<const MAX: usize> Ready<MAX> {
         }
     }
 
+    /// How many there are.
+    pub fn len(&self) -> usize
+        ensures { result ≡ length self.now.units.items }
+    {
+        self.units.len()
+    }
+
     /// Adds a unit at the end, if it has bytes.
     #[inline(always)]
     pub fn add(&mut self, unit: OpenUnit<MAX>) -> Result<(), OutOfMemory>
         ensures holds { OnOk result (AddsUnit self.old self.new unit.entry) }
+        ensures few { OnOk result (HasOneMoreAtMost self.old self.new) }
         ensures given { self.new.given.items ≡ self.old.given.items }
     {
         if unit.length == 0 {
@@ -49,6 +57,7 @@ impl<const MAX: usize> Ready<MAX> {
     #[inline(always)]
     pub fn add_any(&mut self, unit: Option<OpenUnit<MAX>>) -> Result<(), OutOfMemory>
         ensures holds { OnOk result (AddsUnitIfAny self.old self.new unit.entry) }
+        ensures few { OnOk result (HasOneMoreAtMost self.old self.new) }
         ensures given { self.new.given.items ≡ self.old.given.items }
     {
         match unit {

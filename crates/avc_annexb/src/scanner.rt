@@ -22,8 +22,8 @@ pub struct Scanner<const MAX: usize> {
 }
 
 impl<const MAX: usize> Scanner<MAX> {
-    ghost use Rattle.std.specs.Prelude.{◌≡◌, ◌≢◌, ◌<◌, ◌≤◌, ℕ, true, [], ◌∷◌, ◌++◌, List, OnOk, length, slice_index, replicate};
-    ghost use Rattle.avc_annexb.specs.Scanning.{HasScanned, HasLoneZeros, AreReady};
+    ghost use Rattle.std.specs.Prelude.{◌≡◌, ◌≢◌, ◌<◌, ◌≤◌, ℕ, true, [], ◌∷◌, ◌++◌, List, IfOk, OnOk, length, slice_index, replicate};
+    ghost use Rattle.avc_annexb.specs.Scanning.{HasScanned, HasLoneZeros, HasOneMore, HasOneMoreAtMost, HasTaken, AreReady};
     ghost use Rattle.avc_annexb.specs.Units.{placed_units};
 
     pub fn new(alloc: Global) -> Self
@@ -55,15 +55,49 @@ impl<const MAX: usize> Scanner<MAX> {
     {
         let mut place = 0;
         while place < piece.len() {
-            let left = &piece[place..];
-            let zeros = zeros_at_start(left);
-            let others = &left[zeros..];
-            let len = run_length(others);
-            self.zeros(zeros)?;
-            self.run(&others[..len])?;
-            place += zeros + len;
+            place += self.take_unit(&piece[place..])?;
         }
         Ok(())
+    }
+
+    /// Takes the next bytes of the stream up to where a unit has ended, or all where none ends. Answers how many. After an `Err`
+    /// the scanner is of no use.
+    pub fn take_unit(&mut self, piece: &[u8]) -> Result<usize, OutOfMemory>
+        ensures ok { IfOk result (λ used. HasTaken MAX self.old piece.now used self.new) }
+        ensures ended { IfOk result (λ used. used < length piece.now → HasOneMore self.old.ready self.new.ready) }
+        ensures given { self.new.ready.given.items ≡ self.old.ready.given.items }
+    {
+        let waiting = self.ready.len();
+        let mut place = 0;
+        while place < piece.len() && self.ready.len() == waiting {
+            place += self.step(&piece[place..])?;
+        }
+        Ok(place)
+    }
+
+    // Takes the zeros that stand here, or the 01 of a start code, or bytes without boundary. Answers how many.
+    fn step(&mut self, left: &[u8]) -> Result<usize, OutOfMemory>
+        requires { 0 < length left.now }
+        ensures ok { IfOk result (λ used. HasTaken MAX self.old left.now used self.new) }
+        ensures given { self.new.ready.given.items ≡ self.old.ready.given.items }
+    {
+        let used = match left[0] {
+            0 => {
+                let count = zeros_at_start(left);
+                self.zeros(count)?;
+                count
+            }
+            1 if self.zeros == 2 => {
+                self.start_code()?;
+                1
+            }
+            _ => {
+                let len = run_length(left);
+                self.pass(&left[..len])?;
+                len
+            }
+        };
+        Ok(used)
     }
 
     /// Takes the end of the stream.
@@ -75,30 +109,13 @@ impl<const MAX: usize> Scanner<MAX> {
         self.ready.add_any(self.unit.take())
     }
 
-    // bytes in which no zero is first, last, or next to another
-    fn run(&mut self, run: &[u8]) -> Result<(), OutOfMemory>
-        requires lone { HasLoneZeros run.now }
-        requires first { 0 < length run.now → slice_index run.now 0 ≢ 0 }
-        ensures ok { OnOk result ((bytes : List ℕ) → HasScanned MAX self.old bytes → HasScanned MAX self.new (bytes ++ run.now)) }
-        ensures given { self.new.ready.given.items ≡ self.old.ready.given.items }
-    {
-        match run {
-            [] => Ok(()),
-            [1, others @ ..] if self.zeros == 2 => {
-                self.start_code()?;
-                self.pass(others)
-            }
-            _ => self.pass(run),
-        }
-    }
-
     // bytes of a unit, or between units
     fn pass(&mut self, run: &[u8]) -> Result<(), OutOfMemory>
         requires lone { HasLoneZeros run.now }
         requires no_zero { 1 ≤ self.old.zeros → slice_index run.now 0 ≢ 0 }
         requires no_start { 2 ≤ self.old.zeros → slice_index run.now 0 ≢ 1 }
         ensures ok { OnOk result ((bytes : List ℕ) → HasScanned MAX self.old bytes → HasScanned MAX self.new (bytes ++ run.now)) }
-        ensures given { self.new.ready.given.items ≡ self.old.ready.given.items }
+        ensures ready { self.new.ready ≡ self.old.ready }
     {
         if run.is_empty() {
             return Ok(());
@@ -112,6 +129,7 @@ impl<const MAX: usize> Scanner<MAX> {
     // zeros, of which a third in a row ends a unit
     fn zeros(&mut self, count: usize) -> Result<(), OutOfMemory>
         ensures ok { OnOk result ((bytes : List ℕ) → HasScanned MAX self.old bytes → HasScanned MAX self.new (bytes ++ replicate count 0)) }
+        ensures few { OnOk result (HasOneMoreAtMost self.old.ready self.new.ready) }
         ensures given { self.new.ready.given.items ≡ self.old.ready.given.items }
     {
         self.position = self.position.saturating_add(count as u64);
@@ -127,8 +145,8 @@ impl<const MAX: usize> Scanner<MAX> {
     fn start_code(&mut self) -> Result<(), OutOfMemory>
         requires { self.old.zeros ≡ 2 }
         ensures ok { OnOk result ((bytes : List ℕ) → HasScanned MAX self.old bytes → HasScanned MAX self.new (bytes ++ 1 ∷ [])) }
+        ensures few { OnOk result (HasOneMoreAtMost self.old.ready self.new.ready) }
         ensures given { self.new.ready.given.items ≡ self.old.ready.given.items }
-        ensures zeros { self.new.zeros ≡ 0 }
     {
         self.position = self.position.saturating_add(1);
         self.zeros = 0;

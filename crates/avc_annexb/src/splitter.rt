@@ -1,5 +1,5 @@
-ghost use Rattle.std.specs.Prelude.{◌≡◌, ◌<◌, true, false, OnErr, OnOk, IsOk, IfSome};
-ghost use Rattle.avc_annexb.specs.SplitterState.{new_splitter, after_feed, after_finish, after_failure, next_unit_of, after_next_unit, units_waiting};
+ghost use Rattle.std.specs.Prelude.{◌≡◌, ◌<◌, true, false, OnErr, OnOk, IfOk, IsOk, IfSome};
+ghost use Rattle.avc_annexb.specs.SplitterState.{new_splitter, after_feed, after_finish, after_failure, next_unit_of, after_next_unit, units_waiting, TakesUnit};
 
 use crate::scanner::Scanner;
 use crate::unit::Unit;
@@ -67,6 +67,29 @@ impl<const MAX: usize> Splitter<MAX> {
                 self.bytes = self.bytes.with_all(piece);
                 self.progress = SplitterPhase::Running;
                 Ok(())
+            }
+        }
+    }
+
+    /// Takes the next bytes of the stream up to where a unit has ended, or all where none ends. Answers how many. After an `Ok` of
+    /// `finish` it takes all, and nothing changes. Once it answers an `Err`, for want of memory, it goes on to do so and asks for none.
+    pub fn feed_unit(&mut self, bytes: &[u8]) -> Result<usize, OutOfMemory>
+        ensures ok { IfOk result (λ used. TakesUnit MAX self.old bytes.now used self.new) }
+        ensures going { OnOk result (self.old.failed ≡ false) }
+        ensures err { OnErr result (self.new ≡ after_failure self.old) }
+        ensures ended { self.old.ended ≡ true → self.old.failed ≡ false → IsOk result }
+    {
+        match self.progress {
+            // no memory is asked for again
+            SplitterPhase::Failed => Err(OutOfMemory),
+            SplitterPhase::Ended => Ok(bytes.len()),
+            SplitterPhase::Running => {
+                // until all of it is done
+                self.progress = SplitterPhase::Failed;
+                let used = self.scanner.take_unit(bytes)?;
+                self.bytes = self.bytes.with_all(&bytes[..used]);
+                self.progress = SplitterPhase::Running;
+                Ok(used)
             }
         }
     }

@@ -3,8 +3,8 @@ use Rattle.std.specs.Prelude.{◌≡◌, ℕ, ◌<◌, ◌≤◌, List, [], ◌�
 use Rattle.avc_types.specs.declared.picture.Picture.{Picture}
 use Rattle.avc_yuv.specs.Copying.{laid, plane_room, shown_rows, window_of}
 use Rattle.avc_yuv.specs.I420.{i420}
-use Rattle.avc_yuv.specs.declared.component.Component.{Component}
-use Rattle.avc_yuv.specs.declared.component.Component.TheVariants.{Luma, Cb, Cr}
+use Rattle.avc_plane.specs.declared.component.Component.{Component}
+use Rattle.avc_plane.specs.declared.component.Component.TheVariants.{Luma, Cb, Cr}
 use Rattle.avc_c.specs.Statuses.{number_of}
 use Rattle.avc_c.specs.declared.status.Status.TheVariants.{Ok, NoPicture, NoPlane, NoRoom}
 

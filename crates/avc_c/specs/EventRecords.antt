@@ -1,10 +1,10 @@
 -- What C is told of an answer.
-use Rattle.std.specs.Prelude.{Option, Some, None, Result, Ok, Err}
+use Rattle.std.specs.Prelude.{ℕ, Option, Some, None, Result, Ok, Err}
 use Rattle.avc_types.specs.Faults.{number_of}
 use Rattle.avc_types.specs.declared.picture.Picture.{Picture}
 use Rattle.avc_decoder.specs.declared.error.DecodeError.{DecodeError}
 use Rattle.avc_decoder.specs.declared.error.DecodeError.TheVariants as errors
-use Rattle.avc_decoder.specs.declared.event.Event.{Event}
+use Rattle.avc_decoder.specs.SeenEvents.{Event}
 use Rattle.avc_decoder.specs.declared.event.Event.TheVariants as events
 use Rattle.avc_c.specs.declared.event.EventRecord.{EventRecord}
 use Rattle.avc_c.specs.declared.status.Status.{Status}
@@ -51,3 +51,14 @@ abbrev pub call_status : Result (Unit {0}) DecodeError → Status
 call_status (Ok done) = statuses.Ok
 call_status (Err errors.OutOfMemory) = statuses.OutOfMemory
 call_status (Err errors.Ended) = statuses.Ended
+
+-- the status of an answer of `feed_unit`
+abbrev pub unit_status : Result ℕ DecodeError → Status
+unit_status (Ok used) = statuses.Ok
+unit_status (Err errors.OutOfMemory) = statuses.OutOfMemory
+unit_status (Err errors.Ended) = statuses.Ended
+
+-- how many bytes were taken: none where the call was not carried out
+abbrev pub used_by : Result ℕ DecodeError → ℕ
+used_by (Ok used) = used
+used_by (Err error) = 0

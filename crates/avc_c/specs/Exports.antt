@@ -2,14 +2,16 @@
 use Rattle.std.specs.Prelude.{◌≡◌, ◌⊎◌, ℕ, Bool, true, false, List, Option, Some, None, Result}
 use Rattle.avc_dpb.specs.declared.output.Output.{Output}
 use Rattle.avc_dpb.specs.declared.output.Output.TheVariants.{Early, Full}
-use Rattle.avc_decoder.specs.Machine.{Machine, new_machine, IsCount, IsFeedAnswer, IsTakeAnswer}
+use Rattle.avc_decoder.specs.Machine.{Machine, new_machine, IsCount, IsFeedAnswer, IsFeedUnitAnswer, IsTakeAnswer}
 use Rattle.avc_decoder.specs.declared.error.DecodeError.{DecodeError}
-use Rattle.avc_decoder.specs.declared.event.Event.{Event}
+use Rattle.avc_decoder.specs.SeenEvents.{Event}
 use Rattle.avc_c.specs.Copies.{IsI420Copied, IsPlaneCopied}
-use Rattle.avc_c.specs.EventRecords.{call_status, picture_of, record_of, take_status}
+use Rattle.avc_c.specs.EventRecords.{call_status, picture_of, record_of, take_status, unit_status, used_by}
+use Rattle.avc_c.specs.Loans.{IsPlaneLent}
 use Rattle.avc_c.specs.Statuses.{number_of}
 use Rattle.avc_c.specs.declared.address.OpenDecoder.{OpenDecoder}
 use Rattle.avc_c.specs.declared.event.EventRecord.{EventRecord}
+use Rattle.avc_c.specs.declared.rows.LentRows.{LentRows}
 use Rattle.avc_c.specs.declared.status.Status.TheVariants.{Ok, OutOfMemory, Closed, IsOpen}
 
 -- the most bytes of a unit
@@ -37,6 +39,13 @@ IsFed after (Some d) status new =
     (answer : Result (Unit {0}) DecodeError) × (m : Machine) × IsFeedAnswer d.decoder (after d.decoder) answer m × (status ≡ number_of (call_status answer))
     × (new ≡ Some (record { decoder = m; picture = d.picture }))
 
+-- bytes are fed up to where a unit has ended, and `used` says how many; the picture that was taken stays
+abbrev pub IsUnitFed : (bytes : List ℕ) → Option OpenDecoder → (status used : ℕ) → Option OpenDecoder → Type 0
+IsUnitFed bytes None status used new = (status ≡ number_of Closed) × (used ≡ 0) × (new ≡ None)
+IsUnitFed bytes (Some d) status used new =
+    (answer : Result ℕ DecodeError) × (m : Machine) × IsFeedUnitAnswer max_unit d.decoder bytes answer m × (status ≡ number_of (unit_status answer))
+    × (used ≡ used_by answer) × (new ≡ Some (record { decoder = m; picture = d.picture }))
+
 -- a new stream begins, with no picture
 abbrev pub IsReset : Option OpenDecoder → (status : ℕ) → Option OpenDecoder → Type 0
 IsReset None status new = (status ≡ number_of Closed) × (new ≡ None)
@@ -58,6 +67,11 @@ IsI420CopiedOut (Some d) old status new = IsI420Copied d.picture old status new
 abbrev pub IsPlaneCopiedOut : Option OpenDecoder → (plane : ℕ) → (old : List ℕ) → (stride status : ℕ) → (new : List ℕ) → Type 0
 IsPlaneCopiedOut None plane old stride status new = (status ≡ number_of Closed) × (new ≡ old)
 IsPlaneCopiedOut (Some d) plane old stride status new = IsPlaneCopied d.picture plane old stride status new
+
+-- a plane of it is lent
+abbrev pub IsPlaneLentOut : Option OpenDecoder → (plane : ℕ) → (old : LentRows) → (status : ℕ) → (new : LentRows) → Type 0
+IsPlaneLentOut None plane old status new = (status ≡ number_of Closed) × (new ≡ old)
+IsPlaneLentOut (Some d) plane old status new = IsPlaneLent d.picture plane old status new
 
 -- the macroblocks that were read are counted
 abbrev pub IsCounted : Option OpenDecoder → (count : ℕ) → Type 0

@@ -3,6 +3,7 @@ pub mod Copies
 pub mod EventRecords
 pub mod Exports
 pub mod FaultNames
+pub mod Loans
 pub mod OpenDecoders
 pub mod Owned
 pub mod Statuses

@@ -5,13 +5,14 @@ ghost use Rattle.avc_c.specs.OpenDecoders.{IsOpen};
 use crate::picture::LastPicture;
 use crate::raw_box::RawBox;
 use avc_decoder::Decoder;
+use avc_plane::SharedPicture;
 use std::alloc::Global;
 use std::marker::Model;
 
 /// A decoder and the picture that was taken last.
 #[derive(Drop)]
 pub struct OpenDecoder {
-    pub decoder: Decoder<134_217_728>,
+    pub decoder: Decoder<134_217_728, SharedPicture>,
     pub picture: LastPicture,
 }
 

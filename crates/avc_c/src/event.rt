@@ -2,7 +2,7 @@ ghost use Rattle.std.specs.Prelude.{◌≡◌};
 ghost use Rattle.avc_c.specs.EventRecords.{picture_record, record_of};
 
 use avc_decoder::{DecodeError, Event};
-use avc_types::Picture;
+use avc_plane::{PictureRows, SharedPicture};
 
 /// What C is told of an event: nothing (0), a picture (1) or a refusal (2). What does not belong to its kind is 0.
 #[repr(C)]
@@ -36,22 +36,23 @@ const NOTHING: EventRecord = EventRecord {
 };
 
 impl EventRecord {
-    fn of_picture(picture: &Picture) -> EventRecord
+    fn of_picture(picture: &SharedPicture) -> EventRecord
         ensures { result ≡ picture_record picture.now }
     {
+        let crop = picture.crop();
         EventRecord {
             kind: 1,
-            width: picture.width,
-            height: picture.height,
-            crop_left: picture.crop.left,
-            crop_right: picture.crop.right,
-            crop_top: picture.crop.top,
-            crop_bottom: picture.crop.bottom,
+            width: picture.width(),
+            height: picture.height(),
+            crop_left: crop.left,
+            crop_right: crop.right,
+            crop_top: crop.top,
+            crop_bottom: crop.bottom,
             ..NOTHING
         }
     }
 
-    pub(crate) fn of(answer: &Result<Option<Event>, DecodeError>) -> EventRecord
+    pub(crate) fn of(answer: &Result<Option<Event<SharedPicture>>, DecodeError>) -> EventRecord
         ensures { result ≡ record_of answer.now }
     {
         match answer {

@@ -1,6 +1,7 @@
 ghost use Rattle.std.specs.Prelude.{◌≡◌, Some, None, IfOk};
 ghost use Rattle.avc_decoder.specs.Machine.{after_feed, after_flush, new_machine};
-ghost use Rattle.avc_c.specs.Exports.{IsOpened, IsFed, IsReset, IsTaken, IsI420CopiedOut, IsPlaneCopiedOut, IsCounted};
+ghost use Rattle.avc_c.specs.Exports.{IsOpened, IsFed, IsUnitFed, IsReset, IsTaken};
+ghost use Rattle.avc_c.specs.Exports.{IsI420CopiedOut, IsPlaneCopiedOut, IsPlaneLentOut, IsCounted};
 ghost use Rattle.avc_c.specs.FaultNames.{IsNamed};
 
 use crate::address::OpenDecoder;
@@ -8,6 +9,7 @@ use crate::event::EventRecord;
 use crate::fault::copy_name;
 use crate::handle::DecoderHandle;
 use crate::picture::LastPicture;
+use crate::rows::LentRows;
 use crate::status::Status;
 use avc_decoder::laws::pictures_are_whole;
 use avc_decoder::{Decoder, Output};
@@ -19,7 +21,7 @@ fn new_decoder(alloc: Global, output: Output) -> Result<Box<OpenDecoder>, OutOfM
     ensures { IfOk result (λ open_decoder. open_decoder.value ≡ record { decoder = new_machine output; picture = None }) }
 {
     let open = OpenDecoder {
-        decoder: Decoder::new(alloc, output),
+        decoder: Decoder::sharing(alloc, output),
         picture: LastPicture::none(),
     };
     let open = Box::new(alloc, open)?;
@@ -66,6 +68,27 @@ pub extern "C" fn avcdec_feed(alloc: Global, decoder: &mut DecoderHandle, bytes:
     let answer = open.decoder.feed(bytes);
     decoder.insert(open);
     Status::of_call(answer).number()
+}
+
+/// Gives the next bytes of the stream up to where a unit has ended, or all where none ends. `used` says how many those are.
+#[unsafe(no_mangle)]
+pub extern "C" fn avcdec_feed_unit(
+    alloc: Global,
+    decoder: &mut DecoderHandle,
+    bytes: &[u8],
+    used: &mut usize,
+) -> u32
+    ensures { IsUnitFed bytes.now decoder.old.address.decoder result used.new decoder.new.address.decoder }
+{
+    *used = 0;
+    if !decoder.is_open {
+        return Status::Closed.number();
+    }
+    let mut open = decoder.remove(alloc);
+    let answer = open.decoder.feed_unit(bytes);
+    decoder.insert(open);
+    *used = answer.unwrap_or(0);
+    Status::of_unit(answer).number()
 }
 
 /// Ends the stream.
@@ -155,6 +178,26 @@ pub extern "C" fn avcdec_copy_plane(
     }
     let open = decoder.remove(alloc);
     let status = open.picture.copy_plane(plane, out, stride);
+    decoder.insert(open);
+    status.number()
+}
+
+/// Tells where what is shown of one plane of the picture that was taken last lies. It is to be read until the next take, reset or close.
+#[unsafe(no_mangle)]
+pub extern "C" fn avcdec_lend_plane(
+    alloc: Global,
+    decoder: &mut DecoderHandle,
+    plane: u32,
+    rows: &mut LentRows,
+) -> u32
+    ensures decoder { decoder.new.address.decoder ≡ decoder.old.address.decoder }
+    ensures lent { IsPlaneLentOut decoder.old.address.decoder plane rows.old result rows.new }
+{
+    if !decoder.is_open {
+        return Status::Closed.number();
+    }
+    let open = decoder.remove(alloc);
+    let status = open.picture.lend_plane(plane, rows);
     decoder.insert(open);
     status.number()
 }

@@ -9,14 +9,17 @@ mod handle;
 pub mod laws;
 mod picture;
 mod raw_box;
+mod rows;
 mod status;
 
 pub use address::{DecoderAddress, OpenDecoder};
 pub use event::EventRecord;
 pub use exports::{
     avcdec_close, avcdec_copy_i420, avcdec_copy_plane, avcdec_fault_name, avcdec_feed,
-    avcdec_flush, avcdec_open, avcdec_reset, avcdec_take, avcdec_turns, avcdec_version,
+    avcdec_feed_unit, avcdec_flush, avcdec_lend_plane, avcdec_open, avcdec_reset, avcdec_take,
+    avcdec_turns, avcdec_version,
 };
 pub use handle::DecoderHandle;
 pub use picture::LastPicture;
+pub use rows::LentRows;
 pub use status::Status;

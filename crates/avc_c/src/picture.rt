@@ -3,17 +3,19 @@ ghost use Rattle.avc_types.specs.Whole.{IsWhole};
 ghost use Rattle.avc_c.specs.EventRecords.{picture_of};
 ghost use Rattle.avc_c.specs.Statuses.{number_of};
 ghost use Rattle.avc_c.specs.Copies.{IsI420Copied, IsPlaneCopied, component_of};
+ghost use Rattle.avc_c.specs.Loans.{IsPlaneLent};
 
+use crate::rows::LentRows;
 use crate::status::Status;
 use avc_decoder::{DecodeError, Event};
-use avc_types::Picture;
+use avc_plane::SharedPicture;
 use avc_yuv::{Component, copy_i420, copy_plane, i420_len, plane_columns, plane_len};
 use std::marker::Model;
 
-/// The picture that was taken last, where the last event is one. Its planes and its crop fit its size.
+/// The picture that was taken last, where the last event is one; it holds the picture's planes. They and its crop fit its size.
 #[derive(Drop)]
 pub struct LastPicture {
-    picture: Option<Picture>,
+    picture: Option<SharedPicture>,
 }
 
 impl Model for LastPicture {
@@ -36,7 +38,7 @@ impl LastPicture {
     }
 
     /// The picture of an answer of `take`.
-    pub(crate) fn of(answer: Result<Option<Event>, DecodeError>) -> LastPicture
+    pub(crate) fn of(answer: Result<Option<Event<SharedPicture>>, DecodeError>) -> LastPicture
         requires { IfSome (picture_of answer) IsWhole }
         ensures { result ≡ picture_of answer }
     {
@@ -81,6 +83,20 @@ impl LastPicture {
             return Status::NoRoom;
         }
         copy_plane(picture, component, out, stride);
+        Status::Ok
+    }
+
+    /// Tells where what is shown of one plane lies.
+    pub(crate) fn lend_plane(&self, plane: u32, rows: &mut LentRows) -> Status
+        ensures { IsPlaneLent self.now plane rows.old (number_of result) rows.new }
+    {
+        let Some(picture) = &self.picture else {
+            return Status::NoPicture;
+        };
+        let Some(component) = component_of(plane) else {
+            return Status::NoPlane;
+        };
+        *rows = LentRows::of(picture, component);
         Status::Ok
     }
 }

@@ -1,7 +1,8 @@
 ghost use Rattle.std.specs.Prelude.{◌≡◌};
-ghost use Rattle.avc_c.specs.EventRecords.{call_status, take_status};
+ghost use Rattle.avc_c.specs.EventRecords.{call_status, take_status, unit_status};
 
 use avc_decoder::{DecodeError, Event};
+use avc_plane::SharedPicture;
 
 /// What a call answers to C.
 #[derive(Clone, Copy, Debug, PartialEq, Eq)]
@@ -44,8 +45,19 @@ impl Status {
         }
     }
 
+    /// Of a feed of one unit.
+    pub(crate) fn of_unit(answer: Result<usize, DecodeError>) -> Status
+        ensures { result ≡ unit_status answer }
+    {
+        match answer {
+            Ok(_) => Status::Ok,
+            Err(DecodeError::OutOfMemory) => Status::OutOfMemory,
+            Err(DecodeError::Ended) => Status::Ended,
+        }
+    }
+
     /// Of a take.
-    pub(crate) fn of_take(answer: &Result<Option<Event>, DecodeError>) -> Status
+    pub(crate) fn of_take(answer: &Result<Option<Event<SharedPicture>>, DecodeError>) -> Status
         ensures { result ≡ take_status answer.now }
     {
         match answer {

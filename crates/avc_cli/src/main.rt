@@ -1,10 +1,11 @@
 //! `avcdec`: decodes a byte stream of H.264 (Annex B), shows what is in it, and cuts it, on the command line.
 #![tactic(auto)]
 
+mod output;
 mod progress;
 mod rate;
 
-use avc_formats::{Selected, decode_as, decode_headed, decode_md5, verify};
+use avc_formats::{HeadedFormat, Selected, decode_as, decode_headed, decode_md5, verify};
 use avc_info::{ForPeople, ForPrograms, info};
 use avc_request::{Form, Request, Showing, Task, Telling, requested, words_of};
 use avc_run::{
@@ -12,6 +13,7 @@ use avc_run::{
     headers, units,
 };
 use clap::error::ErrorKind;
+use output::{OutputFile, is_input};
 use progress::Progress;
 use std::alloc::Global;
 use std::fs::File;
@@ -32,17 +34,26 @@ fn main(rt: HostRuntime) -> ExitCode {
 
 // Does what was asked for, and answers the exit status.
 fn carry_out(rt: &HostRuntime, request: Request<'_>) -> u8 {
+    let names = Names {
+        input: request.input,
+        output: request.output,
+    };
+    if let Some(output) = names.output {
+        if is_input(rt, names.input, output) {
+            return refuse_output(rt, output);
+        }
+    }
     let mut console = Console {
-        names: request.names,
+        names,
         errors: rt.stderr(),
         watch: Progress::new(rt, is_progress_told(rt, request.progress)),
     };
-    match request.names.input {
+    match names.input {
         Some(name) => match File::open(rt, name) {
-            Ok(mut file) => carry_out_on(rt, request, &mut file, &mut console),
-            Err(_) => fail(RunFault::Read, &request.names, &mut console.errors).status,
+            Ok(mut file) => carry_out_on(rt, request.task, &mut file, &mut console),
+            Err(_) => fail(RunFault::Read, &names, &mut console.errors).status,
         },
-        None => carry_out_on(rt, request, &mut rt.stdin(), &mut console),
+        None => carry_out_on(rt, request.task, &mut rt.stdin(), &mut console),
     }
 }
 
@@ -58,17 +69,17 @@ fn is_progress_told(rt: &HostRuntime, progress: Telling) -> bool {
 // The same on this input.
 fn carry_out_on<R: Read, E: Write, V: Watch>(
     rt: &HostRuntime,
-    request: Request<'_>,
+    task: Task,
     reader: &mut R,
     console: &mut Console<'_, E, V>,
 ) -> u8 {
     let alloc = rt.alloc();
-    match request.names.output {
-        Some(name) => match File::create(rt, name) {
-            Ok(mut file) => carry_out_between(alloc, request.task, reader, &mut file, console),
-            Err(_) => fail(RunFault::Write, &request.names, &mut console.errors).status,
-        },
-        None => carry_out_between(alloc, request.task, reader, &mut io::writer(rt), console),
+    match console.names.output {
+        Some(name) => {
+            let mut file = OutputFile::new(rt, name);
+            carry_out_between(alloc, task, reader, &mut file, console)
+        }
+        None => carry_out_between(alloc, task, reader, &mut io::writer(rt), console),
     }
 }
 
@@ -113,11 +124,31 @@ fn show<R: Read, W: Write, E: Write, V: Watch>(
         Form::I420 => decode_as(alloc, mode, &format, reader, writer, console),
         Form::Null => decode_as(alloc, mode, &format, reader, &mut io::sink(), console),
         Form::Md5 => decode_md5(alloc, mode, &format, reader, writer, console),
-        Form::Headed(headed) => {
-            decode_headed(alloc, headed, mode, skip, limit, reader, writer, console)
-        }
+        Form::Y4m => show_headed(alloc, HeadedFormat::Y4m, showing, reader, writer, console),
+        Form::FrameMd5 => show_headed(alloc, HeadedFormat::FrameMd5, showing, reader, writer, console),
         Form::Verify(expected) => verify(alloc, mode, &format, expected, reader, console),
     }
+}
+
+// The same in a format with a head.
+fn show_headed<R: Read, W: Write, E: Write, V: Watch>(
+    alloc: Global,
+    format: HeadedFormat,
+    showing: Showing,
+    reader: &mut R,
+    writer: &mut W,
+    console: &mut Console<'_, E, V>,
+) -> Ending {
+    decode_headed(
+        alloc,
+        format,
+        showing.mode,
+        showing.skip,
+        showing.limit,
+        reader,
+        writer,
+        console,
+    )
 }
 
 // The exit status after words that name nothing to do. A fault is told on the standard error.
@@ -131,6 +162,12 @@ fn refuse(rt: &HostRuntime, error: &clap::Error) -> u8 {
         let _ = fail(fault, &names, &mut rt.stderr());
     }
     answer_status(answer)
+}
+
+// The exit status where the file that is to be written is the one that is read, of which nothing would be left.
+fn refuse_output(rt: &HostRuntime, output: &str) -> u8 {
+    let _ = eprintln!(rt; "avcdec: {output} is the file that is read");
+    answer_status(Ok(Answer::Misuse))
 }
 
 // Prints the text that answers the words.

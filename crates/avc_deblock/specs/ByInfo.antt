@@ -1,5 +1,5 @@
 -- The deblocking filter by the info of macroblocks alone, ITU-T H.264 clause 8.7.
-use Rattle.std.specs.Prelude.{◌≡◌, ℕ, zero, suc, ◌+◌, ◌-◌, ◌*◌, ◌%◌, ◌≤◌, ◌==◌, nat_lt, ℤ, pos, Bool, true, false, ◌&&◌, ◌||◌, if◌then◌else◌, List, [], length, slice_index_or}
+use Rattle.std.specs.Prelude.{◌≡◌, ℕ, zero, suc, ◌+◌, ◌-◌, ◌*◌, ◌%◌, ◌<◌, ◌≤◌, ◌==◌, nat_lt, ℤ, pos, Bool, true, false, ◌&&◌, ◌||◌, if◌then◌else◌, List, [], length, slice_index_or}
 use Rattle.avc_types.specs.declared.edges.FilteredEdges.TheVariants.{All}
 use Rattle.avc_types.specs.Pictures.{Coded}
 use Rattle.avc_neigh.specs.declared.neighbour_info.Motion.{Motion}
@@ -8,8 +8,8 @@ use Rattle.avc_transform.specs.Residual.{chroma_qp}
 use Rattle.avc_deblock.specs.declared.thresholds.EdgeQp.{EdgeQp}
 use Rattle.avc_deblock.specs.declared.mb_info.MbInfo.{MbInfo}
 use Rattle.avc_deblock.specs.Edges.{all_filtered, row_lines}
-use Rattle.avc_deblock.specs.FilterInfo.{Names, HaveInfo, inter_strength, edge_block, filters_between}
-use Rattle.avc_deblock.specs.OneEdge.{lines_of_edge}
+use Rattle.avc_deblock.specs.FilterInfo.{Names, HasInfo, HaveInfo, IsAt, inter_strength, edge_block, filters_between, p_address}
+use Rattle.avc_deblock.specs.OneEdge.{lines_of_edge, planes_edge}
 
 -- bS along edge n of macroblock q in quarter k of the edge; p is the macroblock on the other side, q itself but at edge 0 (8.7.2.1)
 abbrev pub strength_of : (p q : MbInfo) → Bool → (n k : ℕ) → ℕ
@@ -81,3 +81,12 @@ RowIsThePictures =
     (c : Coded) (motion : List (List Motion)) (names : Names) (row : ℕ) (offset : ℤ) (above info : List MbInfo) (s : Planes) →
     AreOfRow c motion names row offset above info →
     row_by_info offset row above info (length info) s ≡ all_filtered c motion s (row_lines c row)
+
+-- By a coded picture's info edge n of macroblock a is filtered as by its line filters: each line of luma, Cb and Cr along that edge with
+-- its setting in the picture (8.7, 8.7.1).
+abbrev pub EdgeIsThePictures : Type 0
+EdgeIsThePictures =
+    (c : Coded) (motion : List (List Motion)) (names : Names) (column row a : ℕ) (offset : ℤ) (v : Bool) (n : ℕ) (p q : MbInfo) (s : Planes) →
+    IsAt c column row a → c.chroma_qp_index_offset ≡ offset → n < 4 → (v ≡ true → 1 ≤ 4 * column + n) → (v ≡ false → 1 ≤ 4 * row + n) →
+    HasInfo c motion names (p_address c v n a) p → HasInfo c motion names a q →
+    edge_by_info v column row n offset p q s ≡ planes_edge c motion v a n s

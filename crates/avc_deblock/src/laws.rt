@@ -1,4 +1,4 @@
-ghost use Rattle.avc_deblock.specs.ByInfo.{RowIsThePictures};
+ghost use Rattle.avc_deblock.specs.ByInfo.{EdgeIsThePictures, RowIsThePictures};
 ghost use Rattle.avc_deblock.specs.Locality.{RowChangesItsRows, RowReadsNoneBelow, RowCommutesWithBlocksBelow};
 ghost use Rattle.avc_deblock.specs.Laws.{RowsInOrder, InfoOfFirstMacroblocksStays, TwoEdgesOfAStep};
 
@@ -11,6 +11,11 @@ pub fn rows_in_order()
 /// The info of a picture's first macroblocks is that of every picture that begins with them.
 pub fn info_of_first_macroblocks_stays()
     ensures { InfoOfFirstMacroblocksStays }
+{}
+
+/// Where its info is a coded picture's, an edge is filtered as by the picture's line filters of that edge.
+pub fn edge_by_info_is_the_pictures()
+    ensures { EdgeIsThePictures }
 {}
 
 /// Where its info is a coded picture's, a row is filtered as by the picture's line filters of that row.

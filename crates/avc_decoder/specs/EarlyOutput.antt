@@ -14,7 +14,7 @@ use Rattle.avc_decoder_core.specs.SequenceOrder.{RespectsReorderNumbers}
 use Rattle.avc_decoder.specs.FirstFault.{OpenPicture, first_header, history_of}
 use Rattle.avc_decoder.specs.Events.{Phase, State, waiting, running, after_unit, closed_picture, closing_result, events, first_state, history_in, is_running}
 use Rattle.avc_decoder.specs.Events.{is_waiting, open_facts_in, pictures_in, refusals_in, state_after}
-use Rattle.avc_decoder.specs.declared.event.Event.{Event}
+use Rattle.avc_decoder.specs.SeenEvents.{Event}
 
 -- ---- the coded video sequences of a stream (7.4.1.2.2)
 

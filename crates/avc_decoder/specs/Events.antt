@@ -20,7 +20,7 @@ use Rattle.avc_dpb.specs.declared.output.Output.{Output}
 use Rattle.avc_decoder_core.specs.History.{History}
 use Rattle.avc_decoder_core.specs.Pictures.{output_pictures, held_pictures, output_at_closing}
 use Rattle.avc_decoder.specs.FirstFault.{OpenPicture, first_fault, first_header, history_of, read_of, start_on, progress_on, closed_history}
-use Rattle.avc_decoder.specs.declared.event.Event.{Event}
+use Rattle.avc_decoder.specs.SeenEvents.{Event}
 use Rattle.avc_decoder.specs.declared.event.Event.TheVariants.{Picture, Refused}
 
 -- pictures as events

@@ -7,7 +7,7 @@ use Rattle.avc_decoder.specs.declared.calls.Call.{Call}
 use Rattle.avc_decoder.specs.declared.calls.Call.TheVariants.{Feed, Take, Flush, Reset}
 use Rattle.avc_decoder.specs.declared.calls.Reply.{Reply}
 use Rattle.avc_decoder.specs.declared.calls.Reply.TheVariants as replies
-use Rattle.avc_decoder.specs.declared.event.Event.{Event}
+use Rattle.avc_decoder.specs.SeenEvents.{Event}
 
 -- Since the last reset: the bytes that were fed, whether they were said to be all, and the events that were taken, in order.
 pub record SinceReset : Type 0 where

@@ -1,10 +1,10 @@
 -- What the decoder's parts keep.
-use Rattle.std.specs.Prelude.{◌≡◌, ℕ, zero, suc, ◌+◌, ◌-◌, Bool, true, false, not, List, [], ◌∷◌, ◌++◌, length, drop, Option, Some, None, IfSome, Result, Ok, Err, slice_get}
+use Rattle.std.specs.Prelude.{◌≡◌, ℕ, zero, suc, ◌+◌, ◌-◌, Bool, true, false, not, List, [], ◌∷◌, ◌++◌, length, take, drop, Option, Some, None, IfSome, Result, Ok, Err, slice_get}
 use Rattle.std.specs.Option.{option_map}
 use Rattle.avc_types.specs.declared.fault.Fault.{Fault}
 use Rattle.avc_types.specs.declared.picture_error.PictureError.{PictureError}
 use Rattle.avc_types.specs.declared.picture_error.PictureError.TheVariants.{Fault as Faulty}
-use Rattle.avc_annexb.specs.SplitterState.{SplitterState, after_feed, after_finish, new_splitter}
+use Rattle.avc_annexb.specs.SplitterState.{SplitterState, new_splitter}
 use Rattle.avc_annexb.specs.Units.{units, saturated}
 use Rattle.avc_annexb.specs.declared.unit.Unit.{Unit as Piece}
 use Rattle.avc_params.specs.Tables.{Sets, sets_after}
@@ -29,8 +29,9 @@ use Rattle.avc_decoder.specs.PictureFrames.{HasItsFrames, IsRefused, read_of_sli
 use Rattle.avc_decoder.specs.Events.{Phase, waiting, running, State, first_state, Outcome, no_change, failed_at}
 use Rattle.avc_decoder.specs.Events.{closed_picture, after_unit, state_after, events, turns, at_end}
 use Rattle.avc_decoder.specs.Laws.{state_through}
-use Rattle.avc_decoder.specs.Machine.{Machine, IsCount}
-use Rattle.avc_decoder.specs.declared.event.Event.{Event}
+use Rattle.avc_decoder.specs.Machine.{Machine, IsCount, IsUpToUnit}
+use Rattle.avc_decoder.specs.SeenEvents.{Event}
+use Rattle.avc_decoder.specs.declared.parts.Fed.{Fed}
 use Rattle.avc_decoder.specs.declared.parts.Parts.{Parts}
 use Rattle.avc_decoder.specs.declared.phase.CurrentPicture.{CurrentPicture}
 use Rattle.avc_decoder.specs.declared.phase.Phase.{Phase as PhaseHere}
@@ -254,6 +255,10 @@ stream_state s = record {
   read = s.read;
 }
 
+-- its events as those of a queue
+abbrev pub queue_in : StreamState → QueueState
+queue_in f = record { events = f.events; taken = f.taken }
+
 -- one unit more
 abbrev pub after_unit_in_stream : Piece → StreamState → StreamState
 after_unit_in_stream u f =
@@ -286,54 +291,24 @@ pub record HandlesAll (max : ℕ) (s s' : SplitterState) (f f' : StreamState) : 
   pub splitter : s' ≡ record s { taken = s.taken + length (drop s.taken (units max s.bytes s.ended)) }
   pub stream : f' ≡ after_units_in_stream (drop s.taken (units max s.bytes s.ended)) f
 
--- No memory was refused so far.
-pub record IsWorking (max : ℕ) (p : Parts max) : Type 0 where
+-- All events were passed on to those that go out.
+pub record ArePassedOn (q out : QueueState) : Type 0 where
+  pub events : out.events ≡ q.events
+  pub taken : q.taken ≡ length q.events
+
+-- No memory was refused so far, and the stream goes on.
+pub record IsWorking (max : ℕ) {P : Type 0} (p : Parts max P) : Type 0 where
   pub going : (p.splitter).failed ≡ false
+  pub unended : (p.splitter).ended ≡ false
   pub stream : IsStream p.stream
+  pub passed : ArePassedOn (p.stream).queue p.outgoing
 
 -- at the start of a stream
-pub record IsNew (max : ℕ) (output : Output) (p : Parts max) : Type 0 where
+pub record IsNew (max : ℕ) (output : Output) {P : Type 0} (p : Parts max P) : Type 0 where
   pub splitter : p.splitter ≡ new_splitter
   pub works : IsStream p.stream
   pub stream : stream_state p.stream ≡ new_stream output
-
--- A piece more was taken, and so many macroblocks have been read.
-pub record Feeds (max : ℕ) (old : Parts max) (piece : List ℕ) (read : ℕ) (new : Parts max) : Type 0 where
-  pub works : IsStream new.stream
-  pub handles : HandlesAll max (after_feed old.splitter piece) new.splitter (stream_state old.stream)
-      (stream_state new.stream)
-  pub count : read ≡ (new.stream).read
-
--- the same where there is a decoder that goes on
-abbrev pub FeedsIn : (max : ℕ) → Option (Parts max) → (piece : List ℕ) → (read : ℕ) → Option (Parts max) → Type 0
-FeedsIn max (Some old) piece read (Some new) = Feeds max old piece read new
-FeedsIn max old piece read new = ⊥
-
--- The end was taken, and so many macroblocks have been read.
-pub record Ends (max : ℕ) (old : Parts max) (read : ℕ) (new : Parts max) : Type 0 where
-  pub works : IsStream new.stream
-  pub before : StreamState
-  pub handles : HandlesAll max (after_finish old.splitter) new.splitter (stream_state old.stream) before
-  pub ends : stream_state new.stream ≡ after_stream_end before
-  pub count : read ≡ (new.stream).read
-
--- the same where there is a decoder that goes on
-abbrev pub EndsIn : (max : ℕ) → Option (Parts max) → (read : ℕ) → Option (Parts max) → Type 0
-EndsIn max (Some old) read (Some new) = Ends max old read new
-EndsIn max old read new = ⊥
-
--- the event that comes next
-abbrev pub next_event_in : (max : ℕ) → Option (Parts max) → Option Event
-next_event_in max None = None
-next_event_in max (Some p) = slice_get ((p.stream).queue).events ((p.stream).queue).taken
-
--- after it was taken, if there was one
-abbrev pub after_take_in : (max : ℕ) → Option Event → Option (Parts max) → Option (Parts max)
-after_take_in max event None = None
-after_take_in max event (Some p) = Some (record p {
-  stream = record p.stream
-      { queue = after_queue_take event (p.stream).queue };
-})
+  pub outgoing : p.outgoing ≡ record { events = []; taken = 0 }
 
 -- All units of the bytes were handled.
 pub record IsDecoded (output : Output) (max : ℕ) (s : SplitterState) (ended : Bool) (f : StreamState) : Type 0 where
@@ -344,14 +319,66 @@ pub record IsDecoded (output : Output) (max : ℕ) (s : SplitterState) (ended : 
   pub events : f.events ≡ events output max s.bytes ended
   pub read : f.read ≡ turns output max s.bytes ended
 
+-- Whichever stream these parts had decoded, they have decoded it with these bytes; no event was taken.
+pub record HaveDecoded (max : ℕ) {P : Type 0} (old : Parts max P) (bytes : List ℕ) (ended : Bool) (new : Parts max P) : Type 0 where
+  pub works : IsStream new.stream
+  pub passed : ArePassedOn (new.stream).queue new.outgoing
+  pub taken : (new.outgoing).taken ≡ (old.outgoing).taken
+  pub going : (new.splitter).failed ≡ false
+  pub ends : (new.splitter).ended ≡ ended
+  pub bytes_are : (new.splitter).bytes ≡ bytes
+  pub decoded : (output : Output) → IsDecoded output max old.splitter false (stream_state old.stream) →
+      IsDecoded output max new.splitter ended (stream_state new.stream)
+
+-- A piece more was taken, and so many macroblocks have been read.
+pub record Feeds (max : ℕ) {P : Type 0} (old : Parts max P) (piece : List ℕ) (read : ℕ) (new : Parts max P) : Type 0 where
+  pub now : HaveDecoded max old ((old.splitter).bytes ++ piece) false new
+  pub count : read ≡ (new.stream).read
+
+-- Of these bytes those up to where a unit has ended were taken.
+pub record FeedsUnit (max : ℕ) {P : Type 0} (old : Parts max P) (bytes : List ℕ) (fed : Fed) (new : Parts max P) : Type 0 where
+  pub used : IsUpToUnit max (old.splitter).bytes bytes fed.used
+  pub feeds : Feeds max old (take fed.used bytes) fed.read new
+
+-- The end was taken, and so many macroblocks have been read.
+pub record Ends (max : ℕ) {P : Type 0} (old : Parts max P) (read : ℕ) (new : Parts max P) : Type 0 where
+  pub now : HaveDecoded max old (old.splitter).bytes true new
+  pub count : read ≡ (new.stream).read
+
+-- the same where there is a decoder that goes on
+abbrev pub FeedsIn : (max : ℕ) → {P : Type 0} → Option (Parts max P) → (piece : List ℕ) → (read : ℕ) → Option (Parts max P) → Type 0
+FeedsIn max (Some old) piece read (Some new) = Feeds max old piece read new
+FeedsIn max old piece read new = ⊥
+
+-- the same where there is a decoder that goes on
+abbrev pub FeedsUnitIn : (max : ℕ) → {P : Type 0} → Option (Parts max P) → (bytes : List ℕ) → Fed → Option (Parts max P) → Type 0
+FeedsUnitIn max (Some old) bytes fed (Some new) = FeedsUnit max old bytes fed new
+FeedsUnitIn max old bytes fed new = ⊥
+
+-- the same where there is a decoder that goes on
+abbrev pub EndsIn : (max : ℕ) → {P : Type 0} → Option (Parts max P) → (read : ℕ) → Option (Parts max P) → Type 0
+EndsIn max (Some old) read (Some new) = Ends max old read new
+EndsIn max old read new = ⊥
+
+-- the event that comes next
+abbrev pub next_event_in : (max : ℕ) → {P : Type 0} → Option (Parts max P) → Option Event
+next_event_in max None = None
+next_event_in max (Some p) = slice_get (p.outgoing).events (p.outgoing).taken
+
+-- after it was taken, if there was one
+abbrev pub after_take_in : (max : ℕ) → {P : Type 0} → Option Event → Option (Parts max P) → Option (Parts max P)
+after_take_in max event None = None
+after_take_in max event (Some p) = Some (record p { outgoing = after_queue_take event p.outgoing })
+
 -- Memory was not refused, and the parts have all of the machine.
-pub record AreParts (max : ℕ) (m : Machine) (p : Parts max) : Type 0 where
+pub record AreParts (max : ℕ) (m : Machine) {P : Type 0} (p : Parts max P) : Type 0 where
   pub works : IsStream p.stream
+  pub passed : ArePassedOn (p.stream).queue p.outgoing
   pub decoded : IsDecoded m.output max p.splitter m.ended (stream_state p.stream)
   pub bytes : (p.splitter).bytes ≡ m.bytes
-  pub taken : ((p.stream).queue).taken ≡ m.taken
+  pub taken : (p.outgoing).taken ≡ m.taken
 
 -- What a decoder keeps of the machine: the macroblocks that are counted, and as long as memory was not refused, all of it.
-pub record IsDecoderState (max : ℕ) (m : Machine) (running : Option (Parts max)) (count : ℕ) : Type 0 where
+pub record IsDecoderState (max : ℕ) (m : Machine) {P : Type 0} (running : Option (Parts max P)) (count : ℕ) : Type 0 where
   pub count_is : IsCount max m count
   pub parts : IfSome running (AreParts max m)

@@ -8,7 +8,7 @@ ghost use Rattle.avc_decoder_core.specs.SequenceState.{current_history};
 use crate::phase::{CurrentPicture, Phase};
 use crate::stream::Stream;
 use avc_picture::PictureMemory;
-use avc_plane::PADDING;
+use avc_plane::{PADDING, SharedPlanes};
 use avc_types::{Fault, OutOfMemory, PictureError};
 
 /// Closes the open picture, if there is one. At a fault all held pictures go out, and then the refusal.
@@ -44,7 +44,8 @@ fn close_picture(stream: &mut Stream, current: CurrentPicture) -> Result<(), Out
         }
         Err(PictureError::OutOfMemory) => return Err(OutOfMemory),
     };
-    match stream.sequence.close(planes) {
+    let shared = SharedPlanes::new(stream.alloc, planes)?;
+    match stream.sequence.close(shared) {
         Ok(out) => {
             stream.queue.show(out)?;
             Ok(())

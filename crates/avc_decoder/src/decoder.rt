@@ -1,29 +1,34 @@
 ghost use Rattle.std.specs.Prelude.{◌≡◌};
-ghost use Rattle.avc_decoder.specs.Machine.{after_feed, after_flush, new_machine, IsCount, IsFeedAnswer, IsTakeAnswer};
+ghost use Rattle.avc_decoder.specs.Machine.{after_feed, after_flush, new_machine};
+ghost use Rattle.avc_decoder.specs.Machine.{IsCount, IsFeedAnswer, IsFeedUnitAnswer, IsTakeAnswer};
+ghost use Rattle.avc_decoder.specs.SeenEvents.{seen_answer};
 
 use crate::error::DecodeError;
 use crate::event::Event;
-use crate::parts::{Parts, feed, finish, stop_at_refusal, take_event};
+use crate::parts::{Parts, feed, feed_unit, finish, stop_at_refusal, take_event};
 use avc_decoder_core::Output;
-use avc_types::History;
+use avc_plane::{OutputPicture, SharedPicture};
+use avc_types::{History, Picture};
 use std::alloc::Global;
 use std::marker::Model;
 
-/// A decoder of one byte stream (Annex B), in whatever pieces its bytes come. `MAX` is the most bytes of a unit.
+/// A decoder of one byte stream (Annex B), in whatever pieces its bytes come. `MAX` is the most bytes of a unit. `P` is the kind of
+/// picture that it hands out: `Picture` in memory of its own, or `SharedPicture`, which is shared with the decoder as long as it
+/// predicts from it.
 #[derive(Drop)]
-pub struct Decoder<const MAX: usize> {
+pub struct Decoder<const MAX: usize, P: OutputPicture = Picture> {
     alloc: Global,
     output: Output,
     // none once a call was refused memory
-    running: Option<Parts<MAX>>,
+    running: Option<Parts<MAX, P>>,
     // how many macroblocks were read when a call was last carried out
     read: u64,
     ended: bool,
     bytes: History<u8>,
-    taken: History<Event>,
+    taken: History<Event<P>>,
 }
 
-impl<const MAX: usize> Model for Decoder<MAX> {
+impl<const MAX: usize, P: OutputPicture> Model for Decoder<MAX, P> {
     ghost use Rattle.std.specs.Prelude.{is_none, length};
     ghost use Rattle.avc_decoder.specs.States.{IsDecoderState};
     ghost use Rattle.avc_decoder.specs.Machine.{Machine};
@@ -38,8 +43,41 @@ impl<const MAX: usize> Model for Decoder<MAX> {
 }
 
 impl<const MAX: usize> Decoder<MAX> {
-    /// At the start of a stream. `output` says when pictures go out, also after a reset.
+    /// At the start of a stream. `output` says when pictures go out, also after a reset. A picture is handed out in memory of its own.
     pub fn new(alloc: Global, output: Output) -> Self
+        ensures { result ≡ new_machine output }
+    {
+        Decoder::at_start(alloc, output)
+    }
+
+    /// The next event that the bytes so far define, if there is one.
+    pub fn take(&mut self) -> Result<Option<Event>, DecodeError>
+        ensures { IsTakeAnswer MAX self.old result self.new }
+    {
+        self.take_any()
+    }
+}
+
+impl<const MAX: usize> Decoder<MAX, SharedPicture> {
+    /// At the start of a stream. `output` says when pictures go out, also after a reset. A picture that is handed out is shared with
+    /// the decoder, and not copied.
+    pub fn sharing(alloc: Global, output: Output) -> Self
+        ensures { result ≡ new_machine output }
+    {
+        Decoder::at_start(alloc, output)
+    }
+
+    /// The next event that the bytes so far define, if there is one.
+    pub fn take(&mut self) -> Result<Option<Event<SharedPicture>>, DecodeError>
+        ensures { IsTakeAnswer MAX self.old result self.new }
+    {
+        self.take_any()
+    }
+}
+
+impl<const MAX: usize, P: OutputPicture> Decoder<MAX, P> {
+    /// At the start of a stream.
+    fn at_start(alloc: Global, output: Output) -> Self
         ensures { result ≡ new_machine output }
     {
         Decoder {
@@ -72,9 +110,37 @@ impl<const MAX: usize> Decoder<MAX> {
         Ok(())
     }
 
-    /// The next event that the bytes so far define, if there is one.
-    pub fn take(&mut self) -> Result<Option<Event>, DecodeError>
-        ensures { IsTakeAnswer MAX self.old result self.new }
+    /// Takes the next bytes of the stream up to where a unit has ended, or all where none ends, and answers how many: so at most the
+    /// pictures that one unit lets out wait, where all events are taken after each call. For no bytes no memory is wanted.
+    pub fn feed_unit(&mut self, bytes: &[u8]) -> Result<usize, DecodeError>
+        ensures { IsFeedUnitAnswer MAX self.old bytes.now result self.new }
+    {
+        if self.running.is_none() {
+            return Err(DecodeError::OutOfMemory);
+        }
+        if self.ended {
+            return Err(DecodeError::Ended);
+        }
+        if bytes.is_empty() {
+            return Ok(0);
+        }
+        let fed = feed_unit(&mut self.running, bytes);
+        match stop_at_refusal(&mut self.running, fed) {
+            Ok(fed) => {
+                self.bytes = self.bytes.with_all(&bytes[..fed.used]);
+                self.read = fed.read;
+                Ok(fed.used)
+            }
+            Err(refused) => {
+                self.bytes = self.bytes.with_all(bytes);
+                Err(refused.into())
+            }
+        }
+    }
+
+    /// The next event, in whichever kind of picture.
+    fn take_any(&mut self) -> Result<Option<Event<P>>, DecodeError>
+        ensures { IsTakeAnswer MAX self.old (seen_answer P.picture result) self.new }
     {
         if self.running.is_none() {
             return Err(DecodeError::OutOfMemory);

@@ -7,6 +7,7 @@ mod decoder;
 mod error;
 mod event;
 pub mod laws;
+mod outgoing;
 mod parts;
 mod phase;
 mod queue;

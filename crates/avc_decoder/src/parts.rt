@@ -1,22 +1,34 @@
 ghost use Rattle.std.specs.Prelude.{◌≡◌, false, IfOk, IfSome, None, OnErr, OnOk};
+ghost use Rattle.avc_decoder.specs.SeenEvents.{seen_if_any};
 ghost use Rattle.avc_decoder.specs.States.{after_take_in, next_event_in, stream_state};
-ghost use Rattle.avc_decoder.specs.States.{Ends, EndsIn, Feeds, FeedsIn, HandlesAll, IsNew, IsStream, IsWorking};
+ghost use Rattle.avc_decoder.specs.States.{Ends, EndsIn, Feeds, FeedsIn, FeedsUnit, FeedsUnitIn, HandlesAll, IsNew, IsStream, IsWorking};
 
 use crate::event::Event;
+use crate::outgoing::Outgoing;
 use crate::stream::Stream;
 use avc_annexb::Splitter;
 use avc_decoder_core::Output;
+use avc_plane::OutputPicture;
 use avc_types::OutOfMemory;
 use std::alloc::Global;
 
-/// What a decoder works with: the units of its bytes, and their events. After want of memory it may be anything.
+/// What a decoder works with: the units of its bytes, their events, and those of them that the caller has not taken. After want of
+/// memory it may be anything.
 #[derive(Drop)]
-pub struct Parts<const MAX: usize> {
+pub struct Parts<const MAX: usize, P: OutputPicture> {
     pub splitter: Splitter<MAX>,
     pub stream: Stream,
+    pub outgoing: Outgoing<P>,
 }
 
-impl<const MAX: usize> Parts<MAX> {
+/// How many bytes were taken, and how many macroblocks of slices have been read.
+#[derive(Clone, Copy)]
+pub struct Fed {
+    pub used: usize,
+    pub read: u64,
+}
+
+impl<const MAX: usize, P: OutputPicture> Parts<MAX, P> {
     /// At the start of a stream.
     pub fn new(alloc: Global, output: Output) -> Self
         ensures { IsNew MAX output result }
@@ -24,6 +36,7 @@ impl<const MAX: usize> Parts<MAX> {
         Parts {
             splitter: Splitter::new(alloc),
             stream: Stream::new(alloc, output),
+            outgoing: Outgoing::new(alloc),
         }
     }
 
@@ -32,9 +45,27 @@ impl<const MAX: usize> Parts<MAX> {
         requires { IsWorking MAX self.old }
         ensures { IfOk result (λ read. Feeds MAX self.old piece.now read self.new) }
     {
-        self.splitter.feed(piece)?;
-        handle_units(&mut self.splitter, &mut self.stream)?;
+        let mut place = 0;
+        while place < piece.len() {
+            let fed = self.feed_unit(&piece[place..])?;
+            place += fed.used;
+        }
         Ok(self.stream.read)
+    }
+
+    /// Takes the next bytes of the stream up to where a unit has ended, or all where none ends.
+    fn feed_unit(&mut self, bytes: &[u8]) -> Result<Fed, OutOfMemory>
+        requires { IsWorking MAX self.old }
+        ensures { IfOk result (λ fed. FeedsUnit MAX self.old bytes.now fed self.new) }
+    {
+        let used = self.splitter.feed_unit(bytes)?;
+        handle_units(&mut self.splitter, &mut self.stream)?;
+        self.outgoing
+            .put_all(self.stream.alloc, &mut self.stream.queue)?;
+        Ok(Fed {
+            used,
+            read: self.stream.read,
+        })
     }
 
     /// Takes the end of the stream. Answers how many macroblocks of slices were read.
@@ -45,13 +76,15 @@ impl<const MAX: usize> Parts<MAX> {
         self.splitter.finish()?;
         handle_units(&mut self.splitter, &mut self.stream)?;
         self.stream.finish()?;
+        self.outgoing
+            .put_all(self.stream.alloc, &mut self.stream.queue)?;
         Ok(self.stream.read)
     }
 }
 
 /// Takes the next bytes of the stream, where it goes on. Answers how many macroblocks of slices have been read.
-pub fn feed<const MAX: usize>(
-    running: &mut Option<Parts<MAX>>,
+pub fn feed<const MAX: usize, P: OutputPicture>(
+    running: &mut Option<Parts<MAX, P>>,
     piece: &[u8],
 ) -> Result<u64, OutOfMemory>
     requires { IfSome running.old (IsWorking MAX) }
@@ -63,8 +96,24 @@ pub fn feed<const MAX: usize>(
     }
 }
 
+/// Takes the next bytes of the stream up to where a unit has ended, or all where none ends, where the stream goes on.
+pub fn feed_unit<const MAX: usize, P: OutputPicture>(
+    running: &mut Option<Parts<MAX, P>>,
+    bytes: &[u8],
+) -> Result<Fed, OutOfMemory>
+    requires { IfSome running.old (IsWorking MAX) }
+    ensures { IfOk result (λ fed. FeedsUnitIn MAX running.old bytes.now fed running.new) }
+{
+    match running {
+        Some(parts) => parts.feed_unit(bytes),
+        None => Err(OutOfMemory),
+    }
+}
+
 /// Takes the end of the stream, where it goes on. Answers how many macroblocks of slices were read.
-pub fn finish<const MAX: usize>(running: &mut Option<Parts<MAX>>) -> Result<u64, OutOfMemory>
+pub fn finish<const MAX: usize, P: OutputPicture>(
+    running: &mut Option<Parts<MAX, P>>,
+) -> Result<u64, OutOfMemory>
     requires { IfSome running.old (IsWorking MAX) }
     ensures { IfOk result (λ read. EndsIn MAX running.old read running.new) }
 {
@@ -77,23 +126,23 @@ pub fn finish<const MAX: usize>(running: &mut Option<Parts<MAX>>) -> Result<u64,
 /// Nothing is left. What is dropped takes much room, which answers without a refusal don't clear then.
 #[cold]
 #[inline(never)]
-fn stop<const MAX: usize>(running: &mut Option<Parts<MAX>>)
+fn stop<const MAX: usize, P: OutputPicture>(running: &mut Option<Parts<MAX, P>>)
     ensures { running.new ≡ None }
 {
     *running = None;
 }
 
 /// Where memory was refused nothing is left.
-pub fn stop_at_refusal<const MAX: usize>(
-    running: &mut Option<Parts<MAX>>,
-    answer: Result<u64, OutOfMemory>,
-) -> Result<u64, OutOfMemory>
+pub fn stop_at_refusal<const MAX: usize, P: OutputPicture, T: Copy>(
+    running: &mut Option<Parts<MAX, P>>,
+    answer: Result<T, OutOfMemory>,
+) -> Result<T, OutOfMemory>
     ensures answer { result ≡ answer }
     ensures kept { OnOk result (running.new ≡ running.old) }
     ensures stopped { OnErr result (running.new ≡ None) }
 {
     match answer {
-        Ok(read) => Ok(read),
+        Ok(done) => Ok(done),
         Err(refused) => {
             stop(running);
             Err(refused)
@@ -102,12 +151,14 @@ pub fn stop_at_refusal<const MAX: usize>(
 }
 
 /// Takes the first event that was not taken, if there is one.
-pub fn take_event<const MAX: usize>(running: &mut Option<Parts<MAX>>) -> Option<Event>
-    ensures event { result ≡ next_event_in MAX running.old }
-    ensures taken { running.new ≡ after_take_in MAX result running.old }
+pub fn take_event<const MAX: usize, P: OutputPicture>(
+    running: &mut Option<Parts<MAX, P>>,
+) -> Option<Event<P>>
+    ensures event { seen_if_any P.picture result ≡ next_event_in MAX running.old }
+    ensures taken { running.new ≡ after_take_in MAX (seen_if_any P.picture result) running.old }
 {
     match running {
-        Some(parts) => parts.stream.queue.take(),
+        Some(parts) => parts.outgoing.take(),
         None => None,
     }
 }

@@ -4,16 +4,17 @@ ghost use Rattle.avc_decoder.specs.QueueState.{after_queue_take, with_events};
 ghost use Rattle.avc_decoder.specs.declared.event.Event.TheVariants.{Refused};
 
 use crate::event::Event;
-use avc_types::{Fault, History, OutOfMemory, Picture};
+use avc_plane::SharedPicture;
+use avc_types::{Fault, History, OutOfMemory};
 use std::alloc::Global;
 use std::collections::VecDeque;
 use std::marker::Model;
 
-/// The events that were not taken. A contract sees all events so far, and how many of them were taken.
+/// The events that were not passed on. A contract sees all events so far, and how many of them were.
 #[derive(Drop)]
 pub struct Queue {
-    waiting: VecDeque<Event>,
-    given: History<Event>,
+    waiting: VecDeque<Event<SharedPicture>>,
+    given: History<Event<SharedPicture>>,
 }
 
 impl Model for Queue {
@@ -37,7 +38,7 @@ impl Queue {
     }
 
     /// Adds pictures, in this order.
-    pub fn show(&mut self, out: Vec<Picture>) -> Result<(), OutOfMemory>
+    pub fn show(&mut self, out: Vec<SharedPicture>) -> Result<(), OutOfMemory>
         ensures { OnOk result (self.new ≡ with_events (pictures out.items) self.old) }
     {
         push_all(&mut self.waiting, out)
@@ -52,7 +53,7 @@ impl Queue {
     }
 
     /// Takes the first event, if there is one.
-    pub fn take(&mut self) -> Option<Event>
+    pub fn take(&mut self) -> Option<Event<SharedPicture>>
         ensures event { result ≡ slice_get self.old.events self.old.taken }
         ensures taken { self.new ≡ after_queue_take result self.old }
     {
@@ -62,7 +63,10 @@ impl Queue {
     }
 }
 
-fn push_all(waiting: &mut VecDeque<Event>, out: Vec<Picture>) -> Result<(), OutOfMemory>
+fn push_all(
+    waiting: &mut VecDeque<Event<SharedPicture>>,
+    out: Vec<SharedPicture>,
+) -> Result<(), OutOfMemory>
     ensures { OnOk result (waiting.new.items ≡ waiting.old.items ++ pictures out.items) }
 {
     let mut out = VecDeque::from_vec(out);

@@ -3,7 +3,7 @@ use Rattle.std.specs.Prelude.{◌≡◌, ℕ, ◌≤◌, false, List, [], ◌∷
 use Rattle.avc_types.specs.References.{references_at}
 use Rattle.avc_types.specs.declared.marked_frame.MarkedFrame.{MarkedFrame}
 use Rattle.avc_types.specs.declared.picture.Picture.{Picture}
-use Rattle.avc_plane.specs.Frames.{marked_frame, padded_planes_of, AreSized}
+use Rattle.avc_plane.specs.Frames.{marked_frame, AreSized}
 use Rattle.avc_plane.specs.declared.frame.Frame.{Frame}
 use Rattle.avc_params.specs.Limits.{width_in_mbs, height_in_mbs, reference_limit}
 use Rattle.avc_params.specs.declared.sps.Sps.{Sps}
@@ -28,13 +28,13 @@ last_number (n ∷ m ∷ numbers) = last_number (m ∷ numbers)
 
 -- the newest entry of the history for which a token stands
 abbrev pub entry_of : HistoryEntry → Entry
-entry_of (entries.Picture sps header planes) = decoded_picture sps header (padded_planes_of planes)
+entry_of (entries.Picture sps header planes) = decoded_picture sps header planes
 entry_of (entries.MissingFrame sps frame_num) = missing_frame sps frame_num
 entry_of (entries.MissingFrames sps numbers) = missing_frame sps (last_number numbers)
 
 -- the history with what a token stands for
 abbrev pub with_token : HistoryEntry → History → History
-with_token (entries.Picture sps header planes) h = decoded_picture sps header (padded_planes_of planes) ∷ h
+with_token (entries.Picture sps header planes) h = decoded_picture sps header planes ∷ h
 with_token (entries.MissingFrame sps frame_num) h = missing_frame sps frame_num ∷ h
 with_token (entries.MissingFrames sps numbers) h = with_all_missing sps numbers h
 

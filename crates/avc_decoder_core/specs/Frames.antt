@@ -1,13 +1,11 @@
 -- The frames of a history as the buffer stores them, with their marks.
-use Rattle.std.specs.Prelude.{ℕ, ◌*◌, ◌==◌, List, Option, Some, None}
+use Rattle.std.specs.Prelude.{ℕ, ◌==◌, List, Option, Some, None}
 use Rattle.std.specs.Option.{option_map}
 use Rattle.std.specs.List.{find}
 use Rattle.avc_types.specs.declared.references.Mark.{Mark}
 use Rattle.avc_types.specs.References.{Reference}
 use Rattle.avc_plane.specs.Planes.{Planes}
 use Rattle.avc_plane.specs.declared.frame.Frame.{Frame}
-use Rattle.avc_plane.specs.declared.frame.PaddedPlanes.{PaddedPlanes}
-use Rattle.avc_params.specs.Limits.{width_in_mbs, height_in_mbs}
 use Rattle.avc_params.specs.declared.sps.Sps.{Sps}
 use Rattle.avc_marking.specs.Marks.{frame_num_after_marking}
 use Rattle.avc_decoder_core.specs.History.{Entry, decoded_picture, missing_frame, History, entry_at, picture_entry}
@@ -17,26 +15,20 @@ use Rattle.avc_decoder_core.specs.Pictures.{crop_of}
 abbrev pub mark_in : List Reference → (index : ℕ) → Option Mark
 mark_in references index = option_map (λ r. r.mark) (find (λ r. r.decoding_index == index) references)
 
--- planes as they are stored
-abbrev pub padded_of : Planes → PaddedPlanes 32
-padded_of planes = record { luma = planes.luma; cb = planes.cb; cr = planes.cr }
-
--- a frame of the size that its parameter set gives
-abbrev pub coded_frame : Sps → Option (PaddedPlanes 32) → (frame_num : ℕ) → Option Mark → Frame 32
+-- a frame with the cropping that its parameter set gives
+abbrev pub coded_frame : Sps → Option Planes → (frame_num : ℕ) → Option Mark → Frame 32
 coded_frame sps planes frame_num mark = record {
   planes = planes;
   frame_num = frame_num;
   mark = mark;
-  width = 16 * width_in_mbs sps;
-  height = 16 * height_in_mbs sps;
   crop = crop_of sps.frame_cropping;
 }
 
 -- the frame of an entry, with this mark; a missing number's has no planes (8.2.5.2)
 abbrev pub frame_of : Option Entry → Option Mark → Frame 32
-frame_of (Some (decoded_picture sps h planes)) mark = coded_frame sps (Some (padded_of planes)) (frame_num_after_marking (picture_entry sps h)) mark
+frame_of (Some (decoded_picture sps h planes)) mark = coded_frame sps (Some planes) (frame_num_after_marking (picture_entry sps h)) mark
 frame_of (Some (missing_frame sps frame_num)) mark = coded_frame sps None frame_num mark
-frame_of None mark = record { planes = None; frame_num = 0; mark = mark; width = 0; height = 0; crop = crop_of None }
+frame_of None mark = record { planes = None; frame_num = 0; mark = mark; crop = crop_of None }
 
 -- the frame of the entry with this decoding index, where these are the reference frames
 abbrev pub frame_at : History → List Reference → (index : ℕ) → Frame 32

@@ -6,8 +6,8 @@ use Rattle.avc_types.specs.declared.picture.Picture.{Picture}
 use Rattle.avc_types.specs.declared.references.Marking.{Marking}
 use Rattle.avc_types.specs.declared.references.Marking.TheVariants.{Idr}
 use Rattle.avc_dpb.specs.declared.output.Output.{Output}
+use Rattle.avc_plane.specs.Shown.{picture_of as cropped_picture}
 use Rattle.avc_plane.specs.Planes.{Planes}
-use Rattle.avc_params.specs.Limits.{width_in_mbs, height_in_mbs}
 use Rattle.avc_params.specs.declared.sps.Cropping.{Cropping}
 use Rattle.avc_params.specs.declared.sps.Sps.{Sps}
 use Rattle.avc_slice.specs.Header.{is_idr}
@@ -26,14 +26,7 @@ crop_of (Some c) = record {
 
 -- the picture as it is handed out: coded size, cropping rectangle and planes (6.2, 7.4.2.1.1)
 abbrev pub picture_of : Sps → Planes → Picture
-picture_of sps planes = record {
-  width = 16 * width_in_mbs sps;
-  height = 16 * height_in_mbs sps;
-  crop = crop_of sps.frame_cropping;
-  luma = (planes.luma).samples;
-  cb = (planes.cb).samples;
-  cr = (planes.cr).samples;
-}
+picture_of sps planes = cropped_picture planes (crop_of sps.frame_cropping)
 
 -- the entry's picture; none where a number is missing
 abbrev pub entry_pictures : Option Entry → List Picture

@@ -15,7 +15,7 @@ ghost use Rattle.avc_decoder_core.specs.Gaps.{IsLongGap, KeepsTheSame, with_hist
 ghost use Rattle.avc_decoder_core.specs.Opening.{with_all_missing};
 ghost use Rattle.avc_params.specs.Limits.{height_in_mbs, reference_limit, width_in_mbs};
 ghost use Rattle.avc_params.specs.Within.{IsSps};
-ghost use Rattle.avc_plane.specs.Frames.{marked_frame, padded_planes_of, AreSized};
+ghost use Rattle.avc_plane.specs.Frames.{marked_frame, AreSized};
 ghost use Rattle.avc_poc.specs.OrderCounts.{order_counts};
 ghost use Rattle.avc_slice.specs.Header.{is_idr};
 
@@ -29,10 +29,10 @@ use avc_marking::{
     sliding_window,
 };
 use avc_params::Sps;
-use avc_plane::{Frame, PADDING, PaddedPlanes};
+use avc_plane::{Frame, PADDING, SharedPicture, SharedPlanes};
 use avc_slice::Header;
 use avc_types::{
-    CurrentFrameNum, Fault, History, Mark, MarkedFrame, Marking, OutOfMemory, Picture, PictureError,
+    CurrentFrameNum, Fault, History, Mark, MarkedFrame, Marking, OutOfMemory, PictureError,
 };
 use std::alloc::Global;
 use std::marker::Model;
@@ -124,10 +124,10 @@ fn set_marks(dpb: &mut Dpb, marked: &[MarkedFrame])
     }
 }
 
-/// A frame of the size that its parameter set gives.
+/// A frame with the cropping that its parameter set gives.
 fn coded_frame(
     sps: Sps,
-    planes: Option<PaddedPlanes<PADDING>>,
+    planes: Option<SharedPlanes<PADDING>>,
     frame_num: u32,
     mark: Option<Mark>,
 ) -> Frame<PADDING>
@@ -137,8 +137,6 @@ fn coded_frame(
         planes,
         frame_num,
         mark,
-        width: 16 * sps.width_in_mbs(),
-        height: 16 * sps.height_in_mbs(),
         crop: crop_of(sps.frame_cropping),
     }
 }
@@ -188,7 +186,7 @@ fn output_prior_pictures(
     alloc: Global,
     dpb: &mut Dpb,
     header: &Header,
-) -> Result<Vec<Picture>, OutOfMemory>
+) -> Result<Vec<SharedPicture>, OutOfMemory>
     ensures ok { IfOk result (λ out. OutputsPrior (prior_pictures_of header.now) dpb.old out.items dpb.new) }
     ensures kept { dpb.new.output ≡ dpb.old.output }
 {
@@ -201,9 +199,9 @@ fn output_prior_pictures(
 
 /// These pictures and then those.
 pub fn joined(
-    mut pictures: Vec<Picture>,
-    mut more: Vec<Picture>,
-) -> Result<Vec<Picture>, OutOfMemory>
+    mut pictures: Vec<SharedPicture>,
+    mut more: Vec<SharedPicture>,
+) -> Result<Vec<SharedPicture>, OutOfMemory>
     ensures { IfOk result (λ all. all.items ≡ pictures.items ++ more.items) }
 {
     if pictures.is_empty() {
@@ -265,7 +263,11 @@ impl FrameBuffer {
 
     /// Stores a frame that stands for a missing number (8.2.5.2), which can be marked. Answers the pictures that go out.
     #[tactic(auto, using(crate::proofs::Sequences::few_needed))]
-    pub fn store_missing(&mut self, sps: &Sps, frame_num: u32) -> Result<Vec<Picture>, OutOfMemory>
+    pub fn store_missing(
+        &mut self,
+        sps: &Sps,
+        frame_num: u32,
+    ) -> Result<Vec<SharedPicture>, OutOfMemory>
         requires going { self.old.failed ≡ false }
         requires sps { IsSps sps.now }
         requires same { is_same_sps (sequence_sps self.old.history) sps.now ≡ true }
@@ -347,7 +349,7 @@ impl FrameBuffer {
 
     /// Before an IDR picture, which begins a sequence, hands out all pictures needed for output, or drops them by no_output_of_prior_pics_flag, and
     /// forgets the history (C.4.4). Before another picture it does nothing.
-    pub fn begin_sequence(&mut self, header: &Header) -> Result<Vec<Picture>, OutOfMemory>
+    pub fn begin_sequence(&mut self, header: &Header) -> Result<Vec<SharedPicture>, OutOfMemory>
         requires { self.old.failed ≡ false }
         ensures ok { IfOk result (λ out. BeginsSequence self.old header.now out.items self.new) }
         ensures err { OnErr result (self.new.failed ≡ true) }
@@ -382,18 +384,18 @@ impl FrameBuffer {
         sps: &Sps,
         header: &Header,
         pic_order_cnt: i32,
-        planes: PaddedPlanes<PADDING>,
+        planes: SharedPlanes<PADDING>,
         closed: &mut History<HistoryEntry>,
-    ) -> Result<Vec<Picture>, PictureError>
+    ) -> Result<Vec<SharedPicture>, PictureError>
         requires going { self.old.failed ≡ false }
         requires sps { IsSps sps.now }
         requires follows { CanFollow self.old.history sps.now header.now }
         requires first { is_idr header.now ≡ true → self.old.history ≡ [] }
         requires pic_order_cnt { pic_order_cnt ≡ order_or_0 (order_counts sps.now header.now (pasts self.old.history)) }
-        requires sized { AreSized (width_in_mbs sps.now) (height_in_mbs sps.now) (padded_planes_of planes) }
-        ensures ok { IfOk result (λ out. Stores self.old (decoded_picture sps.now header.now (padded_planes_of planes)) out.items self.new) }
+        requires sized { AreSized (width_in_mbs sps.now) (height_in_mbs sps.now) planes }
+        ensures ok { IfOk result (λ out. Stores self.old (decoded_picture sps.now header.now planes) out.items self.new) }
         ensures err { IfErr result (λ error.
-            Refuses self.old (marks_of (decoded_picture sps.now header.now (padded_planes_of planes) ∷ self.old.history)) error self.new) }
+            Refuses self.old (marks_of (decoded_picture sps.now header.now planes ∷ self.old.history)) error self.new) }
         ensures closed { OnOk result (history_of closed.new.items ≡ self.new.history) }
         ensures kept { OnErr result (closed.new.items ≡ closed.old.items) }
     {
@@ -440,7 +442,7 @@ impl FrameBuffer {
     }
 
     /// Hands out all pictures needed for output, and forgets the history. Where none is needed for output no memory is wanted.
-    pub fn empty(&mut self) -> Result<Vec<Picture>, OutOfMemory>
+    pub fn empty(&mut self) -> Result<Vec<SharedPicture>, OutOfMemory>
         ensures ok { IfOk result (λ out. IsEmptied self.old out.items self.new) }
         ensures err { OnErr result (self.new.failed ≡ true) }
         ensures memory { self.old.failed ≡ false → OnErr result (held_pictures self.old.output self.old.history ≢ []) }
@@ -457,8 +459,9 @@ impl FrameBuffer {
         Ok(out)
     }
 
-    /// Takes the planes of a frame that has left the buffer, if there is one, so that their memory is used again.
-    pub fn emptied_planes(&mut self) -> Option<PaddedPlanes<PADDING>>
+    /// Takes the planes of a frame that has left the buffer, if there is one, so that their memory is used again once no picture shares
+    /// them.
+    pub fn emptied_planes(&mut self) -> Option<SharedPlanes<PADDING>>
         ensures { self.new ≡ self.old }
     {
         self.dpb.emptied_frame()?.planes

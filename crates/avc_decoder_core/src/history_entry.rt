@@ -1,6 +1,6 @@
 use avc_marking::MissingFrameNums;
 use avc_params::Sps;
-use avc_plane::{PADDING, PaddedPlanes};
+use avc_plane::{PADDING, SharedPlanes};
 use avc_slice::Header;
 
 /// What came to the history at once: an entry, or several.
@@ -10,7 +10,7 @@ pub enum HistoryEntry {
     Picture {
         sps: Sps,
         header: Header,
-        planes: PaddedPlanes<PADDING>,
+        planes: SharedPlanes<PADDING>,
     },
 
     /// A frame number that is missing (8.2.5.2).

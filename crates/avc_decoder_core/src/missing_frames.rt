@@ -10,14 +10,18 @@ ghost use Rattle.avc_params.specs.Within.{IsSps};
 use crate::frame_buffer::FrameBuffer;
 use avc_marking::MissingFrameNums;
 use avc_params::Sps;
-use avc_types::{OutOfMemory, Picture};
+use avc_plane::SharedPicture;
+use avc_types::OutOfMemory;
 use std::alloc::Global;
 
 /// Of a long gap so many of the last numbers are stored: no sliding window has more frames.
 const STORED: u32 = 16;
 
 /// More pictures go out.
-fn output_more(out: &mut Vec<Picture>, mut more: Vec<Picture>) -> Result<(), OutOfMemory>
+fn output_more(
+    out: &mut Vec<SharedPicture>,
+    mut more: Vec<SharedPicture>,
+) -> Result<(), OutOfMemory>
     ensures { OnOk result (out.new.items ≡ out.old.items ++ more.items) }
 {
     out.append(&mut more)?;
@@ -30,7 +34,7 @@ fn store_each(
     buffer: &mut FrameBuffer,
     mut numbers: MissingFrameNums,
     sps: &Sps,
-) -> Result<Vec<Picture>, OutOfMemory>
+) -> Result<Vec<SharedPicture>, OutOfMemory>
     requires going { buffer.old.failed ≡ false }
     requires sps { IsSps sps.now }
     requires same { is_same_sps (sequence_sps buffer.old.history) sps.now ≡ true }
@@ -64,7 +68,7 @@ fn store_last(
     buffer: &mut FrameBuffer,
     numbers: MissingFrameNums,
     sps: &Sps,
-) -> Result<Vec<Picture>, OutOfMemory>
+) -> Result<Vec<SharedPicture>, OutOfMemory>
     requires going { buffer.old.failed ≡ false }
     requires sps { IsSps sps.now }
     requires same { is_same_sps (sequence_sps buffer.old.history) sps.now ≡ true }
@@ -87,7 +91,7 @@ pub fn store_missing(
     buffer: &mut FrameBuffer,
     mut numbers: MissingFrameNums,
     sps: &Sps,
-) -> Result<Vec<Picture>, OutOfMemory>
+) -> Result<Vec<SharedPicture>, OutOfMemory>
     requires going { buffer.old.failed ≡ false }
     requires sps { IsSps sps.now }
     requires same { 0 < length numbers → is_same_sps (sequence_sps buffer.old.history) sps.now ≡ true }

@@ -5,7 +5,6 @@ ghost use Rattle.avc_decoder_core.specs.SequenceState.{empty_sequence, current_h
 ghost use Rattle.avc_decoder_core.specs.SequenceState.{AreSizedAs, AreStoredIn, HoldsPictures, IsCleared, IsClosed};
 ghost use Rattle.avc_decoder_core.specs.SequenceState.{IsOpened, OpenPictureStart};
 ghost use Rattle.avc_params.specs.Within.{IsSps};
-ghost use Rattle.avc_plane.specs.Frames.{padded_planes_of};
 ghost use Rattle.avc_slice.specs.Header.{has_idr_marking, is_idr, is_reference};
 
 use crate::frame_buffer::{FrameBuffer, joined};
@@ -15,10 +14,10 @@ use crate::opening::{OpenPicture, Opening, after_missing, missing_frame_nums};
 use avc_dpb::Output;
 use avc_marking::MissingFrameNums;
 use avc_params::Sps;
-use avc_plane::{Frame, PADDING, PaddedPlanes};
+use avc_plane::{Frame, PADDING, SharedPicture, SharedPlanes};
 use avc_poc::Poc;
 use avc_slice::Header;
-use avc_types::{Fault, History, OutOfMemory, Picture, PictureError};
+use avc_types::{Fault, History, OutOfMemory, PictureError};
 use std::alloc::Global;
 use std::marker::Model;
 
@@ -86,7 +85,7 @@ impl Sequence {
 
     /// Opens a picture whose first slice has this header: checks its parameter set, its frame number and its order count, and
     /// takes in the frame numbers that are missing before it. Answers the pictures that go out.
-    pub fn open(&mut self, header: &Header, sps: &Sps) -> Result<Vec<Picture>, PictureError>
+    pub fn open(&mut self, header: &Header, sps: &Sps) -> Result<Vec<SharedPicture>, PictureError>
         requires rest { self.old.open_picture ≡ None }
         requires marking { is_idr header.now ≡ true → has_idr_marking header.now ≡ true }
         requires reference { is_some header.now.marking ≡ is_reference header.now }
@@ -128,14 +127,17 @@ impl Sequence {
 
     /// Closes the open picture, whose samples are these: marks it, and lets pictures go out. Answers these. With an IDR picture the
     /// history begins anew.
-    pub fn close(&mut self, planes: PaddedPlanes<PADDING>) -> Result<Vec<Picture>, PictureError>
+    pub fn close(
+        &mut self,
+        planes: SharedPlanes<PADDING>,
+    ) -> Result<Vec<SharedPicture>, PictureError>
         requires picture { self.old.failed ≡ false → is_some self.old.open_picture ≡ true }
-        requires sized { (o : OpenPictureStart) → self.old.open_picture ≡ Some o → AreSizedAs o (padded_planes_of planes) }
+        requires sized { (o : OpenPictureStart) → self.old.open_picture ≡ Some o → AreSizedAs o planes }
         ensures ok { IfOk result (λ out.
-            (o : OpenPictureStart) → self.old.open_picture ≡ Some o → IsClosed self.old o (padded_planes_of planes) out.items self.new) }
+            (o : OpenPictureStart) → self.old.open_picture ≡ Some o → IsClosed self.old o planes out.items self.new) }
         ensures err { IfErr result (λ error.
             (o : OpenPictureStart) → self.old.open_picture ≡ Some o →
-            Fails self.old (history_after_closing o.sps o.header (padded_planes_of planes) (current_history self.old)) error self.new) }
+            Fails self.old (history_after_closing o.sps o.header planes (current_history self.old)) error self.new) }
     {
         if self.failed {
             return Err(PictureError::OutOfMemory);
@@ -169,7 +171,7 @@ impl Sequence {
 
     /// Hands out all pictures needed for output and forgets the history, with the open picture, if there is one. When pictures go out stays
     /// as it was. Where no picture is needed for output no memory is wanted.
-    pub fn clear(&mut self) -> Result<Vec<Picture>, OutOfMemory>
+    pub fn clear(&mut self) -> Result<Vec<SharedPicture>, OutOfMemory>
         ensures ok { IfOk result (λ out. IsCleared self.old out.items self.new) }
         ensures err { OnErr result (self.new.failed ≡ true) }
         ensures memory { self.old.failed ≡ false → OnErr result (HoldsPictures self.old) }
@@ -196,9 +198,9 @@ impl Sequence {
         self.buffer.frames()
     }
 
-    /// Takes the planes of a frame that has left the buffer, if there is one, so that their memory is used again: until no more come there
-    /// are at most 17.
-    pub fn emptied_planes(&mut self) -> Option<PaddedPlanes<PADDING>>
+    /// Takes the planes of a frame that has left the buffer, if there is one, so that their memory is used again once no picture shares
+    /// them: until no more come there are at most 17.
+    pub fn emptied_planes(&mut self) -> Option<SharedPlanes<PADDING>>
         ensures { self.new ≡ self.old }
     {
         self.buffer.emptied_planes()

@@ -11,8 +11,8 @@ use crate::output::Output;
 use crate::stored_frame::push_picture;
 use crate::waiting::{Bumping, Slot, is_full};
 use arrayvec::ArrayVec;
-use avc_plane::{Frame, PADDING};
-use avc_types::{Mark, OutOfMemory, Picture};
+use avc_plane::{Frame, PADDING, SharedPicture};
+use avc_types::{Mark, OutOfMemory};
 use std::alloc::Global;
 use std::marker::Model;
 
@@ -88,7 +88,7 @@ impl Dpb {
         &mut self,
         frame: Frame<PADDING>,
         arriving: &ArrivingFrame,
-    ) -> Result<Vec<Picture>, OutOfMemory>
+    ) -> Result<Vec<SharedPicture>, OutOfMemory>
         requires capacity { arriving.now.capacity ≤ 16 }
         ensures ok { IfOk result (λ out. Stores self.old frame arriving.now out.items self.new) }
         ensures err { OnErr result (self.new.failed ≡ true) }
@@ -102,7 +102,6 @@ impl Dpb {
         let mut out = Vec::new(self.alloc);
         remove_needless(&mut self.slots, &mut self.frames, &mut self.emptied);
         bump_while(
-            self.alloc,
             &mut self.slots,
             &mut self.frames,
             &mut self.emptied,
@@ -110,7 +109,6 @@ impl Dpb {
             &mut out,
         )?;
         place(
-            self.alloc,
             &mut self.slots,
             &mut self.frames,
             &mut self.emptied,
@@ -119,7 +117,6 @@ impl Dpb {
             &mut out,
         )?;
         bump_while(
-            self.alloc,
             &mut self.slots,
             &mut self.frames,
             &mut self.emptied,
@@ -131,7 +128,7 @@ impl Dpb {
     }
 
     /// Hands out all pictures needed for output, by bumping, and is then empty (C.4.4). Where none is needed for output no memory is wanted.
-    pub fn empty(&mut self) -> Result<Vec<Picture>, OutOfMemory>
+    pub fn empty(&mut self) -> Result<Vec<SharedPicture>, OutOfMemory>
         ensures ok { IfOk result (λ out. OutputsAll self.old out.items self.new) }
         ensures err { OnErr result (self.new.failed ≡ true) }
         ensures failed { self.old.failed ≡ true → IsErr result }
@@ -144,7 +141,6 @@ impl Dpb {
         self.failed = true;
         let mut out = Vec::new(self.alloc);
         bump_while(
-            self.alloc,
             &mut self.slots,
             &mut self.frames,
             &mut self.emptied,
@@ -164,8 +160,9 @@ impl Dpb {
         empty_all(&mut self.frames, &mut self.emptied);
     }
 
-    /// Takes a frame that has left the buffer, if there is one, so that its memory is used again. At most 17 wait to be taken; what else
-    /// leaves is dropped, and so is what stands for a missing frame number. Contracts say nothing of which these are.
+    /// Takes a frame that has left the buffer, if there is one, so that its memory is used again once no picture shares it. At most 17
+    /// wait to be taken; what else leaves is dropped, and so is what stands for a missing frame number. Contracts say nothing of which
+    /// these are.
     pub fn emptied_frame(&mut self) -> Option<Frame<PADDING>>
         ensures { self.new ≡ self.old }
     {
@@ -184,13 +181,12 @@ fn empty_all(frames: &mut Vec<Frame<PADDING>>, emptied: &mut EmptiedFrames)
 
 // The arriving frame is stored, or where there is no room its picture goes out at once; a non-existing frame never does.
 fn place(
-    alloc: Global,
     slots: &mut ArrayVec<Slot, 16>,
     frames: &mut Vec<Frame<PADDING>>,
     emptied: &mut EmptiedFrames,
     frame: Frame<PADDING>,
     arriving: &ArrivingFrame,
-    out: &mut Vec<Picture>,
+    out: &mut Vec<SharedPicture>,
 ) -> Result<(), OutOfMemory>
     requires beside { length frames.old.items ≡ length slots.old.items }
     requires capacity { arriving.now.capacity ≤ 16 }
@@ -200,7 +196,7 @@ fn place(
 {
     if is_full(slots.as_slice(), arriving.capacity) {
         if arriving.existing {
-            push_picture(alloc, &frame, out)?;
+            push_picture(&frame, out)?;
         }
         emptied.put(frame);
         return Ok(());

@@ -4,7 +4,8 @@ use avc_plane::{Frame, PADDING};
 /// So many frames there are at most: those that the buffer has room for, and the one that arrives.
 const MOST_FRAMES: usize = 17;
 
-/// Frames that have left the buffer, with the memory of their samples. No contract says which they are.
+/// Frames that have left the buffer, with the memory of their samples, which pictures that went out may share. No contract says which
+/// they are.
 #[derive(Drop)]
 pub struct EmptiedFrames {
     frames: ArrayVec<Option<Frame<PADDING>>, MOST_FRAMES>,

@@ -13,8 +13,9 @@ use crate::md5_writer::Md5Writer;
 use crate::presentation::Presentation;
 use crate::ratio::Ratio;
 use crate::text::write_text;
+use avc_plane::SharedPicture;
 use avc_run::RunFault;
-use avc_types::{OutOfMemory, Picture};
+use avc_types::OutOfMemory;
 use avc_yuv::{i420_len, write_i420};
 use std::alloc::Global;
 use std::io::Write;
@@ -67,7 +68,7 @@ pub(crate) fn write_line<W: Write>(
     alloc: Global,
     front: String,
     number: u64,
-    picture: &Picture,
+    picture: &SharedPicture,
     writer: &mut W,
 ) -> Result<(), RunFault>
     requires { IsWhole picture.now }
@@ -82,7 +83,7 @@ pub(crate) fn write_line<W: Write>(
 }
 
 // The MD5 of a picture as I420.
-fn picture_digest(picture: &Picture) -> Result<[u8; 16], RunFault>
+fn picture_digest(picture: &SharedPicture) -> Result<[u8; 16], RunFault>
     requires { IsWhole picture.now }
     ensures ok { IfOk result (λ digest. digest ≡ md5 (i420 picture.now)) }
     ensures err { IfErr result (λ fault. fault ≡ faults.Write) }

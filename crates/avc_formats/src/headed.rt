@@ -10,8 +10,9 @@ ghost use Rattle.avc_formats.specs.Headed.{before_first, has_size, head_of, head
 use crate::framemd5::{add_framemd5_head, write_line};
 use crate::presentation::Presentation;
 use crate::y4m::{add_y4m_header, write_frame};
+use avc_plane::{PictureRows, SharedPicture};
 use avc_run::{PictureFormat, RunFault};
-use avc_types::{OutOfMemory, Picture};
+use avc_types::OutOfMemory;
 use std::alloc::Global;
 use std::io::Write;
 
@@ -39,7 +40,7 @@ impl PictureFormat for Headed {
     fn write<W: Write>(
         &self,
         number: u64,
-        picture: &Picture,
+        picture: &SharedPicture,
         writer: &mut W,
     ) -> Result<(), RunFault> {
         if !has_size(&self.said, picture) {
@@ -54,13 +55,15 @@ impl PictureFormat for Headed {
     }
 }
 
-fn has_size(said: &Presentation, picture: &Picture) -> bool
+fn has_size(said: &Presentation, picture: &SharedPicture) -> bool
     requires { IsWhole picture.now }
     ensures { result ≡ has_size said.now picture.now }
 {
-    let crop = picture.crop;
-    u64::from(picture.width - (crop.left + crop.right)) == said.width
-        && u64::from(picture.height - (crop.top + crop.bottom)) == said.height
+    let width = picture.width();
+    let height = picture.height();
+    let crop = picture.crop();
+    u64::from(width - (crop.left + crop.right)) == said.width
+        && u64::from(height - (crop.top + crop.bottom)) == said.height
 }
 
 // What stands in front of the picture of a number.
@@ -94,7 +97,7 @@ fn write_behind<W: Write>(
     front: String,
     format: HeadedFormat,
     number: u64,
-    picture: &Picture,
+    picture: &SharedPicture,
     writer: &mut W,
 ) -> Result<(), RunFault>
     requires { IsWhole picture.now }

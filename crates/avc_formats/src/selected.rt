@@ -1,8 +1,8 @@
 ghost use Rattle.std.specs.Prelude.{◌≡◌, OnOk, IfErr};
 ghost use Rattle.avc_formats.specs.Selecting.{is_wanted, selected};
 
+use avc_plane::SharedPicture;
 use avc_run::{PictureFormat, RunFault};
-use avc_types::Picture;
 use std::io::Write;
 
 /// Some of the pictures, in a format: all but the first ones, and of these so many at most.
@@ -32,7 +32,7 @@ impl<F: PictureFormat> PictureFormat for Selected<F> {
     fn write<W: Write>(
         &self,
         number: u64,
-        picture: &Picture,
+        picture: &SharedPicture,
         writer: &mut W,
     ) -> Result<(), RunFault> {
         if !self.is_wanted(number) {

@@ -10,15 +10,16 @@ ghost use Rattle.avc_formats.specs.Y4m.{chroma_words, range_words, ratio_word, s
 use crate::presentation::{ChromaSite, Presentation};
 use crate::ratio::Ratio;
 use crate::text::write_text;
+use avc_plane::SharedPicture;
 use avc_run::RunFault;
-use avc_types::{OutOfMemory, Picture};
+use avc_types::OutOfMemory;
 use avc_yuv::write_i420;
 use std::io::Write;
 
 /// Writes a picture behind this text and a line of its own.
 pub(crate) fn write_frame<W: Write>(
     front: String,
-    picture: &Picture,
+    picture: &SharedPicture,
     writer: &mut W,
 ) -> Result<(), RunFault>
     requires { IsWhole picture.now }
@@ -32,7 +33,11 @@ pub(crate) fn write_frame<W: Write>(
 }
 
 // Writes a picture behind these lines.
-fn write_behind<W: Write>(lines: &str, picture: &Picture, writer: &mut W) -> Result<(), RunFault>
+fn write_behind<W: Write>(
+    lines: &str,
+    picture: &SharedPicture,
+    writer: &mut W,
+) -> Result<(), RunFault>
     requires { IsWhole picture.now }
     ensures ok { OnOk result (Appends (W.contents writer.old) (W.contents writer.new) (lines.now ++ i420 picture.now)) }
     ensures err { IfErr result (λ fault. (fault ≡ faults.Write) × WritesFirst (W.contents writer.old) (W.contents writer.new)

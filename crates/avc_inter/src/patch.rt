@@ -5,7 +5,7 @@ ghost use Rattle.avc_types.specs.Arithmetic.{clip3};
 ghost use Rattle.avc_plane.specs.Plane.{sample, clamped};
 ghost use Rattle.avc_types.specs.Blocks.{block_of};
 ghost use Rattle.avc_inter.specs.Bounds.{IsMoved, IsPlace};
-ghost use Rattle.avc_plane.specs.Padded.{stored_place, IsSurrounded};
+ghost use Rattle.avc_plane.specs.Padded.{stored_place, stride_of, IsSurrounded};
 ghost use Rattle.avc_inter.specs.Patch.{IsPatch, IsThere};
 
 use avc_plane::{PaddedPlane, RowsPlace};
@@ -101,7 +101,7 @@ pub fn find_within<const PAD: usize>(
     ensures { IfSome result (λ at. (rows : List ℕ) → IsSurrounded PAD plane.now rows →
         IsThere (clamped plane.now.width plane.now.height (sample plane.now)) left top columns count at.first at.stride rows) }
 {
-    let stride = plane.width() + 2 * PAD;
+    let stride = plane.stride();
     let lines = plane.height() + 2 * PAD;
     if left + (PAD as i64) < 0 || top + (PAD as i64) < 0 {
         return None;
@@ -123,9 +123,9 @@ pub fn place_inside<const PAD: usize>(plane: &PaddedPlane<PAD>, x: usize, y: usi
     requires column { x < plane.now.width }
     requires row { y < plane.now.height }
     ensures first { result.first ≡ stored_place PAD plane.now.width x y }
-    ensures stride { result.stride ≡ plane.now.width + 2 * PAD }
+    ensures stride { result.stride ≡ stride_of PAD plane.now.width }
 {
-    let stride = plane.width() + 2 * PAD;
+    let stride = plane.stride();
     let _lines = plane.height();
     RowsPlace {
         first: (y + PAD) * stride + (x + PAD),

@@ -9,9 +9,9 @@ use Rattle.avc_params.specs.declared.pps.Pps.{Pps}
 use Rattle.avc_slice.specs.declared.header.Header.{Header}
 use Rattle.avc_slice.specs.Weights.{weights}
 use Rattle.avc_motion.specs.Motion.{slice_info}
-use Rattle.avc_plane.specs.Frames.{marked_frame, stored_at}
+use Rattle.avc_plane.specs.Frames.{marked_frame, padded_planes_of, stored_at}
 use Rattle.avc_plane.specs.declared.frame.Frame.{Frame}
-use Rattle.avc_plane.specs.declared.frame.PaddedPlanes.{PaddedPlanes}
+use Rattle.avc_plane.specs.Planes.{Planes}
 use Rattle.avc_deblock.specs.FilterInfo.{Names}
 use Rattle.avc_picture_core.specs.declared.inter.ReferencePicture.{ReferencePicture}
 use Rattle.avc_picture.specs.FirstMbs.{IsSlice}
@@ -55,19 +55,19 @@ HasList sps frames h answer =
 -- ---- the reference pictures
 
 -- the planes of a frame; a non-existing one has none
-abbrev planes_in : {PAD : ℕ} → Option (Frame PAD) → Option (PaddedPlanes PAD)
+abbrev planes_in : {PAD : ℕ} → Option (Frame PAD) → Option Planes
 planes_in None = None
 planes_in (Some f) = f.planes
 
 -- the planes of the frame at a place of the buffer
-abbrev pub planes_at : {PAD : ℕ} → List (Frame PAD) → Option ℕ → Option (PaddedPlanes PAD)
+abbrev pub planes_at : {PAD : ℕ} → List (Frame PAD) → Option ℕ → Option Planes
 planes_at frames None = None
 planes_at frames (Some place) = planes_in (slice_get frames place)
 
 -- The reference picture is the one at the place, with the weights of reference index r; none where no picture is there.
 abbrev pub IsPictureAt : {PAD : ℕ} → List (Frame PAD) → Header → (r : ℕ) → Option ℕ → Option (ReferencePicture PAD) → Type 0
 IsPictureAt frames h r place None = planes_at frames place ≡ None
-IsPictureAt frames h r place (Some p) = (planes_at frames place ≡ Some p.planes.now) × (slice_get (weights h) r ≡ p.weights)
+IsPictureAt frames h r place (Some p) = (planes_at frames place ≡ Some (padded_planes_of p.planes.now)) × (slice_get (weights h) r ≡ p.weights)
 
 -- each of the first `count` reference indices has the picture of the frame at its place
 abbrev pub ArePicturesAt : {PAD : ℕ} → List (Frame PAD) → Header → (count : ℕ) → List (Option ℕ) → List (Option (ReferencePicture PAD)) → Type 0

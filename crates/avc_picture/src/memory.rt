@@ -6,7 +6,7 @@ ghost use Rattle.avc_plane.specs.Frames.{planes_of, AreSized};
 
 use crate::filter_rows::FilterRows;
 use avc_neigh::Row;
-use avc_plane::{PaddedPlanes, Planes, SparePlanes};
+use avc_plane::{Planes, SharedPlanes, SparePlanes};
 use avc_types::OutOfMemory;
 use std::alloc::Global;
 
@@ -48,8 +48,8 @@ impl<const PAD: usize> PictureMemory<PAD> {
         }
     }
 
-    /// Keeps the planes of a frame that has left the buffer.
-    pub fn keep(&mut self, planes: PaddedPlanes<PAD>) {
+    /// Keeps the planes of a frame that has left the buffer. They are used again once nobody else holds them.
+    pub fn keep(&mut self, planes: SharedPlanes<PAD>) {
         self.planes.put(planes);
     }
 

@@ -47,7 +47,7 @@ fn picture_at<'a, const PAD: usize>(
     let place = place?;
     match &frames[place].planes {
         Some(planes) => Some(ReferencePicture {
-            planes,
+            planes: planes.padded(),
             weights: header.weights(reference_index),
         }),
         None => None,

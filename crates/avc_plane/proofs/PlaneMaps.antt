@@ -34,51 +34,68 @@ plane_of_same width height f g same =
     plane_is (plane_of width height f) g (length-plane_of width height f)
     (λ x y column row. sample-plane_of width height f x y column row ∙ same x y column row)
 
+-- ---- the distance of rows
+
+-- it is room for a row with its padding
+pub stride_wide : (pad width : ℕ) → width + 2 * pad ≤ stride_of pad width
+unfolding stride_of
+stride_wide pad width = grind (arith, nat_tests)
+
 -- ---- the padded rows of a plane, and the map of its samples
 
-module _ (pad width height : ℕ) (stored : List ℕ) (long : length stored ≡ (height + 2 * pad) * (width + 2 * pad)) where
+module _ (pad stride width height : ℕ) (stored : List ℕ) (wide : width + 2 * pad ≤ stride) (long : length stored ≡ (height + 2 * pad) * stride) where
   abbrev at : ℕ → ℕ → ℕ
-  at x y = get_or stored (stored_place pad width x y) 0
+  at x y = get_or stored (place_in pad stride x y) 0
 
   abbrev samples : List ℕ
   samples = (plane_of width height at).samples
 
-  pub fits : (x y : ℕ) → x < width → y < height → stored_place pad width x y < length stored
+  pub fits : (x y : ℕ) → x < width → y < height → place_in pad stride x y < length stored
   fits x y column row =
-      omega (arith, long, mul-add-lt (y + pad) (width + 2 * pad) (x + pad) (height + 2 * pad) (omega arith) (omega arith), mul_comm (width + 2 * pad) (height + 2 * pad))
+      omega (arith, long, mul-add-lt (y + pad) stride (x + pad) (height + 2 * pad) (omega arith) (omega arith), mul_comm stride (height + 2 * pad))
 
   -- what is stored there is the sample
-  pub stored_sample : (x y : ℕ) → x < width → y < height → at x y ≡ sample (inner_plane pad width height stored) x y
+  pub stored_sample : (x y : ℕ) → x < width → y < height → at x y ≡ sample (inner_plane pad stride width height stored) x y
   stored_sample x y column row = sym (sample-plane_of width height at x y column row)
 
   -- the plane that a contract sees of them
-  module _ (p : Plane) (is : inner_plane pad width height stored ≡ p) where
+  module _ (p : Plane) (is : inner_plane pad stride width height stored ≡ p) where
     pub sizes : (width ≡ p.width) × (height ≡ p.height)
     sizes = (ap (λ p. p.width) is, ap (λ p. p.height) is)
 
     pub all_samples : length p.samples ≡ p.width * p.height
     all_samples = rw (← is) (length-plane_of width height at)
 
-    -- without padding nothing else is stored
-    pub seen_all : pad ≡ 0 → stored ≡ p.samples
-    seen_all none =
-        ap (λ (p : Plane). p.samples)
-        (plane_is (record { width = width; height = height; samples = stored }) at (long ∙ rw none (omega (arith, mul_comm width height)))
-        (λ x y column row. ap (λ i. get_or stored i 0) (rw none (omega arith))) ∙ is)
-
-    pub seen_sample : (x y d : ℕ) → x < p.width → y < p.height → get_or stored (stored_place pad width x y) d ≡ sample p x y
+    pub seen_sample : (x y d : ℕ) → x < p.width → y < p.height → get_or stored (place_in pad stride x y) d ≡ sample p x y
     seen_sample x y d column row =
-        get_or_default_zero stored (stored_place pad width x y) d (fits x y (omega (arith, sizes)) (omega (arith, sizes)))
+        get_or_default_zero stored (place_in pad stride x y) d (fits x y (omega (arith, sizes)) (omega (arith, sizes)))
         ∙ stored_sample x y (omega (arith, sizes)) (omega (arith, sizes)) ∙ ap (λ p. sample p x y) is
 
+    -- what is stored from a sample's place on are the samples from it on
+    pub seen_from : (xs : List ℕ) (x y start : ℕ) → xs ≡ stored → start ≡ (y + pad) * stride + (x + pad)
+        → HaveRowsFrom p x y (take (length xs - start) (drop start xs)) stride
+    seen_from xs x y start same begins =
+        let rest : take (length xs - start) (drop start xs) ≡ drop start stored =
+        rw same (take_all (length stored - start) (drop start stored) (omega (arith, length-drop start stored))) in
+        let place : (i j : ℕ) → start + (j * stride + i) ≡ place_in pad stride (x + i) (y + j) =
+        λ i j. let same_row : y + pad + j ≡ y + j + pad = omega arith in
+        omega (arith, begins, add-mul (y + pad) j stride, ap (λ n. n * stride) same_row) in
+        record {
+          apart = omega (arith, sizes);
+          inside = λ i j column row. rw rest (omega (arith, length-drop start stored, place i j, fits (x + i) (y + j) (omega (arith, sizes)) (omega (arith, sizes))));
+          at = λ i j column row.
+              ap (λ l. get_or l (j * stride + i) 0) rest ∙ get_or-drop start stored (j * stride + i) 0
+              ∙ ap (λ k. get_or stored k 0) (place i j) ∙ seen_sample (x + i) (y + j) 0 column row;
+        }
+
     -- a row is a range of what is stored
-    pub seen_row : (xs : List ℕ) (y start : ℕ) → xs ≡ stored → y < p.height → start ≡ (y + pad) * (width + 2 * pad) + pad
+    pub seen_row : (xs : List ℕ) (y start : ℕ) → xs ≡ stored → y < p.height → start ≡ (y + pad) * stride + pad
         → take (start + width - start) (drop start xs) ≡ slice_range p.samples (y * p.width) (y * p.width + p.width)
     seen_row xs y start same row begins =
         let many : start + width - start ≡ width = omega arith in
         let here : y < height = omega (arith, sizes) in
         let enough : start + width ≤ length stored =
-        omega (arith, long, row_fits (y + pad) (width + 2 * pad) (height + 2 * pad) (width + 2 * pad) (omega arith) (omega arith), begins) in
+        omega (arith, long, row_fits (y + pad) stride (height + 2 * pad) stride (omega arith) (omega arith), begins) in
         let whole : y * width + width ≤ length samples =
         omega (arith, length-plane_of width height at, row_fits y width height width here (omega arith), mul_comm width height) in
         let each : (k : ℕ) → k < width → get_or (take width (drop start stored)) k 0 ≡ get_or (slice_range samples (y * width) (y * width + width)) k 0 =
@@ -92,9 +109,9 @@ module _ (pad width height : ℕ) (stored : List ℕ) (long : length stored ≡ 
 
     -- one stored sample changed is one sample of the plane changed
     pub seen_set : (x y value : ℕ) → x < p.width → y < p.height
-        → inner_plane pad width height (set stored (stored_place pad width x y) value) ≡ with_sample p x y value
+        → inner_plane pad stride width height (set stored (place_in pad stride x y) value) ≡ with_sample p x y value
     seen_set x y value column row =
-        let place = stored_place pad width in
+        let place = place_in pad stride in
         let left : x < width = omega (arith, sizes) in
         let low : y < height = omega (arith, sizes) in
         let each : (u v : ℕ) → u < width → v < height
@@ -108,12 +125,12 @@ module _ (pad width height : ℕ) (stored : List ℕ) (long : length stored ≡ 
         (λ apart. get_or-set_other samples (y * width + x) (v * width + u) value 0 apart
         ∙ sample-plane_of width height at u v across down
         ∙ sym (get_or-set_other stored (place x y) (place u v) value 0 (λ e.
-        let same = same_from_place (v + pad) (u + pad) (y + pad) (x + pad) (width + 2 * pad) (omega arith) (omega arith) e in
+        let same = same_from_place (v + pad) (u + pad) (y + pad) (x + pad) stride (omega arith) (omega arith) e in
         let down_is : v ≡ y = omega (arith, same.0) in
         let across_is : u ≡ x = omega (arith, same.1) in
         apart (rw (down_is, across_is)))))
         (cases_eq (v * width + u) (y * width + x)) in
-        rw (← is) (sym (plane_is (with_sample (inner_plane pad width height stored) x y value) (λ u v. get_or (set stored (place x y) value) (place u v) 0)
+        rw (← is) (sym (plane_is (with_sample (inner_plane pad stride width height stored) x y value) (λ u v. get_or (set stored (place x y) value) (place u v) 0)
         (length-set samples (y * width + x) value ∙ length-plane_of width height at) each))
 
 -- ---- places inside a rectangle and outside it
@@ -139,37 +156,34 @@ beside P start width j none before behind =
 
 -- ---- rectangles of a plane, in its padded rows
 
-module _ (pad width height left top w h : ℕ) (stored : List ℕ) (long : length stored ≡ (height + 2 * pad) * (width + 2 * pad)) (columns : left + w ≤ width) (rows : top + h ≤ height) where
-  abbrev stride : ℕ
-  stride = width + 2 * pad
-
+module _ (pad stride width height left top w h : ℕ) (stored : List ℕ) (wide : width + 2 * pad ≤ stride) (long : length stored ≡ (height + 2 * pad) * stride) (columns : left + w ≤ width) (rows : top + h ≤ height) where
   abbrev first_place : ℕ
-  first_place = (top + pad) * (width + 2 * pad) + (left + pad)
+  first_place = (top + pad) * stride + (left + pad)
 
   pub room : IsRoom w h first_place stride (length stored)
   room y low =
-      let below : (top + pad + y + 1) * (width + 2 * pad) ≤ (height + 2 * pad) * (width + 2 * pad) = mul-le-mul_right (width + 2 * pad) (omega arith) in
+      let below : (top + pad + y + 1) * stride ≤ (height + 2 * pad) * stride = mul-le-mul_right stride (omega arith) in
       omega (arith, long, below)
 
-  pub rectangle_place : (x y : ℕ) → first_place + y * stride + x ≡ stored_place pad width (left + x) (top + y)
+  pub rectangle_place : (x y : ℕ) → first_place + y * stride + x ≡ place_in pad stride (left + x) (top + y)
   rectangle_place x y = omega arith
 
   -- the places of a rectangle that was set have its samples, and the others what stood there
   pub rectangle_at : (f s : ℕ → ℕ → ℕ) (new : List ℕ) →
       ((y : ℕ) → y < h → (x : ℕ) → x < w → slice_index new (first_place + y * stride + x) ≡ f x y) → IsSameOutside w h first_place stride stored new →
-      ((x y : ℕ) → x < width → y < height → slice_index stored (stored_place pad width x y) ≡ s x y) →
-      (x y : ℕ) → x < width → y < height → slice_index new (stored_place pad width x y) ≡ (if is_inside left top w h x y then f (x - left) (y - top) else s x y)
+      ((x y : ℕ) → x < width → y < height → slice_index stored (place_in pad stride x y) ≡ s x y) →
+      (x y : ℕ) → x < width → y < height → slice_index new (place_in pad stride x y) ≡ (if is_inside left top w h x y then f (x - left) (y - top) else s x y)
   rectangle_at f s new within outside before x y column row = by_place
-      (λ t. slice_index new (stored_place pad width x y) ≡ (if t then f (x - left) (y - top) else s x y)) left top w h x y
+      (λ t. slice_index new (place_in pad stride x y) ≡ (if t then f (x - left) (y - top) else s x y)) left top w h x y
       (λ a b c d.
       let across : x ≡ left + (x - left) = omega arith in
       let down : y ≡ top + (y - top) = omega arith in
-      ap (λ u. slice_index new (stored_place pad width u y)) across ∙ ap (λ v. slice_index new (stored_place pad width (left + (x - left)) v)) down
+      ap (λ u. slice_index new (place_in pad stride u y)) across ∙ ap (λ v. slice_index new (place_in pad stride (left + (x - left)) v)) down
       ∙ ap (slice_index new) (sym (rectangle_place (x - left) (y - top))) ∙ within (y - top) (omega arith) (x - left) (omega arith))
       (λ none.
-      outside (stored_place pad width x y)
+      outside (place_in pad stride x y)
       (λ u v u_low v_low e.
-      let same = same_from_place (y + pad) (x + pad) (top + v + pad) (left + u + pad) (width + 2 * pad) (omega arith) (omega arith) (e ∙ rectangle_place u v) in
+      let same = same_from_place (y + pad) (x + pad) (top + v + pad) (left + u + pad) stride (omega arith) (omega arith) (e ∙ rectangle_place u v) in
       let row_is : y + pad ≡ top + v + pad = same.0 in
       let column_is : x + pad ≡ left + u + pad = same.1 in
       none (omega arith) (omega arith) (omega arith) (omega arith))
@@ -177,10 +191,10 @@ module _ (pad width height left top w h : ℕ) (stored : List ℕ) (long : lengt
 
   pub stored_rectangle : (new samples : List ℕ) →
       ((y : ℕ) → y < h → (x : ℕ) → x < w → slice_index new (first_place + y * stride + x) ≡ slice_index samples (w * y + x)) → IsSameOutside w h first_place stride stored new →
-      inner_plane pad width height new ≡ with_block (inner_plane pad width height stored) left top w h (λ x y. slice_index samples (w * y + x))
+      inner_plane pad stride width height new ≡ with_block (inner_plane pad stride width height stored) left top w h (λ x y. slice_index samples (w * y + x))
   stored_rectangle new samples within outside =
-      plane_of_same width height (λ x y. slice_index new (stored_place pad width x y)) _
-      (rectangle_at (λ x y. slice_index samples (w * y + x)) (sample (inner_plane pad width height stored)) new within outside (stored_sample pad width height stored long))
+      plane_of_same width height (λ x y. slice_index new (place_in pad stride x y)) _
+      (rectangle_at (λ x y. slice_index samples (w * y + x)) (sample (inner_plane pad stride width height stored)) new within outside (stored_sample pad stride width height stored wide long))
 
 -- ---- a part of a list changed
 
@@ -202,25 +216,25 @@ module _ (xs ys : List ℕ) (a : ℕ) (within : a + length ys ≤ length xs) whe
 
 -- ---- one line of stored samples
 
-module _ (pad width height left y : ℕ) (stored line : List ℕ) (long : length stored ≡ (height + 2 * pad) * (width + 2 * pad)) (columns : left + length line ≤ width) (row : y < height) where
+module _ (pad stride width height left y : ℕ) (stored line : List ℕ) (wide : width + 2 * pad ≤ stride) (long : length stored ≡ (height + 2 * pad) * stride) (columns : left + length line ≤ width) (row : y < height) where
   abbrev start : ℕ
-  start = stored_place pad width left y
+  start = place_in pad stride left y
 
   pub within : start + length line ≤ length stored
-  within = omega (arith, long, row_fits (y + pad) (width + 2 * pad) (height + 2 * pad) (width + 2 * pad) (omega arith) (omega arith))
+  within = omega (arith, long, row_fits (y + pad) stride (height + 2 * pad) stride (omega arith) (omega arith))
 
-  pub stored_line : inner_plane pad width height (spliced stored line start within)
-      ≡ with_block (inner_plane pad width height stored) left y (length line) 1 (λ x _. get_or line x 0)
+  pub stored_line : inner_plane pad stride width height (spliced stored line start within)
+      ≡ with_block (inner_plane pad stride width height stored) left y (length line) 1 (λ x _. get_or line x 0)
   stored_line =
       let new = spliced stored line start within in
-      plane_of_same width height (λ u v. get_or new (stored_place pad width u v) 0) _
-      (rectangle_at pad width height left y (length line) 1 stored long columns (omega arith) (λ x _. get_or line x 0)
-      (sample (inner_plane pad width height stored)) new
-      (λ r low x column. spliced_inside stored line start within (start + r * (width + 2 * pad) + x) x
-      (below_more (λ r. start + r * (width + 2 * pad) + x ≡ start + x) 0 (λ k h. absurd (omega arith)) (omega arith) r low) column)
+      plane_of_same width height (λ u v. get_or new (place_in pad stride u v) 0) _
+      (rectangle_at pad stride width height left y (length line) 1 stored wide long columns (omega arith) (λ x _. get_or line x 0)
+      (sample (inner_plane pad stride width height stored)) new
+      (λ r low x column. spliced_inside stored line start within (start + r * stride + x) x
+      (below_more (λ r. start + r * stride + x ≡ start + x) 0 (λ k h. absurd (omega arith)) (omega arith) r low) column)
       (λ j none. beside (λ j. get_or new j 0 ≡ get_or stored j 0) start (length line) j (λ x column e. none x 0 column (omega arith) (omega arith))
       (spliced_before stored line start within j) (spliced_after stored line start within j))
-      (stored_sample pad width height stored long))
+      (stored_sample pad stride width height stored wide long))
 
 -- ---- a block, line by line
 
@@ -263,29 +277,40 @@ refilled : (n k : ℕ) (xs ws : List ℕ) → n ≡ length xs → k < n → get_
 refilled n k xs ws long below = grind (arith, places, cases_lt k (length ws))
 
 -- a plane that is stored in a list filled up from its own rows
-pub rows_written : (pad width height n : ℕ) (stored ws : List ℕ) → n ≡ length stored → (long : length stored ≡ (height + 2 * pad) * (width + 2 * pad)) →
-    inner_plane pad width height (take n (ws ++ drop (length ws) stored)) ≡ with_rows pad (inner_plane pad width height stored) ws
-rows_written pad width height n stored ws all long =
+pub rows_written : (pad stride width height n : ℕ) (stored ws : List ℕ) → n ≡ length stored → stride ≡ stride_of pad width → (wide : width + 2 * pad ≤ stride) →
+    (long : length stored ≡ (height + 2 * pad) * stride) →
+    inner_plane pad stride width height (take n (ws ++ drop (length ws) stored)) ≡ with_rows pad (inner_plane pad stride width height stored) ws
+rows_written pad stride width height n stored ws all distance wide long =
     plane_of_same width height
-    (λ x y. slice_index (take n (ws ++ drop (length ws) stored)) (stored_place pad width x y))
-    (λ x y. slice_index_or ws (stored_place pad width x y) (sample (inner_plane pad width height stored) x y))
+    (λ x y. slice_index (take n (ws ++ drop (length ws) stored)) (place_in pad stride x y))
+    (λ x y. slice_index_or ws (place_in pad stride x y) (sample (inner_plane pad stride width height stored) x y))
     (λ x y column row.
-    refilled n (stored_place pad width x y) stored ws all (omega (arith, all, fits pad width height stored long x y column row))
-    ∙ ap (slice_index_or ws (stored_place pad width x y)) (stored_sample pad width height stored long x y column row))
+    refilled n (place_in pad stride x y) stored ws all (omega (arith, all, fits pad stride width height stored wide long x y column row))
+    ∙ ap (slice_index_or ws (place_in pad stride x y)) (stored_sample pad stride width height stored wide long x y column row))
+    ∙ ap (λ (s : ℕ). plane_of width height (λ x y. slice_index_or ws (place_in pad s x y) (sample (inner_plane pad stride width height stored) x y))) distance
+
+-- its own rows have its samples
+pub have_samples : (pad stride width height : ℕ) (stored : List ℕ) → stride ≡ stride_of pad width → (wide : width + 2 * pad ≤ stride) →
+    (long : length stored ≡ (height + 2 * pad) * stride) → HaveSamples pad (inner_plane pad stride width height stored) stored
+have_samples pad stride width height stored distance wide long = record {
+  long = long ∙ ap (λ (s : ℕ). (height + 2 * pad) * s) distance;
+  at = λ x y column row.
+      ap (λ (s : ℕ). slice_index stored (place_in pad s x y)) (sym distance) ∙ stored_sample pad stride width height stored wide long x y column row;
+}
 
 -- a rectangle of lent rows, whose first sample is at this place
 module _ (pad : ℕ) (p : Plane) (left top w h first stride : ℕ) (rows : List ℕ) (have : HaveSamples pad p rows) (columns : left + w ≤ p.width) (lines : top + h ≤ p.height)
-    (is_first : first ≡ stored_place pad p.width left top) (is_stride : stride ≡ p.width + 2 * pad) where
+    (is_first : first ≡ stored_place pad p.width left top) (is_stride : stride ≡ stride_of pad p.width) where
   pub room_lent : IsRoom w h first stride (length rows)
-  room_lent = rw (is_first, is_stride) (room pad p.width p.height left top w h rows have.long columns lines)
+  room_lent = rw (is_first, is_stride) (room pad (stride_of pad p.width) p.width p.height left top w h rows (stride_wide pad p.width) have.long columns lines)
 
   pub block_lent : (f : ℕ → ℕ → ℕ) (new : List ℕ) → IsStridedSet w h first stride f rows new → with_rows pad p new ≡ with_block p left top w h f
   block_lent f new set =
       let placed = rw (is_first, is_stride) at set in
       plane_of_same p.width p.height (λ x y. slice_index_or new (stored_place pad p.width x y) (sample p x y)) _
       (λ x y column row.
-      get_or_default_zero new (stored_place pad p.width x y) (sample p x y) (omega (arith, set.long, fits pad p.width p.height rows have.long x y column row))
-      ∙ rectangle_at pad p.width p.height left top w h rows have.long columns lines f (sample p) new placed.inside placed.outside have.at x y column row)
+      get_or_default_zero new (stored_place pad p.width x y) (sample p x y) (omega (arith, set.long, fits pad (stride_of pad p.width) p.width p.height rows (stride_wide pad p.width) have.long x y column row))
+      ∙ rectangle_at pad (stride_of pad p.width) p.width p.height left top w h rows (stride_wide pad p.width) have.long columns lines f (sample p) new placed.inside placed.outside have.at x y column row)
 
 -- ---- the nearest coordinate inside a size
 
@@ -365,26 +390,29 @@ strided_rows w h h' start stride f old new same set = subst (λ n. IsStridedSet 
 
 -- ---- rows in which each place is the nearest sample are a padded plane, and the same plane
 
-module _ (pad width height : ℕ) (old new : List ℕ) (some_column : 0 < width) (some_row : 0 < height)
-    (all : (x y : ℕ) → x < width + 2 * pad → y < height + 2 * pad →
-    slice_index new (y * (width + 2 * pad) + x) ≡ slice_index old ((nearest pad height y + pad) * (width + 2 * pad) + (nearest pad width x + pad))) where
-  itself : (x y : ℕ) → x < width → y < height → slice_index new (stored_place pad width x y) ≡ slice_index old (stored_place pad width x y)
+module _ (pad stride width height : ℕ) (old new : List ℕ) (wide : width + 2 * pad ≤ stride) (some_column : 0 < width) (some_row : 0 < height)
+    (all : (x y : ℕ) → x < stride → y < height + 2 * pad →
+    slice_index new (y * stride + x) ≡ slice_index old ((nearest pad height y + pad) * stride + (nearest pad width x + pad))) where
+  itself : (x y : ℕ) → x < width → y < height → slice_index new (place_in pad stride x y) ≡ slice_index old (place_in pad stride x y)
   itself x y column row =
       let across : nearest pad width (x + pad) ≡ x = omega arith in
       let down : nearest pad height (y + pad) ≡ y = omega arith in
       all (x + pad) (y + pad) (omega arith) (omega arith) ∙ rw (across, down)
 
-  pub same_plane : inner_plane pad width height new ≡ inner_plane pad width height old
-  same_plane = plane_of_same width height (λ x y. slice_index new (stored_place pad width x y)) (λ x y. slice_index old (stored_place pad width x y)) itself
+  pub same_plane : inner_plane pad stride width height new ≡ inner_plane pad stride width height old
+  same_plane = plane_of_same width height (λ x y. slice_index new (place_in pad stride x y)) (λ x y. slice_index old (place_in pad stride x y)) itself
 
-  near : (x y : ℕ) → x < width + 2 * pad → y < height + 2 * pad →
-      slice_index new (y * (width + 2 * pad) + x) ≡ clamped width height (sample (inner_plane pad width height new)) (pos x -ℤ pos pad) (pos y -ℤ pos pad)
+  near : (x y : ℕ) → x < stride → y < height + 2 * pad →
+      slice_index new (y * stride + x) ≡ clamped width height (sample (inner_plane pad stride width height new)) (pos x -ℤ pos pad) (pos y -ℤ pos pad)
   near x y column row =
       rw (held_is pad width x some_column, held_is pad height y some_row)
       (all x y column row
-      ∙ sym (sample-plane_of width height (λ x y. slice_index old (stored_place pad width x y)) (nearest pad width x) (nearest pad height y)
+      ∙ sym (sample-plane_of width height (λ x y. slice_index old (place_in pad stride x y)) (nearest pad width x) (nearest pad height y)
       (omega arith) (omega arith))
       ∙ ap (λ (p : Plane). sample p (nearest pad width x) (nearest pad height y)) (sym same_plane))
 
-  pub surrounded : length new ≡ (height + 2 * pad) * (width + 2 * pad) → IsSurrounded pad (inner_plane pad width height new) new
-  surrounded long = record { long = long; near = near }
+  pub surrounded : stride ≡ stride_of pad width → length new ≡ (height + 2 * pad) * stride → IsSurrounded pad (inner_plane pad stride width height new) new
+  surrounded distance long = record {
+    long = long ∙ ap (λ (s : ℕ). (height + 2 * pad) * s) distance;
+    near = λ x y column row. ap (λ (s : ℕ). slice_index new (y * s + x)) (sym distance) ∙ near x y (omega (arith, distance, column)) row;
+  }

@@ -1,20 +1,11 @@
 -- The planes and frames that the code keeps, as those of pictures and of a history.
 use Rattle.std.specs.Prelude.{◌≡◌, ℕ, ◌*◌, ◌≤◌, true, false, List, [], ◌∷◌, length, All, is_some, IfSome}
-use Rattle.std.specs.Option.{option_map}
+use Rattle.std.proofs.Common.{arith}
 use Rattle.avc_types.specs.References.{reference_of}
 use Rattle.avc_types.specs.declared.marked_frame.MarkedFrame.{MarkedFrame}
-use Rattle.avc_plane.specs.Planes.{Planes, StoredFrame}
+use Rattle.avc_plane.specs.Planes.{Planes, StoredFrame, AreSubsampled}
 use Rattle.avc_plane.specs.declared.frame.Frame.{Frame}
-use Rattle.avc_plane.specs.declared.frame.Planes.{Planes as StoredPlanes}
-use Rattle.avc_plane.specs.declared.frame.PaddedPlanes.{PaddedPlanes}
-
--- the three planes as maps of samples
-abbrev pub planes_of : {PAD : ℕ} → StoredPlanes PAD → Planes
-planes_of p = record { luma = p.luma; cb = p.cb; cr = p.cr }
-
--- the same of a frame's planes; what lies around them is not seen
-abbrev pub padded_planes_of : {PAD : ℕ} → PaddedPlanes PAD → Planes
-padded_planes_of p = record { luma = p.luma; cb = p.cb; cr = p.cr }
+pub use Rattle.avc_plane.specs.Closed.{planes_of, padded_planes_of}
 
 -- what reference lists and marking know of a frame
 abbrev pub marked_frame : {PAD : ℕ} → Frame PAD → MarkedFrame
@@ -22,7 +13,7 @@ marked_frame f = record { frame_num = f.frame_num; existing = is_some f.planes; 
 
 -- the frame of an entry of the history, with its mark
 abbrev pub stored_frame : {PAD : ℕ} → (index : ℕ) → Frame PAD → StoredFrame
-stored_frame index f = record { reference = reference_of index (marked_frame f); planes = option_map padded_planes_of f.planes }
+stored_frame index f = record { reference = reference_of index (marked_frame f); planes = f.planes }
 
 -- Of frames in decoding order, which have these decoding indices, the ones that are used for reference.
 abbrev pub stored_at : {PAD : ℕ} → (indices : List ℕ) → List (Frame PAD) → List StoredFrame
@@ -43,7 +34,16 @@ pub record AreSized (width height : ℕ) (s : Planes) : Type 0 where
   pub cr_width : s.cr.width ≡ 8 * width
   pub cr_height : s.cr.height ≡ 8 * height
 
+-- the chroma planes of such a picture are half as large as the luma plane
+pub subsampled_of_size : (width height : ℕ) (s : Planes) → AreSized width height s → AreSubsampled s
+subsampled_of_size width height s sized = record {
+  cb_width = omega (arith, sized.luma_width, sized.cb_width);
+  cb_height = omega (arith, sized.luma_height, sized.cb_height);
+  cr_width = omega (arith, sized.luma_width, sized.cr_width);
+  cr_height = omega (arith, sized.luma_height, sized.cr_height);
+}
+
 -- At most 16 frames, those that are pictures of this size in macroblocks.
 pub record AreFrames {PAD : ℕ} (width height : ℕ) (frames : List (Frame PAD)) : Type 0 where
   pub few : length frames ≤ 16
-  pub sized : All (λ f. IfSome f.planes (λ p. AreSized width height (padded_planes_of p))) frames
+  pub sized : All (λ f. IfSome f.planes (λ p. AreSized width height p)) frames

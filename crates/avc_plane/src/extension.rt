@@ -13,18 +13,20 @@ fn repeat(stored: &mut [u8], first: usize, count: usize, sample: u8)
     stored[first..first + count].fill(sample);
 }
 
-/// Repeats the outer samples of a row on both sides of it. `first` is the place of its first sample with the padding.
-fn extend_row(stored: &mut [u8], first: usize, width: usize, pad: usize)
+/// Repeats the outer samples of a row on both sides of it, `pad` times on the left and up to the next row on the right. `first` is the
+/// place of its first sample with the padding.
+fn extend_row(stored: &mut [u8], first: usize, width: usize, pad: usize, stride: usize)
     requires some { 0 < width }
-    requires room { first + (width + 2 * pad) ≤ length stored.old }
+    requires wide { width + pad ≤ stride }
+    requires room { first + stride ≤ length stored.old }
     ensures before { (k : ℕ) → k < first → slice_index stored.new k ≡ slice_index stored.old k }
-    ensures here { (x : ℕ) → x < width + 2 * pad → slice_index stored.new (first + x) ≡ slice_index stored.old (first + (nearest pad width x + pad)) }
-    ensures after { (k : ℕ) → first + (width + 2 * pad) ≤ k → slice_index stored.new k ≡ slice_index stored.old k }
+    ensures here { (x : ℕ) → x < stride → slice_index stored.new (first + x) ≡ slice_index stored.old (first + (nearest pad width x + pad)) }
+    ensures after { (k : ℕ) → first + stride ≤ k → slice_index stored.new k ≡ slice_index stored.old k }
 {
     let left = stored[first + pad];
     let right = stored[first + pad + (width - 1)];
     repeat(stored, first, pad, left);
-    repeat(stored, first + pad + width, pad, right);
+    repeat(stored, first + pad + width, stride - (pad + width), right);
 }
 
 /// Copies `count` samples to another place.
@@ -39,26 +41,26 @@ fn copy(stored: &mut [u8], from: usize, to: usize, count: usize)
 }
 
 /// Repeats the outer samples of each row of a plane on both sides of it.
-fn extend_sides(stored: &mut [u8], width: usize, height: usize, pad: usize)
+fn extend_sides(stored: &mut [u8], width: usize, height: usize, pad: usize, stride: usize)
     requires some { 0 < width }
-    requires all { length stored.old ≡ (height + 2 * pad) * (width + 2 * pad) }
-    ensures { (x y : ℕ) → x < width + 2 * pad → y < height →
-        slice_index stored.new ((y + pad) * (width + 2 * pad) + x) ≡ slice_index stored.old ((y + pad) * (width + 2 * pad) + (nearest pad width x + pad)) }
+    requires wide { width + pad ≤ stride }
+    requires all { length stored.old ≡ (height + 2 * pad) * stride }
+    ensures { (x y : ℕ) → x < stride → y < height →
+        slice_index stored.new ((y + pad) * stride + x) ≡ slice_index stored.old ((y + pad) * stride + (nearest pad width x + pad)) }
 {
-    let stride = width + 2 * pad;
     for y in 0..height {
-        extend_row(stored, (y + pad) * stride, width, pad);
+        extend_row(stored, (y + pad) * stride, width, pad, stride);
     }
 }
 
 /// Repeats the first and the last row of a plane above and below it.
-fn extend_ends(stored: &mut [u8], width: usize, height: usize, pad: usize)
+fn extend_ends(stored: &mut [u8], height: usize, pad: usize, stride: usize)
     requires some { 0 < height }
-    requires all { length stored.old ≡ (height + 2 * pad) * (width + 2 * pad) }
-    ensures { (x y : ℕ) → x < width + 2 * pad → y < height + 2 * pad →
-        slice_index stored.new (y * (width + 2 * pad) + x) ≡ slice_index stored.old ((nearest pad height y + pad) * (width + 2 * pad) + x) }
+    requires apart { 0 < stride }
+    requires all { length stored.old ≡ (height + 2 * pad) * stride }
+    ensures { (x y : ℕ) → x < stride → y < height + 2 * pad →
+        slice_index stored.new (y * stride + x) ≡ slice_index stored.old ((nearest pad height y + pad) * stride + x) }
 {
-    let stride = width + 2 * pad;
     for y in 0..pad {
         copy(stored, pad * stride, y * stride, stride);
         copy(
@@ -71,14 +73,15 @@ fn extend_ends(stored: &mut [u8], width: usize, height: usize, pad: usize)
 }
 
 /// Gives each place around a plane the sample inside that is nearest.
-pub fn extend(stored: &mut [u8], width: usize, height: usize, pad: usize)
+pub fn extend(stored: &mut [u8], width: usize, height: usize, pad: usize, stride: usize)
     requires some_column { 0 < width }
     requires some_row { 0 < height }
-    requires all { length stored.old ≡ (height + 2 * pad) * (width + 2 * pad) }
-    ensures { (x y : ℕ) → x < width + 2 * pad → y < height + 2 * pad →
-        slice_index stored.new (y * (width + 2 * pad) + x)
-        ≡ slice_index stored.old ((nearest pad height y + pad) * (width + 2 * pad) + (nearest pad width x + pad)) }
+    requires wide { width + pad ≤ stride }
+    requires all { length stored.old ≡ (height + 2 * pad) * stride }
+    ensures { (x y : ℕ) → x < stride → y < height + 2 * pad →
+        slice_index stored.new (y * stride + x)
+        ≡ slice_index stored.old ((nearest pad height y + pad) * stride + (nearest pad width x + pad)) }
 {
-    extend_sides(stored, width, height, pad);
-    extend_ends(stored, width, height, pad);
+    extend_sides(stored, width, height, pad, stride);
+    extend_ends(stored, height, pad, stride);
 }

@@ -1,10 +1,12 @@
 ghost use Rattle.std.specs.Prelude.{◌≡◌, ◌+◌, ◌*◌, ◌^◌, ◌<◌, true, IfOk};
 ghost use Rattle.avc_plane.specs.Plane.{HasSamples};
-ghost use Rattle.avc_plane.specs.Planes.{empty_planes};
-ghost use Rattle.avc_plane.specs.Frames.{marked_frame, planes_of, padded_planes_of, AreSized};
+ghost use Rattle.avc_plane.specs.Planes.{empty_planes, HaveAllSamples};
+ghost use Rattle.avc_plane.specs.Closed.{planes_of, padded_planes_of};
+ghost use Rattle.avc_plane.specs.Frames.{marked_frame, AreSized};
 
 use crate::padded::PaddedPlane;
 use crate::plane::Plane;
+use crate::shared::SharedPlanes;
 use avc_types::{Crop, Mark, MarkedFrame, OutOfMemory};
 use std::alloc::Global;
 
@@ -69,6 +71,16 @@ pub struct PaddedPlanes<const PAD: usize> {
 }
 
 impl<const PAD: usize> PaddedPlanes<PAD> {
+    /// Does nothing. Each plane has as many samples as columns and rows say.
+    #[inline(always)]
+    pub(crate) fn hold_samples(&self)
+        ensures { HaveAllSamples (padded_planes_of self.now) }
+    {
+        self.luma.holds_samples();
+        self.cb.holds_samples();
+        self.cr.holds_samples();
+    }
+
     /// The planes, to be changed again.
     pub fn into_planes(self) -> Planes<PAD>
         ensures { planes_of result ≡ padded_planes_of self.entry }
@@ -85,19 +97,13 @@ impl<const PAD: usize> PaddedPlanes<PAD> {
 #[derive(Drop)]
 pub struct Frame<const PAD: usize> {
     /// Nothing where it stands for a missing frame number.
-    pub planes: Option<PaddedPlanes<PAD>>,
+    pub planes: Option<SharedPlanes<PAD>>,
 
     /// FrameNum (8.2.4.1).
     pub frame_num: u32,
 
     /// How it is marked (8.2.5); nothing where it is unused for reference.
     pub mark: Option<Mark>,
-
-    /// The coded width in luma samples.
-    pub width: u32,
-
-    /// The coded height in luma samples.
-    pub height: u32,
 
     /// The cropping rectangle in luma samples (7.4.2.1.1).
     pub crop: Crop,

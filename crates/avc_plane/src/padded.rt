@@ -1,7 +1,8 @@
-ghost use Rattle.std.specs.Prelude.{◌≡◌, ◌+◌, ◌*◌, ◌^◌, ◌<◌, IfOk, slice_range};
+ghost use Rattle.std.specs.Prelude.{◌≡◌, ◌+◌, ◌*◌, ◌^◌, ◌<◌, ◌≤◌, IfOk, length, slice_range};
 ghost use Rattle.avc_plane.specs.Plane.{sample};
-ghost use Rattle.avc_plane.specs.Padded.{inner_plane, IsPadded, IsSurrounded};
+ghost use Rattle.avc_plane.specs.Padded.{inner_plane, stride_of, HaveRowsFrom, IsPadded, IsSurrounded};
 
+use crate::lent::LentPlane;
 use crate::plane::Plane;
 use avc_types::{Bytes, OutOfMemory};
 use std::alloc::Global;
@@ -14,6 +15,9 @@ pub struct PaddedPlane<const PAD: usize> {
     width: usize,
     height: usize,
 
+    /// From a row to the next.
+    stride: usize,
+
     /// All rows, those of the padding too.
     stored: Vec<u8>,
 }
@@ -24,22 +28,31 @@ impl<const PAD: usize> Model for PaddedPlane<PAD> {
 
     ghost Value = { SamplesByPlace };
 
-    ghost view = { λ p. inner_plane PAD p.width p.height p.stored.items };
+    ghost view = { λ p. inner_plane PAD p.stride p.width p.height p.stored.items };
 
-    ghost invariant = { λ p. IsPadded PAD p.width p.height p.stored.items };
+    ghost invariant = { λ p. IsPadded PAD p.stride p.width p.height p.stored.items };
 }
 
 impl<const PAD: usize> PaddedPlane<PAD> {
     /// The plane whose padded rows are these.
-    pub(crate) fn from_rows(width: usize, height: usize, stored: Vec<u8>) -> Self
-        requires { IsPadded PAD width height stored.items }
-        ensures { result ≡ inner_plane PAD width height stored.items }
+    pub(crate) fn from_rows(width: usize, height: usize, stride: usize, stored: Vec<u8>) -> Self
+        requires { IsPadded PAD stride width height stored.items }
+        ensures { result ≡ inner_plane PAD stride width height stored.items }
     {
         PaddedPlane {
             width,
             height,
+            stride,
             stored,
         }
+    }
+
+    /// Does nothing. There are as many samples as columns and rows say.
+    #[inline(always)]
+    pub(crate) fn holds_samples(&self)
+        ensures { length self.now.samples ≡ self.now.width * self.now.height }
+    {
+        let _ = &self.stored;
     }
 
     /// The number of columns.
@@ -60,13 +73,22 @@ impl<const PAD: usize> PaddedPlane<PAD> {
         self.height
     }
 
+    /// From a row to the next, in samples.
+    pub fn stride(&self) -> usize
+        ensures value { result ≡ stride_of PAD self.now.width }
+        ensures wide { self.now.width + 2 * PAD ≤ result }
+        ensures narrow { result < 2 ^ 32 }
+    {
+        self.stride
+    }
+
     /// The sample in column `x` and row `y`.
     pub fn get(&self, x: usize, y: usize) -> u8
         requires column { x < self.now.width }
         requires row { y < self.now.height }
         ensures { result ≡ sample self.now x y }
     {
-        let stride = self.width + 2 * PAD;
+        let stride = self.stride;
         self.stored[(y + PAD) * stride + (x + PAD)]
     }
 
@@ -75,9 +97,24 @@ impl<const PAD: usize> PaddedPlane<PAD> {
         requires { y < self.now.height }
         ensures { result.now ≡ slice_range self.now.samples (y * self.now.width) (y * self.now.width + self.now.width) }
     {
-        let stride = self.width + 2 * PAD;
+        let stride = self.stride;
         let start = (y + PAD) * stride + PAD;
         &self.stored[start..start + self.width]
+    }
+
+    /// The samples from column `x` and row `y` on, row by row with the padding between them.
+    pub(crate) fn rows_from(&self, x: usize, y: usize) -> LentPlane<'_>
+        requires column { x ≤ self.now.width }
+        requires row { y ≤ self.now.height }
+        requires padded { 0 < PAD }
+        ensures { HaveRowsFrom self.now x y result.samples.now result.stride }
+    {
+        let stride = self.stride;
+        let start = (y + PAD) * stride + (x + PAD);
+        LentPlane {
+            samples: &self.stored[start..],
+            stride,
+        }
     }
 
     /// All rows with the padding, one after another.
@@ -103,6 +140,6 @@ impl<const PAD: usize> PaddedPlane<PAD> {
     pub fn into_plane(self) -> Plane<PAD>
         ensures { result ≡ self.entry }
     {
-        Plane::from_rows(self.width, self.height, self.stored)
+        Plane::from_rows(self.width, self.height, self.stride, self.stored)
     }
 }

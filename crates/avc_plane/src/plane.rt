@@ -9,7 +9,8 @@ mod rectangle;
 use crate::block::BlockMut;
 use crate::extension::extend;
 use crate::padded::PaddedPlane;
-use avc_types::{Bytes, OutOfMemory};
+use crate::stride::stride_of;
+use avc_types::OutOfMemory;
 pub use lending::RowsPlace;
 use std::alloc::Global;
 use std::marker::Model;
@@ -36,6 +37,9 @@ pub struct Plane<const PAD: usize> {
     width: usize,
     height: usize,
 
+    /// From a row to the next.
+    stride: usize,
+
     /// All rows, those of the padding too.
     stored: Vec<u8>,
 }
@@ -46,9 +50,9 @@ impl<const PAD: usize> Model for Plane<PAD> {
 
     ghost Value = { SamplesByPlace };
 
-    ghost view = { λ p. inner_plane PAD p.width p.height p.stored.items };
+    ghost view = { λ p. inner_plane PAD p.stride p.width p.height p.stored.items };
 
-    ghost invariant = { λ p. IsStored PAD p.width p.height p.stored.items };
+    ghost invariant = { λ p. IsStored PAD p.stride p.width p.height p.stored.items };
 }
 
 impl<const PAD: usize> Plane<PAD> {
@@ -58,22 +62,25 @@ impl<const PAD: usize> Plane<PAD> {
         requires low { height + 2 * PAD < 2 ^ 31 }
         ensures { IfOk result (λ plane. plane ≡ plane_of width height (λ _ _. 0)) }
     {
-        let stored = zeros(alloc, (height + 2 * PAD) * (width + 2 * PAD))?;
+        let stride = stride_of(width, PAD);
+        let stored = zeros(alloc, (height + 2 * PAD) * stride)?;
         Ok(Plane {
             width,
             height,
+            stride,
             stored,
         })
     }
 
     /// The plane whose padded rows are these.
-    pub(crate) fn from_rows(width: usize, height: usize, stored: Vec<u8>) -> Self
-        requires { IsStored PAD width height stored.items }
-        ensures { result ≡ inner_plane PAD width height stored.items }
+    pub(crate) fn from_rows(width: usize, height: usize, stride: usize, stored: Vec<u8>) -> Self
+        requires { IsStored PAD stride width height stored.items }
+        ensures { result ≡ inner_plane PAD stride width height stored.items }
     {
         Plane {
             width,
             height,
+            stride,
             stored,
         }
     }
@@ -105,7 +112,7 @@ impl<const PAD: usize> Plane<PAD> {
         requires row { y < self.now.height }
         ensures { result ≡ sample self.now x y }
     {
-        let stride = self.width + 2 * PAD;
+        let stride = self.stride;
         self.stored[(y + PAD) * stride + (x + PAD)]
     }
 
@@ -115,7 +122,7 @@ impl<const PAD: usize> Plane<PAD> {
         requires row { y < self.old.height }
         ensures { self.new ≡ with_sample self.old x y value }
     {
-        let stride = self.width + 2 * PAD;
+        let stride = self.stride;
         let place = (y + PAD) * stride + (x + PAD);
         self.stored[place] = value;
     }
@@ -164,7 +171,7 @@ impl<const PAD: usize> Plane<PAD> {
         requires row { y < self.old.height }
         ensures { self.new ≡ with_block self.old left y (length samples.now) 1 (λ x _. slice_index samples.now x) }
     {
-        let stride = self.width + 2 * PAD;
+        let stride = self.stride;
         let start = (y + PAD) * stride + (left + PAD);
         self.stored[start..start + samples.len()].copy_from_slice(samples);
     }
@@ -174,18 +181,9 @@ impl<const PAD: usize> Plane<PAD> {
         requires { y < self.now.height }
         ensures { result.now ≡ slice_range self.now.samples (y * self.now.width) (y * self.now.width + self.now.width) }
     {
-        let stride = self.width + 2 * PAD;
+        let stride = self.stride;
         let start = (y + PAD) * stride + PAD;
         &self.stored[start..start + self.width]
-    }
-
-    /// The samples of a plane without padding, row by row.
-    pub fn into_bytes(self) -> Bytes
-        requires { PAD ≡ 0 }
-        ensures samples { result ≡ self.entry.samples }
-        ensures size { length result ≡ self.entry.width * self.entry.height }
-    {
-        Bytes::from_vec(self.stored)
     }
 
     /// The same plane with its nearest samples around it, to be read alone.
@@ -195,8 +193,9 @@ impl<const PAD: usize> Plane<PAD> {
     {
         let width = self.width;
         let height = self.height;
+        let stride = self.stride;
         let mut stored = self.stored;
-        extend(stored.as_mut_slice(), width, height, PAD);
-        PaddedPlane::from_rows(width, height, stored)
+        extend(stored.as_mut_slice(), width, height, PAD, stride);
+        PaddedPlane::from_rows(width, height, stride, stored)
     }
 }

@@ -1,7 +1,7 @@
 -- What the words of the command line name.
 use Rattle.std.specs.Prelude.{◌≡◌, ℕ, Bool, true, false, List, Option, Some, None, codes}
-use Rattle.avc_run.specs.Output.{Output}
-use Rattle.avc_run.specs.Output.TheVariants.{Early, Full}
+use Rattle.avc_dpb.specs.declared.output.Output.{Output}
+use Rattle.avc_dpb.specs.declared.output.Output.TheVariants.{Early, Full}
 use Rattle.avc_request.specs.declared.words.Command.{Command}
 use Rattle.avc_request.specs.declared.words.Command.TheVariants.{Cut, Decode, Headers, Info, Units}
 use Rattle.avc_request.specs.declared.request.Telling.{Telling}

@@ -1,13 +1,15 @@
-use avc_formats::HeadedFormat;
-use avc_run::{Names, Output};
+use avc_dpb::Output;
 
 /// What the words of the command line ask for.
 #[derive(Clone, Copy, Debug, PartialEq, Eq)]
 pub struct Request<'a> {
     pub task: Task,
 
-    /// The files, where they are not the standard input and output.
-    pub names: Names<'a>,
+    /// The file that is read, where it is not the standard input.
+    pub input: Option<&'a str>,
+
+    /// The file that is written, where it is not the standard output.
+    pub output: Option<&'a str>,
 
     pub progress: Telling,
 }
@@ -77,8 +79,11 @@ pub enum Form {
     /// Their MD5 is written.
     Md5,
 
-    /// They are written in a format with a head.
-    Headed(HeadedFormat),
+    /// They are written as YUV4MPEG2.
+    Y4m,
+
+    /// The MD5 of each picture is written, as framemd5 does.
+    FrameMd5,
 
     /// Their MD5 is compared with this one.
     Verify([u8; 16]),

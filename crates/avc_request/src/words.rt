@@ -6,8 +6,7 @@ use crate::grammar::{
     NUMBER, OUTPUT, PROGRESS, QUIET, SKIP, UNITS, VERIFY, Y4M, grammar,
 };
 use crate::request::{Form, Request, Showing, Task, Telling};
-use avc_formats::HeadedFormat;
-use avc_run::{Names, Output};
+use avc_dpb::Output;
 use clap::error::ErrorKind;
 use clap::{ArgMatches, Error};
 use hex::FromHex;
@@ -94,7 +93,7 @@ fn task_of_showing(showing: Showing) -> Task {
     match showing.form {
         Form::I420 => Task::Decode(showing.mode),
         Form::Null => Task::Check(showing.mode),
-        Form::Md5 | Form::Headed(_) | Form::Verify(_) => Task::Show(showing),
+        Form::Md5 | Form::Y4m | Form::FrameMd5 | Form::Verify(_) => Task::Show(showing),
     }
 }
 
@@ -103,8 +102,8 @@ fn form_named(name: Option<&str>, output: Option<&str>) -> Form {
     match name {
         Some(NULL) => Form::Null,
         Some(MD5) => Form::Md5,
-        Some(Y4M) => Form::Headed(HeadedFormat::Y4m),
-        Some(FRAME_MD5) => Form::Headed(HeadedFormat::FrameMd5),
+        Some(Y4M) => Form::Y4m,
+        Some(FRAME_MD5) => Form::FrameMd5,
         Some(_) => Form::I420,
         None => form_of_file(output),
     }
@@ -112,7 +111,7 @@ fn form_named(name: Option<&str>, output: Option<&str>) -> Form {
 
 fn form_of_file(name: Option<&str>) -> Form {
     match name {
-        Some(name) if name.ends_with(Y4M_SUFFIX) => Form::Headed(HeadedFormat::Y4m),
+        Some(name) if name.ends_with(Y4M_SUFFIX) => Form::Y4m,
         _ => Form::I420,
     }
 }
@@ -150,10 +149,8 @@ fn request_of<'a>(name: &str, matches: &ArgMatches<'a>) -> Option<Request<'a>> {
     };
     Some(Request {
         task,
-        names: Names {
-            input: file_named(word(matches, INPUT)),
-            output: file_named(output),
-        },
+        input: file_named(word(matches, INPUT)),
+        output: file_named(output),
         progress,
     })
 }

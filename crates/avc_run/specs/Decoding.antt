@@ -6,7 +6,7 @@ use Rattle.avc_annexb.specs.Units.{saturated}
 use Rattle.avc_yuv.specs.I420.{i420}
 use Rattle.avc_decoder.specs.Output.{Output}
 use Rattle.avc_decoder.specs.Events.{events, pictures_in, refusals_in}
-use Rattle.avc_decoder.specs.declared.event.Event.{Event}
+use Rattle.avc_decoder.specs.SeenEvents.{Event}
 use Rattle.avc_run.specs.Reading.{HasRead, WritesFirst}
 use Rattle.avc_run.specs.declared.fault.RunFault.{RunFault}
 use Rattle.avc_run.specs.declared.fault.RunFault.TheVariants.{Read, Endless, Write, Memory, Size}

@@ -5,7 +5,7 @@ use Rattle.avc_annexb.specs.Units.{saturated}
 use Rattle.avc_decoder.specs.Output.{Output}
 use Rattle.avc_decoder.specs.Events.{events}
 use Rattle.avc_decoder.specs.Machine.{Machine}
-use Rattle.avc_decoder.specs.declared.event.Event.{Event}
+use Rattle.avc_decoder.specs.SeenEvents.{Event}
 use Rattle.avc_decoder.specs.declared.event.Event.TheVariants.{Picture, Refused}
 use Rattle.std.specs.Io.KnownBytes.{Appends, Consumes}
 use Rattle.avc_run.specs.Decoding.{max_unit, report_of}

@@ -7,5 +7,4 @@ pub mod Messages
 pub mod Program
 pub mod Draining
 pub mod StreamWriting
-pub mod Parts
 pub use Rattle.avc_decoder.specs.Output

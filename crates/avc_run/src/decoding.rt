@@ -1,21 +1,19 @@
-ghost use Rattle.std.specs.Prelude.{◌≡◌, ◌∷◌, [], IfErr, OnOk};
+ghost use Rattle.std.specs.Prelude.{◌≡◌, ◌∷◌, [], take, IfErr, IfOk, OnOk};
 ghost use Rattle.std.specs.Io.KnownBytes.{prepend_known, Appends};
 ghost use Rattle.avc_types.specs.Whole.{IsWhole};
-ghost use Rattle.avc_run.specs.Decoding.{Decodes};
+ghost use Rattle.avc_run.specs.Decoding.{max_unit, Decodes};
 ghost use Rattle.avc_run.specs.Formats.{written_from, DecodesAs};
 ghost use Rattle.avc_run.specs.Draining.{events_left, report_with, BreaksOff, IfPicture, IsDrained, IsHandled};
-ghost use Rattle.avc_run.specs.Parts.{start_code};
-ghost use Rattle.avc_decoder.specs.Machine.{after_feed, after_flush, new_machine};
+ghost use Rattle.avc_decoder.specs.Machine.{after_feed, after_flush, new_machine, IsUpToUnit};
 
 use crate::console::{Unwatched, Watch};
 use crate::fault::RunFault;
 use crate::format::{I420, PictureFormat};
-use crate::parts::{START_CODE, part_length};
 use crate::read::{PIECE, READS, read_once};
 use crate::report::{Refusals, Report};
 use avc_decoder::laws::{events_only_grow, pictures_are_whole};
 use avc_decoder::{Decoder, Event, Output};
-use memchr::memmem::Finder;
+use avc_plane::SharedPicture;
 use std::alloc::Global;
 use std::io::{Read, Write};
 
@@ -77,7 +75,7 @@ pub fn run_behind<F: PictureFormat, V: Watch, R: Read, W: Write>(
     ensures { DecodesAs (F.format format.now) output (prepend_known front.now (R.remaining reader.old)) (R.remaining reader.new)
         (W.contents writer.old) (W.contents writer.new) result }
 {
-    let mut decoder = Decoder::<MAX_UNIT>::new(alloc, output);
+    let mut decoder = Decoder::<MAX_UNIT, SharedPicture>::sharing(alloc, output);
     let run = decode_by(&mut decoder, alloc, format, watch, front, reader, writer);
     watch.end(&run);
     run
@@ -85,7 +83,7 @@ pub fn run_behind<F: PictureFormat, V: Watch, R: Read, W: Write>(
 
 // The same by a new decoder, and without its end.
 fn decode_by<F: PictureFormat, V: Watch, R: Read, W: Write>(
-    decoder: &mut Decoder<MAX_UNIT>,
+    decoder: &mut Decoder<MAX_UNIT, SharedPicture>,
     alloc: Global,
     format: &F,
     watch: &mut V,
@@ -98,12 +96,11 @@ fn decode_by<F: PictureFormat, V: Watch, R: Read, W: Write>(
         (W.contents writer.old) (W.contents writer.new) result }
 {
     events_only_grow();
-    let finder = Finder::new(&START_CODE);
     let mut report = Report {
         pictures: 0,
         refused: Refusals::new(alloc),
     };
-    take_in(decoder, &finder, front, format, writer, &mut report)?;
+    take_in(decoder, front, format, writer, &mut report)?;
     watch.look(front, &report);
     let mut piece = [0; PIECE];
     'pieces: for _read in 0..READS {
@@ -112,7 +109,7 @@ fn decode_by<F: PictureFormat, V: Watch, R: Read, W: Write>(
             finish(decoder, format, writer, &mut report)?;
             return Ok(report);
         }
-        take_in(decoder, &finder, &piece[..len], format, writer, &mut report)?;
+        take_in(decoder, &piece[..len], format, writer, &mut report)?;
         watch.look(&piece[..len], &report);
         if format.is_enough(report.pictures) {
             return Ok(report);
@@ -121,18 +118,16 @@ fn decode_by<F: PictureFormat, V: Watch, R: Read, W: Write>(
     Err(RunFault::Endless)
 }
 
-// The next bytes of the stream, and all events that come by them. They are fed in parts that end at most two units, so that few
+// The next bytes of the stream, and all events that come by them. Those of one unit are taken before the next unit is fed, so that few
 // pictures wait at a time.
 fn take_in<F: PictureFormat, W: Write>(
-    decoder: &mut Decoder<MAX_UNIT>,
-    finder: &Finder<'_>,
+    decoder: &mut Decoder<MAX_UNIT, SharedPicture>,
     piece: &[u8],
     format: &F,
     writer: &mut W,
     report: &mut Report,
 ) -> Result<(), RunFault>
-    requires drained { IsDrained decoder.old }
-    requires finder { finder.now ≡ start_code }
+    requires { IsDrained decoder.old }
     ensures ok { OnOk result (IsHandled (F.format format.now) (after_feed piece.now decoder.old) decoder.new report.old report.new
         (W.contents writer.old) (W.contents writer.new)) }
     ensures err { IfErr result (λ fault. BreaksOff (F.format format.now) report.old.pictures fault
@@ -140,35 +135,37 @@ fn take_in<F: PictureFormat, W: Write>(
 {
     events_only_grow();
     let mut done = 0;
-    'parts: while done < piece.len() {
-        let len = part_length(finder, &piece[done..]);
-        take_part(decoder, &piece[done..done + len], format, writer, report)?;
-        done += len;
+    'units: while done < piece.len() {
+        let used = take_unit(decoder, &piece[done..], format, writer, report)?;
+        done += used;
     }
     Ok(())
 }
 
-// The same of a part.
-fn take_part<F: PictureFormat, W: Write>(
-    decoder: &mut Decoder<MAX_UNIT>,
-    piece: &[u8],
+// The same of bytes up to where a unit has ended. Answers how many they are.
+fn take_unit<F: PictureFormat, W: Write>(
+    decoder: &mut Decoder<MAX_UNIT, SharedPicture>,
+    bytes: &[u8],
     format: &F,
     writer: &mut W,
     report: &mut Report,
-) -> Result<(), RunFault>
-    ensures ok { OnOk result (IsHandled (F.format format.now) (after_feed piece.now decoder.old) decoder.new report.old report.new
+) -> Result<usize, RunFault>
+    requires { IsDrained decoder.old }
+    ensures unit { IfOk result (λ used. IsUpToUnit max_unit decoder.old.bytes bytes.now used) }
+    ensures ok { IfOk result (λ used. IsHandled (F.format format.now) (after_feed (take used bytes.now) decoder.old) decoder.new report.old report.new
         (W.contents writer.old) (W.contents writer.new)) }
     ensures err { IfErr result (λ fault. BreaksOff (F.format format.now) report.old.pictures fault
-        (W.contents writer.old) (W.contents writer.new) (events_left (after_feed piece.now decoder.old))) }
+        (W.contents writer.old) (W.contents writer.new) (events_left (after_feed bytes.now decoder.old))) }
 {
-    decoder.feed(piece)?;
+    events_only_grow();
+    let used = decoder.feed_unit(bytes)?;
     drain(decoder, format, writer, report)?;
-    Ok(())
+    Ok(used)
 }
 
 // The end of the stream, and all events that come by it.
 fn finish<F: PictureFormat, W: Write>(
-    decoder: &mut Decoder<MAX_UNIT>,
+    decoder: &mut Decoder<MAX_UNIT, SharedPicture>,
     format: &F,
     writer: &mut W,
     report: &mut Report,
@@ -185,7 +182,7 @@ fn finish<F: PictureFormat, W: Write>(
 
 // Takes all events that have come.
 fn drain<F: PictureFormat, W: Write>(
-    decoder: &mut Decoder<MAX_UNIT>,
+    decoder: &mut Decoder<MAX_UNIT, SharedPicture>,
     format: &F,
     writer: &mut W,
     report: &mut Report,
@@ -203,7 +200,7 @@ fn drain<F: PictureFormat, W: Write>(
 }
 
 fn handle<F: PictureFormat, W: Write>(
-    event: Event,
+    event: Event<SharedPicture>,
     format: &F,
     writer: &mut W,
     report: &mut Report,

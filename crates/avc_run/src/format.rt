@@ -4,7 +4,7 @@ ghost use Rattle.avc_types.specs.Whole.{IsWhole};
 ghost use Rattle.avc_run.specs.Formats.{plain, Format, StopsPicture};
 
 use crate::fault::RunFault;
-use avc_types::Picture;
+use avc_plane::SharedPicture;
 use avc_yuv::write_i420;
 use std::io::Write;
 
@@ -18,7 +18,7 @@ pub trait PictureFormat {
     fn write<W: Write>(
         &self,
         number: u64,
-        picture: &Picture,
+        picture: &SharedPicture,
         writer: &mut W,
     ) -> Result<(), RunFault>
         requires { IsWhole picture.now }
@@ -42,7 +42,7 @@ impl PictureFormat for I420 {
     fn write<W: Write>(
         &self,
         number: u64,
-        picture: &Picture,
+        picture: &SharedPicture,
         writer: &mut W,
     ) -> Result<(), RunFault> {
         write_i420(picture, writer)?;

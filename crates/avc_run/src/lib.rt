@@ -9,7 +9,6 @@ mod fault;
 mod format;
 mod listing;
 mod messages;
-mod parts;
 mod program;
 mod read;
 mod report;

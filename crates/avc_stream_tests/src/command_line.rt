@@ -1,8 +1,7 @@
 // What no contract says: what the words of the command line mean. Where an allocation is refused
 // (`rt try --test --fail-alloc N`), a test ends in that error, and not at an assertion.
-use avc_formats::HeadedFormat;
 use avc_request::{Form, Request, Showing, Task, Telling, requested};
-use avc_run::{Names, Output};
+use avc_run::Output;
 use clap::error::ErrorKind;
 use std::alloc::Global;
 use std::test::Fail;
@@ -40,7 +39,8 @@ fn named(
 ) -> Result<Request<'static>, (ErrorKind, i32)> {
     Ok(Request {
         task,
-        names: Names { input, output },
+        input,
+        output,
         progress: usual_progress(task),
     })
 }
@@ -54,10 +54,8 @@ fn plain(task: Task) -> Result<Request<'static>, (ErrorKind, i32)> {
 fn telling(task: Task, progress: Telling) -> Result<Request<'static>, (ErrorKind, i32)> {
     Ok(Request {
         task,
-        names: Names {
-            input: None,
-            output: None,
-        },
+        input: None,
+        output: None,
         progress,
     })
 }
@@ -107,16 +105,16 @@ fn takes_words(rt: HostRuntime) -> Result<(), Fail> {
         ),
         (
             "avcdec decode --format y4m",
-            plain(shown(u64::MAX, Form::Headed(HeadedFormat::Y4m))),
+            plain(shown(u64::MAX, Form::Y4m)),
         ),
         (
             "avcdec decode --format framemd5",
-            plain(shown(u64::MAX, Form::Headed(HeadedFormat::FrameMd5))),
+            plain(shown(u64::MAX, Form::FrameMd5)),
         ),
         (
             "avcdec decode -o out.y4m",
             named(
-                shown(u64::MAX, Form::Headed(HeadedFormat::Y4m)),
+                shown(u64::MAX, Form::Y4m),
                 None,
                 Some("out.y4m"),
             ),

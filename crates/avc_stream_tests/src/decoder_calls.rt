@@ -52,6 +52,7 @@ fn run_into(
         room,
         refusal,
         grey: 0,
+        calls: 0,
     };
     let mut reader = bytes;
     match run(alloc, Output::Full, &mut reader, &mut writer) {

@@ -10,4 +10,6 @@ mod limited_writer;
 #[cfg(test)]
 mod stream_texts;
 #[cfg(test)]
+mod worked_streams;
+#[cfg(test)]
 mod written_pictures;

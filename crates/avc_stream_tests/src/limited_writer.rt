@@ -17,6 +17,9 @@ pub(crate) struct LimitedWriter {
 
     /// How many of the bytes are 128.
     pub grey: usize,
+
+    /// How many calls took bytes.
+    pub calls: usize,
 }
 
 impl Write for LimitedWriter {
@@ -29,6 +32,7 @@ impl Write for LimitedWriter {
             };
         }
         self.room -= taken;
+        self.calls = self.calls.saturating_add(1);
         self.grey = self.grey.saturating_add(
             buf[..taken].iter().filter(|sample| **sample == 128).count(),
         );

@@ -27,6 +27,23 @@ fn grey(alloc: Global) -> Result<Picture, AllocError>
     })
 }
 
+// 400x400 of which so many rows are shown.
+fn tall(alloc: Global, rows: u32) -> Result<Picture, AllocError> {
+    Ok(Picture {
+        width: 400,
+        height: 400,
+        crop: Crop {
+            left: 0,
+            right: 0,
+            top: 0,
+            bottom: 400_u32.saturating_sub(rows),
+        },
+        luma: Bytes::from_vec(vec![in alloc; 128; 160_000]?),
+        cb: Bytes::from_vec(vec![in alloc; 128; 40_000]?),
+        cr: Bytes::from_vec(vec![in alloc; 128; 40_000]?),
+    })
+}
+
 // How many bytes were written, all of them grey, and whether a fault told that number.
 fn written(
     alloc: Global,
@@ -40,6 +57,7 @@ fn written(
         room,
         refusal,
         grey: 0,
+        calls: 0,
     };
     let fault = match write_i420(&picture, &mut writer) {
         Ok(()) => None,
@@ -72,6 +90,23 @@ fn tells_how_far_it_came(rt: HostRuntime) -> Result<(), Fail> {
                 );
             }
         }
+    }
+    Ok(())
+}
+
+#[test]
+fn writes_many_rows_at_once(rt: HostRuntime) -> Result<(), Fail> {
+    for (rows, bytes, calls) in [(200, 120_000, 1), (400, 240_000, 2)] {
+        let picture = tall(rt.alloc(), rows)?;
+        let mut writer = LimitedWriter {
+            piece: 1_000_000,
+            room: 1_000_000,
+            refusal: Refusal::Error,
+            grey: 0,
+            calls: 0,
+        };
+        assert!(rt; write_i420(&picture, &mut writer).is_ok(), "{rows} rows");
+        assert_eq!(rt; (writer.grey, writer.calls), (bytes, calls), "{rows} rows");
     }
     Ok(())
 }

@@ -10,6 +10,8 @@ mod deblocking;
 #[cfg(test)]
 mod inter_prediction;
 #[cfg(test)]
+mod lent_blocks;
+#[cfg(test)]
 mod macroblock_types;
 #[cfg(test)]
 mod macroblocks_read;

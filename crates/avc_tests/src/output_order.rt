@@ -2,8 +2,8 @@
 ghost use Rattle.std.specs.Prelude.{◌≡◌};
 
 use avc_dpb::{ArrivingFrame, Dpb, Output};
-use avc_plane::{Frame, PADDING, Planes};
-use avc_types::{Crop, Mark, OutOfMemory, Picture};
+use avc_plane::{Frame, PADDING, PictureRows, Planes, SharedPicture, SharedPlanes};
+use avc_types::{Crop, Mark, OutOfMemory};
 use std::alloc::{AllocError, Global};
 use std::test::Fail;
 
@@ -77,16 +77,14 @@ const fn one_of_four(pic_order_cnt: i32) -> ArrivingFrame {
     }
 }
 
-// A frame of one macroblock, whose width is its number.
+// A frame of one macroblock, of which as many columns are not shown on the left as its number says.
 fn frame(alloc: Global, number: u32, mark: Option<Mark>) -> Result<Frame<PADDING>, OutOfMemory> {
     Ok(Frame {
-        planes: Some(Planes::new(alloc, 1, 1)?.pad()),
+        planes: Some(SharedPlanes::new(alloc, Planes::new(alloc, 1, 1)?.pad())?),
         frame_num: 0,
         mark,
-        width: number,
-        height: 16,
         crop: Crop {
-            left: 0,
+            left: number,
             right: 2,
             top: 0,
             bottom: 4,
@@ -94,9 +92,9 @@ fn frame(alloc: Global, number: u32, mark: Option<Mark>) -> Result<Frame<PADDING
     })
 }
 
-fn add_numbers(given: &mut Vec<u32>, pictures: &[Picture]) -> Result<(), AllocError> {
+fn add_numbers(given: &mut Vec<u32>, pictures: &[SharedPicture]) -> Result<(), AllocError> {
     for picture in pictures {
-        given.push(picture.width)?;
+        given.push(picture.crop().left)?;
     }
     Ok(())
 }
@@ -124,7 +122,7 @@ fn take_step(
         Step::DropAll => dpb.drop_all(),
         Step::TakeEmptied => {
             if let Some(emptied) = dpb.emptied_frame() {
-                given.push(emptied.width)?;
+                given.push(emptied.crop.left)?;
             }
         }
     }
@@ -266,7 +264,7 @@ fn no_limit(rt: HostRuntime) -> Result<(), Fail> {
 }
 
 // Stores a picture and a frame that stands for a missing frame number, and hands out all.
-fn shown(alloc: Global, dpb: &mut Dpb) -> Result<Vec<Picture>, OutOfMemory> {
+fn shown(alloc: Global, dpb: &mut Dpb) -> Result<Vec<SharedPicture>, OutOfMemory> {
     dpb.store(frame(alloc, 16, None)?, &other(0, 2))?;
     let none = Frame {
         planes: None,
@@ -276,17 +274,18 @@ fn shown(alloc: Global, dpb: &mut Dpb) -> Result<Vec<Picture>, OutOfMemory> {
     dpb.empty()
 }
 
-fn shown_by_a_new_buffer(alloc: Global) -> Result<Vec<Picture>, OutOfMemory> {
+fn shown_by_a_new_buffer(alloc: Global) -> Result<Vec<SharedPicture>, OutOfMemory> {
     let mut dpb = Dpb::new(alloc, Output::Full);
     shown(alloc, &mut dpb)
 }
 
-// A picture goes out with the samples and the size of its frame; a frame that stands for a missing frame number has none.
+// A picture goes out with the samples and the cropping of its frame; a frame that stands for a missing frame number has none.
 #[test]
 fn shows_its_picture(rt: HostRuntime) -> Result<(), Fail> {
     let out = shown_by_a_new_buffer(rt.alloc())?;
     assert_eq!(rt; out.len(), 1);
-    for picture in out.as_slice() {
+    for shared in out.as_slice() {
+        let picture = shared.to_picture(rt.alloc())?;
         assert_eq!(rt; (picture.width, picture.crop.bottom), (16, 4));
         assert_eq!(rt;
             (picture.luma.as_slice().len(), picture.cr.as_slice().len()),

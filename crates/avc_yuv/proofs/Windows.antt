@@ -1,4 +1,4 @@
--- The rows of a window, written in parts and laid into memory.
+-- The rows of a window, gathered into writes and laid into memory.
 pub mod Common
 unfoldable pub use Common.*
 
@@ -14,7 +14,7 @@ pub row_more : (old mid new : Option (List ℕ)) (row : List ℕ) (d t : ℕ) �
 row_more old mid new row d t p q = search (rules, take_rest, take-add, Appends, Appends-trans)
 
 -- the writer took the first part, and fewer bytes than all of the second
-second_failed : (before : ℕ) (first second rest : List ℕ) (old mid new : Option (List ℕ)) (written : ℕ) (f : WriteFault)
+pub second_failed : (before : ℕ) (first second rest : List ℕ) (old mid new : Option (List ℕ)) (written : ℕ) (f : WriteFault)
     → Writes before first old mid (Ok written) → Writes written second mid new (Err f) → Writes before (first ++ second ++ rest) old new (Err f)
 second_failed before first second rest old mid new written f p q =
     let ahead : f.written - before ≡ length first + (f.written - written) = omega (arith, p.0, q.0, q.1) in
@@ -40,108 +40,225 @@ rows_more row top n = search (rules, range_split, flat_map-append, append-nil)
 pub length-part_of_row : (row_length : ℕ) (samples : List ℕ) (left width y : ℕ) → length (part_of_row row_length samples left width y) ≡ width
 length-part_of_row row_length samples left width y = length-map-range_with_len (λ x. slice_index samples (y * row_length + x)) left width
 
--- a part of a row is a slice of the plane
-pub part_of_row_is : (row_length : ℕ) (samples : List ℕ) (left width y start : ℕ) → start ≡ y * row_length + left → start + width ≤ length samples
-    → take (start + width - start) (drop start samples) ≡ part_of_row row_length samples left width y
-part_of_row_is row_length samples left width y start at inside =
-    same_lists (take (start + width - start) (drop start samples)) _ (search (rules, length-take-le, length-drop, length-part_of_row))
-    (λ k d h. grind (arith, length-take-le, length-drop, get_or-take, get_or-drop, get_or_default samples (start + k) d 0, get_or-map-range_with_len))
-
--- a row of a window inside the plane is inside it
-pub row_inside : (row_length left top width height n long : ℕ) → left + width ≤ row_length → (top + height) * row_length ≤ long → n < height
-    → (top + n) * row_length + left + width ≤ long
-row_inside row_length left top width height n long columns inside low = search (rules, mul-le-mul_right)
-
--- the bytes of all three planes can be counted
-pub room : (width height w h long : ℕ) → long ≡ width * height → long * 1 < 2 ^ 63 → w ≤ width → h ≤ height → h * w + (h / 2) * (w / 2) + (w / 2) * (h / 2) < 2 ^ 64
-room width height w h long is few narrow low =
-    let quarter : (h / 2 * 2) * (w / 2) ≤ h * w = mul-le-mul (omega arith) (omega arith) in omega (arith, mul-le-mul low narrow, quarter)
+-- a part of a row of the plane
+pub part_of_row_is : (row_length : ℕ) (samples : List ℕ) (left width y : ℕ) → left + width ≤ row_length → y * row_length + row_length ≤ length samples
+    → take (left + width - left) (drop left (slice_range samples (y * row_length) (y * row_length + row_length))) ≡ part_of_row row_length samples left width y
+part_of_row_is row_length samples left width y columns inside =
+    let row = take (y * row_length + row_length - y * row_length) (drop (y * row_length) samples) in
+    let long : length row ≡ row_length = omega (arith, length-take-le (y * row_length + row_length - y * row_length) (drop (y * row_length) samples) (omega (arith, length-drop (y * row_length) samples))) in
+    same_lists (take (left + width - left) (drop left row)) _
+    (omega (arith, long, length-take-le (left + width - left) (drop left row) (omega (arith, long, length-drop left row)), length-part_of_row row_length samples left width y))
+    (λ k d h. grind (arith, long, length-take-le, length-drop, get_or-take, get_or-drop, get_or_default samples (y * row_length + (left + k)) d 0, get_or-map-range_with_len))
 
 pub length-window : (row_length : ℕ) (samples : List ℕ) (left top width height : ℕ) → length (window row_length samples left top width height) ≡ height * width
 length-window row_length samples left top width zero = search rules
 length-window row_length samples left top width (suc n) =
     search (rules, length-append, length-map-range_with_len, length-window row_length samples left (top + 1) width n)
 
--- a fault in Cb, and in Cr
-pub cb_failed : (p : Picture) (luma cb : List ℕ) (old mid new : Option (List ℕ)) (written : ℕ) (f : WriteFault) (r : Result (Unit {0}) WriteFault) → r ≡ Err f
-    → luma ≡ p.luma → cb ≡ p.cb → Writes 0 (luma_window p luma) old mid (Ok written) → Writes written (chroma_window p cb) mid new (Err f)
-    → IfErr r (λ fault. Appends old new (take fault.written (i420 p)))
-cb_failed p luma cb old mid new written f r failed is_luma is_cb first second =
-    let all : f.written ≡ f.written - 0 = omega arith in
-    rw (failed, all)
-    (second_failed 0 (luma_window p p.luma) (chroma_window p p.cb) (chroma_window p p.cr) old mid new written f (rw is_luma at first) (rw is_cb at second)).2
+-- a component has the samples of all its rows
+pub row_inside : (p : Picture) (c : Component) (y : ℕ) → IsWhole p → y < rows_of p c → y * columns_of p c + columns_of p c ≤ length (samples_of p c)
+row_inside p Luma y whole row = let all = mul-le-mul_right p.width row in omega (arith, all, whole.luma)
+row_inside p Cb y whole row = let all = mul-le-mul_right (p.width / 2) row in omega (arith, all, whole.cb)
+row_inside p Cr y whole row = let all = mul-le-mul_right (p.width / 2) row in omega (arith, all, whole.cr)
 
-pub cr_failed : (p : Picture) (luma cb cr : List ℕ) (old mid later new : Option (List ℕ)) (written next : ℕ) (f : WriteFault) (r : Result (Unit {0}) WriteFault) → r ≡ Err f
-    → luma ≡ p.luma → cb ≡ p.cb → cr ≡ p.cr → Writes 0 (luma_window p luma) old mid (Ok written) → Writes written (chroma_window p cb) mid later (Ok next)
-    → Writes next (chroma_window p cr) later new (Err f) → IfErr r (λ fault. Appends old new (take fault.written (i420 p)))
-cr_failed p luma cb cr old mid later new written next f r failed is_luma is_cb is_cr first second third =
-    let all : f.written ≡ f.written - 0 = omega arith in
-    let both : Writes 0 (luma_window p luma ++ chroma_window p cb) old later (Ok next) =
-    (omega (arith, first.0, second.0, length-append (luma_window p luma) (chroma_window p cb)), Appends-trans old mid later _ _ first.1 second.1) in
-    rw (failed, all, ← append-nil (i420 p), ← is_luma, ← is_cb, ← is_cr)
-    (second_failed 0 (luma_window p luma ++ chroma_window p cb) (chroma_window p cr) [] old later new next f both third).2
+-- what is shown of a component lies inside it
+pub window_inside : (p : Picture) (c : Component) → IsWhole p → p.width < 2 ^ 32 → p.height < 2 ^ 32 → IsInside p c (window_of p c)
+window_inside p Luma whole narrow low = record {
+  columns = omega (arith, whole.columns);
+  rows = omega (arith, whole.rows);
+  narrow = narrow;
+  low = low;
+}
+window_inside p Cb whole narrow low = record {
+  columns = omega (arith, whole.columns);
+  rows = omega (arith, whole.rows);
+  narrow = omega (arith, narrow);
+  low = omega (arith, low);
+}
+window_inside p Cr whole narrow low = record {
+  columns = omega (arith, whole.columns);
+  rows = omega (arith, whole.rows);
+  narrow = omega (arith, narrow);
+  low = omega (arith, low);
+}
 
--- ---- some rows of a window at once
+-- the bytes of all three planes can be counted
+pub room : (width height w h long : ℕ) → long ≡ width * height → long < 2 ^ 63 → w ≤ width → h ≤ height → h * w + (h / 2) * (w / 2) + (h / 2) * (w / 2) < 2 ^ 64
+room width height w h long is few narrow low =
+    let quarter : (h / 2 * 2) * (w / 2) ≤ h * w = mul-le-mul (omega arith) (omega arith) in omega (arith, mul-le-mul low narrow, quarter)
+
+-- how many bytes a picture has
+pub length-i420 : (p : Picture) (l c : Window) → l ≡ window_of p Luma → c ≡ window_of p Cb → l.height * l.width + c.height * c.width + c.height * c.width ≡ length (i420 p)
+length-i420 p l c is_luma is_chroma = search (rules, length-append, length-window)
+
+-- ---- rows that wait in a room
+
+-- bytes more came behind those that wait
+pub gathered_more : (before : ℕ) (bytes more room now : List ℕ) (old mid new : Option (List ℕ)) (g h : Gathered) → IsGathered before bytes room old mid g
+    → IsGathered g.written (take g.waiting room ++ more) now mid new h → IsGathered before (bytes ++ more) now old new h
+gathered_more before bytes more room now old mid new g h p q = record {
+  out = p.out ++ q.out;
+  all = rw (append_assoc p.out q.out (take h.waiting now), q.all, ← append_assoc p.out (take g.waiting room) more, p.all) refl;
+  sent = omega (arith, p.sent, q.sent, length-append p.out q.out);
+  within = q.within;
+  taken = Appends-trans old mid new p.out q.out p.taken q.taken;
+}
+
+-- a write failed before all of them were out
+pub gathered_failed : (before : ℕ) (bytes more rest room : List ℕ) (old mid new : Option (List ℕ)) (g : Gathered) (f : WriteFault) → IsGathered before bytes room old mid g
+    → Writes g.written (take g.waiting room ++ more) mid new (Err f) → Writes before (bytes ++ more ++ rest) old new (Err f)
+gathered_failed before bytes more rest room old mid new g f p q =
+    rw (← p.all, append_assoc p.out (take g.waiting room) more)
+    (second_failed before p.out (take g.waiting room ++ more) rest old mid new g.written f (p.sent, p.taken) q)
+
+-- those that waited went out first
+pub gathered_anew : (g : Gathered) (row room now : List ℕ) (old mid new : Option (List ℕ)) (written : ℕ) (r : Result Gathered WriteFault)
+    → Writes g.written (take g.waiting room) old mid (Ok written) → Gathers (nothing_waits written) row room now mid new r → Gathers g row room now old new r
+gathered_anew g row room now old mid new written (Ok h) p q = record {
+  out = take g.waiting room ++ q.out;
+  all = append_assoc (take g.waiting room) q.out (take h.waiting now) ∙ ap (λ l. take g.waiting room ++ l) q.all;
+  sent = omega (arith, p.0, q.sent, length-append (take g.waiting room) q.out);
+  within = q.within;
+  taken = Appends-trans old mid new _ _ p.1 q.taken;
+}
+gathered_anew g row room now old mid new written (Err f) p q =
+    subst (λ l. Writes g.written l old new (Err f)) (append-nil (take g.waiting room ++ row))
+    (second_failed g.written (take g.waiting room) row [] old mid new written f p q)
+
+-- how many came
+pub gathered_count : (before : ℕ) (bytes room : List ℕ) (old new : Option (List ℕ)) (g : Gathered) → IsGathered before bytes room old new g → g.written + g.waiting ≡ before + length bytes
+gathered_count before bytes room old new g p =
+    omega (arith, p.sent, length-append p.out (take g.waiting room), length-take-le g.waiting room p.within, ap length p.all)
 
 -- the first rows, and those after them
-pub window_split : (row_length : ℕ) (samples : List ℕ) (left top width n more : ℕ)
+window_split : (row_length : ℕ) (samples : List ℕ) (left top width n more : ℕ)
     → window row_length samples left top width (n + more) ≡ window row_length samples left top width n ++ window row_length samples left (top + n) width more
 window_split row_length samples left top width n more = search (rules, range_split, flat_map-append)
 
--- rows that are shown from end to end follow one another
-pub whole_rows : (row_length : ℕ) (samples : List ℕ) (top height : ℕ) → (top + height) * row_length ≤ length samples
-    → window row_length samples 0 top row_length height ≡ take (height * row_length) (drop (top * row_length) samples)
-whole_rows row_length samples top zero inside = search rules
-whole_rows row_length samples top (suc n) inside =
-    let row = part_of_row_is row_length samples 0 row_length top (top * row_length) (omega arith) (omega arith) in
-    let more = take-add row_length (n * row_length) (drop (top * row_length) samples) in
-    search (rules, row, more, drop-drop, whole_rows row_length samples (top + 1) n (omega arith))
+-- one row more came
+pub row_gathered : (before : Gathered) (row_length : ℕ) (samples : List ℕ) (left top width n : ℕ) (row first room now : List ℕ) (old mid new : Option (List ℕ)) (g h : Gathered)
+    → IsGathered before.written (take before.waiting first ++ window row_length samples left top width n) room old mid g → row ≡ part_of_row row_length samples left width (top + n)
+    → IsGathered g.written (take g.waiting room ++ row) now mid new h → IsGathered before.written (take before.waiting first ++ window row_length samples left top width (n + 1)) now old new h
+row_gathered before row_length samples left top width n row first room now old mid new g h p is q =
+    let more = gathered_more before.written (take before.waiting first ++ window row_length samples left top width n) row room now old mid new g h p q in
+    rw (rows_more (part_of_row row_length samples left width) top n, ← is, ← append_assoc (take before.waiting first) (window row_length samples left top width n) row) more
 
--- the same as it is cut out, and where the window begins at no other column
-pub cut_rows : (row_length : ℕ) (samples : List ℕ) (left top width height start : ℕ) → left + width ≤ row_length → width ≡ row_length → start ≡ top * row_length
-    → (top + height) * row_length ≤ length samples → take (start + height * row_length - start) (drop start samples) ≡ window row_length samples left top width height
-cut_rows row_length samples left top width height start columns wide at inside =
-    let none : left ≡ 0 = omega (arith, columns, wide) in search (rules, none, whole_rows)
-
--- the next rows went out too
-pub next_rows : (row_length : ℕ) (samples : List ℕ) (left top width n more before written next : ℕ) (old mid new : Option (List ℕ)) → written ≡ before + n * width
-    → Appends old mid (window row_length samples left top width n)
-    → (next ≡ written + length (window row_length samples left (top + n) width more)) × Appends mid new (window row_length samples left (top + n) width more)
-    → (next ≡ before + (n + more) * width) × Appends old new (window row_length samples left top width (n + more))
-next_rows row_length samples left top width n more before written next old mid new so_far done h =
-    search (rules, length-window, Appends, window_split, Appends-trans)
-
--- the next rows went out in part
-pub rows_failed : (row_length : ℕ) (samples : List ℕ) (left top width height n more before written : ℕ) (old mid new : Option (List ℕ)) (f : WriteFault) (r : Result ℕ WriteFault)
-    → r ≡ Err f → n + more ≤ height → written ≡ before + n * width → Appends old mid (window row_length samples left top width n)
-    → (written ≤ f.written) × (f.written < written + length (window row_length samples left (top + n) width more))
-    × Appends mid new (take (f.written - written) (window row_length samples left (top + n) width more))
-    → Writes before (window row_length samples left top width height) old new r
-rows_failed row_length samples left top width height n more before written old mid new f r failed low so_far done h =
+-- a write failed at the next row
+row_failed : (before : Gathered) (row_length : ℕ) (samples : List ℕ) (left top width height n : ℕ) (row first room : List ℕ) (now : List ℕ) (old mid new : Option (List ℕ)) (g : Gathered) (f : WriteFault)
+    (r : Result Gathered WriteFault) → r ≡ Err f → n < height → IsGathered before.written (take before.waiting first ++ window row_length samples left top width n) room old mid g
+    → row ≡ part_of_row row_length samples left width (top + n) → Writes g.written (take g.waiting room ++ row) mid new (Err f)
+    → Gathers before (window row_length samples left top width height) first now old new r
+row_failed before row_length samples left top width height n row first room now old mid new g f r failed low p is q =
     let win = window row_length samples left in
-    let all : height ≡ n + more + (height - (n + more)) = omega (arith, low) in
-    rw (failed, all, window_split row_length samples left top width (n + more) (height - (n + more)), window_split row_length samples left top width n more)
-    (second_failed before (win top width n) (win (top + n) width more) _ old mid new written f
-    (omega (arith, so_far, length-window row_length samples left top width n), done) h)
+    let rest = win (top + (n + 1)) width (height - (n + 1)) in
+    let all : height ≡ n + 1 + (height - (n + 1)) = omega (arith, low) in
+    let split : win top width height ≡ win top width n ++ row ++ rest =
+    ap (λ h. win top width h) all ∙ window_split row_length samples left top width (n + 1) (height - (n + 1))
+    ∙ ap (λ l. l ++ rest) (rows_more (part_of_row row_length samples left width) top n ∙ ap (λ l. win top width n ++ l) (sym is)) in
+    let parts : take before.waiting first ++ win top width height ≡ take before.waiting first ++ win top width n ++ row ++ rest =
+    ap (λ l. take before.waiting first ++ l) split ∙ rw (append_assoc (take before.waiting first) (win top width n) row, append_assoc (take before.waiting first) (win top width n ++ row) rest) refl in
+    rw failed (subst (λ l. Writes before.written l old new (Err f)) (sym parts)
+    (gathered_failed before.written (take before.waiting first ++ win top width n) row rest room old mid new g f p q))
 
--- one row is a slice of the plane
-pub one_row : (row_length : ℕ) (samples : List ℕ) (left width y start : ℕ) → start ≡ y * row_length + left → start + width ≤ length samples
-    → take (start + width - start) (drop start samples) ≡ window row_length samples left y width 1
-one_row row_length samples left width y start at inside = search (rules, part_of_row_is, append-nil)
+-- ---- the rows of a component
 
--- one row more is gathered
-pub gathered_more : (row_length : ℕ) (samples : List ℕ) (left top width n start : ℕ) (old new bytes : List ℕ) → start ≡ (top + n) * row_length + left → start + width ≤ length samples
-    → bytes ≡ take (start + width - start) (drop start samples) → take (n * width) old ≡ window row_length samples left top width n
-    → take (n * width + length bytes) new ≡ take (n * width) old ++ bytes → take ((n + 1) * width) new ≡ window row_length samples left top width (n + 1)
-gathered_more row_length samples left top width n start old new bytes at inside is so_far more = search (rules, part_of_row_is, length-part_of_row, rows_more)
+-- what is shown of a row is a part of it
+pub shown_row_is : (p : Picture) (c : Component) (w : Window) (y : ℕ) (row : List ℕ) → w ≡ window_of p c → w.left + w.width ≤ columns_of p c
+    → row ≡ slice_range (samples_of p c) (y * columns_of p c) (y * columns_of p c + columns_of p c) → y * columns_of p c + columns_of p c ≤ length (samples_of p c)
+    → take (w.left + w.width - w.left) (drop w.left row) ≡ shown_of_row p c y
+shown_row_is p c w y row w_is columns is inside =
+    ap (λ r. take (w.left + w.width - w.left) (drop w.left r)) is ∙ part_of_row_is (columns_of p c) (samples_of p c) w.left w.width y columns inside
+    ∙ ap (λ (v : Window). part_of_row (columns_of p c) (samples_of p c) v.left v.width y) w_is
 
--- the next rows have room where all have
-pub next_room : (before written n more width height : ℕ) → written ≡ before + n * width → n + more ≤ height → before + width * height < 2 ^ 64 → written + width * more < 2 ^ 64
-next_room before written n more width height so_far low room = grind (arith, mul-le-mul)
+-- the rows of this window, so many, came behind those that waited first
+abbrev pub IsRowsGathered : (p : Picture) (c : Component) (w : Window) (before : Gathered) (first room : List ℕ) (old new : Option (List ℕ)) (n : ℕ) (g : Gathered) → Type 0
+IsRowsGathered p c w before first room old new n g =
+    IsGathered before.written (take before.waiting first ++ window (columns_of p c) (samples_of p c) w.left w.top w.width n) room old new g
 
--- a chroma plane has the rows of its window
-pub chroma_rows : (top bottom width height long : ℕ) → top + bottom ≤ height → long ≡ (width / 2) * (height / 2) → (top / 2 + (height - (top + bottom)) / 2) * (width / 2) ≤ long
-chroma_rows top bottom width height long fits is = grind (arith, mul-le-mul)
+-- the row in the words of the window
+row_in : (p : Picture) (c : Component) (w : Window) (n : ℕ) (row : List ℕ) → w ≡ window_of p c → row ≡ shown_of_row p c (w.top + n)
+    → row ≡ part_of_row (columns_of p c) (samples_of p c) w.left w.width (w.top + n)
+row_in p c w n row w_is is = is ∙ sym (ap (λ (v : Window). part_of_row (columns_of p c) (samples_of p c) v.left v.width (w.top + n)) w_is)
+
+-- one row more came
+pub next_gathered : (p : Picture) (c : Component) (w : Window) (before : Gathered) (n : ℕ) (row first room now : List ℕ) (old mid new : Option (List ℕ)) (g h : Gathered) → w ≡ window_of p c
+    → IsRowsGathered p c w before first room old mid n g → row ≡ shown_of_row p c (w.top + n) → IsGathered g.written (take g.waiting room ++ row) now mid new h
+    → IsRowsGathered p c w before first now old new (n + 1) h
+next_gathered p c w before n row first room now old mid new g h w_is so_far is more =
+    row_gathered before (columns_of p c) (samples_of p c) w.left w.top w.width n row first room now old mid new g h so_far (row_in p c w n row w_is is) more
+
+-- a write failed at it
+pub next_failed : (p : Picture) (c : Component) (w : Window) (before : Gathered) (n : ℕ) (row first room now : List ℕ) (old mid new : Option (List ℕ)) (g : Gathered) (f : WriteFault) (r : Result Gathered WriteFault)
+    → w ≡ window_of p c → r ≡ Err f → n < w.height → IsRowsGathered p c w before first room old mid n g → row ≡ shown_of_row p c (w.top + n)
+    → Writes g.written (take g.waiting room ++ row) mid new (Err f) → Gathers before (shown_of p c) first now old new r
+next_failed p c w before n row first room now old mid new g f r w_is failed low so_far is more =
+    subst (λ (v : Window). Gathers before (window (columns_of p c) (samples_of p c) v.left v.top v.width v.height) first now old new r) w_is
+    (row_failed before (columns_of p c) (samples_of p c) w.left w.top w.width w.height n row first room now old mid new g f r failed low so_far (row_in p c w n row w_is is) more)
+
+-- how many samples are shown of a component
+length-shown_of : (p : Picture) (c : Component) (w : Window) → w ≡ window_of p c → length (shown_of p c) ≡ w.height * w.width
+length-shown_of p c w w_is = rw w_is (length-window (columns_of p c) (samples_of p c) (window_of p c).left (window_of p c).top (window_of p c).width (window_of p c).height)
+
+-- the next row can be counted
+pub next_counted : (p : Picture) (c : Component) (w : Window) (before : Gathered) (n : ℕ) (row first room : List ℕ) (old mid : Option (List ℕ)) (g : Gathered) → w ≡ window_of p c
+    → IsRowsGathered p c w before first room old mid n g → before.waiting ≤ length first → before.written + before.waiting + length (shown_of p c) < 2 ^ 64
+    → length row ≡ w.width → n < w.height → g.written + g.waiting + length row < 2 ^ 64
+next_counted p c w before n row first room old mid g w_is so_far within counted long low =
+    let count = gathered_count before.written _ room old mid g so_far in
+    let rows = mul-le-mul_right w.width low in
+    omega (
+      arith,
+      count,
+      rows,
+      counted,
+      long,
+      length-append (take before.waiting first) (window (columns_of p c) (samples_of p c) w.left w.top w.width n),
+      length-take-le before.waiting first within,
+      length-window (columns_of p c) (samples_of p c) w.left w.top w.width n,
+      length-shown_of p c w w_is,
+    )
+
+-- ---- the three components of a picture
+
+-- all bytes of a picture can be counted
+pub picture_counted : (p : Picture) → IsWhole p → length p.luma < 2 ^ 63 → length (shown_of p Luma) + length (shown_of p Cb) + length (shown_of p Cr) < 2 ^ 64
+picture_counted p whole few =
+    let all = room p.width p.height (shown_width p) (shown_height p) (length p.luma) whole.luma few (omega arith) (omega arith) in
+    omega (arith, all, length-shown_of p Luma (window_of p Luma) refl, length-shown_of p Cb (window_of p Cb) refl, length-shown_of p Cr (window_of p Cr) refl)
+
+-- Cb came behind luma
+pub both_gathered : (p : Picture) (room now : List ℕ) (old mid new : Option (List ℕ)) (g h : Gathered) → IsGathered 0 (shown_of p Luma) room old mid g
+    → IsGathered g.written (take g.waiting room ++ shown_of p Cb) now mid new h → IsGathered 0 (shown_of p Luma ++ shown_of p Cb) now old new h
+both_gathered p room now old mid new g h first second = gathered_more 0 (shown_of p Luma) (shown_of p Cb) room now old mid new g h first second
+
+-- all of them came
+pub all_gathered : (p : Picture) (one two three : List ℕ) (old mid late new : Option (List ℕ)) (g h k : Gathered) → IsGathered 0 (shown_of p Luma) one old mid g
+    → IsGathered g.written (take g.waiting one ++ shown_of p Cb) two mid late h → IsGathered h.written (take h.waiting two ++ shown_of p Cr) three late new k
+    → IsGathered 0 (i420 p) three old new k
+all_gathered p one two three old mid late new g h k first second third =
+    gathered_more 0 (shown_of p Luma ++ shown_of p Cb) (shown_of p Cr) two three old late new h k (both_gathered p one two old mid late g h first second) third
+
+-- a fault in Cb, in Cr, and at the end
+pub cb_failed : (p : Picture) (room : List ℕ) (old mid new : Option (List ℕ)) (g : Gathered) (f : WriteFault) (r : Result (Unit {0}) WriteFault) → r ≡ Err f
+    → IsGathered 0 (shown_of p Luma) room old mid g → Writes g.written (take g.waiting room ++ shown_of p Cb) mid new (Err f) → IfErr r (λ fault. Appends old new (take fault.written (i420 p)))
+cb_failed p room old mid new g f r failed first second =
+    let all : f.written ≡ f.written - 0 = omega arith in
+    rw (failed, all) (gathered_failed 0 (shown_of p Luma) (shown_of p Cb) (shown_of p Cr) room old mid new g f first second).2
+
+pub cr_failed : (p : Picture) (one two : List ℕ) (old mid late new : Option (List ℕ)) (g h : Gathered) (f : WriteFault) (r : Result (Unit {0}) WriteFault) → r ≡ Err f
+    → IsGathered 0 (shown_of p Luma) one old mid g → IsGathered g.written (take g.waiting one ++ shown_of p Cb) two mid late h
+    → Writes h.written (take h.waiting two ++ shown_of p Cr) late new (Err f) → IfErr r (λ fault. Appends old new (take fault.written (i420 p)))
+cr_failed p one two old mid late new g h f r failed first second third =
+    let all : f.written ≡ f.written - 0 = omega arith in
+    rw (failed, all, ← append-nil (i420 p))
+    (gathered_failed 0 (shown_of p Luma ++ shown_of p Cb) (shown_of p Cr) [] two old late new h f (both_gathered p one two old mid late g h first second) third).2
+
+pub end_failed : (bytes room : List ℕ) (old mid new : Option (List ℕ)) (g : Gathered) (f : WriteFault) (r : Result (Unit {0}) WriteFault) → r ≡ Err f
+    → IsGathered 0 bytes room old mid g → Writes g.written (take g.waiting room) mid new (Err f) → IfErr r (λ fault. Appends old new (take fault.written bytes))
+end_failed bytes room old mid new g f r failed p q =
+    let all : f.written ≡ f.written - 0 = omega arith in
+    rw (failed, all, ← p.all, ← append-nil (p.out ++ take g.waiting room))
+    (second_failed 0 p.out (take g.waiting room) [] old mid new g.written f (p.sent, p.taken) q).2
 
 -- ---- rows laid into memory, and three planes one behind another
 
@@ -180,39 +297,33 @@ pub three_laid : (a b c old : List ℕ) (n m : ℕ) → n ≡ length a → m ≡
     → laid_at m c (laid_at n b (a ++ drop (length a) old)) ≡ a ++ b ++ c ++ drop (length (a ++ b ++ c)) old
 three_laid a b c old n m at behind = search (rules, length-append, take-append_seam, drop-append-add, drop-drop, append_assoc)
 
--- the rectangle of a chroma component lies inside its plane
-pub chroma_inside : (p : Picture) (samples : List ℕ) → IsWhole p → p.width < 2 ^ 32 → p.height < 2 ^ 32 → length samples ≡ (p.width / 2) * (p.height / 2)
-    → IsInside (halved (luma_rectangle p)) samples
-chroma_inside p samples whole narrow low long = search (rules, chroma_rows)
-
 -- the next row is laid
-pub next_row_laid : (w : Window) (samples : List ℕ) (n stride start : ℕ) (mid new memory : List ℕ) → start ≡ (w.top + n) * w.row_length + w.left → start + w.width ≤ length samples
-    → w.width ≤ stride → n * stride + w.width ≤ length memory → mid ≡ laid stride (rows_in w samples n) memory
-    → new ≡ laid_at (n * stride) (take (start + w.width - start) (drop start samples)) mid → new ≡ laid stride (rows_in w samples (n + 1)) memory
-next_row_laid w samples n stride start mid new memory at inside wide room so_far is =
-    let part = part_of_row w.row_length samples w.left w.width in
-    is ∙ rw (so_far, part_of_row_is w.row_length samples w.left w.width (w.top + n) start at inside)
-    (sym (laid_more part stride w.width w.top n memory wide (length-part_of_row w.row_length samples w.left w.width) room))
+pub row_laid : (p : Picture) (c : Component) (w : Window) (n stride : ℕ) (row mid new memory : List ℕ) → w ≡ window_of p c → row ≡ shown_of_row p c (w.top + n) → w.width ≤ stride
+    → n * stride + w.width ≤ length memory → mid ≡ laid stride (map (shown_of_row p c) (range_with_len (window_of p c).top n)) memory
+    → new ≡ laid_at (n * stride) row mid → new ≡ laid stride (map (shown_of_row p c) (range_with_len (window_of p c).top (n + 1))) memory
+row_laid p c w n stride row mid new memory w_is is wide room so_far laid_is =
+    let wide_too = rw w_is at wide in
+    let room_too = rw w_is at room in
+    laid_is ∙ rw (so_far, is, w_is)
+    (sym (laid_more (shown_of_row p c) stride (window_of p c).width (window_of p c).top n memory wide_too
+    (length-part_of_row (columns_of p c) (samples_of p c) (window_of p c).left (window_of p c).width) room_too))
 
--- a window without gaps, behind what stands in front
-pub dense_window : (w : Window) (samples old part : List ℕ) (place : ℕ) → part ≡ laid w.width (rows_in w samples w.height) (drop place old)
-    → take place old ++ part ≡ laid_at place (window w.row_length samples w.left w.top w.width w.height) old
-dense_window w samples old part place is = search (rules, length-part_of_row, length-range_with_len, length-window, dense, drop-drop, append_assoc)
+-- a component without gaps, behind what stands in front
+dense_at : (p : Picture) (c : Component) (old part : List ℕ) (place : ℕ) → part ≡ laid (window_of p c).width (shown_rows p c) (drop place old)
+    → take place old ++ part ≡ laid_at place (shown_of p c) old
+dense_at p c old part place is = search (rules, length-part_of_row, length-range_with_len, length-window, dense, drop-drop, append_assoc)
 
--- how many bytes a picture has
-pub length-i420 : (p : Picture) (l c : Window) → l ≡ window_of p Luma → c ≡ window_of p Cb → l.height * l.width + c.height * c.width + c.height * c.width ≡ length (i420 p)
-length-i420 p l c is_luma is_chroma = search (rules, length-append, length-window)
+pub dense_component : (p : Picture) (c : Component) (w : Window) (old part : List ℕ) (place : ℕ) → w ≡ window_of p c → part ≡ laid w.width (shown_rows p c) (drop place old)
+    → take place old ++ part ≡ laid_at place (shown_of p c) old
+dense_component p c w old part place w_is is = dense_at p c old part place (rw w_is at is)
 
 -- all three components are copied
-pub all_copied : (p : Picture) (l c : Window) (luma cb cr old one two new : List ℕ) (n m : ℕ) → l ≡ window_of p Luma → c ≡ window_of p Cb → luma ≡ p.luma → cb ≡ p.cb → cr ≡ p.cr
-    → n ≡ 0 + l.height * l.width → m ≡ n + c.height * c.width → one ≡ laid_at 0 (window l.row_length luma l.left l.top l.width l.height) old
-    → two ≡ laid_at n (window c.row_length cb c.left c.top c.width c.height) one → new ≡ laid_at m (window c.row_length cr c.left c.top c.width c.height) two
-    → new ≡ i420 p ++ drop (length (i420 p)) old
-all_copied p l c luma cb cr old one two new n m is_l is_c is_luma is_cb is_cr at behind first second third =
-    let a = luma_window p p.luma in let b = chroma_window p p.cb in
-    let none : 0 + length a ≡ length a = omega arith in
-    rw (third, second, first, is_l, is_c, is_luma, is_cb, is_cr, none)
-    (three_laid a b (chroma_window p p.cr) old n m (omega (arith, rw is_l at at, length-window)) (omega (arith, rw is_c at behind, length-window)))
+pub all_copied : (p : Picture) (l c : Window) (old one two new : List ℕ) (n m : ℕ) → l ≡ window_of p Luma → c ≡ window_of p Cb → n ≡ 0 + l.height * l.width → m ≡ n + c.height * c.width
+    → one ≡ laid_at 0 (shown_of p Luma) old → two ≡ laid_at n (shown_of p Cb) one → new ≡ laid_at m (shown_of p Cr) two → new ≡ i420 p ++ drop (length (i420 p)) old
+all_copied p l c old one two new n m is_l is_c at behind first second third =
+    let none : 0 + length (shown_of p Luma) ≡ length (shown_of p Luma) = omega arith in
+    rw (third, second, first, none)
+    (three_laid (shown_of p Luma) (shown_of p Cb) (shown_of p Cr) old n m (omega (arith, at, length-shown_of p Luma l is_l)) (omega (arith, behind, length-shown_of p Cb c is_c)))
 
 -- a part of memory to its end is written anew
 pub end_written : (place : ℕ) (old part : List ℕ) → put_mid place (length old - place) old part ≡ take place old ++ part

@@ -184,9 +184,8 @@ pub scanned_so_far : (bytes : List ℕ) (done : List PlacedUnit) (current : Opti
 scanned_so_far bytes done current count s = scanned_end bytes done current count false s ∙ append-nil done
 
 -- the bytes before a place, zeros, and the run after them
-pub zeros_and_run : (front piece : List ℕ) (place zeros len : ℕ) → take zeros (drop place piece) ≡ replicate zeros 0 →
-    ((front ++ take place piece) ++ replicate zeros 0) ++ take len (drop zeros (drop place piece)) ≡ front ++ take (place + (zeros + len)) piece
-zeros_and_run front piece place zeros len are_zeros = simp (take-add, are_zeros, append_assoc)
+pub scanned_on : (front piece : List ℕ) (place used : ℕ) → (front ++ take place piece) ++ take used (drop place piece) ≡ front ++ take (place + used) piece
+scanned_on front piece place used = simp (take-add, append_assoc)
 
 -- ---- runs in which each zero stands alone
 

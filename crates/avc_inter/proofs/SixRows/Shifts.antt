@@ -218,9 +218,9 @@ moved_sample s left top i j p q = same_place s _ _ _ _ (ap (λ z. z +ℤ pos i) 
 -- the padded rows from the place (left, top) of the plane on, which is in column `column` and row `row` of them
 module _ (pad : ℕ) (p : Plane) (rows : List ℕ) (all : IsSurrounded pad p rows) (left top : ℤ) (column row columns count : ℕ) (place_left : IsPlace left) (place_top : IsPlace top)
     (is_column : pos column ≡ to_z w64 (of_z w64 left) +ℤ pos pad) (is_row : pos row ≡ to_z w64 (of_z w64 top) +ℤ pos pad)
-    (within : column + columns ≤ p.width + 2 * pad) (below : row + count ≤ p.height + 2 * pad) where
+    (within : column + columns ≤ stride_of pad p.width) (below : row + count ≤ p.height + 2 * pad) where
   abbrev stride : ℕ
-  stride = p.width + 2 * pad
+  stride = stride_of pad p.width
 
   pub row_is_there : (j : ℕ) → j < count → row * stride + column + j * stride + columns ≤ length rows
   row_is_there j less =
@@ -237,15 +237,15 @@ module _ (pad : ℕ) (p : Plane) (rows : List ℕ) (all : IsSurrounded pad p row
 
 -- a rectangle inside the plane, whose upper left sample is in column x and row y
 module _ (pad : ℕ) (p : Plane) (rows : List ℕ) (all : IsSurrounded pad p rows) (x y w h first stride : ℕ) (columns : x + w ≤ p.width) (lines : y + h ≤ p.height)
-    (is_first : first ≡ stored_place pad p.width x y) (is_stride : stride ≡ p.width + 2 * pad) where
+    (is_first : first ≡ stored_place pad p.width x y) (is_stride : stride ≡ stride_of pad p.width) where
   pub room_inside : IsRoom w h first stride (length rows)
-  room_inside = rw (is_first, is_stride) (room pad p.width p.height x y w h rows all.long columns lines)
+  room_inside = rw (is_first, is_stride) (room pad (stride_of pad p.width) p.width p.height x y w h rows (stride_wide pad p.width) all.long columns lines)
 
   pub sample_inside : (i j : ℕ) → i < w → j < h → slice_index rows (first + j * stride + i) ≡ wide_of p (pos x +ℤ pos i) (pos y +ℤ pos j)
   sample_inside i j column row =
       rw (is_first, is_stride)
-      (ap (slice_index rows) (omega (arith, add-mul (y + pad) j (p.width + 2 * pad)))
-      ∙ all.near (x + pad + i) (y + pad + j) (omega arith) (omega arith)
+      (ap (slice_index rows) (omega (arith, add-mul (y + pad) j (stride_of pad p.width)))
+      ∙ all.near (x + pad + i) (y + pad + j) (omega (arith, stride_wide pad p.width)) (omega arith)
       ∙ same_place (wide_of p) (pos (x + pad + i) -ℤ pos pad) (pos (y + pad + j) -ℤ pos pad) (pos x +ℤ pos i) (pos y +ℤ pos j) (omega (arith, ints)) (omega (arith, ints)))
 
 -- ---- lines of samples that are copied four at a time, each four counted from their first sample on

@@ -139,8 +139,8 @@ module _ {PAD : ℕ} (sps : Sps) (pps : Pps) (es : List ℕ) (fs : List (Frame P
   pub named-missing : f.planes ≡ None → stored_named.existing ≡ false
   named-missing none = ap (λ m. m.existing) (marked-at fs k f at) ∙ ap is_some none
 
-  pub named-picture : (planes : PaddedPlanes PAD) → is_some f.mark ≡ true → f.planes ≡ Some planes
-      → stored_named ≡ record { decoding_index = slice_index es k; existing = true; samples = samples_of (padded_planes_of planes) }
+  pub named-picture : (planes : Planes) → is_some f.mark ≡ true → f.planes ≡ Some planes
+      → stored_named ≡ record { decoding_index = slice_index es k; existing = true; samples = samples_of planes }
   named-picture planes marked some = rw (marked-at fs k f at, found-stored es fs k f stand at marked, some) refl
 
 -- ---- what the code knows of a slice
@@ -177,21 +177,21 @@ all-weights-by h (Some t) is =
 -- ---- pictures that can be predicted from
 
 module _ {PAD : ℕ} (width height : ℕ) (fs : List (Frame PAD)) (h : Header) (frames : AreFrames width height fs) (table : IfSome h.pred_weight_table (IsPredWeightTable h.num_ref_idx_active)) where
-  sized-at : (place : Option ℕ) (planes : PaddedPlanes PAD) → planes_at fs place ≡ Some planes → AreSized width height (padded_planes_of planes)
+  sized-at : (place : Option ℕ) (planes : Planes) → planes_at fs place ≡ Some planes → AreSized width height planes
   sized-at None planes e = cc
   sized-at (Some k) planes e = by_frame (slice_get fs k) refl e
     where
-      by_frame : (o : Option (Frame PAD)) → slice_get fs k ≡ o → planes_at fs (Some k) ≡ Some planes → AreSized width height (padded_planes_of planes)
+      by_frame : (o : Option (Frame PAD)) → slice_get fs k ≡ o → planes_at fs (Some k) ≡ Some planes → AreSized width height planes
       by_frame None at e = let wrong : None ≡ Some planes = rw at at e in cc
       by_frame (Some f) at e =
           let has : f.planes ≡ Some planes = rw at at e in
           let here = frames.sized k f (slice_get_within fs k f at) in
           let same : slice_index_or fs k f ≡ f = get_or_from_slice_get fs k f f at in
-          subst (λ o. IfSome o (λ q. AreSized width height (padded_planes_of q))) (ap (λ x. x.planes) same ∙ has) here
+          subst (λ o. IfSome o (AreSized width height)) (ap (λ x. x.planes) same ∙ has) here
 
   usable_context : (r : ℕ) (place : Option ℕ) (o : Option (ReferencePicture PAD)) → IsPictureAt fs h r place o → IfSome o (IsUsable width height)
   usable_context r place None is = tt
-  usable_context r place (Some q) is = record { sized = sized-at place q.planes.now is.0; weights = by_weights (slice_get (weights h) r) q.weights refl is.1 }
+  usable_context r place (Some q) is = record { sized = sized-at place (padded_planes_of q.planes.now) is.0; weights = by_weights (slice_get (weights h) r) q.weights refl is.1 }
     where
       by_weights : (o w : Option Weights) → slice_get (weights h) r ≡ o → slice_get (weights h) r ≡ w → IfSome w AreWeights
       by_weights o None e e' = tt
@@ -252,10 +252,10 @@ module _ {PAD : ℕ} (sps : Sps) (pps : Pps) (es : List ℕ) (fs : List (Frame P
         let none : f.planes ≡ None = rw got at shown in
         ap is_picture (named-at r (Some k) place) ∙ named-missing sps pps es fs k f stand got none
     by-frame r k f (Some q) place got shown =
-        let some : f.planes ≡ Some q.planes.now = rw got at shown.0 in
+        let some : f.planes ≡ Some (padded_planes_of q.planes.now) = rw got at shown.0 in
         record {
           decoding_index = slice_index es k;
-          frame = named-at r (Some k) place ∙ ap Some (named-picture sps pps es fs k f stand got q.planes.now (marked list places r k f is has place got) some);
+          frame = named-at r (Some k) place ∙ ap Some (named-picture sps pps es fs k f stand got (padded_planes_of q.planes.now) (marked list places r k f is has place got) some);
           weights = ap (λ x. slice_get x.weights r) info ∙ shown.1;
         }
 

@@ -17,6 +17,7 @@ pub use Rattle.avc_types.proofs.Frames.{some_column, column, row}
 pub use Rattle.avc_types.specs.Arithmetic.{clip3}
 pub use borrow.Rule.Slice.PartMut.{put_mid}
 pub use Rattle.avc_plane.specs.Lending.{with_rows}
-pub use Rattle.avc_plane.specs.Padded.{stored_place, inner_plane, HaveSamples, nearest, IsSurrounded, IsPadded}
+unfoldable pub use Rattle.avc_plane.specs.Padded.{stride_of}
+pub use Rattle.avc_plane.specs.Padded.{stored_place, place_in, inner_plane, HaveSamples, HaveRowsFrom, nearest, IsSurrounded, IsPadded}
 pub use Rattle.avc_plane.specs.Plane.{Plane, sample, plane_of, with_block, is_inside, with_sample, clamped}
 pub use Rattle.avc_plane.specs.Strided.{IsRoom, IsSameOutside, IsStridedSet}

@@ -1,8 +1,8 @@
 //! The rows of a plane as they lie in memory, lent to be changed.
 
-ghost use Rattle.std.specs.Prelude.{◌≡◌, ◌+◌, ◌*◌, ◌^◌, ◌<◌};
+ghost use Rattle.std.specs.Prelude.{◌≡◌, ◌+◌, ◌*◌, ◌^◌, ◌<◌, ◌≤◌};
 ghost use Rattle.std.specs.Borrow.{sem};
-ghost use Rattle.avc_plane.specs.Padded.{stored_place, HaveSamples};
+ghost use Rattle.avc_plane.specs.Padded.{stored_place, stride_of, HaveSamples};
 
 use super::Plane;
 
@@ -27,9 +27,10 @@ impl<const PAD: usize> Plane<PAD> {
         requires column { x < self.now.width }
         requires row { y < self.now.height }
         ensures first { result.first ≡ stored_place PAD self.now.width x y }
-        ensures stride { result.stride ≡ self.now.width + 2 * PAD }
+        ensures stride { result.stride ≡ stride_of PAD self.now.width }
+        ensures wide { self.now.width + 2 * PAD ≤ result.stride }
     {
-        let stride = self.width + 2 * PAD;
+        let stride = self.stride;
         RowsPlace {
             first: (y + PAD) * stride + (x + PAD),
             stride,

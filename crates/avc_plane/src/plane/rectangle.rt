@@ -19,7 +19,7 @@ impl<const PAD: usize> Plane<PAD> {
         ensures samples { (x y : ℕ) → x < W → y < H → slice_index result (W * y + x) ≡ sample self.now (left + x) (top + y) }
         ensures all { length self.now.samples ≡ self.now.width * self.now.height }
     {
-        let stride = self.width + 2 * PAD;
+        let stride = self.stride;
         let start = (top + PAD) * stride + (left + PAD);
         load::<W, H, N>(&self.stored, start, stride)
     }
@@ -69,7 +69,7 @@ impl<const PAD: usize> Plane<PAD> {
         requires all { W * H ≡ N }
         ensures { self.new ≡ with_block self.old left top W H (λ x y. slice_index samples.now (W * y + x)) }
     {
-        let stride = self.width + 2 * PAD;
+        let stride = self.stride;
         let start = (top + PAD) * stride + (left + PAD);
         store::<W, H, N, COPIES>(&mut self.stored, start, stride, samples);
     }

@@ -302,7 +302,7 @@ comes grow d part i =
     }
 
 -- after a part all that came is taken
-drained_after : (f : Format) → EventsOnlyGrow → (d0 d : Machine) (part : List ℕ) (r0 r : Report) (w0 w : Option (List ℕ)) → IsDrained d0 → IsHandled f (after_feed part d0) d r0 r w0 w → IsDrained d
+pub drained_after : (f : Format) → EventsOnlyGrow → (d0 d : Machine) (part : List ℕ) (r0 r : Report) (w0 w : Option (List ℕ)) → IsDrained d0 → IsHandled f (after_feed part d0) d r0 r w0 w → IsDrained d
 drained_after f grow d0 d part r0 r w0 w i h =
     let x = comes grow d0 part i in
     let m = after_feed part d0 in
@@ -402,6 +402,24 @@ part_broken f grow d0 d piece part n len r0 r w0 w w' fault i is h off =
     let whole : events_left (after_feed piece d0) ≡ a ++ (b ++ c.0) =
     ap (λ bs. events_left (after_feed bs d0)) (sym (take-append-drop (n + len) piece)) ∙ c.1 ∙ ap (λ es. es ++ c.0) so_far ∙ append_assoc a b c.0 in
     subst (BreaksOff f r0.pictures fault w0 w') (sym whole) (breaks_behind f r0 r fault w0 w w' a b c.0 h.report h.written off)
+
+-- a fault at the events of the first of these bytes
+pub front_broken : (f : Format) → EventsOnlyGrow → (d : Machine) (bytes : List ℕ) (used : ℕ) (r : Report) (w w' : Option (List ℕ)) (fault : RunFault) → IsDrained d
+    → BreaksOff f r.pictures fault w w' (events_left (after_feed (take used bytes) d)) → BreaksOff f r.pictures fault w w' (events_left (after_feed bytes d))
+front_broken f grow d bytes used r w w' fault i off =
+    part_broken f grow d d bytes (take used bytes) 0 used r r w w w' fault i (ap (λ k. take k bytes) (omega arith)) (none_fed f grow d r w bytes i) off
+
+-- of what is left behind n bytes the first, and all of it
+pub first_left : (piece : List ℕ) (n used : ℕ) → take used (take (length piece - n) (drop n piece)) ≡ take (n + used - n) (drop n piece)
+first_left piece n used = search (rules, take_rest)
+
+-- how many they are
+pub length_left : (piece : List ℕ) (n : ℕ) → n ≤ length piece → length (take (length piece - n) (drop n piece)) ≡ length piece - n
+length_left piece n within = ap length (take_rest piece n) ∙ length-drop n piece
+
+-- all of them
+pub all_left : (piece : List ℕ) (n : ℕ) → n ≤ length piece → take (length piece - n) (drop n piece) ≡ take (n + (length piece - n) - n) (drop n piece)
+all_left piece n within = ap (λ k. take k (drop n piece)) (omega arith)
 
 -- ---- where every picture is written as I420, and all are wanted
 

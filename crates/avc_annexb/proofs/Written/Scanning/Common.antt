@@ -19,8 +19,8 @@ pub use Rattle.avc_annexb.specs.Escapes.{rbsp, unescaped_run, zeros_after}
 pub use Rattle.avc_annexb.specs.Laws.{contents, contents_within, body_within, unit_within, UnitsAreWithin, LimitsCutUnits, UnitsAreWhole, UnitsStay, IsUnitOf}
 pub use Rattle.avc_annexb.specs.Laws.{WrittenUnitsStand, WrittenUnitsStandAlone, UnitsAreNumbered, UnitsAreFew}
 pub use Rattle.avc_annexb.specs.Scanning.{HasNoBoundary, ScannedBytes, IsAt, HasLoneZeros, placed_units_after, closed_unit, with_more, HasLoneZerosBefore}
-pub use Rattle.avc_annexb.specs.Scanning.{HasNoZero, AreReady, IsOpenUnit, with_bytes, IsSplitterStateIn, has_ended, has_failed, splitter_state, HasScanned}
-pub use Rattle.avc_annexb.specs.SplitterState.{SplitterState, next_unit_of, after_next_unit, units_waiting}
+pub use Rattle.avc_annexb.specs.Scanning.{HasNoZero, HasOneMore, HasOneMoreAtMost, HasTaken, AreReady, IsOpenUnit, with_bytes, IsSplitterStateIn, has_ended, has_failed, splitter_state, HasScanned}
+pub use Rattle.avc_annexb.specs.SplitterState.{SplitterState, TakesUnit, next_unit_of, after_next_unit, units_waiting}
 pub use Rattle.avc_annexb.specs.Units.{PlacedUnit, placed_units, is_start, is_end, before_end, without_last_zeros, unit_at, unit_bytes, saturated, numbered}
 pub use Rattle.avc_annexb.specs.Units.{unit_of, units, nal_unit_type, nal_ref_idc}
 pub use Rattle.avc_annexb.specs.Written.{start_code, written}

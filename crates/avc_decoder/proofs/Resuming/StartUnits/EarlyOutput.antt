@@ -57,14 +57,15 @@ crop_fits width height (Some c) w = (omega (arith, w.columns), omega (arith, w.r
 
 picture_whole : (sps : Sps) (planes : Planes) → IsSps sps → IsSized (width_in_mbs sps) (height_in_mbs sps) planes → IsWhole (picture_of sps planes)
 picture_whole sps planes is s =
-    let halves = ap₂ (λ m n. m * n) (sym (half (width_in_mbs sps))) (sym (half (height_in_mbs sps))) in
+    let size = ap₂ (λ m n. m * n) (sym s.luma.columns) (sym s.luma.rows) in
+    let halves = ap₂ (λ m n. m * n) (sym (ap (λ m. m / 2) s.luma.columns ∙ half (width_in_mbs sps))) (sym (ap (λ m. m / 2) s.luma.rows ∙ half (height_in_mbs sps))) in
     let fits = crop_fits (16 * width_in_mbs sps) (16 * height_in_mbs sps) sps.frame_cropping is.crop in
     record {
-      luma = s.luma.all;
+      luma = s.luma.all ∙ size;
       cb = s.cb.all ∙ halves;
       cr = s.cr.all ∙ halves;
-      columns = fits.0;
-      rows = fits.1;
+      columns = subst (λ m. (crop_of sps.frame_cropping).left + (crop_of sps.frame_cropping).right ≤ m) (sym s.luma.columns) fits.0;
+      rows = subst (λ m. (crop_of sps.frame_cropping).top + (crop_of sps.frame_cropping).bottom ≤ m) (sym s.luma.rows) fits.1;
     }
 
 abbrev GoodAt : Option Entry → Type 0

@@ -1,4 +1,4 @@
-use Rattle.avc_decoder.proofs.Resuming.{is_some, ap, padded_planes_of, closes_done, closes_short, closes_unmarked, sized_as}
+use Rattle.avc_decoder.proofs.Resuming.{is_some, ap, arith, padded_planes_of, subsampled_of_size, closes_done, closes_short, closes_unmarked, sized_as}
 use Rattle.avc_decoder.proofs.close.close_picture.Goals as goal
 
 -- macroblocks are missing
@@ -7,22 +7,25 @@ returns-in-Err-Fault c =
     closes_short c.args.stream.now c.fail.new.stream c.args.current c.requires.picture c.in-Err-Fault.field-0-is
     c.in-Err-Fault.ensures.answer c.in_ok-fail-in-Err-Fault.ensures
 
+pub new-requires : goal.new-requires
+new-requires c = (omega arith, (omega arith, subsampled_of_size _ _ (padded_planes_of c.in-Ok.planes) c.in-Ok.ensures.sized))
+
 pub close-requires : goal.close-requires
 close-requires c = record {
   picture = λ going. ap is_some c.requires.picture.open_picture;
-  sized = sized_as c.args.stream.now.sequence c.args.current
-      (padded_planes_of c.in-Ok.planes) c.requires.picture c.in-Ok.ensures.sized;
+  sized = rw (← c.in_ok-shared.ensures) at (sized_as c.args.stream.now.sequence c.args.current
+      (padded_planes_of c.in-Ok.planes) c.requires.picture c.in-Ok.ensures.sized);
 }
 
 pub returns-in_ok-show-in-Ok-close : goal.returns-in_ok-show-in-Ok-close
 returns-in_ok-show-in-Ok-close c =
     rw c.requires.rest
-    (closes_done c.args.current c.in-Ok.planes c.in-Ok-close.out.items c.requires.picture c.in-Ok.ensures.answer
-    c.in-Ok-close.ensures.ok c.in_ok-show-in-Ok-close.ensures)
+    (closes_done c.args.current c.in-Ok.planes c.in_ok-shared.shared c.in-Ok-close.out.items c.requires.picture c.in-Ok.ensures.answer
+    c.in_ok-shared.ensures c.in-Ok-close.ensures.ok c.in_ok-show-in-Ok-close.ensures)
 
 -- it could not be marked
 pub returns-in_ok-fail-in-Err-Fault-close : goal.returns-in_ok-fail-in-Err-Fault-close
 returns-in_ok-fail-in-Err-Fault-close c =
     closes_unmarked c.args.stream.now c.fail-in-Err-Fault-close.new.stream c.close.new.self c.args.current c.in-Ok.planes
-    c.requires.picture c.in-Ok.ensures.answer c.in-Err-Fault-close.ensures.err c.in-Err-Fault-close.field-0-is
-    c.in_ok-fail-in-Err-Fault-close.ensures
+    c.in_ok-shared.shared c.requires.picture c.in-Ok.ensures.answer c.in_ok-shared.ensures c.in-Err-Fault-close.ensures.err
+    c.in-Err-Fault-close.field-0-is c.in_ok-fail-in-Err-Fault-close.ensures

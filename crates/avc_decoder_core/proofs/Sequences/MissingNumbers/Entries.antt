@@ -405,7 +405,7 @@ are_frames h c idx previous s =
     let rs = (s.marks).references in
     if_some (λ sps. Each (IsSizedAt h sps) ps) (λ sps. AreFrames (width_in_mbs sps) (height_in_mbs sps) c.frames) (sequence_sps h)
     (λ sps is sized.
-    let P : Frame 32 → Type 0 = λ f. IfSome f.planes (λ p. AreSized (width_in_mbs sps) (height_in_mbs sps) (padded_planes_of p)) in
+    let P : Frame 32 → Type 0 = λ f. IfSome f.planes (AreSized (width_in_mbs sps) (height_in_mbs sps)) in
     record {
       few = few_frames h c idx previous s;
       sized = each_all P c.frames (subst (Each P) (sym (frames_are h c idx previous s))

@@ -16,8 +16,8 @@ pub use Rattle.std.proofs.lemmas.Simd.{length-zip2, Each2-splat, zip2_splat, len
 pub use Rattle.std.specs.List.{range_with_len}
 pub use Rattle.std.specs.Prelude.{Option, Some, IfSome, nat_abs, nat_lt, if◌then◌else◌}
 pub use Rattle.std.specs.Simd.Lanes.{Each2, zip2, chunk, Each1, put_chunk}
-pub use Rattle.avc_plane.proofs.PlaneMaps.{room_lent, block_lent, room, strided_more, times_turned, strided_rows, strided_same, strided_line}
-pub use Rattle.avc_plane.specs.Padded.{stored_place, IsSurrounded}
+pub use Rattle.avc_plane.proofs.PlaneMaps.{room_lent, block_lent, room, strided_more, times_turned, strided_rows, strided_same, strided_line, stride_wide}
+pub use Rattle.avc_plane.specs.Padded.{stored_place, stride_of, IsSurrounded}
 pub use Rattle.avc_plane.specs.Plane.{Plane, sample, clamped}
 pub use Rattle.avc_plane.specs.Strided.{IsRoom, IsSameOutside, IsStridedSet}
 pub use Rattle.avc_plane.specs.declared.plane.lending.RowsPlace.{RowsPlace}

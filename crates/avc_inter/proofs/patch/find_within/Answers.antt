@@ -1,16 +1,16 @@
-use Rattle.avc_inter.proofs.SixRows.{◌≡◌, ◌+◌, ◌*◌, ◌≤◌, arith, row_is_there, sample_there}
+use Rattle.avc_inter.proofs.SixRows.{stride_of, ◌≡◌, ◌+◌, ◌*◌, ◌≤◌, arith, row_is_there, sample_there}
 use Rattle.avc_inter.proofs.patch.find_within.Goals as goal
 
 pub returns : goal.returns
 returns g c rows all =
     let p = c.args.plane.now in
-    let width : c.width.result ≡ p.width = c.width.ensures.value in
     let height : c.height.result ≡ p.height = c.height.ensures.value in
     let column = c.behind_edge-column in
     let row = c.behind_edge-row in
-    let fits : column.result + c.args.columns ≤ p.width + 2 * g.row.PAD = omega arith in
+    let apart = c.stride-stride.ensures.value in
+    let fits : column.result + c.args.columns ≤ stride_of g.row.PAD p.width = omega arith in
     let below : row.result + c.args.count ≤ p.height + 2 * g.row.PAD = omega arith in
-    rw width (record {
+    rw apart (record {
       row = row_is_there g.row.PAD p rows all c.args.left c.args.top _ _ _ _ c.requires.left c.requires.top column.ensures row.ensures fits below;
       at = sample_there g.row.PAD p rows all c.args.left c.args.top _ _ _ _ c.requires.left c.requires.top column.ensures row.ensures fits below;
     })

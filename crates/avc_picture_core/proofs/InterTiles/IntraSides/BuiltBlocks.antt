@@ -297,10 +297,10 @@ module _ (s : Plane) (left top x y w h : ℕ) (p : ℕ → ℕ → ℕ) (by : Op
 
 module _ (pad left upper size first stride : ℕ) (s : Plane) (sides : Sides) (rows : List ℕ) (have : HaveSamples pad s rows)
     (columns : left + size ≤ s.width) (lines : upper + size ≤ s.height) (inside : AreInside left upper s.width sides)
-    (is_first : first ≡ stored_place pad s.width left upper) (is_stride : stride ≡ s.width + 2 * pad) where
+    (is_first : first ≡ stored_place pad s.width left upper) (is_stride : stride ≡ stride_of pad s.width) where
   -- from a row to the one above
-  row_above : 0 < upper → (upper + pad) * (s.width + 2 * pad) ≡ (upper - 1 + pad) * (s.width + 2 * pad) + (s.width + 2 * pad)
-  row_above some = ap (λ n. n * (s.width + 2 * pad)) (omega arith) ∙ add-mul (upper - 1 + pad) 1 (s.width + 2 * pad) ∙ omega arith
+  row_above : 0 < upper → (upper + pad) * stride_of pad s.width ≡ (upper - 1 + pad) * stride_of pad s.width + stride_of pad s.width
+  row_above some = ap (λ n. n * stride_of pad s.width) (omega arith) ∙ add-mul (upper - 1 + pad) 1 (stride_of pad s.width) ∙ omega arith
 
   is_below : 0 < upper → stride ≤ first
   is_below some = omega (arith, is_first, is_stride, row_above some)
@@ -315,7 +315,7 @@ module _ (pad left upper size first stride : ℕ) (s : Plane) (sides : Sides) (r
   corner_at some_left some_upper some = grind (arith, ints, row_above)
 
   pub seen : 0 < size → IsSeen (seen_from s left upper) sides size first stride rows
-  seen some = grind (arith, is_below, above_at, left_at, corner_at)
+  seen some = grind (arith, is_below, above_at, left_at, corner_at, stride_wide pad s.width)
 
   pub seen4x4 : size ≡ 4 → IsSeen4x4 (seen_from s left upper) sides first stride rows
   seen4x4 four = grind (arith, seen, is_below, above_at)

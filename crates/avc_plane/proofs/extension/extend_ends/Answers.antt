@@ -5,7 +5,7 @@ pub loop-y-preserved : goal.loop-y-preserved
 loop-y-preserved c =
     let pad = c.args.pad in
     let height = c.args.height in
-    let stride = c.args.width + 2 * pad in
+    let stride = c.args.stride in
     let row = c.loop-y.y in
     let old = c.loop-y.invariant in
     let first = c.copy.ensures in
@@ -32,7 +32,7 @@ pub returns : goal.returns
 returns c x y column row =
     let pad = c.args.pad in
     let height = c.args.height in
-    let stride = c.args.width + 2 * pad in
+    let stride = c.args.stride in
     let old = c.loop-y.invariant in
     let fits = λ (a m : ℕ) (less : a < m). row_fits a stride m stride less (omega arith) in
     elim (cases_lt y pad) [

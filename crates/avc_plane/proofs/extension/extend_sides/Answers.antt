@@ -4,7 +4,7 @@ use Rattle.avc_plane.proofs.extension.extend_sides.Goals as goal
 pub loop-y-preserved : goal.loop-y-preserved
 loop-y-preserved c =
     let pad = c.args.pad in
-    let stride = c.args.width + 2 * pad in
+    let stride = c.args.stride in
     let row = c.loop-y.y in
     let near = λ (x : ℕ). nearest pad c.args.width x + pad in
     record {

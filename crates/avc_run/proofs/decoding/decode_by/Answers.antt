@@ -35,8 +35,8 @@ returns-then-is_enough g c =
     c.pieces.invariant.runs c.in_ok-len.ensures.bytes c.in_ok-take_in-2.ensures.ok)
     (search rules)
 
-pub take_in-requires-clause-drained : goal.take_in-requires-clause-drained
-take_in-requires-clause-drained g c = new_is_drained c.args.decoder.now c.args.decoder.now.output c.requires
+pub take_in-requires : goal.take_in-requires
+take_in-requires g c = new_is_drained c.args.decoder.now c.args.decoder.now.output c.requires
 
 pub returns-in_err-take_in : goal.returns-in_err-take_in
 returns-in_err-take_in g c =

@@ -1,23 +1,33 @@
-use Rattle.avc_run.proofs.Running.{arith, refl, rules, by_fault, all_fed, none_fed, one_part, part_broken}
+use Rattle.avc_run.proofs.Running.{◌-◌, arith, length, rules, length_left, all_fed, all_left, by_fault, drained_after, first_left, none_fed, one_part, part_broken}
 use Rattle.avc_run.proofs.decoding.take_in.Goals as goal
 
-pub parts-init : goal.parts-init
-parts-init g c =
-    record { within = omega arith; handled = none_fed (g.F.PictureFormat.format c.args.format.now) c.events_only_grow.ensures _ _ _ c.args.piece.now c.requires.drained }
+pub units-init : goal.units-init
+units-init g c =
+    record { within = omega arith; handled = none_fed (g.F.PictureFormat.format c.args.format.now) c.events_only_grow.ensures _ _ _ c.args.piece.now c.requires }
 
-pub parts-preserved : goal.parts-preserved
-parts-preserved g c =
+pub take_unit-requires : goal.take_unit-requires
+take_unit-requires g c =
+    drained_after (g.F.PictureFormat.format c.args.format.now) c.events_only_grow.ensures _ c.units.decoder _ _ c.units.report _ _ c.requires c.units.invariant.handled
+
+pub units-preserved : goal.units-preserved
+units-preserved g c =
     record {
-      within = search rules;
-      handled = one_part (g.F.PictureFormat.format c.args.format.now) c.events_only_grow.ensures _ c.parts.decoder c.take_part.new.decoder c.args.piece.now _ c.parts.done c.part_length-len.result _ c.parts.report c.take_part.new.report _ _ _ c.requires.drained refl
-          c.parts.invariant.handled c.in_ok-take_part.ensures.ok;
+      within = omega (arith, c.in_ok-used.ensures.unit.within, length_left c.args.piece.now c.units.done c.units.invariant.within);
+      handled = one_part (g.F.PictureFormat.format c.args.format.now) c.events_only_grow.ensures _ c.units.decoder c.take_unit.new.decoder c.args.piece.now _ c.units.done c.in_ok-used.used _ c.units.report c.take_unit.new.report _ _ _ c.requires
+          (first_left c.args.piece.now c.units.done c.in_ok-used.used) c.units.invariant.handled c.in_ok-used.ensures.ok;
     }
 
-pub returns-in_err-take_part-clause-err : goal.returns-in_err-take_part-clause-err
-returns-in_err-take_part-clause-err g c =
-    let fault = c.in_err-take_part.field-0.0 in
+pub units-smaller : goal.units-smaller
+units-smaller g c =
+    let left = length_left c.args.piece.now c.units.done c.units.invariant.within in
+    omega (arith, left, c.units-test.true, c.in_ok-used.ensures.unit.some (omega (arith, left, c.units-test.true)))
+
+pub returns-in_err-used-clause-err : goal.returns-in_err-used-clause-err
+returns-in_err-used-clause-err g c =
+    let fault = c.in_err-used.field-0.0 in
     by_fault c.from_residual.result fault _ c.from_residual.ensures.1
-    (part_broken (g.F.PictureFormat.format c.args.format.now) c.events_only_grow.ensures _ c.parts.decoder c.args.piece.now _ c.parts.done c.part_length-len.result _ c.parts.report _ _ _ fault c.requires.drained refl c.parts.invariant.handled c.in_err-take_part.ensures.err)
+    (part_broken (g.F.PictureFormat.format c.args.format.now) c.events_only_grow.ensures _ c.units.decoder c.args.piece.now _ c.units.done (length c.args.piece.now - c.units.done) _ c.units.report _ _ _ fault c.requires
+    (all_left c.args.piece.now c.units.done c.units.invariant.within) c.units.invariant.handled c.in_err-used.ensures.err)
 
 pub returns-clause-ok : goal.returns-clause-ok
-returns-clause-ok g c = all_fed (g.F.PictureFormat.format c.args.format.now) _ c.parts.decoder c.args.piece.now c.parts.done _ c.parts.report _ _ (search rules) c.parts.invariant.handled
+returns-clause-ok g c = all_fed (g.F.PictureFormat.format c.args.format.now) _ c.units.decoder c.args.piece.now c.units.done _ c.units.report _ _ (search rules) c.units.invariant.handled

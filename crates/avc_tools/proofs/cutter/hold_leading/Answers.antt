@@ -1,4 +1,4 @@
-use Rattle.avc_tools.proofs.Pieces.{◌++◌, [], ap, sym, ◌∙◌, if◌then◌else◌, written, leading_more, leading_none}
+use Rattle.avc_tools.proofs.Taking.{◌++◌, [], ap, sym, ◌∙◌, if◌then◌else◌, written, leading_more, leading_none}
 use Rattle.avc_tools.proofs.cutter.hold_leading.Goals as goal
 
 pub returns-then-is_slice : goal.returns-then-is_slice

@@ -1,4 +1,4 @@
-use Rattle.avc_tools.proofs.Pieces.{◌++◌, ◌∷◌, [], ap, sym, ◌∙◌, append-nil, true, false, piece_if}
+use Rattle.avc_tools.proofs.Taking.{◌++◌, ◌∷◌, [], ap, sym, ◌∙◌, append-nil, true, false, piece_if}
 use Rattle.avc_tools.proofs.cutting.add_piece.Goals as goal
 
 pub returns-in_ok-push : goal.returns-in_ok-push

@@ -1,4 +1,4 @@
-use Rattle.avc_tools.proofs.Pieces.{◌++◌, [], ap, pieces_from, pieces_more, sets_next, sets_none}
+use Rattle.avc_tools.proofs.Taking.{◌++◌, [], ap, pieces_from, pieces_more, sets_next, sets_none}
 use Rattle.avc_tools.proofs.cutting.pieces_of.Goals as goal
 
 pub loop-place-init : goal.loop-place-init

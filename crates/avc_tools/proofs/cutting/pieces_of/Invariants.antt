@@ -1,4 +1,4 @@
-use Rattle.avc_tools.proofs.Pieces.{◌≡◌, ◌++◌, [], take, drop, HasSets, pieces_from}
+use Rattle.avc_tools.proofs.Taking.{◌≡◌, ◌++◌, [], take, drop, HasSets, pieces_from}
 use Rattle.avc_tools.proofs.cutting.pieces_of.Given as goal
 
 abbrev pub invariant-loop-place : goal.invariant-loop-place

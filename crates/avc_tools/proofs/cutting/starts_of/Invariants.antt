@@ -1,4 +1,4 @@
-use Rattle.avc_tools.proofs.Pieces.{◌≡◌, map, take, is_start}
+use Rattle.avc_tools.proofs.Taking.{◌≡◌, map, take, is_start}
 use Rattle.avc_tools.proofs.cutting.starts_of.Given as goal
 
 abbrev pub invariant-loop-unit : goal.invariant-loop-unit

@@ -1,4 +1,4 @@
-use Rattle.avc_tools.proofs.Pieces.{◌++◌, ◌∙◌, ap, string_bytes, codes, and_number}
+use Rattle.avc_tools.proofs.Taking.{◌++◌, ◌∙◌, ap, string_bytes, codes, and_number}
 use Rattle.avc_tools.proofs.headers.add_pps_constrained.Goals as goal
 
 pub returns : goal.returns

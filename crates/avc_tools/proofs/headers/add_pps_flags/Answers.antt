@@ -1,4 +1,4 @@
-use Rattle.avc_tools.proofs.Pieces.{◌++◌, ◌∙◌, ap, append_assoc, string_bytes, pps_constrained, pps_control}
+use Rattle.avc_tools.proofs.Taking.{◌++◌, ◌∙◌, ap, append_assoc, string_bytes, pps_constrained, pps_control}
 use Rattle.avc_tools.proofs.headers.add_pps_flags.Goals as goal
 
 pub returns : goal.returns

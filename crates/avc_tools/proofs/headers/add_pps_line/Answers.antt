@@ -1,4 +1,4 @@
-use Rattle.avc_tools.proofs.Pieces.{decimal, newline, pps_fields, pps_flags, pps_identity, line_put}
+use Rattle.avc_tools.proofs.Taking.{decimal, newline, pps_fields, pps_flags, pps_identity, line_put}
 use Rattle.avc_tools.proofs.headers.add_pps_line.Goals as goal
 
 pub returns : goal.returns

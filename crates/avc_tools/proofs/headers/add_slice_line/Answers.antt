@@ -1,4 +1,4 @@
-use Rattle.avc_tools.proofs.Pieces.{decimal, sets_after, newline, slice_fields, slice_picture, slice_place, line_put}
+use Rattle.avc_tools.proofs.Taking.{decimal, sets_after, newline, slice_fields, slice_picture, slice_place, line_put}
 use Rattle.avc_tools.proofs.headers.add_slice_line.Goals as goal
 
 pub returns : goal.returns

@@ -1,4 +1,4 @@
-use Rattle.avc_tools.proofs.Pieces.{decimal, newline, sps_frames, sps_identity, sps_size, line_put}
+use Rattle.avc_tools.proofs.Taking.{decimal, newline, sps_frames, sps_identity, sps_size, line_put}
 use Rattle.avc_tools.proofs.headers.add_sps_line.Goals as goal
 
 pub returns : goal.returns

@@ -1,4 +1,4 @@
-use Rattle.avc_tools.proofs.Pieces.{max_unit, all_taken, one_more, shown_more}
+use Rattle.avc_tools.proofs.Taking.{max_unit, all_taken, one_more, shown_more}
 use Rattle.avc_tools.proofs.headers.lines_of_headers_left.Goals as goal
 
 pub loop-unit-preserved-in_ok-put_set : goal.loop-unit-preserved-in_ok-put_set

@@ -1,4 +1,4 @@
-use Rattle.avc_tools.proofs.Pieces.{units_waiting, string_bytes, max_unit, IsDraining, IsShown}
+use Rattle.avc_tools.proofs.Taking.{units_waiting, string_bytes, max_unit, IsDraining, IsShown}
 use Rattle.avc_tools.proofs.headers.lines_of_headers_left.Given as goal
 
 abbrev pub invariant-loop-unit : goal.invariant-loop-unit

@@ -1,4 +1,4 @@
-use Rattle.avc_tools.proofs.Pieces.{pieces_are_whole, pieces_stay}
+use Rattle.avc_tools.proofs.Taking.{pieces_are_whole, pieces_stay}
 use Rattle.avc_tools.proofs.laws.pieces_come_whole.Goals as goal
 
 pub returns-clause-whole : goal.returns-clause-whole

@@ -1,4 +1,4 @@
-use Rattle.avc_tools.proofs.Pieces.{◌≡◌, ◌+◌, length, drop, not, take_while}
+use Rattle.avc_tools.proofs.Taking.{◌≡◌, ◌+◌, length, drop, not, take_while}
 use Rattle.avc_tools.proofs.piece.count_before_start.Given as goal
 
 abbrev pub invariant-loop-place : goal.invariant-loop-place

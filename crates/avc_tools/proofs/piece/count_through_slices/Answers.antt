@@ -1,4 +1,4 @@
-use Rattle.avc_tools.proofs.Pieces.{◌≡◌, ◌+◌, ◌-◌, ◌<◌, ◌∷◌, [], ◌++◌, ap, sym, ◌∙◌, arith, length, take, take_more, through_slices, through_other}
+use Rattle.avc_tools.proofs.Taking.{◌≡◌, ◌+◌, ◌-◌, ◌<◌, ◌∷◌, [], ◌++◌, ap, sym, ◌∙◌, arith, length, take, take_more, through_slices, through_other}
 use Rattle.avc_tools.proofs.piece.count_through_slices.Goals as goal
 
 pub slices-preserved : goal.slices-preserved

@@ -1,4 +1,4 @@
-use Rattle.avc_tools.proofs.Pieces.{◌≡◌, ◌≤◌, length, take, through_slices}
+use Rattle.avc_tools.proofs.Taking.{◌≡◌, ◌≤◌, length, take, through_slices}
 use Rattle.avc_tools.proofs.piece.count_through_slices.Given as goal
 
 abbrev pub invariant-slices : goal.invariant-slices

@@ -1,4 +1,4 @@
-use Rattle.avc_tools.proofs.Pieces.{◌+◌, ◌++◌, ap, sym, ◌∙◌, map, drop, drop-map, flat_map, is_start, kept_bytes, piece_written, part_from}
+use Rattle.avc_tools.proofs.Taking.{◌+◌, ◌++◌, ap, sym, ◌∙◌, map, drop, drop-map, flat_map, is_start, kept_bytes, piece_written, part_from}
 use Rattle.avc_tools.proofs.piece.piece_at.Goals as goal
 
 pub write_rest-requires : goal.write_rest-requires

@@ -1,4 +1,4 @@
-use Rattle.avc_tools.proofs.Pieces.{◌≡◌, ◌++◌, take, filter, flat_map, written, leads}
+use Rattle.avc_tools.proofs.Taking.{◌≡◌, ◌++◌, take, filter, flat_map, written, leads}
 use Rattle.avc_tools.proofs.piece.write_leads.Given as goal
 
 abbrev pub invariant-loop-unit : goal.invariant-loop-unit

@@ -1,4 +1,4 @@
-use Rattle.avc_tools.proofs.Pieces.{◌≡◌, ◌++◌, take, not, filter, flat_map, written, is_left_out}
+use Rattle.avc_tools.proofs.Taking.{◌≡◌, ◌++◌, take, not, filter, flat_map, written, is_left_out}
 use Rattle.avc_tools.proofs.piece.write_not_left_out.Given as goal
 
 abbrev pub invariant-loop-unit : goal.invariant-loop-unit

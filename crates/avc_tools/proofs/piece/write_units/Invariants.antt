@@ -1,4 +1,4 @@
-use Rattle.avc_tools.proofs.Pieces.{◌≡◌, ◌++◌, take, flat_map, written}
+use Rattle.avc_tools.proofs.Taking.{◌≡◌, ◌++◌, take, flat_map, written}
 use Rattle.avc_tools.proofs.piece.write_units.Given as goal
 
 abbrev pub invariant-loop-unit : goal.invariant-loop-unit

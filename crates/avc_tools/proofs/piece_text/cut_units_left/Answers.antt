@@ -1,4 +1,4 @@
-use Rattle.avc_tools.proofs.Pieces.{max_unit, cut_more, cut_none, all_taken, draining_begun, one_more}
+use Rattle.avc_tools.proofs.Taking.{max_unit, cut_more, cut_none, all_taken, draining_begun, one_more}
 use Rattle.avc_tools.proofs.piece_text.cut_units_left.Goals as goal
 
 pub loop-unit-init : goal.loop-unit-init

@@ -1,4 +1,4 @@
-use Rattle.avc_tools.proofs.Pieces.{units_waiting, max_unit, IsDraining, IsCutFrom}
+use Rattle.avc_tools.proofs.Taking.{units_waiting, max_unit, IsDraining, IsCutFrom}
 use Rattle.avc_tools.proofs.piece_text.cut_units_left.Given as goal
 
 abbrev pub invariant-loop-unit : goal.invariant-loop-unit

@@ -1,4 +1,4 @@
-use Rattle.avc_tools.proofs.Pieces.{◌≡◌, None, replicate}
+use Rattle.avc_tools.proofs.Taking.{◌≡◌, None, replicate}
 use Rattle.avc_tools.proofs.sets_in_force.no_units.Given as goal
 
 abbrev pub invariant-loop-id : goal.invariant-loop-id

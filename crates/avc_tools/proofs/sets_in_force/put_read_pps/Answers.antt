@@ -1,5 +1,5 @@
-use Rattle.avc_tools.proofs.Pieces.{pps_part, true, false, Some, is_some, ap, sym, ◌∙◌, accepted, is_id, is_pps, start, pps_record, pps_id, OfPps}
-use Rattle.avc_tools.proofs.Pieces.{put_by, refused_id, pps_id_is}
+use Rattle.avc_tools.proofs.Taking.{pps_part, true, false, Some, is_some, ap, sym, ◌∙◌, accepted, is_id, is_pps, start, pps_record, pps_id, OfPps}
+use Rattle.avc_tools.proofs.Taking.{put_by, refused_id, pps_id_is}
 use Rattle.avc_tools.proofs.sets_in_force.put_read_pps.Goals as goal
 
 pub returns-in-Ok : goal.returns-in-Ok

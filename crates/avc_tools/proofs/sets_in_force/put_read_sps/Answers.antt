@@ -1,5 +1,5 @@
-use Rattle.avc_tools.proofs.Pieces.{sps_part, true, false, Some, is_some, ap, sym, ◌∙◌, accepted, is_id, is_sps, start, sps_record, sps_id, OfSps}
-use Rattle.avc_tools.proofs.Pieces.{put_by, refused_id, sps_id_is}
+use Rattle.avc_tools.proofs.Taking.{sps_part, true, false, Some, is_some, ap, sym, ◌∙◌, accepted, is_id, is_sps, start, sps_record, sps_id, OfSps}
+use Rattle.avc_tools.proofs.Taking.{put_by, refused_id, sps_id_is}
 use Rattle.avc_tools.proofs.sets_in_force.put_read_sps.Goals as goal
 
 pub returns-in-Ok : goal.returns-in-Ok

@@ -1,4 +1,4 @@
-use Rattle.avc_tools.proofs.Pieces.{◌≡◌, units_waiting, max_unit, IsDraining, whole_stream}
+use Rattle.avc_tools.proofs.Taking.{◌≡◌, units_waiting, max_unit, IsDraining, whole_stream}
 use Rattle.avc_tools.proofs.units.all_units.Given as goal
 
 abbrev pub invariant-loop-unit : goal.invariant-loop-unit

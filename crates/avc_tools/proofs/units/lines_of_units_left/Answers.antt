@@ -1,4 +1,4 @@
-use Rattle.avc_tools.proofs.Pieces.{◌≡◌, ◌∷◌, [], ◌++◌, List, ap, ◌∙◌, sym, append-nil, flat_map, flat_map-append, Unit, unit_line, all_taken, one_more}
+use Rattle.avc_tools.proofs.Taking.{◌≡◌, ◌∷◌, [], ◌++◌, List, ap, ◌∙◌, sym, append-nil, flat_map, flat_map-append, Unit, unit_line, all_taken, one_more}
 use Rattle.avc_tools.proofs.units.lines_of_units_left.Goals as goal
 
 line_more : (done : List Unit) (u : Unit) (old new : List _) → new ≡ old ++ unit_line u → old ≡ flat_map unit_line done → new ≡ flat_map unit_line (done ++ u ∷ [])

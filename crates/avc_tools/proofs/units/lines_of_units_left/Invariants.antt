@@ -1,4 +1,4 @@
-use Rattle.avc_tools.proofs.Pieces.{◌≡◌, string_bytes, flat_map, units_waiting, unit_line, IsDraining}
+use Rattle.avc_tools.proofs.Taking.{◌≡◌, string_bytes, flat_map, units_waiting, unit_line, IsDraining}
 use Rattle.avc_tools.proofs.units.lines_of_units_left.Given as goal
 
 abbrev pub invariant-loop-unit : goal.invariant-loop-unit

@@ -1,4 +1,4 @@
-use Rattle.avc_tools.proofs.Pieces.{true, ap, ◌∙◌, flat_map, after_feed, after_finish, unit_line, units_left, unit_lines_are}
+use Rattle.avc_tools.proofs.Taking.{true, ap, ◌∙◌, flat_map, after_feed, after_finish, unit_line, units_left, unit_lines_are}
 use Rattle.avc_tools.proofs.units.list_units.Goals as goal
 
 pub returns : goal.returns

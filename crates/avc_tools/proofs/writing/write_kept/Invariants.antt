@@ -1,4 +1,4 @@
-use Rattle.avc_tools.proofs.Pieces.{◌≡◌, ◌++◌, take, flat_map, kept_bytes}
+use Rattle.avc_tools.proofs.Taking.{◌≡◌, ◌++◌, take, flat_map, kept_bytes}
 use Rattle.avc_tools.proofs.writing.write_kept.Given as goal
 
 abbrev pub invariant-loop-unit : goal.invariant-loop-unit

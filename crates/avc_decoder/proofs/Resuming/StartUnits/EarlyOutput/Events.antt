@@ -1,7 +1,7 @@
 -- The events of a stream unit by unit, what calls and replies tell of them, and worked streams.
 pub mod Steps
 unfoldable pub use Steps.*
-use Rattle.avc_annexb.specs.SplitterState.{after_feed}
+use Rattle.avc_annexb.specs.SplitterState.{unit_count, TakesUnit}
 use Rattle.avc_decoder.specs.Machine.{IsRefused}
 use Rattle.avc_decoder.specs.Machine as machine
 use Rattle.avc_decoder.specs.declared.calls.Reply.TheVariants as replies
@@ -169,17 +169,16 @@ handled_all (u ∷ us) f =
     }
 
 -- of all units, so many had been handled, and then the others
-record AllHandled (output : Output) (all : List Piece) (n : ℕ) (t2 t : StreamState) : Type 0 where
+record AllHandled (output : Output) (all : List Piece) (n : ℕ) (t2 : StreamState) : Type 0 where
   counted : n + length (drop n all) ≡ length all
   state : t2.state ≡ state_through (first_state output) all
   events : t2.events ≡ events_from (first_state output) all false
-  taken : t2.taken ≡ t.taken
   read : t2.read ≡ saturated (read_from (first_state output) all)
 
 rest_handled : (output : Output) (us more all : List Piece) (n : ℕ) (t t2 : StreamState) → all ≡ us ++ more
     → n ≡ length us → t.state ≡ state_through (first_state output) us
     → t.events ≡ events_from (first_state output) us false
-    → t.read ≡ saturated (read_from (first_state output) us) → t2 ≡ after_units_in_stream (drop n all) t → AllHandled output all n t2 t
+    → t.read ≡ saturated (read_from (first_state output) us) → t2 ≡ after_units_in_stream (drop n all) t → AllHandled output all n t2
 rest_handled output us more all n t t2 e len at es er et =
     let first = first_state output in
     let d : drop n all ≡ more = ap₂ drop len e ∙ drop-append_seam us more in
@@ -189,67 +188,233 @@ rest_handled output us more all n t t2 e len at es er et =
       counted = omega (arith, len, ap length d, ap length e, length-append us more);
       state = cc (is, h.state, at, state_through-append first us more, e);
       events = cc (is, h.events, es, at, events-append first us more false, e);
-      taken = cc (is, h.taken);
       read = cc (is, h.read (read_from first us) er, at, read-append first us more, e);
     }
-
--- The decoder has come to this: all units are handled.
-pub record DecodedTo (output : Output) (max : ℕ) (bytes : List ℕ) (ended : Bool) (taken : ℕ) (s : SplitterState) (t : StreamState) : Type 0 where
-  pub decoded : IsDecoded output max s ended t
-  pub bytes_are : s.bytes ≡ bytes
-  pub taken_are : t.taken ≡ taken
 
 -- what comes behind the units, where they have ended
 record ClosesTo (ended : Bool) (t2 t3 : StreamState) : Type 0 where
   state : ended ≡ false → t3.state ≡ t2.state
   events : t3.events ≡ t2.events ++ events_from t2.state [] ended
-  taken : t3.taken ≡ t2.taken
   read : t3.read ≡ t2.read
 
 -- the units of these bytes are those before, and more
 decoded_at : (output : Output) (max : ℕ) (s s2 : SplitterState) (t t2 t3 : StreamState) (bytes : List ℕ) (ended : Bool) (more : List Piece)
     → IsDecoded output max s false t → units max bytes ended ≡ units max s.bytes false ++ more
     → HandlesAll max (record s { bytes = bytes; ended = ended }) s2 t t2 → ClosesTo ended t2 t3
-    → DecodedTo output max bytes ended t.taken s2 t3
+    → IsDecoded output max s2 ended t3
 decoded_at output max s s2 t t2 t3 bytes ended more d all h closes =
     let r = rest_handled output (units max s.bytes false) more (units max bytes ended) s.taken t t2 all d.counted
     (d.state refl) d.events d.read h.stream in
     let events_are = events-append (first_state output) (units max bytes ended) [] ended in
     rw h.splitter (record {
-      decoded = record {
-        going = d.going;
-        ends = refl;
-        counted = r.counted;
-        state = λ off. closes.state off ∙ r.state ∙ ap (λ b. state_through (first_state output) (units max bytes b)) off;
-        events =
-            closes.events ∙ ap₂ (λ es x. es ++ events_from x [] ended) r.events r.state ∙ sym events_are
-            ∙ ap (λ us. events_from (first_state output) us ended) (append-nil (units max bytes ended));
-        read = closes.read ∙ r.read;
-      };
-      bytes_are = refl;
-      taken_are = closes.taken ∙ r.taken;
+      going = d.going;
+      ends = refl;
+      counted = r.counted;
+      state = λ off. closes.state off ∙ r.state ∙ ap (λ b. state_through (first_state output) (units max bytes b)) off;
+      events =
+          closes.events ∙ ap₂ (λ es x. es ++ events_from x [] ended) r.events r.state ∙ sym events_are
+          ∙ ap (λ us. events_from (first_state output) us ended) (append-nil (units max bytes ended));
+      read = closes.read ∙ r.read;
     })
 
-decoded_fed : (output : Output) (max : ℕ) (ended : Bool) (s s2 : SplitterState) (t t2 : StreamState) (piece : List ℕ)
-    → IsDecoded output max s ended t → ended ≡ false → HandlesAll max (after_feed s piece) s2 t t2
-    → DecodedTo output max (s.bytes ++ piece) ended t.taken s2 t2
-decoded_fed output max true s s2 t t2 piece d e h = cc
-decoded_fed output max false s s2 t t2 piece d e h =
+decoded_fed : (output : Output) (max : ℕ) (s s2 : SplitterState) (t t2 : StreamState) (piece : List ℕ) → IsDecoded output max s false t
+    → HandlesAll max (record s { bytes = s.bytes ++ piece; ended = false }) s2 t t2
+    → IsDecoded output max s2 false t2
+decoded_fed output max s s2 t t2 piece d h =
     let stay = units_stay_first max s.bytes piece false in
-    let fed : after_feed s piece ≡ record s { bytes = s.bytes ++ piece; ended = false } = rw d.ends refl in
-    decoded_at output max s s2 t t2 t2 (s.bytes ++ piece) false stay.0 d stay.1 (subst (λ x. HandlesAll max x s2 t t2) fed h)
-    (record { state = λ _. refl; events = sym (append-nil t2.events); taken = refl; read = refl })
+    decoded_at output max s s2 t t2 t2 (s.bytes ++ piece) false stay.0 d stay.1 h
+    (record { state = λ _. refl; events = sym (append-nil t2.events); read = refl })
 
-decoded_finished : (output : Output) (max : ℕ) (ended : Bool) (s s2 : SplitterState) (t t2 t3 : StreamState)
-    → IsDecoded output max s ended t → ended ≡ false → HandlesAll max (after_finish s) s2 t t2
-    → t3 ≡ after_stream_end t2
-    → DecodedTo output max s.bytes true t.taken s2 t3
-decoded_finished output max true s s2 t t2 t3 d e h f = cc
-decoded_finished output max false s s2 t t2 t3 d e h f =
+decoded_finished : (output : Output) (max : ℕ) (s s2 : SplitterState) (t t2 t3 : StreamState) → IsDecoded output max s false t
+    → HandlesAll max (after_finish s) s2 t t2 → t3 ≡ after_stream_end t2
+    → IsDecoded output max s2 true t3
+decoded_finished output max s s2 t t2 t3 d h f =
     let stay = units_stay_first max s.bytes [] true in
     let all = ap (λ b. units max b true) (sym (append-nil s.bytes)) ∙ stay.1 in
     decoded_at output max s s2 t t2 t3 s.bytes true stay.0 d all h
-    (rw f (record { state = λ off. absurd (false≢true (sym off)); events = refl; taken = refl; read = refl }))
+    (rw f (record { state = λ off. absurd (false≢true (sym off)); events = refl; read = refl }))
+
+-- how many of its events were passed on counts for nothing
+of_stream : {output : Output} {max : ℕ} {s : SplitterState} {ended : Bool} (t : Stream) → IsDecoded output max s ended (stream_state t)
+    → IsDecoded output max s ended (stream_state (record t { queue = passed_on t.queue }))
+of_stream t d = record { going = d.going; ends = d.ends; counted = d.counted; state = d.state; events = d.events; read = d.read }
+
+-- ---- the same of the parts
+
+-- what waits behind the events that were passed on before
+behind : {max : ℕ} {s s2 : SplitterState} {t t2 : StreamState} (t3 : StreamState) (out : QueueState) (more : List Event) → ArePassedOn (queue_in t) out
+    → HandlesAll max s s2 t t2 → t3.events ≡ t2.events ++ more → t3.taken ≡ t2.taken → IsBehind out (queue_in t3)
+behind {max} {s} {s2} {t} {t2} t3 out more p h events_are taken =
+    let us = drop s.taken (units max s.bytes s.ended) in
+    let a = handled_all us t in
+    record {
+      more = events_from t.state us false ++ more;
+      events = events_are ∙ ap (λ (x : StreamState). x.events ++ more) h.stream ∙ ap (λ es. es ++ more) a.events
+          ∙ append_assoc t.events (events_from t.state us false) more ∙ ap (λ es. es ++ (events_from t.state us false ++ more)) (sym p.events);
+      taken = taken ∙ ap (λ (x : StreamState). x.taken) h.stream ∙ a.taken ∙ p.taken ∙ ap length (sym p.events);
+    }
+
+-- after some units
+pub behind_units : {max : ℕ} {s s2 : SplitterState} (t t2 : Stream) (out : QueueState) → ArePassedOn t.queue out
+    → HandlesAll max s s2 (stream_state t) (stream_state t2) → IsBehind out t2.queue
+behind_units t t2 out p h = behind (stream_state t2) out [] p h (sym (append-nil t2.queue.events)) refl
+
+-- after the last ones, and the end
+pub behind_end : {max : ℕ} {s s2 : SplitterState} (t t2 t3 : Stream) (out : QueueState) → ArePassedOn t.queue out
+    → HandlesAll max s s2 (stream_state t) (stream_state t2) → stream_state t3 ≡ after_stream_end (stream_state t2) → IsBehind out t3.queue
+behind_end t t2 t3 out p h ends =
+    let x = stream_state t2 in
+    behind (stream_state t3) out (at_end x.state.output x.state.phase) p h (ap (λ (y : StreamState). y.events) ends) (ap (λ (y : StreamState). y.taken) ends)
+
+-- what stands behind others comes first of what is left
+get_seam : {A : Type 0} (xs ys : List A) → slice_get (xs ++ ys) (length xs) ≡ slice_get ys 0
+get_seam [] ys = refl
+get_seam (x ∷ xs) ys = get_seam xs ys
+
+-- the first of the events that wait, as it is seen
+pub first_seen : {A B : Type 0} (f : A → B) (given left rest : List A) (e : A) → left ≡ e ∷ rest
+    → Some (f e) ≡ slice_get (map f (given ++ left)) (length given)
+first_seen {A} f given left rest e is = rw is (by given)
+  where
+    by : (given : List A) → Some (f e) ≡ slice_get (map f (given ++ e ∷ rest)) (length given)
+    by [] = refl
+    by (x ∷ given) = by given
+
+first_behind : {out q : QueueState} (b : IsBehind out q) → slice_get q.events q.taken ≡ slice_get b.more 0
+first_behind {out} b = ap₂ (λ es n. slice_get es n) b.events b.taken ∙ get_seam out.events b.more
+
+-- the first of those that wait is passed on
+pub one_passed : {out q q1 out1 : QueueState} {e : Event} → IsBehind out q → Some e ≡ slice_get q.events q.taken
+    → q1 ≡ after_queue_take (Some e) q → out1 ≡ with_events (e ∷ []) out → IsBehind out1 q1
+one_passed {out} {q} {q1} {out1} {e} b is eq eo = rw (eq, eo) (by b.more b.events (is ∙ first_behind b))
+  where
+    by : (more : List Event) → q.events ≡ out.events ++ more → Some e ≡ slice_get more 0
+        → IsBehind (with_events (e ∷ []) out) (after_queue_take (Some e) q)
+    by [] events wrong = cc wrong
+    by (x ∷ more) events first =
+        let same : e ≡ x = cc first in
+        record {
+          more = more;
+          events = events ∙ ap (λ y. out.events ++ y ∷ more) (sym same) ∙ sym (append_assoc out.events (e ∷ []) more);
+          taken = ap (λ n. n + 1) b.taken ∙ sym (length_push out.events e);
+        }
+
+-- none is left
+none_waits : {out q : QueueState} → IsBehind out q → None ≡ slice_get q.events q.taken → (out.events ≡ q.events) × (q.taken ≡ length q.events)
+none_waits {out} {q} b is = by b.more b.events (is ∙ first_behind b)
+  where
+    by : (more : List Event) → q.events ≡ out.events ++ more → None ≡ slice_get more 0 → (out.events ≡ q.events) × (q.taken ≡ length q.events)
+    by [] events none =
+        let same = events ∙ append-nil out.events in
+        (sym same, b.taken ∙ ap length (sym same))
+    by (x ∷ more) events wrong = cc wrong
+
+-- all were passed on
+pub all_passed : (out0 q0 : QueueState) {out q q1 : QueueState} → IsBehind out q → q.events ≡ q0.events → out.taken ≡ out0.taken → None ≡ slice_get q.events q.taken
+    → q1 ≡ q → (out ≡ record out0 { events = q0.events }) × (q1 ≡ passed_on q0)
+all_passed out0 q0 b same taken none is =
+    let all = none_waits b none in (
+      ap₂ (λ es n. record { events = es; taken = n }) (all.0 ∙ same) taken,
+      is ∙ ap₂ (λ es n. record { events = es; taken = n }) same (all.1 ∙ ap length same),
+    )
+
+-- what the splitter's contract says of bytes up to a unit, where the stream goes on
+up_to_unit : {max : ℕ} {s s1 : SplitterState} {bytes : List ℕ} {used : ℕ} → TakesUnit max s bytes used s1 → s.ended ≡ false
+    → IsUpToUnit max s.bytes bytes used
+up_to_unit {max} {s} {s1} {bytes} {used} t on =
+    let more = s.bytes ++ take used bytes in
+    let is : s1 ≡ record s { bytes = more } = t.is ∙ rw on refl in
+    let now : unit_count max s1 ≡ length (units max more false) = ap (unit_count max) is ∙ ap (λ e. length (units max more e)) on in
+    let before : unit_count max s ≡ length (units max s.bytes false) = ap (λ e. length (units max s.bytes e)) on in
+    record {
+      within = t.within;
+      some = t.some;
+      one = omega (arith, now, before, t.one);
+      all = λ less. omega (arith, now, before, t.all less);
+    }
+
+-- bytes up to a unit were taken, and the unit handled
+pub fed_on : {max : ℕ} {P : Type 0} (old : Parts max P) (bytes : List ℕ) (used : ℕ) (s1 s2 : SplitterState) (t2 : Stream) → IsWorking max old
+    → TakesUnit max old.splitter bytes used s1 → IsStream t2 → HandlesAll max s1 s2 (stream_state old.stream) (stream_state t2)
+    → FeedsUnit max old bytes (record { used = used; read = t2.read })
+    (record { splitter = s2; stream = record t2 { queue = passed_on t2.queue }; outgoing = record old.outgoing { events = t2.queue.events } })
+fed_on {max} old bytes used s1 s2 t2 w t works h =
+    let s = old.splitter in
+    let more = s.bytes ++ take used bytes in
+    let is : s1 ≡ record s { bytes = more; ended = false } = t.is ∙ rw w.unended refl in
+    let now = h.splitter ∙ ap (λ (x : SplitterState). record x { taken = x.taken + length (drop x.taken (units max x.bytes x.ended)) }) is in
+    record {
+      used = up_to_unit t w.unended;
+      feeds = record {
+        now = record {
+          works = works;
+          passed = record { events = refl; taken = refl };
+          taken = refl;
+          going = ap (λ (x : SplitterState). x.failed) now ∙ w.going;
+          ends = ap (λ (x : SplitterState). x.ended) now;
+          bytes_are = ap (λ (x : SplitterState). x.bytes) now;
+          decoded = λ output d. of_stream t2 (decoded_fed output max s s2 (stream_state old.stream) (stream_state t2) (take used bytes) d
+              (subst (λ x. HandlesAll max x s2 (stream_state old.stream) (stream_state t2)) is h));
+        };
+        count = refl;
+      };
+    }
+
+-- the end was taken, and the last units handled
+pub ended_on : {max : ℕ} {P : Type 0} (old : Parts max P) (s1 s2 : SplitterState) (t2 t3 : Stream) → IsWorking max old
+    → s1 ≡ after_finish old.splitter → IsStream t3 → HandlesAll max s1 s2 (stream_state old.stream) (stream_state t2)
+    → stream_state t3 ≡ after_stream_end (stream_state t2)
+    → Ends max old t3.read
+    (record { splitter = s2; stream = record t3 { queue = passed_on t3.queue }; outgoing = record old.outgoing { events = t3.queue.events } })
+ended_on {max} old s1 s2 t2 t3 w is works h ends =
+    let s = old.splitter in
+    let now = h.splitter ∙ ap (λ (x : SplitterState). record x { taken = x.taken + length (drop x.taken (units max x.bytes x.ended)) }) is in
+    record {
+      now = record {
+        works = works;
+        passed = record { events = refl; taken = refl };
+        taken = refl;
+        going = ap (λ (x : SplitterState). x.failed) now ∙ w.going;
+        ends = ap (λ (x : SplitterState). x.ended) now;
+        bytes_are = ap (λ (x : SplitterState). x.bytes) now;
+        decoded = λ output d. of_stream t3 (decoded_finished output max s s2 (stream_state old.stream) (stream_state t2) (stream_state t3) d
+            (subst (λ x. HandlesAll max x s2 (stream_state old.stream) (stream_state t2)) is h) ends);
+      };
+      count = refl;
+    }
+
+-- before the first piece
+pub none_fed : {max : ℕ} {P : Type 0} (old : Parts max P) → IsWorking max old → HaveDecoded max old (old.splitter.bytes ++ []) false old
+none_fed old w = record {
+  works = w.stream;
+  passed = w.passed;
+  taken = refl;
+  going = w.going;
+  ends = w.unended;
+  bytes_are = sym (append-nil old.splitter.bytes);
+  decoded = λ output d. d;
+}
+
+-- the stream goes on
+pub works_on : {max : ℕ} {P : Type 0} {old new : Parts max P} {bytes : List ℕ} → HaveDecoded max old bytes false new → IsWorking max new
+works_on d = record { going = d.going; unended = d.ends; stream = d.works; passed = d.passed }
+
+-- one piece after another
+pub fed_more : {max : ℕ} {P : Type 0} {old mid new : Parts max P} (piece : List ℕ) (place used : ℕ) {read : ℕ}
+    → HaveDecoded max old (old.splitter.bytes ++ take place piece) false mid → Feeds max mid (take used (drop place piece)) read new
+    → HaveDecoded max old (old.splitter.bytes ++ take (place + used) piece) false new
+fed_more {old = old} piece place used a f =
+    let b = f.now in
+    record {
+      works = b.works;
+      passed = b.passed;
+      taken = b.taken ∙ a.taken;
+      going = b.going;
+      ends = b.ends;
+      bytes_are = b.bytes_are ∙ ap (λ bs. bs ++ take used (drop place piece)) a.bytes_are ∙ append_assoc old.splitter.bytes _ _
+          ∙ ap (λ bs. old.splitter.bytes ++ bs) (sym (take-add place used piece));
+      decoded = λ output d. b.decoded output (a.decoded output d);
+    }
 
 -- ---- the same of the whole decoder
 
@@ -262,45 +427,72 @@ pub going_on : {A : Type 0} (o : Option A) (none : Bool) → is_some o ≡ not n
 going_on o none e off = ap not e ∙ ap (λ b. not (not b)) off
 
 -- what the answer says
-pub ok_so : (P : ℕ → Type 0) (answer answer' : Result ℕ OutOfMemory) (read : ℕ) → IfOk answer P → answer' ≡ answer
+pub ok_so : {A : Type 0} (P : A → Type 0) (answer answer' : Result A OutOfMemory) (read : A) → IfOk answer P → answer' ≡ answer
     → answer' ≡ Ok read → P read
 ok_so P answer answer' read is same e = rw (sym same ∙ e) at is
 
+-- until its end the decoder's parts take bytes
+pub can_go_on : {max : ℕ} {P : Type 0} (m : Machine) (running : Option (Parts max P)) {read : ℕ} → IsDecoderState max m running read → m.ended ≡ false
+    → IfSome running (IsWorking max)
+can_go_on m None i unended = tt
+can_go_on m (Some p) i unended = record {
+  going = i.parts.decoded.going;
+  unended = i.parts.decoded.ends ∙ unended;
+  stream = i.parts.works;
+  passed = i.parts.passed;
+}
+
+-- these bytes were decoded, or the end was
+kept : {output : Output} {max : ℕ} {bytes : List ℕ} {ended : Bool} {taken : ℕ} {P : Type 0} (bytes' : List ℕ) (ended' : Bool)
+    (p p' : Parts max P) {failed : Bool} {read : ℕ} → AreParts max (machine_of output bytes ended taken failed) p → ended ≡ false
+    → HaveDecoded max p bytes' ended' p' → read ≡ p'.stream.read
+    → IsDecoderState max (machine_of output bytes' ended' taken false) (Some p') read
+kept {output} {max} bytes' ended' p p' i unended n count =
+    let d = n.decoded output (subst (λ e. IsDecoded output max p.splitter e (stream_state p.stream)) unended i.decoded) in
+    record {
+      count_is = count ∙ d.read ∙ ap (λ bs. turns output max bs ended') n.bytes_are;
+      parts = record { works = n.works; passed = n.passed; decoded = d; bytes = n.bytes_are; taken = n.taken ∙ i.taken };
+    }
+
 -- a piece more was handled
-pub kept_fed : {output : Output} {max : ℕ} {bytes : List ℕ} (bytes' piece : List ℕ) {ended : Bool} {taken : ℕ}
-    (running running' : Option (Parts max)) {read read' : ℕ}
+pub kept_fed : {output : Output} {max : ℕ} {bytes : List ℕ} {P : Type 0} (bytes' piece : List ℕ) {ended : Bool} {taken : ℕ}
+    (running running' : Option (Parts max P)) {read read' : ℕ}
     → IsDecoderState max (machine_of output bytes ended taken (is_none running)) running read
     → ended ≡ false → bytes' ≡ bytes ++ piece → FeedsIn max running piece read' running'
     → IsDecoderState max (machine_of output bytes' ended taken (is_none running')) running' read'
-kept_fed {output} {max} bytes' piece {ended} (Some p) (Some p') i unended given f =
-    let k = decoded_fed output max ended p.splitter p'.splitter (stream_state p.stream)
-    (stream_state p'.stream) piece i.parts.decoded unended f.handles in
-    let same : (p'.splitter).bytes ≡ bytes' = k.bytes_are ∙ ap (λ bs. bs ++ piece) i.parts.bytes ∙ sym given in
-    record {
-      count_is = f.count ∙ (k.decoded).read ∙ ap (λ bs. turns output max bs ended) same;
-      parts = record { works = f.works; decoded = k.decoded; bytes = same; taken = k.taken_are ∙ i.parts.taken };
-    }
+kept_fed bytes' piece (Some p) (Some p') i unended given f =
+    let same = ap (λ bs. bs ++ piece) i.parts.bytes ∙ sym given in
+    rw unended (kept bytes' false p p' i.parts unended (subst (λ bs. HaveDecoded _ p bs false p') same f.now) f.count)
 kept_fed bytes' piece _ _ i unended given f = absurd f
 
+-- bytes up to a unit were handled
+pub kept_fed_unit : {output : Output} {max : ℕ} {bytes : List ℕ} {P : Type 0} (bytes' all : List ℕ) {ended : Bool} {taken : ℕ}
+    (running running' : Option (Parts max P)) {read : ℕ} (fed : Fed)
+    → IsDecoderState max (machine_of output bytes ended taken (is_none running)) running read
+    → ended ≡ false → bytes' ≡ bytes ++ take fed.used all → FeedsUnitIn max running all fed running'
+    → IsDecoderState max (machine_of output bytes' ended taken (is_none running')) running' fed.read
+kept_fed_unit bytes' all (Some p) (Some p') fed i unended given f = kept_fed bytes' (take fed.used all) (Some p) (Some p') i unended given f.feeds
+kept_fed_unit bytes' all _ _ fed i unended given f = absurd f
+
+-- and how many they were
+pub fed_up_to : {max : ℕ} {P : Type 0} {m : Machine} (all : List ℕ) (running running' : Option (Parts max P)) {read : ℕ} (fed : Fed)
+    → IsDecoderState max m running read → FeedsUnitIn max running all fed running' → IsUpToUnit max m.bytes all fed.used
+fed_up_to {max} all (Some p) (Some p') fed i f = subst (λ bs. IsUpToUnit max bs all fed.used) i.parts.bytes f.used
+fed_up_to all _ _ fed i f = absurd f
+
 -- the end was handled
-pub kept_flushed : {output : Output} {max : ℕ} {bytes : List ℕ} {ended : Bool} {taken : ℕ}
-    (running running' : Option (Parts max)) {read read' : ℕ}
+pub kept_flushed : {output : Output} {max : ℕ} {bytes : List ℕ} {P : Type 0} {ended : Bool} {taken : ℕ}
+    (running running' : Option (Parts max P)) {read read' : ℕ}
     → IsDecoderState max (machine_of output bytes ended taken (is_none running)) running read
     → ended ≡ false → EndsIn max running read' running'
     → IsDecoderState max (machine_of output bytes true taken (is_none running')) running' read'
-kept_flushed {output} {max} {bytes} {ended} (Some p) (Some p') i unended f =
-    let k = decoded_finished output max ended p.splitter p'.splitter (stream_state p.stream) f.before
-    (stream_state p'.stream) i.parts.decoded unended f.handles f.ends in
-    let same : (p'.splitter).bytes ≡ bytes = k.bytes_are ∙ i.parts.bytes in
-    record {
-      count_is = f.count ∙ (k.decoded).read ∙ ap (λ bs. turns output max bs true) same;
-      parts = record { works = f.works; decoded = k.decoded; bytes = same; taken = k.taken_are ∙ i.parts.taken };
-    }
+kept_flushed {bytes = bytes} (Some p) (Some p') i unended f =
+    kept bytes true p p' i.parts unended (subst (λ bs. HaveDecoded _ p bs true p') i.parts.bytes f.now) f.count
 kept_flushed _ _ i unended f = absurd f
 
 -- memory was refused to a call with these bytes: the count is that before it
-pub kept_refused : {output : Output} {max : ℕ} {bytes : List ℕ} (bytes' piece : List ℕ) (ended ended' : Bool) {taken : ℕ}
-    (running running' : Option (Parts max)) {read : ℕ}
+pub kept_refused : {output : Output} {max : ℕ} {bytes : List ℕ} {P : Type 0} (bytes' piece : List ℕ) (ended ended' : Bool) {taken : ℕ}
+    (running running' : Option (Parts max P)) {read : ℕ}
     → IsDecoderState max (machine_of output bytes ended taken (is_none running)) running read
     → is_none running ≡ false → ended ≡ false → bytes' ≡ bytes ++ piece → running' ≡ None
     → IsDecoderState max (machine_of output bytes' ended' taken (is_none running')) running' read

@@ -164,11 +164,11 @@ mark_is e m = grind arith
 pub remarked : (e : Option Entry) (m n : Option Mark) → record (frame_of e m) { mark = n } ≡ frame_of e n
 remarked e m n = grind arith
 
-planes_are : (e : Option Entry) (m : Option Mark) → option_map padded_planes_of (frame_of e m).planes ≡ planes_in e
+planes_are : (e : Option Entry) (m : Option Mark) → (frame_of e m).planes ≡ planes_in e
 planes_are e m = grind arith
 
 pub sized_frame : (width height : ℕ) (e : Option Entry) (m : Option Mark) → IfSome (planes_in e) (AreSized width height) →
-    IfSome (frame_of e m).planes (λ p. AreSized width height (padded_planes_of p))
+    IfSome (frame_of e m).planes (AreSized width height)
 sized_frame width height e m h = grind arith
 
 shown_one : (e : Option Entry) (m : Option Mark) → (l : List _) → cons_option (shown_frame (frame_of e m)) l ≡ entry_pictures e ++ l

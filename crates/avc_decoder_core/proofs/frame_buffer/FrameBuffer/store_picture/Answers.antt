@@ -1,5 +1,5 @@
 use Rattle.avc_decoder_core.proofs.Sequences.{◌≡◌, ◌∙◌, ◌∷◌, ◌+◌, ◌-◌, length, map, ap, ap₂, refl, rules, to_z, of_z, w32, sym, subst, OnOk, false}
-use Rattle.avc_decoder_core.proofs.Sequences.{Err, arith, Faulty, NoMemory, order_counts, CanFollow, marked_frame, padded_planes_of}
+use Rattle.avc_decoder_core.proofs.Sequences.{Err, arith, Faulty, NoMemory, order_counts, CanFollow, marked_frame}
 use Rattle.avc_decoder_core.proofs.Sequences.{frame_num_after_marking, history_of, with_all_marks}
 use Rattle.avc_decoder_core.proofs.Sequences.{Entry, decoded_picture, marks_of, order_or_0, pasts, picture_entry, marked_then, IsTaken, few_marked}
 use Rattle.avc_decoder_core.proofs.Sequences.{refused, taken, frame_made, picture_arrival, picture_arrives, picture_previous}
@@ -15,7 +15,7 @@ returns-in_err-mark-clause-err c =
     let h = history_of i.history.items in
     let sps = c.args.sps.now in
     let header = c.args.header.now in
-    let planes = padded_planes_of c.args.planes in
+    let planes = c.args.planes in
     let e = decoded_picture sps header planes in
     let on : i.failed ≡ false = ap (λ v. v.failed) c.self.view_is ∙ c.requires.going in
     let before : h ≡ c.args.self.now.history = ap (λ v. v.history) c.self.view_is in
@@ -39,7 +39,7 @@ returns-in_err-more-clause-closed c =
 
 -- the entry
 abbrev entry : goal.After-self-4-1 → Entry
-entry c = decoded_picture c.args.sps.now c.args.header.now (padded_planes_of c.args.planes)
+entry c = decoded_picture c.args.sps.now c.args.header.now c.args.planes
 
 -- It has come to the history.
 record IsStored (c : goal.After-self-4-1) : Type 0 where
@@ -55,7 +55,7 @@ stored c =
     let h = history_of i.history.items in
     let sps = c.args.sps.now in
     let header = c.args.header.now in
-    let planes = padded_planes_of c.args.planes in
+    let planes = c.args.planes in
     let e = decoded_picture sps header planes in
     let on : i.failed ≡ false = ap (λ v. v.failed) c.self.view_is ∙ c.requires.going in
     let before : h ≡ c.args.self.now.history = ap (λ v. v.history) c.self.view_is in

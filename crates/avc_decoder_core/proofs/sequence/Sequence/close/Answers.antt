@@ -1,5 +1,5 @@
 use Rattle.avc_decoder_core.proofs.Sequences.{◌≡◌, ◌∙◌, ap, ap₂, sym, subst, false, Err, None, Some, Option, List, to_z, of_z, w32, rules, option_map}
-use Rattle.avc_decoder_core.proofs.Sequences.{Output, padded_planes_of, order_count_state, HistoryEntry, OpenPicture, Inside, history_of}
+use Rattle.avc_decoder_core.proofs.Sequences.{Output, order_count_state, HistoryEntry, OpenPicture, Inside, history_of}
 use Rattle.avc_decoder_core.proofs.Sequences.{FrameBufferState, output_at_closing, SequenceState, OpenPictureStart, History, marks_of}
 use Rattle.avc_decoder_core.proofs.Sequences.{pasts, sequence_sps, with_picture, IsSequenceState, IsStateOf, open_picture_of, IsRefusedOn, IsStoredOn}
 use Rattle.avc_decoder_core.proofs.Sequences.{can_store, closing_refused, current_is, is_closed, open_is, refused_on, set_then, stored_on, unchanged}
@@ -27,7 +27,7 @@ store_picture-requires c =
       sized = c.requires.sized (open_picture_of p) (sym (ap (λ (v : SequenceState). v.open_picture) c.self.view_is) ∙ ap (option_map open_picture_of) opened);
     }
 
-stored : (c : goal.After-self-in-Ok-2-1) → IsStoredOn c.in-Some.open_picture.sps c.in-Some.open_picture.header (padded_planes_of c.args.planes) c.self.inside.buffer c.in_ok-out-in-Ok.out.items c.store_picture.new.self
+stored : (c : goal.After-self-in-Ok-2-1) → IsStoredOn c.in-Some.open_picture.sps c.in-Some.open_picture.header c.args.planes c.self.inside.buffer c.in_ok-out-in-Ok.out.items c.store_picture.new.self
 stored c = stored_on _ _ _ _ _ _ _ _ _ c.in_ok-prior.ensures.ok c.in-Ok.ensures.ok c.in_ok-out-in-Ok.ensures
 
 pub invariant_of-self-in-Ok : goal.invariant_of-self-in-Ok
@@ -43,7 +43,7 @@ invariant_of-self-in-Ok c = λ going.
       counts = state.counts ∙ ap (λ l. order_count_state (pasts l)) (sym done.history);
       set =
           c.set_after-self-inside.ensures
-          ∙ set_then p.sps p.header (padded_planes_of c.args.planes) s.buffer.history c.take-in-Ok.result (c.take-in-Ok.ensures.value ∙ state.set)
+          ∙ set_then p.sps p.header c.args.planes s.buffer.history c.take-in-Ok.result (c.take-in-Ok.ensures.value ∙ state.set)
           ∙ ap sequence_sps (sym done.history);
     })
 
@@ -52,7 +52,7 @@ returns-in-Ok-clause-ok c o told =
     let s = c.self.inside in
     let old = c.args.self.now in
     let picture = c.in-Some.open_picture in
-    let planes = padded_planes_of c.args.planes in
+    let planes = c.args.planes in
     let opened : s.open_picture ≡ Some picture = sym c.take.ensures.value ∙ c.in-Some.is in
     let done = stored c in
     let output : s.buffer.output ≡ old.output = ap (λ (v : SequenceState). v.output) c.self.view_is in
@@ -67,7 +67,7 @@ returns-in-Ok-clause-ok c o told =
     ∙ ap (λ (m : Output). record { history = after; open_picture = None; frames = c.store_picture.new.self.frames; output = m; failed = false }) (done.output ∙ output))
     (done.pictures ∙ ap (λ (m : Output). output_at_closing m picture.header s.buffer.history after) output))
 
-not_stored : (c : goal.After-drop-prior) → IsRefusedOn c.in-Some.open_picture.sps c.in-Some.open_picture.header (padded_planes_of c.args.planes) c.self.inside.buffer c.in-Err-Fault.fault c.store_picture.new.self
+not_stored : (c : goal.After-drop-prior) → IsRefusedOn c.in-Some.open_picture.sps c.in-Some.open_picture.header c.args.planes c.self.inside.buffer c.in-Err-Fault.fault c.store_picture.new.self
 not_stored c =
     let p = c.in-Some.open_picture in
     let state = kept c.self.inside p c.self.invariant c.if-self.false (sym c.take.ensures.value ∙ c.in-Some.is) in
@@ -84,7 +84,7 @@ returns-in-Err-Fault-clause-err c o told =
     let s = c.self.inside in
     let old = c.args.self.now in
     let picture = c.in-Some.open_picture in
-    let planes = padded_planes_of c.args.planes in
+    let planes = c.args.planes in
     let opened : s.open_picture ≡ Some picture = sym c.take.ensures.value ∙ c.in-Some.is in
     let refused = not_stored c in
     let current = current_is (history_of s.closed.items) s.buffer.history s.open_picture s.buffer.frames s.buffer.output s.failed old (c.self.invariant c.if-self.false).stands c.self.view_is in

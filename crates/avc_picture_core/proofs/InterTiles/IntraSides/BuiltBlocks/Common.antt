@@ -41,10 +41,10 @@ pub use Rattle.avc_neigh.specs.declared.neighbour_info.Motion.TheVariants.{Inter
 pub use Rattle.avc_neigh.specs.declared.neighbour_info.NearMode.{NearMode}
 pub use Rattle.avc_neigh.specs.declared.neighbour_info.NearMode.TheVariants.{Absent as absent}
 pub use Rattle.avc_neigh.specs.declared.neighbour_info.NeighbourInfo.{NeighbourInfo}
-pub use Rattle.avc_plane.proofs.PlaneMaps.{plane_of_same, inside, no_line, block_lent, room_lent, sample-plane_of, sample-with_block, by_place}
+pub use Rattle.avc_plane.proofs.PlaneMaps.{plane_of_same, inside, no_line, block_lent, room_lent, sample-plane_of, sample-with_block, by_place, stride_wide}
 pub use Rattle.avc_plane.specs.Frames.{padded_planes_of, planes_of}
 pub use Rattle.avc_plane.specs.Lending.{with_rows}
-pub use Rattle.avc_plane.specs.Padded.{HaveSamples, stored_place}
+pub use Rattle.avc_plane.specs.Padded.{HaveSamples, stored_place, stride_of}
 pub use Rattle.avc_plane.specs.Plane.{Plane, sample, with_block, is_inside}
 pub use Rattle.avc_plane.specs.Planes.{Planes}
 pub use Rattle.avc_plane.specs.Strided.{IsStridedSet}

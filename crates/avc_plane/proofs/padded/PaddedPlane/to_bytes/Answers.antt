@@ -19,7 +19,8 @@ loop-y-preserved g c = c.in_ok-extend_from_slice.ensures.items ∙ row_more c.ar
 pub returns : goal.returns
 returns g c =
     let a = c.self.inside in
+    let wide = c.self.invariant.rows.wide in
     let long = c.self.invariant.rows.long in
-    let rows = (sizes g.row.PAD a.width a.height a.stored.items long _ c.self.view_is).1 in
-    let all = all_samples g.row.PAD a.width a.height a.stored.items long _ c.self.view_is in
+    let rows = (sizes g.row.PAD a.stride a.width a.height a.stored.items wide long _ c.self.view_is).1 in
+    let all = all_samples g.row.PAD a.stride a.width a.height a.stored.items wide long _ c.self.view_is in
     c.from_vec.ensures ∙ all_rows c.args.self.now c.loop-y.bytes.items c.loop-y.y all (omega arith) c.loop-y.invariant

@@ -5,4 +5,4 @@ pub returns : goal.returns
 returns g c =
     let a = c.self.inside in
     c.index.ensures
-    ∙ seen_sample g.row.PAD a.width a.height a.stored.items c.self.invariant.long _ c.self.view_is c.args.x c.args.y _ c.requires.column c.requires.row
+    ∙ seen_sample g.row.PAD a.stride a.width a.height a.stored.items c.self.invariant.wide c.self.invariant.long _ c.self.view_is c.args.x c.args.y _ c.requires.column c.requires.row

@@ -6,7 +6,7 @@ pub loop-row-init : goal.loop-row-init
 loop-row-init g c =
     let a = c.self.inside in
     no_line c.args.self.now c.args.left c.args.top c.args.width (λ x y. slice_index c.args.samples.now (c.args.width * y + x))
-    (all_samples g.row.PAD a.width a.height a.stored.items c.self.invariant.long _ c.self.view_is)
+    (all_samples g.row.PAD a.stride a.width a.height a.stored.items c.self.invariant.wide c.self.invariant.long _ c.self.view_is)
 
 pub loop-row-preserved : goal.loop-row-preserved
 loop-row-preserved g c =

@@ -1,4 +1,4 @@
-use Rattle.avc_tools.proofs.Pieces.{◌++◌, ap, ◌∙◌, flat_map, kept_bytes, made_first}
+use Rattle.avc_tools.proofs.Taking.{◌++◌, ap, ◌∙◌, flat_map, kept_bytes, made_first}
 use Rattle.avc_tools.proofs.cutter.Cutter.begin.Goals as goal
 
 pub returns-clause-piece : goal.returns-clause-piece

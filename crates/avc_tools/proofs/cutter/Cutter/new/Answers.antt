@@ -1,4 +1,4 @@
-use Rattle.avc_tools.proofs.Pieces.{refl, stands_new}
+use Rattle.avc_tools.proofs.Taking.{refl, stands_new}
 use Rattle.avc_tools.proofs.cutter.Cutter.new.Goals as goal
 
 pub returns : goal.returns

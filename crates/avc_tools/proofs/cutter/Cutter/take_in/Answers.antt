@@ -1,4 +1,4 @@
-use Rattle.avc_tools.proofs.Pieces.{stays_as_it_is}
+use Rattle.avc_tools.proofs.Taking.{stays_as_it_is}
 use Rattle.avc_tools.proofs.cutter.Cutter.take_in.Goals as goal
 
 pub returns-in-Over : goal.returns-in-Over

@@ -1,4 +1,4 @@
-use Rattle.avc_tools.proofs.Pieces.{sym, ◌∙◌, true, false, arith, begins, waits_on}
+use Rattle.avc_tools.proofs.Taking.{sym, ◌∙◌, true, false, arith, begins, waits_on}
 use Rattle.avc_tools.proofs.cutter.Cutter.wait_on.Goals as goal
 
 pub returns-then-self-eq0 : goal.returns-then-self-eq0

@@ -1,4 +1,4 @@
-use Rattle.avc_tools.proofs.Pieces.{◌++◌, ap, ◌∙◌, held_written, nothing_held}
+use Rattle.avc_tools.proofs.Taking.{◌++◌, ap, ◌∙◌, held_written, nothing_held}
 use Rattle.avc_tools.proofs.cutter.Cutter.write_held.Goals as goal
 
 pub returns-in-Waiting : goal.returns-in-Waiting

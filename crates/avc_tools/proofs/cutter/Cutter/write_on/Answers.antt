@@ -1,4 +1,4 @@
-use Rattle.avc_tools.proofs.Pieces.{◌++◌, [], refl, ap, sym, ◌∙◌, if◌then◌else◌, not, written, piece_ends_by, piece_goes_on, goes_on_by_slice}
+use Rattle.avc_tools.proofs.Taking.{◌++◌, [], refl, ap, sym, ◌∙◌, if◌then◌else◌, not, written, piece_ends_by, piece_goes_on, goes_on_by_slice}
 use Rattle.avc_tools.proofs.cutter.Cutter.write_on.Goals as goal
 
 pub returns-then-branch : goal.returns-then-branch

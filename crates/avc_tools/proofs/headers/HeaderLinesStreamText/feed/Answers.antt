@@ -1,4 +1,4 @@
-use Rattle.avc_tools.proofs.Pieces.{ap, ◌∙◌, arith, max_unit, left_by_feed, header_lines_added, shown_again}
+use Rattle.avc_tools.proofs.Taking.{ap, ◌∙◌, arith, max_unit, left_by_feed, header_lines_added, shown_again}
 use Rattle.avc_tools.proofs.headers.HeaderLinesStreamText.feed.Goals as goal
 
 pub invariant_of-self-2 : goal.invariant_of-self-2

@@ -1,4 +1,4 @@
-use Rattle.avc_tools.proofs.Pieces.{header_lines_grow}
+use Rattle.avc_tools.proofs.Taking.{header_lines_grow}
 use Rattle.avc_tools.proofs.headers.HeaderLinesStreamText.text_only_grows.Goals as goal
 
 pub returns : goal.returns

@@ -1,4 +1,4 @@
-use Rattle.avc_tools.proofs.Pieces.{ap, sym, ◌∙◌, arith, max_unit, begun_in, either_begun, tells_begun}
+use Rattle.avc_tools.proofs.Taking.{ap, sym, ◌∙◌, arith, max_unit, begun_in, either_begun, tells_begun}
 use Rattle.avc_tools.proofs.piece_text.PieceText.has_begun.Goals as goal
 
 pub returns-in-Waiting : goal.returns-in-Waiting

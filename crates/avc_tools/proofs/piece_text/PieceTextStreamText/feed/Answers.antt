@@ -1,5 +1,5 @@
-use Rattle.avc_tools.proofs.Pieces.{◌++◌, ap, sym, ◌∙◌, arith, append-nil, max_unit, piece_text, left_by_feed, cutting_again, feed_keeps_end}
-use Rattle.avc_tools.proofs.Pieces.{stays_by_piece, text_fed}
+use Rattle.avc_tools.proofs.Taking.{◌++◌, ap, sym, ◌∙◌, arith, append-nil, max_unit, piece_text, left_by_feed, cutting_again, feed_keeps_end}
+use Rattle.avc_tools.proofs.Taking.{stays_by_piece, text_fed}
 use Rattle.avc_tools.proofs.piece_text.PieceTextStreamText.feed.Goals as goal
 
 pub invariant_of-self-2 : goal.invariant_of-self-2

@@ -1,4 +1,4 @@
-use Rattle.avc_tools.proofs.Pieces.{ap, sym, ◌∙◌, arith, max_unit, either_not_over, over_in, tells_over}
+use Rattle.avc_tools.proofs.Taking.{ap, sym, ◌∙◌, arith, max_unit, either_not_over, over_in, tells_over}
 use Rattle.avc_tools.proofs.piece_text.PieceTextStreamText.is_over.Goals as goal
 
 pub returns-in-Waiting : goal.returns-in-Waiting

@@ -1,4 +1,4 @@
-use Rattle.avc_tools.proofs.Pieces.{piece_text_grows}
+use Rattle.avc_tools.proofs.Taking.{piece_text_grows}
 use Rattle.avc_tools.proofs.piece_text.PieceTextStreamText.text_only_grows.Goals as goal
 
 pub returns : goal.returns

@@ -1,4 +1,4 @@
-use Rattle.avc_tools.proofs.Pieces.{ap, ◌∙◌, drained, left_by_finish, unit_lines_added}
+use Rattle.avc_tools.proofs.Taking.{ap, ◌∙◌, drained, left_by_finish, unit_lines_added}
 use Rattle.avc_tools.proofs.units.UnitLinesStreamText.finish.Goals as goal
 
 pub invariant_of-self-2 : goal.invariant_of-self-2

@@ -1,4 +1,4 @@
-use Rattle.avc_tools.proofs.Pieces.{unit_lines_grow}
+use Rattle.avc_tools.proofs.Taking.{unit_lines_grow}
 use Rattle.avc_tools.proofs.units.UnitLinesStreamText.text_only_grows.Goals as goal
 
 pub returns : goal.returns

@@ -44,7 +44,7 @@ pub use Rattle.avc_params.specs.Within.{IsSps}
 pub use Rattle.avc_params.specs.declared.sps.Sps.{Sps}
 pub use Rattle.avc_params.specs.declared.vui.Restriction.{Restriction}
 pub use Rattle.avc_params.specs.declared.vui.Vui.{Vui}
-pub use Rattle.avc_plane.specs.Frames.{marked_frame, padded_planes_of, stored_at, stored_frame, AreSized, AreFrames}
+pub use Rattle.avc_plane.specs.Frames.{marked_frame, stored_at, stored_frame, AreSized, AreFrames}
 pub use Rattle.avc_plane.specs.Planes.{Planes}
 pub use Rattle.avc_plane.specs.declared.frame.Frame.{Frame}
 pub use Rattle.avc_poc.specs.OrderCountState.{OrderCountState, order_count_state, count_pair, pair, with_missing_from}

@@ -417,13 +417,14 @@ finished s c w planes r answer closes =
     (ap (λ ps. history_after_closing o.sps (first_header o) ps h) (sym made) ∙ closes)
 
 pub closes_done : {s s' : SequenceState} {q q' : QueueState} {n : ℕ} {table : List SetUnit} (c : CurrentPicture)
-    (planes : PaddedPlanes 32) (out : List Decoded) → IsOpenIn s c → IsFinishAnswer c.decoder (Ok planes)
-    → ((p : OpenPictureStart) → s.open_picture ≡ Some p → IsClosed s p (padded_planes_of planes) out s')
+    (planes : PaddedPlanes 32) (shared : Planes) (out : List Decoded) → IsOpenIn s c → IsFinishAnswer c.decoder (Ok planes)
+    → shared ≡ padded_planes_of planes
+    → ((p : OpenPictureStart) → s.open_picture ≡ Some p → IsClosed s p shared out s')
     → q' ≡ with_events (pictures out) q
     → ComesTo s.output q n table (closed_in s.output (phase_of s (Running (Some c)))) s' (Running None) q' n table
-closes_done {s} {s'} {q} {q'} {n} {table} c planes out w answer closed eq =
+closes_done {s} {s'} {q} {q'} {n} {table} c planes shared out w answer same closed eq =
     let o = opened_as s c.decoder w.last w.earlier in
-    let k = closed _ w.open_picture in
+    let k = rw same at (closed _ w.open_picture) in
     let stands = sym (history_is o (current_history s) (stands_as s c w)) in
     rw (opened_phase s c w, finished s c w planes (Ok s'.history) answer k.closes) (record {
       works = record {
@@ -442,16 +443,17 @@ closes_done {s} {s'} {q} {q'} {n} {table} c planes out w answer closed eq =
     })
 
 -- it could not be marked
-pub closes_unmarked : (t t' : Stream) (between : SequenceState) (c : CurrentPicture) (planes : PaddedPlanes 32) {f : Fault}
+pub closes_unmarked : (t t' : Stream) (between : SequenceState) (c : CurrentPicture) (planes : PaddedPlanes 32) (shared : Planes) {f : Fault}
     {e : PictureError} → IsOpenIn t.sequence c → IsFinishAnswer c.decoder (Ok planes)
+    → shared ≡ padded_planes_of planes
     → ((p : OpenPictureStart) → t.sequence.open_picture ≡ Some p
-    → Fails t.sequence (history_after_closing p.sps p.header (padded_planes_of planes) (current_history t.sequence)) e between) → e ≡ Faulty f
+    → Fails t.sequence (history_after_closing p.sps p.header shared (current_history t.sequence)) e between) → e ≡ Faulty f
     → WaitsAfter (record t { sequence = between }) (failed_at between.output (current_history between) c.last_unit f 0).events t'
     → HasOutcome t (closed_in t.sequence.output (phase_of t.sequence (Running (Some c)))) t'
-closes_unmarked t t' between c planes {f} w answer refuses is stops =
+closes_unmarked t t' between c planes shared {f} w answer same refuses is stops =
     let s = t.sequence in
     let k : (s.failed ≡ false) × (between ≡ s) × (history_after_closing (c.decoder).sps
-    (oldest w.last w.earlier).header (padded_planes_of planes) (current_history s) ≡ Err f) = rw is at (refuses _ w.open_picture) in
+    (oldest w.last w.earlier).header (padded_planes_of planes) (current_history s) ≡ Err f) = rw (is, same) at (refuses _ w.open_picture) in
     fails t t' c f w (finished s c w planes (Err f) answer k.2 ∙ rw w.unit refl) (rw k.1 at stops)
 
 -- the planes have the size of the picture that is open

@@ -2,11 +2,11 @@
 pub use Rattle.std.proofs.Common.{ap, sym, subst, ◌∙◌, ap₂, arith, append-nil, append_assoc, add_assoc, drop, add-one, add-zero, le_of_eq, le_trans}
 pub use Rattle.std.proofs.Common.{length-append, get_or, rules}
 pub use Rattle.std.proofs.Math.Bool.{and-true}
-pub use Rattle.std.proofs.Math.Seq.{drop-length, drop-append_seam, take-append_seam}
+pub use Rattle.std.proofs.Math.Seq.{drop-length, drop-append_seam, take-append_seam, take-add}
 pub use Rattle.std.proofs.lemmas.Bool.{eqb-true, not-true, false≢true}
 pub use Rattle.std.proofs.lemmas.Bool.Decides.{nat_tests}
 pub use Rattle.std.proofs.lemmas.Grind.{flat_map-append}
-pub use Rattle.std.proofs.lemmas.List.{map-append, drop-map, length-map, take-append-drop, take-map, take-append-le, take_more}
+pub use Rattle.std.proofs.lemmas.List.{map-append, drop-map, length-map, take-append-drop, take-map, take-append-le, take_more, length_push, length-drop, take_rest}
 pub use Rattle.std.proofs.lemmas.List.Elements.{All-cons, All-take, All-nil, All-head, All-tail, All-append, All-weaker}
 pub use Rattle.std.proofs.lemmas.List.Folds.{list_all-append}
 pub use Rattle.std.proofs.lemmas.Option.{slice_get-get_or, slice_get_within}
@@ -58,7 +58,7 @@ pub use Rattle.avc_picture.specs.Decoding.{IsFinishAnswer, fault_at_end, no_slic
 pub use Rattle.avc_picture.specs.Sizes.{IsSized, PicturesAreSized}
 pub use Rattle.avc_picture.specs.Slices.{is_full, Progress, progress, coded_of, PictureStart, read_whole, with_first_fault, with_reference_list}
 pub use Rattle.avc_picture.specs.Slices.{with_slice as with_slice_read, with_unit}
-pub use Rattle.avc_plane.specs.Frames.{AreFrames, marked_frame, stored_at, AreSized, padded_planes_of}
+pub use Rattle.avc_plane.specs.Frames.{AreFrames, marked_frame, stored_at, AreSized, padded_planes_of, subsampled_of_size}
 pub use Rattle.avc_plane.specs.Planes.{Planes}
 pub use Rattle.avc_plane.specs.declared.frame.Frame.{Frame}
 pub use Rattle.avc_plane.specs.declared.frame.PaddedPlanes.{PaddedPlanes}
@@ -102,19 +102,21 @@ pub use Rattle.avc_decoder.specs.FirstFault.{history_of, read_of, oldest, pictur
 pub use Rattle.avc_decoder.specs.Headline.{SinceReset, no_call, with_call, since_reset, defined_events, TakesThem, TakesAll}
 pub use Rattle.avc_decoder.specs.Laws.{EventsOnlyGrow, state_through, renumbered, PicturesAreWhole, is_picture, StartUnitsBeginAnew, CanStart, HaveOwnNumbers}
 pub use Rattle.avc_decoder.specs.Laws.{StartsAnew, closing_events, PicturesNameNoUnits}
-pub use Rattle.avc_decoder.specs.Machine.{Machine, IsFeedAnswer, new_machine, Run, IsCallAnswer, after_flush, after_take, next_event, after_feed as after_call}
+pub use Rattle.avc_decoder.specs.Machine.{Machine, IsFeedAnswer, IsUpToUnit, new_machine, Run, IsCallAnswer, after_flush, after_take, next_event, after_feed as after_call}
 pub use Rattle.avc_decoder.specs.PictureFrames.{CanHave, HasItsFrames, IsISlice, frames_for, progress_on_history, read_of_slice, start_with}
-pub use Rattle.avc_decoder.specs.QueueState.{QueueState, with_events}
+pub use Rattle.avc_decoder.specs.QueueState.{QueueState, IsBehind, after_queue_take, passed_on, with_events}
 pub use Rattle.avc_decoder.specs.States.{ComesTo, HasOutcome, IsOpenIn, Stops, WaitsAfter, closed_in, more_read, open_picture_from, phase_of, Decodes}
 pub use Rattle.avc_decoder.specs.States.{DecodesAs, IsNamed, Works, current_in, HasAnswered, IsAnswerIn, picture_answer, with_last, IsPhase, is_waiting_in}
 pub use Rattle.avc_decoder.specs.States.{last_header_in, FitsPhase, HasStep, StreamState, after_stream_end, after_unit_in_stream, stream_state, EndsIn, FeedsIn}
-pub use Rattle.avc_decoder.specs.States.{HandlesAll, IsDecoded, IsDecoderState, after_units_in_stream, IsStream}
+pub use Rattle.avc_decoder.specs.States.{HandlesAll, IsDecoded, IsDecoderState, after_units_in_stream, IsStream, queue_in, ArePassedOn, AreParts, IsWorking, HaveDecoded}
+pub use Rattle.avc_decoder.specs.States.{Feeds, FeedsUnit, FeedsUnitIn, Ends}
+pub use Rattle.avc_decoder.specs.declared.parts.Fed.{Fed}
 pub use Rattle.avc_decoder.specs.declared.calls.Call.{Call}
 pub use Rattle.avc_decoder.specs.declared.calls.Call.TheVariants.{Feed, Take, Flush, Reset}
 pub use Rattle.avc_decoder.specs.declared.calls.Reply.{Reply}
 pub use Rattle.avc_decoder.specs.declared.error.DecodeError.{DecodeError}
 pub use Rattle.avc_decoder.specs.declared.error.DecodeError.TheVariants.{OutOfMemory as NoMemory, Ended}
-pub use Rattle.avc_decoder.specs.declared.event.Event.{Event}
+pub use Rattle.avc_decoder.specs.SeenEvents.{Event, seen_answer, seen_event, seen_if_any}
 pub use Rattle.avc_decoder.specs.declared.event.Event.TheVariants.{Picture, Refused}
 pub use Rattle.avc_decoder.specs.declared.parts.Parts.{Parts}
 pub use Rattle.avc_decoder.specs.declared.phase.CurrentPicture.{CurrentPicture}

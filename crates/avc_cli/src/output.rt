@@ -1,0 +1,65 @@
+//! The file that is written.
+
+use std::fs::{File, metadata};
+use std::io;
+use std::io::Write;
+use std::os::unix::fs::MetadataExt;
+
+/// What leads to the standard input, by name.
+const STANDARD_INPUT: &str = "/dev/stdin";
+
+/// A file that is made, or emptied, by the first bytes that are written to it: a command that writes nothing leaves an old one as it was.
+#[derive(Drop)]
+pub struct OutputFile<'a> {
+    rt: &'a HostRuntime,
+    name: &'a str,
+    // none before the first bytes
+    file: Option<File>,
+}
+
+impl<'a> OutputFile<'a> {
+    /// The file of this name, not yet made.
+    pub fn new(rt: &'a HostRuntime, name: &'a str) -> OutputFile<'a> {
+        OutputFile {
+            rt,
+            name,
+            file: None,
+        }
+    }
+}
+
+impl Write for OutputFile<'_> {
+    ghost use Rattle.std.specs.Prelude.{None};
+
+    ghost contents = { λ _. None };
+
+    fn write(&mut self, buf: &[u8]) -> io::Result<usize> {
+        if buf.is_empty() {
+            return Ok(0);
+        }
+        if let Some(file) = &mut self.file {
+            return file.write(buf);
+        }
+        let mut file = File::create(self.rt, self.name)?;
+        let taken = file.write(buf);
+        self.file = Some(file);
+        taken
+    }
+
+    fn flush(&mut self) -> io::Result<()> {
+        Ok(())
+    }
+}
+
+/// Whether the file that is read, by name or as the standard input, is also the one that is written, through links too. What is no file on
+/// a disk, as a terminal or a pipe, loses nothing by that.
+pub fn is_input(rt: &HostRuntime, input: Option<&str>, output: &str) -> bool {
+    let read = metadata(rt, input.unwrap_or(STANDARD_INPUT));
+    let written = metadata(rt, output);
+    match (read, written) {
+        (Ok(read), Ok(written)) => {
+            read.is_file() && read.dev() == written.dev() && read.ino() == written.ino()
+        }
+        _ => false,
+    }
+}

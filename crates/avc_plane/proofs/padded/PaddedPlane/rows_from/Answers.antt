@@ -1,0 +1,7 @@
+use Rattle.avc_plane.proofs.PlaneMaps.{refl, seen_from}
+use Rattle.avc_plane.proofs.padded.PaddedPlane.rows_from.Goals as goal
+
+pub returns : goal.returns
+returns g c =
+    let a = c.self.inside in
+    seen_from g.row.PAD a.stride a.width a.height a.stored.items c.self.invariant.rows.wide c.self.invariant.rows.long _ c.self.view_is _ c.args.x c.args.y _ c.deref.ensures.value refl

@@ -1,0 +1,359 @@
+// Streams of a few bytes whose events can be worked out by hand, with memory that is there: a call that always wanted some would
+// keep its contract. Each is decoded to its samples, its refusals and its count of macroblocks.
+use crate::limited_writer::{LimitedWriter, Refusal};
+use avc_annexb::Splitter;
+use avc_decoder::{Call, DecodeError, Decoder, Event, Output, Reply, run_calls};
+use avc_run::{RunFault, run};
+use avc_types::{Bytes, OutOfMemory, Picture};
+use avc_units::{Grouper, Next};
+use std::alloc::{AllocError, Global};
+use std::io;
+use std::io::{ErrorKind, Read};
+use std::test::Fail;
+
+// A sequence parameter set of a 16x16 picture, a picture parameter set, and an IDR picture of one Intra 16x16 macroblock.
+const FIRST: &[u8] = &[
+    0, 0, 0, 1, 0x67, 0x42, 0xC0, 0x0A, 0xDA, 0x71, 0, 0, 0, 1, 0x68, 0xCE, 0x38, 0x80, 0, 0, 1, 0x65,
+    0x88, 0x84, 0x93, 0xC0,
+];
+
+// The sets alone, and the slice of an I_PCM macroblock up to its samples.
+const SETS: &[u8] = &[
+    0, 0, 0, 1, 0x67, 0x42, 0xC0, 0x0A, 0xDA, 0x71, 0, 0, 0, 1, 0x68, 0xCE, 0x38, 0x80,
+];
+
+const PCM: &[u8] = &[0, 0, 1, 0x65, 0x88, 0x84, 0x86, 0x80];
+
+// A second IDR slice of an I_PCM macroblock, of another idr_pic_id and with no_output_of_prior_pics_flag 1, up to its samples.
+const SECOND_PCM: &[u8] = &[0, 0, 1, 0x65, 0x88, 0x82, 0xA1, 0xA0];
+
+// The byte that ends a slice behind its samples.
+const STOP: &[u8] = &[0x80];
+
+// Two pictures, of a set by which one frame is held and none is reordered, and what shows the end of the second.
+const ONE_HELD: &[u8] = &[
+    0, 0, 0, 1, 0x67, 0x42, 0xC0, 0x0A, 0xDA, 0x72, 0x01, 0xFD, 0x40, 0, 0, 0, 1, 0x68, 0xCE, 0x38, 0x80,
+    0, 0, 1, 0x65, 0x88, 0x84, 0x93, 0xC0, 0, 0, 1, 0x41, 0x9A, 0x22, 0xA0, 0, 0, 1, 9, 0, 0, 1,
+];
+
+// A picture of 16x32 samples in two slices, the lower one 136.
+const TWO_SLICES: &[u8] = &[
+    0, 0, 0, 1, 0x67, 0x42, 0xC0, 0x0A, 0xDA, 0x54, 0x40, 0, 0, 0, 1, 0x68, 0xCE, 0x38, 0x80, 0, 0, 1,
+    0x65, 0x88, 0x84, 0x93, 0xC0, 0, 0, 1, 0x65, 0x42, 0x21, 0x24, 0xC5, 0x00, 0x02, 0x58,
+];
+
+fn joined(alloc: Global, parts: &[&[u8]]) -> Result<Vec<u8>, AllocError> {
+    let mut bytes = Vec::new(alloc);
+    for part in parts {
+        bytes.extend_from_slice(part)?;
+    }
+    Ok(bytes)
+}
+
+// The sum of the samples of a picture, and how many there are.
+fn summed(picture: &Picture) -> (u64, u64) {
+    let components = [&picture.luma, &picture.cb, &picture.cr];
+    let mut sum = 0u64;
+    let mut count = 0u64;
+    for component in components {
+        for sample in component.as_slice() {
+            sum = sum.saturating_add(u64::from(*sample));
+            count = count.saturating_add(1);
+        }
+    }
+    (sum, count)
+}
+
+// Whether all 384 samples of a 16x16 picture are this one.
+fn is_flat(picture: &Picture, value: u8) -> bool {
+    for component in [&picture.luma, &picture.cb, &picture.cr] {
+        for sample in component.as_slice() {
+            if *sample != value {
+                return false;
+            }
+        }
+    }
+    summed(picture).1 == 384
+}
+
+// How many of the next five events are such pictures, and how many are others.
+fn flat_pictures(decoder: &mut Decoder<1000>, value: u8) -> Result<(usize, usize), DecodeError> {
+    let mut flat = 0usize;
+    let mut others = 0usize;
+    for _ in 0..5 {
+        match decoder.take()? {
+            Some(Event::Picture(picture)) if is_flat(&picture, value) => flat = flat.saturating_add(1),
+            Some(_) => others = others.saturating_add(1),
+            None => {}
+        }
+    }
+    Ok((flat, others))
+}
+
+// What comes of these bytes before the end, which are fed in such pieces, and behind it, and how many macroblocks are counted.
+fn fed_by(
+    decoder: &mut Decoder<1000>,
+    bytes: &[u8],
+    piece: usize,
+    value: u8,
+) -> Result<([(usize, usize); 2], u64), DecodeError> {
+    let mut before = (0usize, 0usize);
+    for part in bytes.chunks(piece.max(1)) {
+        decoder.feed(part)?;
+        let (flat, others) = flat_pictures(decoder, value)?;
+        before = (before.0.saturating_add(flat), before.1.saturating_add(others));
+    }
+    decoder.flush()?;
+    let after = flat_pictures(decoder, value)?;
+    Ok(([before, after], decoder.turns()))
+}
+
+fn events_of(
+    alloc: Global,
+    output: Output,
+    bytes: &[u8],
+    piece: usize,
+    value: u8,
+) -> Result<([(usize, usize); 2], u64), DecodeError> {
+    let mut decoder = Decoder::<1000>::new(alloc, output);
+    fed_by(&mut decoder, bytes, piece, value)
+}
+
+// The picture comes at the end alone, however the bytes come, and with two zeros behind them.
+#[test]
+fn one_picture_comes_at_the_end(rt: HostRuntime) -> Result<(), Fail> {
+    let alloc = rt.alloc();
+    let with_zeros = joined(alloc, &[FIRST, &[0, 0]])?;
+    for piece in [1, 7, 1000] {
+        assert_eq!(rt; events_of(alloc, Output::Full, FIRST, piece, 128)?, ([(0, 0), (1, 0)], 1));
+        assert_eq!(rt; events_of(alloc, Output::Full, &with_zeros, piece, 128)?, ([(0, 0), (1, 0)], 1));
+    }
+    Ok(())
+}
+
+// A decoder that has one frame hands out the first picture once the second has ended, and the second at the end; early, both at once.
+#[test]
+fn one_frame_is_held(rt: HostRuntime) -> Result<(), Fail> {
+    let alloc = rt.alloc();
+    for piece in [1, 1000] {
+        assert_eq!(rt; events_of(alloc, Output::Full, ONE_HELD, piece, 128)?, ([(1, 0), (1, 0)], 2));
+        assert_eq!(rt; events_of(alloc, Output::Early, ONE_HELD, piece, 128)?, ([(2, 0), (0, 0)], 2));
+    }
+    Ok(())
+}
+
+// The first picture is dropped by the flag of the second, whose samples are all 0x50.
+#[test]
+fn the_second_drops_the_first(rt: HostRuntime) -> Result<(), Fail> {
+    let alloc = rt.alloc();
+    let first = [128; 384];
+    let second = [0x50; 384];
+    let bytes = joined(alloc, &[SETS, PCM, &first, STOP, SECOND_PCM, &second, STOP])?;
+    assert_eq!(rt; events_of(alloc, Output::Full, &bytes, 1000, 0x50)?, ([(0, 0), (1, 0)], 2));
+    Ok(())
+}
+
+// The sum of the samples of the picture, how many there are, and how many macroblocks were counted.
+fn picture_of_two_slices(decoder: &mut Decoder<1000>) -> Result<((u64, u64), u64), DecodeError> {
+    decoder.feed(TWO_SLICES)?;
+    decoder.flush()?;
+    match decoder.take()? {
+        Some(Event::Picture(picture)) => Ok((summed(&picture), decoder.turns())),
+        _ => Ok(((0, 0), decoder.turns())),
+    }
+}
+
+fn two_slices_in(alloc: Global) -> Result<((u64, u64), u64), DecodeError> {
+    let mut decoder = Decoder::<1000>::new(alloc, Output::Full);
+    picture_of_two_slices(&mut decoder)
+}
+
+// Each of 16 luma columns is 15 times 128, 130, 134, 15 times 136, and each of 256 chroma samples 128.
+#[test]
+fn two_slices_are_two_macroblocks(rt: HostRuntime) -> Result<(), Fail> {
+    let luma = 16 * (15 * 128 + 130 + 134 + 15 * 136);
+    assert_eq!(rt; two_slices_in(rt.alloc())?, ((luma + 256 * 128, 768), 2));
+    Ok(())
+}
+
+// How many answers say that the call was carried out, how many are a picture of 128, and how many that there is no event.
+fn told(replies: &[Reply]) -> (usize, usize, usize) {
+    let mut done = 0usize;
+    let mut pictures = 0usize;
+    let mut nothing = 0usize;
+    for reply in replies {
+        match reply {
+            Reply::Fed(Ok(())) | Reply::Flushed(Ok(())) => done = done.saturating_add(1),
+            Reply::Taken(Ok(Some(Event::Picture(picture)))) if is_flat(picture, 128) => {
+                pictures = pictures.saturating_add(1)
+            }
+            Reply::Taken(Ok(None)) => nothing = nothing.saturating_add(1),
+            _ => {}
+        }
+    }
+    (done, pictures, nothing)
+}
+
+fn run_of_the_first(alloc: Global) -> Result<(usize, usize, usize), OutOfMemory> {
+    let mut bytes = Vec::new(alloc);
+    bytes.extend_from_slice(FIRST)?;
+    let calls = [
+        Call::Take,
+        Call::Feed(Bytes::from_vec(bytes)),
+        Call::Take,
+        Call::Flush,
+        Call::Take,
+        Call::Take,
+    ];
+    let replies = run_calls::<1000>(alloc, Output::Full, &calls)?;
+    Ok(told(replies.as_slice()))
+}
+
+#[test]
+fn a_list_of_calls_is_answered(rt: HostRuntime) -> Result<(), Fail> {
+    assert_eq!(rt; run_of_the_first(rt.alloc())?, (2, 1, 3));
+    Ok(())
+}
+
+// What a step does next, as a number.
+fn number_of(next: &Next) -> u8 {
+    match next {
+        Next::Nothing => 0,
+        Next::Refusal(_) => 1,
+        Next::FaultOfOpen(_) => 2,
+        Next::FaultOfOwn(_) => 3,
+        Next::Begins(_) => 4,
+        Next::Continues(_) => 5,
+    }
+}
+
+// What the units of the stream do, each with whether it closes the open picture; 9 where there is no unit.
+fn steps_of(
+    splitter: &mut Splitter<1000>,
+    grouper: &mut Grouper,
+) -> Result<[(bool, u8); 4], OutOfMemory> {
+    splitter.feed(FIRST)?;
+    splitter.feed(&[0, 0, 1, 9, 0x10])?;
+    splitter.finish()?;
+    let mut steps = [(false, 9); 4];
+    for k in 0..4 {
+        if let Some(unit) = splitter.next_unit() {
+            let step = grouper.unit(&unit, true)?;
+            steps[k] = (step.closes, number_of(&step.next));
+        }
+    }
+    Ok(steps)
+}
+
+fn steps_in(alloc: Global) -> Result<[(bool, u8); 4], OutOfMemory> {
+    let mut splitter = Splitter::<1000>::new(alloc);
+    let mut grouper = Grouper::new(alloc);
+    steps_of(&mut splitter, &mut grouper)
+}
+
+// Both sets do nothing more than to come into force, the slice begins a picture, and the delimiter closes it.
+#[test]
+fn units_are_grouped(rt: HostRuntime) -> Result<(), Fail> {
+    let steps = steps_in(rt.alloc())?;
+    assert_eq!(rt; [steps[0].1, steps[1].1], [0, 0]);
+    assert_eq!(rt; [steps[2], steps[3]], [(false, 4), (true, 0)]);
+    Ok(())
+}
+
+// Gives these bytes, and then fails.
+#[derive(Drop)]
+struct FailingReader<'a> {
+    bytes: &'a [u8],
+}
+
+impl Read for FailingReader<'_> {
+    fn read(&mut self, buf: &mut [u8]) -> io::Result<usize> {
+        if self.bytes.is_empty() {
+            return Err(ErrorKind::BrokenPipe.into());
+        }
+        let count = self.bytes.len().min(buf.len());
+        buf[..count].copy_from_slice(&self.bytes[..count]);
+        self.bytes = &self.bytes[count..];
+        Ok(count)
+    }
+}
+
+// What ended the run, where it is not want of memory, and how much of the writer's room is left.
+fn run_from<R: Read>(
+    alloc: Global,
+    reader: &mut R,
+    room: usize,
+) -> Result<(Option<RunFault>, usize), OutOfMemory> {
+    let mut writer = LimitedWriter {
+        piece: 65_536,
+        room,
+        refusal: Refusal::Zero,
+        grey: 0,
+        calls: 0,
+    };
+    match run(alloc, Output::Full, reader, &mut writer) {
+        Ok(_) => Ok((None, writer.room)),
+        Err(RunFault::Memory) => Err(OutOfMemory),
+        Err(fault) => Ok((Some(fault), writer.room)),
+    }
+}
+
+// A picture of one I_PCM macroblock: luma 0 to 255, Cb 0x40, Cr 0xC0.
+fn rising(alloc: Global) -> Result<Vec<u8>, AllocError> {
+    let mut bytes = joined(alloc, &[SETS, PCM])?;
+    let mut value = 0u8;
+    for _ in 0..256u32 {
+        bytes.push(value)?;
+        value = value.wrapping_add(1);
+    }
+    bytes.extend_from_slice(&[0x40; 64])?;
+    bytes.extend_from_slice(&[0xC0; 64])?;
+    bytes.extend_from_slice(STOP)?;
+    Ok(bytes)
+}
+
+// Where reading fails behind all bytes nothing is written, since the end of the last unit is not seen; where the writer takes 100 bytes
+// and then answers 0, these are written.
+#[test]
+fn a_run_ends_at_a_fault(rt: HostRuntime) -> Result<(), Fail> {
+    let alloc = rt.alloc();
+    let bytes = rising(alloc)?;
+    let mut failing = FailingReader { bytes: &bytes };
+    assert_eq!(rt; run_from(alloc, &mut failing, 1000)?, (Some(RunFault::Read), 1000));
+    let mut whole = bytes.as_slice();
+    assert_eq!(rt; run_from(alloc, &mut whole, 1000)?, (None, 616));
+    let mut first = FIRST;
+    assert_eq!(rt; run_from(alloc, &mut first, 100)?, (Some(RunFault::Write), 0));
+    Ok(())
+}
+
+// How many pictures the first stream gives.
+fn pictures_of_the_first(decoder: &mut Decoder<1000>) -> Result<usize, DecodeError> {
+    let seen = fed_by(decoder, FIRST, 1000, 128)?;
+    let events = seen.0;
+    let (flat, _) = events[1];
+    Ok(flat)
+}
+
+// The same; where a growth is refused, after a reset.
+fn pictures_again(decoder: &mut Decoder<1000>) -> Result<usize, DecodeError> {
+    match pictures_of_the_first(decoder) {
+        Ok(count) => Ok(count),
+        Err(_) => {
+            decoder.reset();
+            pictures_of_the_first(decoder)
+        }
+    }
+}
+
+fn pictures_again_in(alloc: Global) -> Result<usize, DecodeError> {
+    let mut decoder = Decoder::<1000>::new(alloc, Output::Full);
+    pictures_again(&mut decoder)
+}
+
+// vectors/growths.sh refuses each growth of it.
+#[test]
+fn the_first_again_after_want_of_memory(rt: HostRuntime) -> Result<(), Fail> {
+    assert_eq!(rt; pictures_again_in(rt.alloc())?, 1);
+    Ok(())
+}

@@ -1,0 +1,422 @@
+-- Units are taken into pieces, one after the other, and shown.
+pub mod Stages
+unfoldable pub use Stages.*
+use Rattle.avc_tools.specs.Stages.{waiting}
+use Rattle.avc_tools.specs.declared.cutter.CutPhase.TheVariants as phases
+
+-- ---- taking all units whose end has been seen, one after the other
+
+-- a splitter that has a whole stream, of which no unit was taken
+abbrev pub whole_stream : (bytes : List ℕ) → SplitterState
+whole_stream bytes = record { bytes = bytes; ended = true; taken = 0; failed = false }
+
+no_more : (us : List Unit) (k : ℕ) → slice_get us k ≡ None → drop k us ≡ []
+no_more us k e = search (rules, drop_all, slice_get_cases)
+
+-- From this state some units were taken, of which this holds.
+pub record IsDraining (max : ℕ) (old now : SplitterState) (holds : List Unit → Type 0) : Type 0 where
+  pub done : List Unit
+  pub rest : units_left max old ≡ done ++ units_left max now
+  pub state : now ≡ record old { taken = old.taken + length done }
+  pub so_far : holds done
+
+pub draining_begun : (max : ℕ) (s : SplitterState) (holds : List Unit → Type 0) → holds [] → IsDraining max s s holds
+draining_begun max s holds h = record {
+  done = [];
+  rest = refl;
+  state = ap (λ n. record s { taken = n }) (omega arith);
+  so_far = h;
+}
+
+next_unit_is : (max : ℕ) (old s : SplitterState) (n : ℕ) → s ≡ record old { taken = n } → old.failed ≡ false → next_unit_of max s ≡ slice_get (units max s.bytes s.ended) s.taken
+next_unit_is max old s n is going =
+    let on : s.failed ≡ false = ap (λ t. t.failed) is ∙ going in
+    ap (λ x. if x then None else slice_get (units max s.bytes s.ended) s.taken) on
+
+pub one_more : (max : ℕ) (old s new : SplitterState) (next : Option Unit) (u : Unit) (holds more : List Unit → Type 0) → IsDraining max old s holds → old.failed ≡ false
+    → next ≡ next_unit_of max s → new ≡ after_next_unit s next → next ≡ Some u → ((done : List Unit) → holds done → more (done ++ u ∷ []))
+    → IsDraining max old new more
+one_more max old s new next u holds more i going gives takes is adds =
+    let us = units max s.bytes s.ended in
+    let at : slice_get us s.taken ≡ Some u = sym (next_unit_is max old s _ i.state going) ∙ sym gives ∙ is in
+    let moved : new ≡ after_next_unit s (Some u) = takes ∙ ap (λ x. after_next_unit s x) is in
+    let left : units_left max s ≡ u ∷ units_left max new =
+    drop_more us s.taken u (slice_get_within us s.taken u at)
+    ∙ ap (λ v. v ∷ drop (s.taken + 1) us) (get_or_from_slice_get us s.taken u u at)
+    ∙ ap (λ t. u ∷ units_left max t) (sym moved) in
+    let count : old.taken + length i.done + 1 ≡ old.taken + length (i.done ++ u ∷ []) = omega (arith, length-append i.done (u ∷ [])) in
+    record {
+      done = i.done ++ u ∷ [];
+      rest = i.rest ∙ ap (λ l. i.done ++ l) left ∙ sym (append_assoc i.done (u ∷ []) (units_left max new));
+      state = moved ∙ ap (λ t. after_next_unit t (Some u)) i.state ∙ ap (λ n. record old { taken = n }) count;
+      so_far = adds i.done i.so_far;
+    }
+
+abbrev pub IsAllTaken : (max : ℕ) → (old new : SplitterState) → (holds : List Unit → Type 0) → Type 0
+IsAllTaken max old new holds = holds (units_left max old) × (new ≡ after_units_left max old)
+
+pub all_taken : (max : ℕ) (old s new : SplitterState) (next : Option Unit) (holds : List Unit → Type 0) → IsDraining max old s holds → old.failed ≡ false
+    → next ≡ next_unit_of max s → new ≡ after_next_unit s next → next ≡ None → IsAllTaken max old new holds
+all_taken max old s new next holds i going gives takes is = search (rules, no_more, next_unit_is, append-nil)
+
+-- ---- one unit more is taken into a piece, and a piece whose stream comes is written as far as it is settled
+
+pub stands_new : (number : ℕ) (c : Cutter) → c.phase ≡ phases.Waiting → c.left ≡ number → c.sets.sps.items ≡ replicate 32 None → c.sets.pps.items ≡ replicate 256 None → c.held.items ≡ []
+    → StandsAt (waiting number []) c
+stands_new number c phase left sps pps held = record { phase = phase; holds = record { left_is = left; sets = sets_none c.sets sps pps; held = held } }
+
+-- ---- what is held
+
+-- a unit where it passes
+one_if : (p : Unit → Bool) (u : Unit) (b : Bool) → p u ≡ b → flat_map written (filter p (u ∷ [])) ≡ (if b then written u else [])
+one_if p u b e = grind (arith, append-nil)
+
+filtered_more : (p : Unit → Bool) (us : List Unit) (u : Unit) → flat_map written (filter p (us ++ u ∷ [])) ≡ flat_map written (filter p us) ++ (if p u then written u else [])
+filtered_more p us u = rw (filter-append p us (u ∷ []), flat_map-append written (filter p us), one_if p u (p u) refl) refl
+
+pub leading_none : (before : List Unit) (u : Unit) → is_slice u ≡ true → leading (before ++ u ∷ []) ≡ []
+leading_none before u e = ap (λ us. flat_map written (filter leads us)) (after_slice before u e)
+
+pub leading_more : (before : List Unit) (u : Unit) (old new : List ℕ) → is_slice u ≡ false → new ≡ old ++ (if leads u then written u else []) → old ≡ leading before → new ≡ leading (before ++ u ∷ [])
+leading_more before u old new e is h = rw (is, h, after_other before u e) (sym (filtered_more leads (after_slices before) u))
+
+-- ---- while the piece has not begun
+
+abbrev pub Passed : (left now : ℕ) (starts : Bool) → Type 0
+Passed left now true = left ≡ now + 1
+Passed left now false = left ≡ now
+
+next_passed : (left now : ℕ) (before : List Unit) (u : Unit) (b : Bool) → is_start u ≡ b → Passed left now b → next (waiting left before) u ≡ waiting now (before ++ u ∷ [])
+next_passed left now before u true e h = let same : left ≡ suc now = omega (arith, h) in rw (e, same) refl
+next_passed left now before u false e h = rw (e, h) refl
+
+pub waits_on : (s : Stage) (u : Unit) (b : Bool) (old new : Cutter) (piece : List ℕ) → StandsAt s old → old.phase ≡ phases.Waiting → is_start u ≡ b → Passed old.left new.left b → new.phase ≡ phases.Waiting
+    → AreReplaced is_sps sps_record (set_unit u) (written u) old.sets.sps.items new.sets.sps.items → AreReplaced is_pps pps_record (set_unit u) (written u) old.sets.pps.items new.sets.pps.items
+    → ((us : List Unit) → old.held.items ≡ leading us → new.held.items ≡ leading (us ++ u ∷ [])) → IsCutOn s (next s u) new piece piece
+waits_on (waiting left before) u b old new piece h is e passed phase sps pps held =
+    subst (λ t. IsCutOn (waiting left before) t new piece piece) (sym (next_passed left new.left before u b e (subst (λ n. Passed n new.left b) h.holds.left_is passed)))
+    (record {
+      stands = record {
+        phase = phase;
+        holds = record { left_is = refl; sets = sets_more before u old.sets new.sets h.holds.sets sps pps; held = held before h.holds.held };
+      };
+      added = [];
+      defined = refl;
+      written_on = sym (append-nil piece);
+    })
+waits_on _ u b old new piece h is e passed phase sps pps held = cc
+
+-- ---- the piece begins
+
+pub made_first : (before : List Unit) (u : Unit) (c : Cutter) (p0 p1 p2 p3 p4 : List ℕ) → StandsAt (waiting 0 before) c → p1 ≡ p0 ++ flat_map kept_bytes c.sets.sps.items → p2 ≡ p1 ++ flat_map kept_bytes c.sets.pps.items
+    → p3 ≡ p2 ++ c.held.items → p4 ≡ p3 ++ written u → p4 ≡ p0 ++ made before u []
+made_first before u c p0 p1 p2 p3 p4 h e1 e2 e3 e4 =
+    rw (
+      e4,
+      e3,
+      e2,
+      e1,
+      append_assoc p0,
+      sets_written before c.sets h.holds.sets,
+      h.holds.held,
+      flat_map-append written (sets_in_force before ++ filter leads (after_slices before)),
+      flat_map-append written (sets_in_force before),
+    ) (rw (append-nil (written u)) (simp append_assoc))
+
+pub begins : (s : Stage) (u : Unit) (old new : Cutter) (piece more : List ℕ) → StandsAt s old → old.phase ≡ phases.Waiting → old.left ≡ 0 → is_start u ≡ true → new.phase ≡ phases.Writing → new.held.items ≡ []
+    → new.staying.items ≡ [] → ((before : List Unit) → StandsAt (waiting 0 before) old → more ≡ piece ++ made before u []) → IsCutOn s (next s u) new piece more
+begins (waiting left before) u old new piece more h is none e phase held stay made_is =
+    let zero_left : left ≡ 0 = sym h.holds.left_is ∙ none in
+    let here : StandsAt (waiting 0 before) old = subst (λ n. StandsAt (waiting n before) old) zero_left h in
+    let begun_is : next (waiting left before) u ≡ writing before u [] =
+    ap (λ x. if x then begun left before u else waiting left (before ++ u ∷ [])) e ∙ ap (λ n. begun n before u) zero_left in
+    subst (λ t. IsCutOn (waiting left before) t new piece more) (sym begun_is) (record {
+      stands = record { phase = phase; holds = record { all = held; stay = stay } };
+      added = made before u [];
+      defined = refl;
+      written_on = made_is before here;
+    })
+begins _ u old new piece more h is none e phase held stay made_is = cc
+
+-- ---- the piece goes on
+
+abbrev after_it : (starts : Bool) (before : List Unit) (c : Unit) (after : List Unit) (u : Unit) → Stage
+after_it starts before c after u = if starts then over before c after else writing before c (after ++ u ∷ [])
+
+pub piece_ends_by : (s : Stage) (u : Unit) (old new : Cutter) (piece more : List ℕ) → StandsAt s old → old.phase ≡ phases.Writing → is_start u ≡ true → new.phase ≡ phases.Over → more ≡ piece ++ old.staying.items → IsCutOn s (next s u) new piece more
+piece_ends_by (writing before c after) u old new piece more h is e phase added =
+    subst (λ b. IsCutOn (writing before c after) (after_it b before c after u) new piece more) (sym e) (record {
+      stands = record { phase = phase; holds = _ };
+      added = flat_map written (staying after);
+      defined = added_by_next before c after;
+      written_on = added ∙ ap (λ t. piece ++ t) h.holds.stay;
+    })
+piece_ends_by _ u old new piece more h is e phase added = cc
+
+pub goes_on_by_slice : (s : Stage) (u : Unit) (old new : Cutter) (piece one more : List ℕ) → StandsAt s old → old.phase ≡ phases.Writing → is_start u ≡ false → is_slice u ≡ true → new.phase ≡ phases.Writing
+    → new.held.items ≡ [] → new.staying.items ≡ [] → one ≡ piece ++ old.held.items → more ≡ one ++ written u → IsCutOn s (next s u) new piece more
+goes_on_by_slice (writing before c after) u old new piece one more h is e slice phase held stay first second =
+    let none = after_slice after u slice in
+    subst (λ b. IsCutOn (writing before c after) (after_it b before c after u) new piece more) (sym e) (record {
+      stands = record { phase = phase; holds = record { all = rw (held, none) refl; stay = rw (stay, none) refl } };
+      added = flat_map written (after_slices after) ++ flat_map written (u ∷ []);
+      defined = added_by_slice before c after u slice;
+      written_on = rw (second, first, h.holds.all) (simp (append_assoc, append-nil));
+    })
+goes_on_by_slice _ u old new piece one more h is e slice phase held stay first second = cc
+
+pub piece_goes_on : (s : Stage) (u : Unit) (old new : Cutter) (piece : List ℕ) → StandsAt s old → old.phase ≡ phases.Writing → is_start u ≡ false → is_slice u ≡ false → new.phase ≡ phases.Writing
+    → new.held.items ≡ old.held.items ++ written u → new.staying.items ≡ old.staying.items ++ (if not (is_left_out u) then written u else []) → IsCutOn s (next s u) new piece piece
+piece_goes_on (writing before c after) u old new piece h is e slice phase held stay =
+    let more = after_other after u slice in
+    subst (λ b. IsCutOn (writing before c after) (after_it b before c after u) new piece piece) (sym e) (record {
+      stands = record {
+        phase = phase;
+        holds = record {
+          all = rw (held, more, h.holds.all) (simp (flat_map-append, append-nil));
+          stay = rw (stay, more, h.holds.stay) (sym (filtered_more (λ v. not (is_left_out v)) (after_slices after) u));
+        };
+      };
+      added = [];
+      defined = ap (made before c) (through_other after u slice) ∙ sym (append-nil (made before c (through_slices after)));
+      written_on = sym (append-nil piece);
+    })
+piece_goes_on _ u old new piece h is e slice phase held stay = cc
+
+-- ---- after it
+
+pub stays_as_it_is : (s : Stage) (u : Unit) (c : Cutter) (piece : List ℕ) → StandsAt s c → c.phase ≡ phases.Over → IsCutOn s (next s u) c piece piece
+stays_as_it_is (over before cut after) u c piece h is = record { stands = h; added = []; defined = sym (append-nil (text_of (over before cut after) false)); written_on = sym (append-nil piece) }
+stays_as_it_is _ u c piece h is = cc
+
+-- ---- the end
+
+no_writing : (x : CutPhase) → x ≡ phases.Writing → (x ≡ phases.Waiting) ⊎ (x ≡ phases.Over) → ⊥
+no_writing x e h = grind arith
+
+pub nothing_held : (s : Stage) (c : Cutter) (piece : List ℕ) → StandsAt s c → (c.phase ≡ phases.Waiting) ⊎ (c.phase ≡ phases.Over) → IsCutOff s piece piece
+nothing_held (waiting left before) c piece h w = record { added = []; defined = refl; written_on = sym (append-nil piece) }
+nothing_held (over before cut after) c piece h w = record { added = []; defined = sym (append-nil (text_of (over before cut after) false)); written_on = sym (append-nil piece) }
+nothing_held (writing before cut after) c piece h w = absurd (no_writing c.phase h.phase w)
+
+pub held_written : (s : Stage) (c : Cutter) (piece more : List ℕ) → StandsAt s c → c.phase ≡ phases.Writing → more ≡ piece ++ c.held.items → IsCutOff s piece more
+held_written (writing before cut after) c piece more h is added = record {
+  added = flat_map written (after_slices after);
+  defined = added_at_end before cut after;
+  written_on = added ∙ ap (λ t. piece ++ t) h.holds.all;
+}
+held_written _ c piece more h is added = cc
+
+-- ---- a piece whose stream comes is written as far as it is settled: unit by unit
+
+-- These units were taken in, and this is what they brought.
+abbrev pub IsCutFrom : (old now : Cutter) → (piece : List ℕ) → (done : List Unit) → Type 0
+IsCutFrom old now piece done = (s : Stage) → StandsAt s old → IsCutOn s (stage_after s done) now [] piece
+
+pub cut_none : (c : Cutter) (piece : List ℕ) → piece ≡ [] → IsCutFrom c c piece []
+cut_none c piece none = λ s h. record { stands = h; added = []; defined = sym (append-nil (text_of s false)); written_on = none }
+
+pub cut_more : (old mid now : Cutter) (piece more : List ℕ) (u : Unit) → ((s : Stage) → StandsAt s mid → IsCutOn s (next s u) now piece more)
+    → (done : List Unit) → IsCutFrom old mid piece done → IsCutFrom old now more (done ++ u ∷ [])
+cut_more old mid now piece more u step done i = search (rules, after-append, append_assoc)
+
+-- ---- once more has come
+
+stage_is : (max number : ℕ) (old mid new : SplitterState) → AreLeft max old mid → new ≡ after_units_left max mid → stage_after (stage_of max number old) (units_left max mid) ≡ stage_of max number new
+stage_is max number old mid new left is =
+    sym (after-append (waiting number []) (units max old.bytes old.ended) (units_left max mid)) ∙ ap (stage_after (waiting number [])) (sym left.all) ∙ ap (stage_of max number) (sym is)
+
+pub cutting_again : (max number : ℕ) (old mid new : SplitterState) (before ended : Bool) (c now : Cutter) (piece : List ℕ) → IsCutting max number old before c → AreLeft max old mid → new ≡ after_units_left max mid
+    → ended ≡ mid.ended → IsCutFrom c now piece (units_left max mid) → IsCutting max number new ended now
+cutting_again max number old mid new before ended c now piece h left is end_is cut = record {
+  drained = drained max old mid new left is;
+  end_is = end_is ∙ ap (λ s. s.ended) (sym is);
+  stands = subst (λ t. StandsAt t now) (stage_is max number old mid new left is) (cut (stage_of max number old) h.stands).stands;
+}
+
+pub feed_keeps_end : (s new : SplitterState) (piece : List ℕ) → new ≡ after_feed s piece → s.ended ≡ new.ended
+feed_keeps_end s new piece is = rw is (grind arith)
+
+-- After some units that were left the text has what these bring, and then what is added there.
+text_added : (max number : ℕ) (old mid new : SplitterState) (ended : Bool) (c now : Cutter) (part more : List ℕ) (t : Stage) → IsCutting max number old ended c
+    → ended ≡ false → AreLeft max old mid → new ≡ after_units_left max mid → IsCutFrom c now part (units_left max mid) → length new.bytes ≤ max
+    → t ≡ stage_after (stage_of max number old) (units_left max mid) → text_of t mid.ended ≡ text_of t false ++ more
+    → piece_text number new.bytes new.ended ≡ piece_text number old.bytes old.ended ++ (part ++ more)
+text_added max number old mid new ended c now part more t h open_end left is cut short t_is adds = search (rules, text_behind, append_assoc)
+
+-- by a piece
+pub text_fed : (max number : ℕ) (old mid new : SplitterState) (ended : Bool) (c now : Cutter) (part : List ℕ) → IsCutting max number old ended c
+    → ended ≡ false → AreLeft max old mid → new ≡ after_units_left max mid → mid.ended ≡ false → IsCutFrom c now part (units_left max mid)
+    → length new.bytes ≤ max → piece_text number new.bytes new.ended ≡ piece_text number old.bytes old.ended ++ part
+text_fed max number old mid new ended c now part h open_end left is piece_goes_on cut short =
+    let t = stage_after (stage_of max number old) (units_left max mid) in
+    text_added max number old mid new ended c now part [] t h open_end left is cut short refl (ap (text_of t) piece_goes_on ∙ sym (append-nil (text_of t false)))
+    ∙ ap (λ l. piece_text number old.bytes old.ended ++ l) (append-nil part)
+
+-- at the end
+pub text_ended : (max number : ℕ) (old mid new : SplitterState) (ended : Bool) (c now : Cutter) (part all : List ℕ) → IsCutting max number old ended c
+    → ended ≡ false → AreLeft max old mid → new ≡ after_units_left max mid → mid.ended ≡ true → IsCutFrom c now part (units_left max mid)
+    → ((s : Stage) → StandsAt s now → IsCutOff s part all) → length new.bytes ≤ max
+    → piece_text number new.bytes new.ended ≡ piece_text number old.bytes old.ended ++ all
+text_ended max number old mid new ended c now part all h open_end left is at_end cut rest short =
+    let t = stage_after (stage_of max number old) (units_left max mid) in
+    let off = rest t (cut (stage_of max number old) h.stands).stands in
+    text_added max number old mid new ended c now part off.added t h open_end left is cut short refl (ap (text_of t) at_end ∙ off.defined)
+    ∙ ap (λ l. piece_text number old.bytes old.ended ++ l) (sym off.written_on)
+
+-- past the end
+pub stays_by_piece : (s : StreamSoFar) (piece : List ℕ) → s.ended ≡ true → s ≡ after_piece s piece
+stays_by_piece s piece e = ap (λ x. if x then s else record s { bytes = s.bytes ++ piece }) (sym e)
+
+pub stays_by_end : (s : StreamSoFar) → s.ended ≡ true → s ≡ after_end s
+stays_by_end s e = ap (λ x. record s { ended = x }) e
+
+-- ---- what the code tells
+
+abbrev pub begun_in : CutPhase → Bool
+begun_in phases.Waiting = false
+begun_in _ = true
+
+abbrev pub over_in : CutPhase → Bool
+over_in phases.Over = true
+over_in _ = false
+
+begun_by : (s : Stage) (ended : Bool) → is_some (piece_of s ended) ≡ begun_in (phase_of s)
+begun_by (waiting left before) ended = refl
+begun_by _ ended = refl
+
+over_by : (s : Stage) → is_over s ≡ over_in (phase_of s)
+over_by s = grind arith
+
+pub tells_begun : (max number : ℕ) (s : SplitterState) (ended : Bool) (c : Cutter) → IsCutting max number s ended c → length s.bytes ≤ max → begun_in c.phase ≡ is_some (numbered_piece number s.bytes s.ended)
+tells_begun max number s ended c h short =
+    ap begun_in h.stands.phase ∙ sym (begun_by (stage_of max number s) s.ended) ∙ ap is_some (sym (numbered_is max number s.bytes s.ended short))
+
+pub tells_over : (max number : ℕ) (s : SplitterState) (ended : Bool) (c : Cutter) → IsCutting max number s ended c → length s.bytes ≤ max → over_in c.phase ≡ piece_is_over number s.bytes s.ended
+tells_over max number s ended c h short =
+    ap over_in h.stands.phase ∙ sym (over_by (stage_of max number s)) ∙ sym (over_is max number s.bytes s.ended short)
+
+pub either_begun : (x : CutPhase) → (x ≡ phases.Writing) ⊎ (x ≡ phases.Over) → begun_in x ≡ true
+either_begun x h = grind arith
+
+pub either_not_over : (x : CutPhase) → (x ≡ phases.Waiting) ⊎ (x ≡ phases.Writing) → over_in x ≡ false
+either_not_over x h = grind arith
+
+-- ---- headers, one line after the other
+
+under-append : (sets : List SetUnit) (us vs : List Unit) → header_lines_under sets (us ++ vs) ≡ header_lines_under sets us ++ header_lines_under (sets ++ set_units us) vs
+under-append sets [] vs = rw (append-nil sets) refl
+under-append sets (u ∷ us) vs = rw (under-append (sets ++ set_units (u ∷ [])) us vs, sets_then sets u us) (simp append_assoc)
+
+from_under : (before us : List Unit) → header_lines_under (set_units before) us ≡ header_lines_from before us
+from_under before [] = refl
+from_under before (u ∷ us) =
+    ap (λ l. header_line (sets_after (set_units before)) u ++ l)
+    (ap (λ l. header_lines_under l us) (sym (set_units-append before (u ∷ []))) ∙ from_under (before ++ u ∷ []) us)
+
+-- The lines of these units are there, and the sets that these brought.
+pub record IsShown (before now : List SetUnit) (text : List ℕ) (done : List Unit) : Type 0 where
+  pub sets : now ≡ before ++ set_units done
+  pub lines : text ≡ header_lines_under before done
+
+pub shown_more : (before old new : List SetUnit) (text more : List ℕ) (u : Unit) → new ≡ old ++ set_units (u ∷ []) → more ≡ text ++ header_line (sets_after old) u
+    → (done : List Unit) → IsShown before old text done → IsShown before new more (done ++ u ∷ [])
+shown_more before old new text more u put added done h =
+    let here : header_line (sets_after old) u ≡ header_lines_under (before ++ set_units done) (u ∷ []) =
+    ap (λ ss. header_line (sets_after ss) u) h.sets ∙ sym (append-nil (header_line (sets_after (before ++ set_units done)) u)) in
+    record {
+      sets = put ∙ ap (λ l. l ++ set_units (u ∷ [])) h.sets ∙ append_assoc before (set_units done) (set_units (u ∷ [])) ∙ ap (λ l. before ++ l) (sym (set_units-append done (u ∷ [])));
+      lines = added ∙ ap (λ l. l ++ header_line (sets_after old) u) h.lines ∙ ap (λ l. header_lines_under before done ++ l) here ∙ sym (under-append before done (u ∷ []));
+    }
+
+pub header_lines_are : (max : ℕ) (bytes : List ℕ) (ended : Bool) → length bytes ≤ max → header_lines_under [] (units max bytes ended) ≡ header_lines_so_far bytes ended
+header_lines_are max bytes ended short = ap (λ us. header_lines_under [] us) (whole_units max bytes ended short) ∙ from_under [] (units (length bytes) bytes ended)
+
+-- once more has come
+pub shown_again : (max : ℕ) (old mid new : SplitterState) (sets now : List SetUnit) → AreShown max old sets → AreLeft max old mid → new ≡ after_units_left max mid
+    → now ≡ sets ++ set_units (units_left max mid) → AreShown max new now
+shown_again max old mid new sets now h left is put = record {
+  drained = drained max old mid new left is;
+  sets_are =
+      put ∙ ap (λ l. l ++ set_units (units_left max mid)) h.sets_are
+      ∙ sym (set_units-append (units max old.bytes old.ended) (units_left max mid))
+      ∙ ap set_units (sym left.all)
+      ∙ ap (λ s. set_units (units max s.bytes s.ended)) (sym is);
+}
+
+-- The lines of units that come to others come behind theirs.
+header_lines_behind : (max : ℕ) (bytes front : List ℕ) (ended front_ended : Bool) (others : List Unit) → length bytes ≤ max → length front ≤ max
+    → units max bytes ended ≡ units max front front_ended ++ others
+    → header_lines_so_far bytes ended ≡ header_lines_so_far front front_ended ++ header_lines_under (set_units (units max front front_ended)) others
+header_lines_behind max bytes front ended front_ended others short front_short is =
+    sym (header_lines_are max bytes ended short) ∙ ap (header_lines_under []) is ∙ under-append [] (units max front front_ended) others
+    ∙ ap (λ l. l ++ header_lines_under (set_units (units max front front_ended)) others) (header_lines_are max front front_ended front_short)
+
+pub header_lines_added : (max : ℕ) (old mid new : SplitterState) (sets : List SetUnit) (added : List ℕ) → AreShown max old sets → AreLeft max old mid
+    → new ≡ after_units_left max mid → added ≡ header_lines_under sets (units_left max mid) → length new.bytes ≤ max
+    → header_lines_so_far new.bytes new.ended ≡ header_lines_so_far old.bytes old.ended ++ added
+header_lines_added max old mid new sets added h left is lines short = search (rules, header_lines_behind)
+
+pub header_lines_grow : UnitsStay → OnlyGrows header_lines_so_far
+header_lines_grow stay bytes more ended short =
+    let later = stay (2 ^ 64) bytes more ended in
+    (_, header_lines_behind (2 ^ 64) (bytes ++ more) bytes ended false later.0 (omega (arith, short)) (omega (arith, short, length-append bytes more)) later.1)
+
+-- a line of three parts, with a number in front and its end
+pub line_put : (old index a b c last s1 s2 s3 s4 s5 : List ℕ) → s1 ≡ old ++ index → s2 ≡ s1 ++ a → s3 ≡ s2 ++ b → s4 ≡ s3 ++ c → s5 ≡ s4 ++ last
+    → s5 ≡ old ++ ((index ++ ((a ++ b) ++ c)) ++ last)
+line_put old index a b c last s1 s2 s3 s4 s5 e1 e2 e3 e4 e5 = rw (e5, e4, e3, e2, e1) (simp append_assoc)
+
+-- ---- worked examples of the tools
+
+-- 16x16 luma samples, order count type 2, one reference frame
+abbrev sps_small : List ℕ
+sps_small = 0 ∷ 0 ∷ 0 ∷ 1 ∷ 103 ∷ 66 ∷ 192 ∷ 10 ∷ 218 ∷ 113 ∷ []
+
+-- no deblocking fields in slices
+abbrev pps_plain : List ℕ
+pps_plain = 0 ∷ 0 ∷ 0 ∷ 1 ∷ 104 ∷ 206 ∷ 56 ∷ 128 ∷ []
+
+-- an IDR picture of one Intra 16x16 macroblock without levels
+abbrev idr : List ℕ
+idr = 0 ∷ 0 ∷ 1 ∷ 101 ∷ 136 ∷ 132 ∷ 147 ∷ 192 ∷ []
+
+-- as idr with idr_pic_id 1
+abbrev second_idr : List ℕ
+second_idr = 0 ∷ 0 ∷ 1 ∷ 101 ∷ 136 ∷ 130 ∷ 36 ∷ 240 ∷ []
+
+abbrev stream : List ℕ
+stream = sps_small ++ pps_plain ++ idr
+
+units_text : unit_lines stream ≡ codes "0 4 6 7 3\n1 14 4 8 3\n2 21 5 5 3\n"
+unfolding digits
+units_text = refl
+
+headers_text : header_lines stream ≡ codes "0 sps 0 profile 66 level 10 size 16x16 refs 1 poc 2 dpb 16\n1 pps 0 sps 0 qp 26 refs 1 control 0 constrained 0\n2 slice 0 type I pps 0 frame 0 qp 26 idr 1\n"
+unfolding digits
+headers_text = refl
+
+-- 1055 by 132 macroblocks
+widest_text : header_lines (0 ∷ 0 ∷ 0 ∷ 1 ∷ 0x67 ∷ 0x42 ∷ 0xC0 ∷ 0x3E ∷ 0xDA ∷ 0x00 ∷ 0x10 ∷ 0x7C ∷ 0x04 ∷ 0x24 ∷ 0x40 ∷ []) ≡ codes "0 sps 0 profile 66 level 62 size 16880x2112 refs 1 poc 2 dpb 5\n"
+unfolding digits
+widest_text = refl
+
+two_pieces : pieces (stream ++ second_idr) ≡ (sps_small ++ pps_plain ++ 0 ∷ idr) ∷ (sps_small ++ pps_plain ++ 0 ∷ second_idr) ∷ []
+two_pieces = refl
+
+two_lengths : map length (pieces (stream ++ second_idr)) ≡ 27 ∷ 27 ∷ []
+two_lengths = refl
+
+-- a supplemental unit goes with the picture behind it
+abbrev supplemental : List ℕ
+supplemental = 0 ∷ 0 ∷ 1 ∷ 6 ∷ 5 ∷ 1 ∷ 0 ∷ 128 ∷ []
+
+with_supplemental : pieces (stream ++ supplemental ++ second_idr) ≡ (sps_small ++ pps_plain ++ 0 ∷ idr) ∷ (sps_small ++ pps_plain ++ (0 ∷ supplemental) ++ 0 ∷ second_idr) ∷ []
+with_supplemental = refl
+
+-- a set that was refused or replaced is in no piece; 32x16 luma samples
+abbrev sps_wide_then : List ℕ
+sps_wide_then = 0 ∷ 0 ∷ 0 ∷ 1 ∷ 0x67 ∷ 0x42 ∷ 0xC0 ∷ 0x0A ∷ 0xDA ∷ 0x2C ∷ 0x40 ∷ []
+
+with_other_set : pieces ((0 ∷ 0 ∷ 1 ∷ 0x68 ∷ 0xEE ∷ 0x38 ∷ 0x80 ∷ []) ++ sps_wide_then ++ stream) ≡ (sps_small ++ pps_plain ++ 0 ∷ idr) ∷ []
+with_other_set = refl
