@@ -1,22 +1,37 @@
 /* avcdec.h: a decoder for H.264 (Rec. ITU-T H.264), Constrained Baseline profile.
  *
+ *     static void take_events(avcdec_decoder *decoder) {
+ *         avcdec_event event;
+ *         while (avcdec_take(decoder, &event) == AVCDEC_OK && event.kind != AVCDEC_NOTHING)
+ *             if (event.kind == AVCDEC_PICTURE)
+ *                 for (uint32_t plane = AVCDEC_LUMA; plane <= AVCDEC_CR; plane++) {
+ *                     avcdec_rows lent;
+ *                     avcdec_lend_plane(decoder, plane, &lent);
+ *                     for (size_t y = 0; y < lent.rows; y++)
+ *                         show(plane, y, lent.samples + y * lent.stride, lent.columns);
+ *                 }
+ *             else
+ *                 refused(event.unit, event.fault);
+ *     }
+ *
  *     avcdec_decoder decoder = AVCDEC_DECODER_CLOSED;
- *     avcdec_event event;
  *     avcdec_open(&decoder, false);
- *     avcdec_feed(&decoder, bytes, length);
- *     while (avcdec_take(&decoder, &event) == AVCDEC_OK && event.kind != AVCDEC_NOTHING)
- *         if (event.kind == AVCDEC_PICTURE)
- *             avcdec_copy_i420(&decoder, memory, avcdec_i420_size(&event));
+ *     for (size_t at = 0, used; at < length && avcdec_feed_unit(&decoder, bytes + at, length - at, &used) == AVCDEC_OK; at += used)
+ *         take_events(&decoder);
+ *     avcdec_flush(&decoder);
+ *     take_events(&decoder);
  *     avcdec_close(&decoder);
  *
  * The functions may be called in any order, on any bytes. A call that does not fit what the decoder holds answers a status and
  * changes nothing.
  *
  * Ownership. The caller owns the avcdec_decoder itself and all memory that it passes; no function keeps a pointer to it. The library
- * owns what it allocates and frees it in avcdec_close.
+ * owns what it allocates and frees it in avcdec_close. Of it only the rows of avcdec_lend_plane are seen outside: they are to be
+ * read, not written, and only until the next take, reset or close of their decoder.
  *
- * Threads. One call at a time for each decoder, and a decoder stays on the thread that opened it. Two decoders may be used by two
- * threads at once: they share nothing.
+ * Threads. One call at a time for each decoder, and each call sees what the one before it did, whichever thread made it: as under a
+ * lock, or where one thread starts or joins the other. So a decoder may go from thread to thread. Lent rows may be read by several
+ * threads at once, and beside a feed or flush of their decoder. Two decoders may be used by two threads at once: they share nothing.
  *
  * Pointers. Each pointer leads to memory of the size that the function says, and is not null, except that bytes may be null where
  * their length is 0. While a call runs nobody else writes to that memory. Two pointers of one call lead to different memory.
@@ -37,7 +52,8 @@ extern "C" {
 #define AVCDEC_VERSION_PATCH 0
 
 /* Whether a decoder is open, and what the library holds of it. All zero, it is closed; so it is before avcdec_open. From then until
- * avcdec_close read, write and copy nothing of it: pass its address. */
+ * avcdec_close write nothing into it. Between two calls it may be moved: copied to another place, where alone it is used from then
+ * on. */
 typedef struct avcdec_decoder {
     bool open;
     void *state;
@@ -78,6 +94,22 @@ typedef struct avcdec_event {
     uint32_t crop_left, crop_right, crop_top, crop_bottom; /* of a picture: luma samples not shown, from each side; all even */
 } avcdec_event;
 
+/* The name of a status, as "out of memory". */
+static inline const char *avcdec_status_name(avcdec_status status) {
+    switch (status) {
+    case AVCDEC_OK: return "ok";
+    case AVCDEC_OUT_OF_MEMORY: return "out of memory";
+    case AVCDEC_ENDED: return "the stream has ended";
+    case AVCDEC_CLOSED: return "the decoder is closed";
+    case AVCDEC_IS_OPEN: return "the decoder is open already";
+    case AVCDEC_NO_PICTURE: return "no picture was taken last";
+    case AVCDEC_NO_ROOM: return "too little room";
+    case AVCDEC_NO_PLANE: return "no such plane";
+    case AVCDEC_NO_FAULT: return "no such fault";
+    default: return "no such status";
+    }
+}
+
 /* Opens a decoder that is closed. It begins as after avcdec_reset. With early false a picture goes out only once the decoded picture
  * buffer has no room for it, or at an IDR picture or the end; with early true as soon as the stream's max_num_reorder_frames allows:
  * for calls. Streams that do not give that number wait as with false.
@@ -89,11 +121,16 @@ void avcdec_close(avcdec_decoder *decoder);
 
 /* Gives the next bytes of the stream (Annex B: with start codes), cut anywhere. All units whose end they bring are decoded during the
  * call. A unit ends where the next start code begins: see avcdec_end_access_unit.
- * All pictures of the piece wait inside, each in memory of its own, until they are taken. So give pieces of at most 65,536 bytes or
- * one access unit, and take all events after each: then few pictures wait.
+ * All pictures of the piece wait inside until they are taken, and a small piece can bring many. avcdec_feed_unit bounds them.
  * A unit may have at most 134,217,728 bytes; a longer one is refused with fault NalTooLong.
  * OK; OUT_OF_MEMORY; ENDED (nothing changes); CLOSED. */
 avcdec_status avcdec_feed(avcdec_decoder *decoder, const uint8_t *bytes, size_t length);
+
+/* Gives the next bytes of the stream as avcdec_feed does, but takes them only up to where the next unit has ended; *used says how many
+ * it took: at least 1 where there are any, and all where no unit has ended. So at most one unit is decoded. Take all events, and give
+ * the rest: then at most the pictures that one unit lets out wait.
+ * OK; OUT_OF_MEMORY; ENDED (nothing changes); CLOSED. But for OK, *used is 0. */
+avcdec_status avcdec_feed_unit(avcdec_decoder *decoder, const uint8_t *bytes, size_t length, size_t *used);
 
 /* Ends the stream: the last unit ends, and all pictures that are held go out, to be taken.
  * OK; OUT_OF_MEMORY; ENDED (nothing changes); CLOSED. */
@@ -104,11 +141,25 @@ avcdec_status avcdec_flush(avcdec_decoder *decoder);
  * OK; CLOSED. */
 avcdec_status avcdec_reset(avcdec_decoder *decoder);
 
-/* Takes the next event that the bytes so far define; its picture can be copied until the next take, reset or close. Asks for no
- * memory.
+/* Takes the next event that the bytes so far define; its picture can be read and copied until the next take, reset or close. Asks for
+ * no memory.
  * OK (*event is set; its kind is AVCDEC_NOTHING where there is none yet); OUT_OF_MEMORY (its kind is AVCDEC_NOTHING);
  * CLOSED (*event is not touched). */
 avcdec_status avcdec_take(avcdec_decoder *decoder, avcdec_event *event);
+
+/* What is shown of a plane, where it lies in the library's memory: row y are the `columns` bytes from samples + y * stride on. */
+typedef struct avcdec_rows {
+    const uint8_t *samples; /* the first sample of the first row */
+    size_t length;          /* how many bytes from there on may be read: all rows, and what is between them and says nothing */
+    size_t stride;          /* bytes from one row to the next; at least columns */
+    uint32_t columns, rows; /* as avcdec_plane_columns and avcdec_plane_rows say */
+} avcdec_rows;
+
+/* Lends one plane (AVCDEC_LUMA, AVCDEC_CB, AVCDEC_CR) of the picture that was taken last. Its rows are read where they lie and are
+ * not copied; the decoder may go on reading them as a reference, so nobody writes there. They are there, and do not change, until
+ * the next take, reset or close. Asks for no memory.
+ * OK (*rows is set); NO_PICTURE; NO_PLANE; CLOSED. But for OK, *rows is not touched. */
+avcdec_status avcdec_lend_plane(avcdec_decoder *decoder, uint32_t plane, avcdec_rows *rows);
 
 /* Copies what is shown of the picture that was taken last, as I420 without gaps: luma, Cb, Cr, each row by row. It fills the first
  * avcdec_i420_size bytes of out, which has room for length bytes.

@@ -1,7 +1,7 @@
 /* The element avcdec: a GstVideoDecoder over libavcdec.
  *
- * Each buffer is one access unit (alignment=au). It is given to the library and ended at once, so that its picture is decoded before
- * the buffer is done with. A picture that the library hands out belongs to the waiting frame with the least timestamp, since pictures
+ * Each buffer is one access unit (alignment=au). It is given to the library unit by unit and ended at once, so that its picture is
+ * decoded before the buffer is done with. A picture is copied once, from the library's rows into the buffer that goes out. A picture that the library hands out belongs to the waiting frame with the least timestamp, since pictures
  * come in output order. */
 #ifdef HAVE_CONFIG_H
 #include "config.h"
@@ -32,6 +32,8 @@ enum { NAL_SPS = 7, NAL_PPS = 8 };
 /* What became of the access unit that was fed last. */
 typedef struct {
     guint64 first_unit, end_unit; /* its units */
+    guint64 turns;                /* how many macroblocks were read before it */
+    gboolean read;                /* whether some of it were read */
     gboolean refused;
 } AccessUnit;
 
@@ -291,6 +293,31 @@ static void give_up(GstAvcdec *self, GstVideoCodecFrame *frame, gboolean refused
     gst_video_decoder_drop_frame(decoder, frame);
 }
 
+/* A frame whose macroblocks are read may be handed out at once: it waits from the first of them on. */
+static void wait_once_read(GstAvcdec *self, const GstVideoCodecFrame *frame, AccessUnit *fed) {
+    if (fed->read || avcdec_turns(&self->decoder) == fed->turns)
+        return;
+    fed->read = TRUE;
+    g_queue_push_tail(&self->waiting, GUINT_TO_POINTER(frame->system_frame_number));
+}
+
+/* Feeds an access unit, unit by unit, and its end; takes all events after each. */
+static GstFlowReturn feed_access_unit(GstAvcdec *self, const GstVideoCodecFrame *frame, const guint8 *bytes, gsize length, AccessUnit *fed) {
+    GstFlowReturn flow = GST_FLOW_OK;
+    for (gsize at = 0, used; flow == GST_FLOW_OK && at < length; at += used) {
+        if (avcdec_feed_unit(&self->decoder, bytes + at, length - at, &used) != AVCDEC_OK)
+            return wants_memory(self);
+        wait_once_read(self, frame, fed);
+        flow = take_events(self, fed);
+    }
+    if (flow != GST_FLOW_OK)
+        return flow;
+    if (avcdec_end_access_unit(&self->decoder) != AVCDEC_OK)
+        return wants_memory(self);
+    wait_once_read(self, frame, fed);
+    return take_events(self, fed);
+}
+
 static GstFlowReturn gst_avcdec_handle_frame(GstVideoDecoder *decoder, GstVideoCodecFrame *frame) {
     GstAvcdec *self = GST_AVCDEC(decoder);
     GstMapInfo map;
@@ -298,25 +325,14 @@ static GstFlowReturn gst_avcdec_handle_frame(GstVideoDecoder *decoder, GstVideoC
         gst_video_decoder_release_frame(decoder, frame);
         return GST_FLOW_ERROR;
     }
-    guint64 turns = avcdec_turns(&self->decoder);
-    AccessUnit fed = {.first_unit = self->units, .refused = FALSE};
+    AccessUnit fed = {.first_unit = self->units, .turns = avcdec_turns(&self->decoder), .read = FALSE, .refused = FALSE};
     // the library counts the delimiter that ends an access unit as one unit more
     fed.end_unit = fed.first_unit + look_at_units(self, map.data, map.size);
     self->units = fed.end_unit + 1;
-    avcdec_status status = avcdec_feed(&self->decoder, map.data, map.size);
+    GstFlowReturn flow = feed_access_unit(self, frame, map.data, map.size, &fed);
     gst_buffer_unmap(frame->input_buffer, &map);
-    if (status == AVCDEC_OK)
-        status = avcdec_end_access_unit(&self->decoder);
-    if (status != AVCDEC_OK) {
-        gst_video_decoder_release_frame(decoder, frame);
-        return wants_memory(self);
-    }
-    // It may be handed out at once. One whose macroblocks were not read gives no picture: the decoder waits for an IDR picture.
-    gboolean read = avcdec_turns(&self->decoder) != turns;
-    if (read)
-        g_queue_push_tail(&self->waiting, GUINT_TO_POINTER(frame->system_frame_number));
-    GstFlowReturn flow = take_events(self, &fed);
-    if (!read || fed.refused) {
+    // one whose macroblocks were not read gives no picture: the decoder waits for an IDR picture
+    if (!fed.read || fed.refused) {
         g_queue_remove(&self->waiting, GUINT_TO_POINTER(frame->system_frame_number));
         give_up(self, frame, fed.refused);
     } else {
@@ -417,4 +433,4 @@ static gboolean plugin_init(GstPlugin *plugin) {
 }
 
 GST_PLUGIN_DEFINE(GST_VERSION_MAJOR, GST_VERSION_MINOR, avcdec, "H.264 Constrained Baseline decoder that is proved right",
-                  plugin_init, VERSION, "LGPL", "avcdec", "https://gstreamer.freedesktop.org/")
+                  plugin_init, VERSION, GST_LICENSE_UNKNOWN, "avcdec", "Unknown package origin")

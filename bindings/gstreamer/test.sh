@@ -21,17 +21,21 @@ left_out() {
     echo "left out: $1: $2"
 }
 
-if ! command -v gst-launch-1.0 >/dev/null || ! command -v pkg-config >/dev/null || ! command -v "${CC:-cc}" >/dev/null ||
-    ! pkg-config --exists gstreamer-video-1.0 gstreamer-check-1.0 gstreamer-app-1.0; then
-    left_out 'the GStreamer element' 'GStreamer, its development files or a C compiler is not there'
+for command in gst-launch-1.0 pkg-config "${CC:-cc}"; do
+    if ! command -v "$command" >/dev/null; then
+        left_out 'the GStreamer element' "$command is not there"
+        exit 0
+    fi
+done
+if ! pkg-config --exists --print-errors gstreamer-video-1.0 gstreamer-check-1.0 gstreamer-app-1.0; then
+    left_out 'the GStreamer element' 'its development files are not there, as pkg-config says'
     exit 0
 fi
 "$top/avcdec" --help >/dev/null || exit 1
 prefix=${1:-$work/prefix}
 [ $# -gt 0 ] || LIBRARY_ONLY=1 "$top/scripts/install.sh" "$prefix" || exit 1
 PKG_CONFIG_PATH=$prefix/lib/pkgconfig${PKG_CONFIG_PATH:+:$PKG_CONFIG_PATH}
-LD_LIBRARY_PATH=$prefix/lib${LD_LIBRARY_PATH:+:$LD_LIBRARY_PATH}
-export PKG_CONFIG_PATH LD_LIBRARY_PATH
+export PKG_CONFIG_PATH
 "$here/build.sh" "$work" || exit 1
 # shellcheck disable=SC2046
 ${CC:-cc} -O1 -Wall -Wextra -o "$work/element" "$here/tests/element.c" \

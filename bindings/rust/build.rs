@@ -6,9 +6,14 @@ use std::process::Command;
 fn main() {
     println!("cargo:rerun-if-env-changed=AVCDEC_LIB_DIR");
     let folder = env::var("AVCDEC_LIB_DIR").ok().or_else(found_by_pkg_config);
-    if let Some(folder) = folder {
-        println!("cargo:rustc-link-search=native={folder}");
-        println!("cargo:rerun-if-changed={folder}/libavcdec.a");
+    match folder {
+        Some(folder) => {
+            println!("cargo:rustc-link-search=native={folder}");
+            println!("cargo:rerun-if-changed={folder}/libavcdec.a");
+        }
+        None => println!(
+            "cargo:warning=libavcdec.a is looked for where the linker does: set AVCDEC_LIB_DIR to its folder, or PKG_CONFIG_PATH to that of avcdec.pc"
+        ),
     }
     println!("cargo:rustc-link-lib=static=avcdec");
 }

@@ -3,27 +3,24 @@
  * cannot be read or written, 4 out of memory. */
 #include <avcdec.h>
 #include <stdio.h>
-#include <stdlib.h>
 #include <string.h>
 
-enum { WELL = 0, REFUSED = 1, WORDS = 2, FILE_FAULT = 3, MEMORY = 4, PIECE = 65536 };
+/* Bytes that are read at a time, and those that are gathered before they are written. */
+enum { PIECE = 65536, GATHERED = 262144 };
 
-/* The memory of one picture, which grows where a picture is larger. */
-static uint8_t *samples;
-static size_t room;
+enum { WELL = 0, REFUSED = 1, WORDS = 2, FILE_FAULT = 3, MEMORY = 4 };
 
-static int write_picture(avcdec_decoder *decoder, const avcdec_event *picture, FILE *out) {
-    size_t size = avcdec_i420_size(picture);
-    if (size > room) {
-        uint8_t *larger = (uint8_t *)realloc(samples, size);
-        if (larger == NULL)
-            return MEMORY;
-        samples = larger;
-        room = size;
+/* Writes what is shown of the picture that was taken last, from where it lies: luma, Cb, Cr. */
+static int write_picture(avcdec_decoder *decoder, FILE *out) {
+    for (uint32_t plane = AVCDEC_LUMA; plane <= AVCDEC_CR; plane++) {
+        avcdec_rows lent;
+        if (avcdec_lend_plane(decoder, plane, &lent) != AVCDEC_OK)
+            return MEMORY; /* does not come: the event was a picture */
+        for (size_t y = 0; y < lent.rows; y++)
+            if (fwrite(lent.samples + y * lent.stride, 1, lent.columns, out) != lent.columns)
+                return FILE_FAULT;
     }
-    if (avcdec_copy_i420(decoder, samples, room) != AVCDEC_OK)
-        return MEMORY; /* does not come: the event was a picture, and there is room */
-    return fwrite(samples, 1, size, out) == size ? WELL : FILE_FAULT;
+    return WELL;
 }
 
 static void tell_refusal(const avcdec_event *refusal) {
@@ -32,7 +29,7 @@ static void tell_refusal(const avcdec_event *refusal) {
     fprintf(stderr, "refused unit %llu: %u %s\n", (unsigned long long)refusal->unit, (unsigned)refusal->fault, name);
 }
 
-/* Takes all events that have come. */
+/* Takes all events that have come. After a refusal the decoder goes on by itself. */
 static int take_events(avcdec_decoder *decoder, FILE *out, bool *refused) {
     avcdec_event event;
     for (;;) {
@@ -41,7 +38,7 @@ static int take_events(avcdec_decoder *decoder, FILE *out, bool *refused) {
         if (event.kind == AVCDEC_NOTHING)
             return WELL;
         if (event.kind == AVCDEC_PICTURE) {
-            int status = write_picture(decoder, &event, out);
+            int status = write_picture(decoder, out);
             if (status != WELL)
                 return status;
         } else {
@@ -51,13 +48,22 @@ static int take_events(avcdec_decoder *decoder, FILE *out, bool *refused) {
     }
 }
 
+/* Gives the bytes unit by unit, so that few pictures wait, however many the bytes bring. */
+static int feed(avcdec_decoder *decoder, const uint8_t *bytes, size_t length, FILE *out, bool *refused) {
+    int status = WELL;
+    for (size_t at = 0, used; status == WELL && at < length; at += used) {
+        if (avcdec_feed_unit(decoder, bytes + at, length - at, &used) != AVCDEC_OK)
+            return MEMORY;
+        status = take_events(decoder, out, refused);
+    }
+    return status;
+}
+
 static int decode(avcdec_decoder *decoder, FILE *in, FILE *out, bool *refused) {
     static uint8_t piece[PIECE];
     size_t length;
     while ((length = fread(piece, 1, sizeof piece, in)) > 0) {
-        if (avcdec_feed(decoder, piece, length) != AVCDEC_OK)
-            return MEMORY;
-        int status = take_events(decoder, out, refused);
+        int status = feed(decoder, piece, length, out, refused);
         if (status != WELL)
             return status;
     }
@@ -69,6 +75,7 @@ static int decode(avcdec_decoder *decoder, FILE *in, FILE *out, bool *refused) {
 }
 
 int main(int count, char **words) {
+    static char gathered[GATHERED];
     bool early = count > 1 && strcmp(words[1], "--early") == 0;
     if (count != (early ? 4 : 3)) {
         fprintf(stderr, "usage: decode [--early] IN OUT\n");
@@ -80,12 +87,13 @@ int main(int count, char **words) {
     avcdec_decoder decoder = AVCDEC_DECODER_CLOSED;
     bool refused = false;
     int status = in == NULL || out == NULL ? FILE_FAULT : WELL;
+    if (status == WELL && setvbuf(out, gathered, _IOFBF, sizeof gathered) != 0)
+        status = FILE_FAULT;
     if (status == WELL && avcdec_open(&decoder, early) != AVCDEC_OK)
         status = MEMORY;
     if (status == WELL)
         status = decode(&decoder, in, out, &refused);
     avcdec_close(&decoder);
-    free(samples);
     if (out != NULL && fclose(out) != 0 && status == WELL)
         status = FILE_FAULT;
     if (in != NULL)

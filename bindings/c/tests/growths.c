@@ -1,5 +1,6 @@
-/* growths IN: each growth of a stream's decoding is refused in turn. The call answers so, and each call after it until the decoder is
- * reset; then the same events come as where nothing is refused. In the end no block is left. Prints how many growths there were. */
+/* growths IN: each growth of a stream's decoding is refused in turn, fed in pieces and unit by unit. The call answers so, and each call
+ * after it until the decoder is reset; then the same events come as where nothing is refused. In the end no block is left. Prints how
+ * many growths there were. */
 #include <avcdec.h>
 #include <stdio.h>
 #include <stdlib.h>
@@ -45,6 +46,18 @@ static void add(given *to, const uint8_t *bytes, size_t count) {
         to->sum = to->sum * 1099511628211u + bytes[at] + 1;
 }
 
+/* To lend takes no memory, and gives the samples that were copied. */
+static void compare_lent(avcdec_decoder *decoder, const uint8_t *samples) {
+    long before = growths;
+    for (uint32_t plane = AVCDEC_LUMA; plane <= AVCDEC_CR; plane++) {
+        avcdec_rows lent;
+        CHECK(avcdec_lend_plane(decoder, plane, &lent) == AVCDEC_OK);
+        for (size_t y = 0; y < lent.rows; y++, samples += lent.columns)
+            CHECK(memcmp(lent.samples + y * lent.stride, samples, lent.columns) == 0);
+    }
+    CHECK(growths == before);
+}
+
 static avcdec_status take_events(avcdec_decoder *decoder, given *to) {
     avcdec_event event;
     avcdec_status status;
@@ -56,17 +69,26 @@ static avcdec_status take_events(avcdec_decoder *decoder, given *to) {
             uint8_t *samples = (uint8_t *)malloc(size);
             CHECK(samples != NULL && avcdec_copy_i420(decoder, samples, size) == AVCDEC_OK);
             add(to, samples, size);
+            compare_lent(decoder, samples);
             free(samples);
         }
     }
     return status;
 }
 
+/* Feeds at most 500 bytes, or a unit; *used says how many. */
+static avcdec_status feed(avcdec_decoder *decoder, size_t at, bool by_unit, size_t *used) {
+    if (by_unit)
+        return avcdec_feed_unit(decoder, stream + at, length - at, used);
+    *used = length - at < 500 ? length - at : 500;
+    return avcdec_feed(decoder, stream + at, *used);
+}
+
 /* The first status that is not OK, or OK. */
-static avcdec_status decode(avcdec_decoder *decoder, given *to) {
+static avcdec_status decode(avcdec_decoder *decoder, bool by_unit, given *to) {
     avcdec_status status;
-    for (size_t at = 0; at < length; at += 500) {
-        if ((status = avcdec_feed(decoder, stream + at, length - at < 500 ? length - at : 500)) != AVCDEC_OK)
+    for (size_t at = 0, used; at < length; at += used) {
+        if ((status = feed(decoder, at, by_unit, &used)) != AVCDEC_OK)
             return status;
         if ((status = take_events(decoder, to)) != AVCDEC_OK)
             return status;
@@ -77,7 +99,7 @@ static avcdec_status decode(avcdec_decoder *decoder, given *to) {
 }
 
 /* One decoding, where growth `refuse` is refused. */
-static given try_decoding(void) {
+static given try_decoding(bool by_unit) {
     avcdec_decoder decoder = AVCDEC_DECODER_CLOSED;
     avcdec_event event;
     given all = {0, 0};
@@ -86,14 +108,16 @@ static given try_decoding(void) {
         CHECK(growths == refuse && !decoder.open);
         CHECK(avcdec_open(&decoder, false) == AVCDEC_OK);
     }
-    avcdec_status status = decode(&decoder, &all);
+    avcdec_status status = decode(&decoder, by_unit, &all);
     if (status != AVCDEC_OK) {
         CHECK(status == AVCDEC_OUT_OF_MEMORY && growths == refuse);
+        size_t used = 1;
         CHECK(avcdec_feed(&decoder, stream, 1) == AVCDEC_OUT_OF_MEMORY && avcdec_flush(&decoder) == AVCDEC_OUT_OF_MEMORY);
+        CHECK(avcdec_feed_unit(&decoder, stream, 1, &used) == AVCDEC_OUT_OF_MEMORY && used == 0);
         CHECK(avcdec_take(&decoder, &event) == AVCDEC_OUT_OF_MEMORY && event.kind == AVCDEC_NOTHING);
         CHECK(avcdec_reset(&decoder) == AVCDEC_OK);
         all.events = all.sum = 0;
-        CHECK(decode(&decoder, &all) == AVCDEC_OK);
+        CHECK(decode(&decoder, by_unit, &all) == AVCDEC_OK);
     }
     avcdec_close(&decoder);
     CHECK(blocks == 0);
@@ -108,12 +132,17 @@ int main(int count, char **words) {
     fclose(in);
     avcdec_heap heap = {allocate, reallocate, release};
     avcdec_use_heap(&heap);
-    given whole = try_decoding();
-    long all = growths;
-    CHECK(whole.events > 0 && all > 0);
-    for (refuse = 1; refuse <= all; refuse++) {
-        given again = try_decoding();
-        CHECK(again.events == whole.events && again.sum == whole.sum);
+    long all = 0;
+    for (int by_unit = 0; by_unit <= 1; by_unit++) {
+        refuse = 0;
+        given whole = try_decoding(by_unit == 1);
+        long last = growths;
+        CHECK(whole.events > 0 && last > 0);
+        for (refuse = 1; refuse <= last; refuse++) {
+            given again = try_decoding(by_unit == 1);
+            CHECK(again.events == whole.events && again.sum == whole.sum);
+        }
+        all += last;
     }
     avcdec_use_heap(NULL);
     printf("%ld\n", all);

@@ -1,11 +1,14 @@
 """A proved decoder for H.264 (Rec. ITU-T H.264), Constrained Baseline profile.
 
     import avcdec
-    for event in avcdec.decode(open("in.264", "rb")):
+    for event in avcdec.decode("in.264"):
         if isinstance(event, avcdec.Picture):
             print(event.width, event.height, event.luma.row(0)[:8].hex())
         else:
             print(event)  # refused unit 3: 32 FrameNumGap
+
+A picture has memory of its own, one copy of what is shown. With `lend=True` it is not copied: its planes are views of the rows in the
+decoder's memory, until the next event. Then they are released, and `Picture.copy` keeps one.
 
 It stands on the shared library libavcdec, which scripts/install.sh installs: the file that AVCDEC_LIBRARY names, or where the system
 finds it. It needs nothing else; where numpy is installed, a Plane gives an array.
@@ -15,9 +18,15 @@ from __future__ import annotations
 
 import ctypes
 import ctypes.util
+import operator
 import os
+import sys
 from dataclasses import dataclass
-from typing import BinaryIO, Iterable, Iterator, Union
+from typing import TYPE_CHECKING, Any, BinaryIO, Iterable, Iterator, Optional, Tuple, Union
+
+if TYPE_CHECKING:
+    import numpy
+    import numpy.typing
 
 __all__ = [
     "Decoder", "Ended", "Error", "Event", "OutOfMemory", "Picture", "Plane", "Refusal", "decode", "version",
@@ -26,7 +35,7 @@ __all__ = [
 _OK, _OUT_OF_MEMORY, _ENDED = 0, 1, 2
 _PICTURE, _REFUSED = 1, 2
 _NAME_SIZE = 32
-# the most bytes that `decode` reads at a time: so few pictures wait inside the decoder
+# the most bytes that `decode` reads at a time
 _PIECE = 65_536
 
 
@@ -48,6 +57,16 @@ class _Event(ctypes.Structure):
     ]
 
 
+class _Rows(ctypes.Structure):
+    _fields_ = [
+        ("samples", ctypes.c_void_p),
+        ("length", ctypes.c_size_t),
+        ("stride", ctypes.c_size_t),
+        ("columns", ctypes.c_uint32),
+        ("rows", ctypes.c_uint32),
+    ]
+
+
 def _load() -> ctypes.CDLL:
     name = os.environ.get("AVCDEC_LIBRARY") or ctypes.util.find_library("avcdec") or "libavcdec.so.0"
     library = ctypes.CDLL(name)
@@ -55,10 +74,12 @@ def _load() -> ctypes.CDLL:
     for function, result, arguments in [
         ("avcdec_open", status, [handle, ctypes.c_bool]),
         ("avcdec_close", None, [handle]),
-        ("avcdec_feed", status, [handle, ctypes.c_char_p, ctypes.c_size_t]),
+        ("avcdec_feed", status, [handle, ctypes.c_void_p, ctypes.c_size_t]),
+        ("avcdec_feed_unit", status, [handle, ctypes.c_void_p, ctypes.c_size_t, ctypes.POINTER(ctypes.c_size_t)]),
         ("avcdec_flush", status, [handle]),
         ("avcdec_reset", status, [handle]),
         ("avcdec_take", status, [handle, ctypes.POINTER(_Event)]),
+        ("avcdec_lend_plane", status, [handle, ctypes.c_uint32, ctypes.POINTER(_Rows)]),
         ("avcdec_copy_i420", status, [handle, ctypes.c_void_p, ctypes.c_size_t]),
         ("avcdec_turns", ctypes.c_uint64, [handle]),
         ("avcdec_fault_name", status, [ctypes.c_uint32, ctypes.c_char_p, ctypes.c_size_t]),
@@ -106,9 +127,12 @@ class Refusal:
 
 @dataclass(frozen=True)
 class Plane:
-    """One plane of a picture: its samples, row by row without gaps."""
+    """One plane of a picture: what is shown of it, row by row."""
 
     samples: memoryview
+    """From the first sample of the first row to the last of the last. What stands between two rows is not shown."""
+    stride: int
+    """How many samples lie from one row to the next."""
     width: int
     height: int
 
@@ -116,17 +140,56 @@ class Plane:
         """The samples of a row."""
         if not 0 <= y < self.height:
             raise IndexError(f"row {y} of {self.height}")
-        return self.samples[y * self.width : (y + 1) * self.width]
+        return self.samples[y * self.stride : y * self.stride + self.width]
 
     def rows(self) -> Iterator[memoryview]:
         """The rows, from the top."""
         return (self.row(y) for y in range(self.height))
 
-    def array(self):
+    def array(self) -> numpy.typing.NDArray[numpy.uint8]:
         """The rows as an array of numpy, which shares the memory: element [y, x]."""
         import numpy
 
-        return numpy.frombuffer(self.samples, dtype=numpy.uint8).reshape(self.height, self.width)
+        return numpy.ndarray((self.height, self.width), numpy.uint8, self.samples, 0, (self.stride, 1))
+
+    def __eq__(self, other: object) -> bool:
+        if not isinstance(other, Plane):
+            return NotImplemented
+        return (self.width, self.height) == (other.width, other.height) and all(map(operator.eq, self.rows(), other.rows()))
+
+    def __hash__(self) -> int:
+        return hash((self.width, self.height))
+
+    def __repr__(self) -> str:
+        return f"Plane({self.width}x{self.height})"
+
+
+class _LentPlane(Plane):
+    """A plane in the decoder's memory, whose views are known, so that they can be released."""
+
+    _block: object
+    _views: list[memoryview]
+
+    def __init__(self, rows: _Rows) -> None:
+        length = (rows.rows - 1) * rows.stride + rows.columns if rows.rows and rows.columns else 0
+        block = (ctypes.c_char * length).from_address(rows.samples) if length else b""
+        view = memoryview(block).toreadonly().cast("B")
+        super().__init__(view, rows.stride, rows.columns, rows.rows)
+        object.__setattr__(self, "_block", block)
+        object.__setattr__(self, "_views", [view])
+
+    def row(self, y: int) -> memoryview:
+        view = super().row(y)
+        self._views.append(view)
+        return view
+
+    def release(self) -> None:
+        """Ends the views. A BufferError says that something else still stands on them, as an array."""
+        for view in self._views:
+            view.release()
+        # the memory is named by the attribute and by the argument; what else names it is a view that was cut from these
+        if self.height and hasattr(sys, "getrefcount") and sys.getrefcount(self._block) > 2:
+            raise BufferError("a view")
 
 
 @dataclass(frozen=True)
@@ -136,51 +199,79 @@ class Picture:
     width: int
     """In luma samples."""
     height: int
-    coded_size: tuple[int, int]
+    coded_size: Tuple[int, int]
     """Width and height without cropping."""
-    i420: bytes
-    """Luma, Cb and Cr, each row by row without gaps."""
+    luma: Plane
+    cb: Plane
+    cr: Plane
 
     @property
-    def luma(self) -> Plane:
-        return self._plane(0, self.width, self.height)
-
-    @property
-    def cb(self) -> Plane:
-        return self._plane(self.width * self.height, self.width // 2, self.height // 2)
-
-    @property
-    def cr(self) -> Plane:
-        chroma = (self.width // 2) * (self.height // 2)
-        return self._plane(self.width * self.height + chroma, self.width // 2, self.height // 2)
-
-    @property
-    def planes(self) -> tuple[Plane, Plane, Plane]:
+    def planes(self) -> Tuple[Plane, Plane, Plane]:
         """Luma, Cb, Cr."""
         return self.luma, self.cb, self.cr
 
-    def _plane(self, start: int, width: int, height: int) -> Plane:
-        return Plane(memoryview(self.i420)[start : start + width * height], width, height)
+    @property
+    def i420(self) -> bytes:
+        """Luma, Cb and Cr, each row by row without gaps. It is made anew where the picture is lent."""
+        whole = self.luma.samples.obj
+        return whole if isinstance(whole, bytes) else b"".join(row for plane in self.planes for row in plane.rows())
+
+    def copy(self) -> Picture:
+        """The picture in memory of its own."""
+        return _of_i420(self.width, self.height, self.coded_size, self.i420)
+
+    def __eq__(self, other: object) -> bool:
+        if not isinstance(other, Picture):
+            return NotImplemented
+        return (self.width, self.height, self.coded_size, self.i420) == (other.width, other.height, other.coded_size, other.i420)
+
+    def __hash__(self) -> int:
+        return hash((self.width, self.height, self.coded_size, self.i420))
+
+    def __repr__(self) -> str:
+        return f"Picture({self.width}x{self.height})"
+
+
+def _of_i420(width: int, height: int, coded_size: Tuple[int, int], i420: bytes) -> Picture:
+    start, planes = 0, []
+    for columns, rows in [(width, height), (width // 2, height // 2), (width // 2, height // 2)]:
+        planes.append(Plane(memoryview(i420)[start : start + columns * rows], columns, columns, rows))
+        start += columns * rows
+    return Picture(width, height, coded_size, *planes)
 
 
 Event = Union[Picture, Refusal]
+Data = Union[bytes, bytearray, memoryview]
 
 
 class Decoder:
-    """A decoder of one byte stream (Annex B) at a time. It stays on the thread that made it.
+    """A decoder of one byte stream (Annex B) at a time. It may go from thread to thread; there is one call at a time.
 
     With `early` a picture goes out as soon as the stream's max_num_reorder_frames allows, where it gives it; else once the decoded
     picture buffer has no room, at an IDR picture, or at the end.
     """
 
     def __init__(self, early: bool = False) -> None:
+        self._lent: list[_LentPlane] = []
         self._handle = _Handle()
         _tell(_library.avcdec_open(self._handle, early))
 
-    def feed(self, data: bytes | bytearray | memoryview) -> None:
-        """Takes the next bytes of the stream. All pictures that they bring wait inside until they are taken."""
-        piece = bytes(data)
-        _tell(_library.avcdec_feed(self._handle, piece, len(piece)))
+    def feed(self, data: Data) -> None:
+        """Takes the next bytes of the stream. All pictures that they bring wait inside until they are taken, and a small piece can bring
+        many: `feed_unit` and `decode` bound them."""
+        piece = _bytes(data)
+        _tell(_library.avcdec_feed(self._handle, _address(piece), len(piece)))
+
+    def feed_unit(self, data: Data, start: int = 0) -> int:
+        """Takes data[start:] as `feed` does, but only up to where the next unit has ended, and answers how many bytes that are: at least
+        1 where there are any, and all where no unit has ended. Where all events are taken after each call, at most the pictures that one
+        unit lets out wait."""
+        piece = _bytes(data)
+        if not 0 <= start <= len(piece):
+            raise IndexError(f"byte {start} of {len(piece)}")
+        used = ctypes.c_size_t()
+        _tell(_library.avcdec_feed_unit(self._handle, _address(piece) + start, len(piece) - start, used))
+        return used.value
 
     def end_access_unit(self) -> None:
         """Says that the bytes so far end with a whole access unit: its picture is decoded now. It adds 1 to the count of units."""
@@ -192,29 +283,41 @@ class Decoder:
 
     def reset(self) -> None:
         """Forgets everything, want of memory too: a new stream begins."""
+        self._take_back()
         _tell(_library.avcdec_reset(self._handle))
 
-    def take(self) -> Event | None:
-        """The next event that the bytes so far define, if there is one."""
+    def take(self, lend: bool = False) -> Optional[Event]:
+        """The next event that the bytes so far define, if there is one. With `lend` its picture is not copied: it stands in the decoder's
+        memory until the next `take`, `reset` or `close`, which releases its views. Where an array stands on them still, that call raises
+        BufferError and does nothing."""
+        self._take_back()
         event = _Event()
         _tell(_library.avcdec_take(self._handle, event))
         if event.kind == _PICTURE:
-            return self._picture(event)
+            return self._lend(event) if lend else self._copy(event)
         if event.kind == _REFUSED:
             return Refusal(event.unit, event.fault)
         return None
 
-    def events(self) -> Iterator[Event]:
+    def events(self, lend: bool = False) -> Iterator[Event]:
         """The events that the bytes so far define, one after another."""
-        return iter(self.take, None)
+        return iter(lambda: self.take(lend), None)
+
+    def decode(self, data: Data, lend: bool = False) -> Iterator[Event]:
+        """Feeds bytes unit by unit, and gives the events as they come."""
+        piece, at = _bytes(data), 0
+        while at < len(piece):
+            at += self.feed_unit(piece, at)
+            yield from self.events(lend)
 
     @property
     def turns(self) -> int:
         """How many macroblocks have been read since the last reset."""
-        return _library.avcdec_turns(self._handle)
+        return int(_library.avcdec_turns(self._handle))
 
     def close(self) -> None:
         """Frees what the decoder holds. A closed one answers each call by an Error."""
+        self._take_back()
         _library.avcdec_close(self._handle)
 
     def __enter__(self) -> Decoder:
@@ -225,25 +328,47 @@ class Decoder:
 
     def __del__(self) -> None:
         if hasattr(self, "_handle"):
-            self.close()
+            try:
+                self.close()
+            except BufferError:
+                pass  # an array stands in its memory still, so that is not freed
 
-    def _picture(self, event: _Event) -> Picture:
+    def _copy(self, event: _Event) -> Picture:
         width = event.width - event.crop_left - event.crop_right
         height = event.height - event.crop_top - event.crop_bottom
-        size = width * height + 2 * (width // 2) * (height // 2)
-        samples = ctypes.create_string_buffer(size)
-        _tell(_library.avcdec_copy_i420(self._handle, samples, size))
-        return Picture(width, height, (event.width, event.height), samples.raw)
+        i420 = _new_bytes(width * height + 2 * (width // 2) * (height // 2))
+        _tell(_library.avcdec_copy_i420(self._handle, _address(i420), len(i420)))
+        return _of_i420(width, height, (event.width, event.height), i420)
+
+    def _lend(self, event: _Event) -> Picture:
+        for plane in range(3):
+            rows = _Rows()
+            _tell(_library.avcdec_lend_plane(self._handle, plane, rows))
+            self._lent.append(_LentPlane(rows))
+        luma, cb, cr = self._lent
+        return Picture(luma.width, luma.height, (event.width, event.height), luma, cb, cr)
+
+    # the rows that are lent come back
+    def _take_back(self) -> None:
+        try:
+            for plane in self._lent:
+                plane.release()
+        except BufferError:
+            raise BufferError("rows of the last picture are in use: copy them, or let them go") from None
+        self._lent = []
 
 
-def decode(source: BinaryIO | bytes | Iterable[bytes], early: bool = False) -> Iterator[Event]:
-    """The events of a whole stream: of a file, of bytes, or of pieces of bytes."""
+Source = Union["os.PathLike[str]", str, BinaryIO, Data, Iterable[bytes]]
+
+
+def decode(source: Source, early: bool = False, lend: bool = False) -> Iterator[Event]:
+    """The events of a whole stream: of a file or its path, of bytes, or of pieces of bytes. With `lend` a picture is not copied: it is there until the
+    next event, as `Decoder.take` says."""
     with Decoder(early) as decoder:
         for piece in _pieces(source):
-            decoder.feed(piece)
-            yield from decoder.events()
+            yield from decoder.decode(piece, lend)
         decoder.flush()
-        yield from decoder.events()
+        yield from decoder.events(lend)
 
 
 def version() -> tuple[int, int, int]:
@@ -252,12 +377,34 @@ def version() -> tuple[int, int, int]:
     return number >> 16, number >> 8 & 255, number & 255
 
 
-def _pieces(source: BinaryIO | bytes | Iterable[bytes]) -> Iterable[bytes]:
-    if isinstance(source, (bytes, bytearray, memoryview)):
-        return (source[at : at + _PIECE] for at in range(0, len(source), _PIECE))
-    if hasattr(source, "read"):
-        return iter(lambda: source.read(_PIECE), b"")
-    return source
+def _pieces(source: Source) -> Iterator[Data]:
+    if isinstance(source, (str, os.PathLike)):
+        with open(source, "rb") as file:
+            yield from _pieces(file)
+    elif isinstance(source, (bytes, bytearray, memoryview)):
+        yield source
+    elif hasattr(source, "read"):
+        yield from iter(lambda: source.read(_PIECE), b"")
+    else:
+        yield from source
+
+
+# as bytes, which are not copied where they are bytes; a TypeError where they are none
+def _bytes(data: Data) -> bytes:
+    return data if isinstance(data, bytes) else memoryview(data).tobytes()
+
+
+# bytes that nobody has seen yet, to be filled
+def _new_bytes(length: int) -> bytes:
+    new = ctypes.pythonapi.PyBytes_FromStringAndSize
+    new.restype, new.argtypes = ctypes.py_object, [ctypes.c_void_p, ctypes.c_ssize_t]
+    made: bytes = new(None, length)
+    return made
+
+
+# where bytes lie
+def _address(data: bytes) -> int:
+    return ctypes.cast(ctypes.c_char_p(data), ctypes.c_void_p).value or 0
 
 
 def _tell(status: int) -> None:

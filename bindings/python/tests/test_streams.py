@@ -2,6 +2,7 @@
 
 import hashlib
 import importlib.util
+import io
 import os
 import pathlib
 import random
@@ -46,15 +47,25 @@ class Streams(unittest.TestCase):
         streams = sorted((VECTORS / "cases").glob("*.264"))
         self.assertGreater(len(streams), 50)
         for stream in streams:
-            with self.subTest(stream.name), open(stream, "rb") as file:
+            with self.subTest(stream.name):
                 samples, refusals = hashlib.md5(), ""
-                for event in avcdec.decode(file):
+                for event in avcdec.decode(stream):
                     if isinstance(event, avcdec.Picture):
                         samples.update(event.i420)
                     else:
                         refusals += f"{event}\n"
                 self.assertEqual(samples.hexdigest(), expected(stream, ".md5").split()[0])
                 self.assertEqual(refusals, expected(stream, ".refused"))
+
+    def test_lent_pictures_are_those_that_are_copied(self) -> None:
+        for name in ["gap", "held_before_refusal"]:
+            data = (VECTORS / "cases" / f"{name}.264").read_bytes()
+            kept = list(avcdec.decode(data))
+            self.assertEqual([event.copy() if isinstance(event, avcdec.Picture) else event for event in avcdec.decode(data, lend=True)], kept)
+            for event, lent in zip(kept, avcdec.decode(data, lend=True)):
+                self.assertEqual(lent, event)
+                if isinstance(event, avcdec.Picture):
+                    self.assertEqual(lent.planes, event.planes)
 
     def test_cuttings_are_alike(self) -> None:
         chance = random.Random(5)
@@ -64,6 +75,8 @@ class Streams(unittest.TestCase):
             cuts = sorted(chance.randrange(len(data) + 1) for _ in range(9))
             pieces = [data[a:b] for a, b in zip([0] + cuts, cuts + [len(data)])]
             self.assertEqual(list(avcdec.decode(pieces)), whole)
+        self.assertEqual(list(avcdec.decode(io.BytesIO(data))), whole)
+        self.assertEqual(list(avcdec.decode(str(VECTORS / "cases" / "gap.264"))), whole)
 
 
 class Calls(unittest.TestCase):
@@ -80,6 +93,59 @@ class Calls(unittest.TestCase):
         (picture,) = avcdec.decode(GREY)
         self.assertEqual(picture.cb.array().shape, (8, 8))
         self.assertTrue((picture.luma.array() == 128).all())
+
+    def test_lent_rows_are_taken_back(self) -> None:
+        with avcdec.Decoder() as decoder:
+            decoder.feed(GREY)
+            decoder.flush()
+            picture = decoder.take(lend=True)
+            row, kept = picture.cr.row(7), picture.copy()
+            self.assertEqual((bytes(row), picture.luma.stride >= 16), (bytes([128] * 8), True))
+            part = row[2:]
+            with self.assertRaises(BufferError):
+                decoder.take()
+            del part
+            self.assertIsNone(decoder.take())
+            for late in [lambda: row[0], lambda: picture.luma.row(0), lambda: picture.i420]:
+                with self.assertRaises(ValueError):
+                    late()
+            self.assertEqual(kept.i420, bytes([128] * 384))
+
+    @unittest.skipUnless(importlib.util.find_spec("numpy"), "numpy is not installed")
+    def test_no_array_outlives_its_rows(self) -> None:
+        decoder = avcdec.Decoder()
+        decoder.feed(GREY)
+        decoder.flush()
+        array = decoder.take(lend=True).luma.array()
+        self.assertEqual((array.shape, array.flags.writeable, int(array[15, 15])), ((16, 16), False, 128))
+        for call in [decoder.take, decoder.reset, decoder.close]:
+            with self.assertRaises(BufferError):
+                call()
+        del array
+        decoder.close()
+
+    def test_only_bytes_are_fed(self) -> None:
+        with avcdec.Decoder() as decoder:
+            for wrong in [5, "text", None, [0, 0, 1]]:
+                with self.assertRaises(TypeError):
+                    decoder.feed(wrong)
+                with self.assertRaises(TypeError):
+                    decoder.feed_unit(wrong)
+            decoder.feed(bytearray(GREY))
+            decoder.flush()
+            self.assertIsInstance(decoder.take(), avcdec.Picture)
+
+    def test_feeding_stops_where_a_unit_has_ended(self) -> None:
+        with avcdec.Decoder() as decoder:
+            used = decoder.feed_unit(GREY)
+            self.assertTrue(0 < used < len(GREY))
+            while used < len(GREY):
+                used += decoder.feed_unit(memoryview(GREY), used)
+            self.assertEqual(decoder.feed_unit(GREY, len(GREY)), 0)
+            decoder.flush()
+            self.assertEqual([(p.width, p.height) for p in decoder.events()], [(16, 16)])
+            with self.assertRaises(avcdec.Ended):
+                decoder.feed_unit(GREY)
 
     def test_a_refusal_is_told_as_by_the_program(self) -> None:
         (refusal,) = avcdec.decode(bytes.fromhex("000001E742"))

@@ -41,14 +41,41 @@ pub struct Event {
     pub crop_bottom: u32,
 }
 
+#[repr(C)]
+pub struct Rows {
+    pub samples: *const u8,
+    pub length: usize,
+    pub stride: usize,
+    pub columns: u32,
+    pub rows: u32,
+}
+
+impl Rows {
+    pub fn none() -> Rows {
+        Rows {
+            samples: std::ptr::null(),
+            length: 0,
+            stride: 0,
+            columns: 0,
+            rows: 0,
+        }
+    }
+}
+
 extern "C" {
     pub fn avcdec_open(decoder: *mut Decoder, early: bool) -> u32;
     pub fn avcdec_close(decoder: *mut Decoder);
     pub fn avcdec_feed(decoder: *mut Decoder, bytes: *const u8, length: usize) -> u32;
+    pub fn avcdec_feed_unit(
+        decoder: *mut Decoder,
+        bytes: *const u8,
+        length: usize,
+        used: *mut usize,
+    ) -> u32;
     pub fn avcdec_flush(decoder: *mut Decoder) -> u32;
     pub fn avcdec_reset(decoder: *mut Decoder) -> u32;
     pub fn avcdec_take(decoder: *mut Decoder, event: *mut Event) -> u32;
-    pub fn avcdec_copy_i420(decoder: *mut Decoder, out: *mut u8, length: usize) -> u32;
+    pub fn avcdec_lend_plane(decoder: *mut Decoder, plane: u32, rows: *mut Rows) -> u32;
     pub fn avcdec_turns(decoder: *mut Decoder) -> u64;
     pub fn avcdec_fault_name(fault: u32, name: *mut c_char, length: usize) -> u32;
     pub fn avcdec_version() -> u32;

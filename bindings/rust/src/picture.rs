@@ -1,104 +1,159 @@
-use crate::c;
+use crate::{c, Error};
+use std::fmt;
+use std::slice;
 
 /// What is shown of a decoded picture: the crop window, at 4:2:0 with samples of eight bits.
-#[derive(Clone, Debug, PartialEq, Eq)]
-pub struct Picture {
-    width: usize,
-    height: usize,
+///
+/// Its planes lie in the decoder's memory and are not copied: it borrows the decoder, until the next call. To keep it, copy it by
+/// [`Picture::to_i420`] or [`Picture::copy_i420`].
+#[derive(Clone, Copy, PartialEq, Eq)]
+pub struct Picture<'a> {
     coded: (usize, usize),
-    i420: Vec<u8>,
+    planes: [Plane<'a>; 3],
 }
 
-/// One plane of a picture.
-#[derive(Clone, Copy, Debug, PartialEq, Eq)]
+/// One plane of a picture. Two planes are equal where they show the same samples.
+#[derive(Clone, Copy)]
 pub struct Plane<'a> {
-    /// Row by row, from the first sample of the first row to the last of the last.
+    /// From the first sample of the first row to the last of the last. What stands between two rows is not shown.
     pub samples: &'a [u8],
-    /// From one row to the next.
+    /// How many samples lie from one row to the next.
     pub stride: usize,
+    /// How many samples a row shows.
     pub width: usize,
+    /// How many rows there are.
     pub height: usize,
 }
 
 impl<'a> Plane<'a> {
+    // The rows that were lent stay as they are for 'a.
+    pub(crate) unsafe fn of_rows(rows: &c::Rows) -> Plane<'a> {
+        let (width, height) = (rows.columns as usize, rows.rows as usize);
+        let samples = if width == 0 || height == 0 {
+            &[]
+        } else {
+            slice::from_raw_parts(rows.samples, (height - 1) * rows.stride + width)
+        };
+        Plane {
+            samples,
+            stride: rows.stride,
+            width,
+            height,
+        }
+    }
+
     /// The samples of a row; it panics where there is no such row.
+    #[must_use]
     pub fn row(&self, y: usize) -> &'a [u8] {
         assert!(y < self.height, "row {y} of {}", self.height);
+        if self.width == 0 {
+            return &[];
+        }
         &self.samples[y * self.stride..][..self.width]
     }
 
+    /// The rows, from the top.
     pub fn rows(self) -> impl Iterator<Item = &'a [u8]> {
         (0..self.height).map(move |y| self.row(y))
     }
 }
 
-impl Picture {
-    pub(crate) fn of_size(event: &c::Event) -> Picture {
-        let width = (event.width - event.crop_left - event.crop_right) as usize;
-        let height = (event.height - event.crop_top - event.crop_bottom) as usize;
-        Picture {
-            width,
-            height,
-            coded: (event.width as usize, event.height as usize),
-            i420: vec![0; width * height + 2 * (width / 2) * (height / 2)],
-        }
+impl PartialEq for Plane<'_> {
+    fn eq(&self, other: &Plane<'_>) -> bool {
+        (self.width, self.height) == (other.width, other.height) && self.rows().eq(other.rows())
     }
+}
 
-    pub(crate) fn samples_mut(&mut self) -> &mut [u8] {
-        &mut self.i420
+impl Eq for Plane<'_> {}
+
+impl fmt::Debug for Plane<'_> {
+    fn fmt(&self, f: &mut fmt::Formatter<'_>) -> fmt::Result {
+        write!(f, "Plane({}x{})", self.width, self.height)
+    }
+}
+
+impl fmt::Debug for Picture<'_> {
+    fn fmt(&self, f: &mut fmt::Formatter<'_>) -> fmt::Result {
+        write!(f, "Picture({}x{})", self.width(), self.height())
+    }
+}
+
+impl<'a> Picture<'a> {
+    pub(crate) fn new(coded: (usize, usize), planes: [Plane<'a>; 3]) -> Picture<'a> {
+        Picture { coded, planes }
     }
 
     /// In luma samples.
+    #[must_use]
     pub fn width(&self) -> usize {
-        self.width
+        self.luma().width
     }
 
+    /// In luma samples.
+    #[must_use]
     pub fn height(&self) -> usize {
-        self.height
+        self.luma().height
     }
 
     /// Width and height as coded, without cropping, in luma samples.
+    #[must_use]
     pub fn coded_size(&self) -> (usize, usize) {
         self.coded
     }
 
-    /// Luma, Cb and Cr, each row by row without gaps.
-    pub fn i420(&self) -> &[u8] {
-        &self.i420
+    /// The luma samples.
+    #[must_use]
+    pub fn luma(&self) -> Plane<'a> {
+        self.planes[0]
     }
 
-    pub fn into_i420(self) -> Vec<u8> {
-        self.i420
+    /// The Cb samples: half as many columns and rows.
+    #[must_use]
+    pub fn cb(&self) -> Plane<'a> {
+        self.planes[1]
     }
 
-    pub fn luma(&self) -> Plane<'_> {
-        self.plane(0, self.width, self.height)
-    }
-
-    pub fn cb(&self) -> Plane<'_> {
-        self.plane(self.width * self.height, self.width / 2, self.height / 2)
-    }
-
-    pub fn cr(&self) -> Plane<'_> {
-        let chroma = (self.width / 2) * (self.height / 2);
-        self.plane(
-            self.width * self.height + chroma,
-            self.width / 2,
-            self.height / 2,
-        )
+    /// The Cr samples: half as many columns and rows.
+    #[must_use]
+    pub fn cr(&self) -> Plane<'a> {
+        self.planes[2]
     }
 
     /// Luma, Cb, Cr.
-    pub fn planes(&self) -> [Plane<'_>; 3] {
-        [self.luma(), self.cb(), self.cr()]
+    #[must_use]
+    pub fn planes(&self) -> [Plane<'a>; 3] {
+        self.planes
     }
 
-    fn plane(&self, from: usize, width: usize, height: usize) -> Plane<'_> {
-        Plane {
-            samples: &self.i420[from..from + width * height],
-            stride: width,
-            width,
-            height,
+    /// How many bytes [`Picture::copy_i420`] fills.
+    #[must_use]
+    pub fn i420_len(&self) -> usize {
+        self.planes
+            .iter()
+            .map(|plane| plane.width * plane.height)
+            .sum()
+    }
+
+    /// Copies luma, Cb and Cr, each row by row without gaps. It panics where `out` has another length than
+    /// [`Picture::i420_len`].
+    pub fn copy_i420(&self, out: &mut [u8]) {
+        assert_eq!(out.len(), self.i420_len(), "the length of I420");
+        let mut rest = out;
+        for row in self.planes.iter().flat_map(|plane| plane.rows()) {
+            let (to, behind) = rest.split_at_mut(row.len());
+            to.copy_from_slice(row);
+            rest = behind;
         }
+    }
+
+    /// Luma, Cb and Cr, each row by row without gaps, in memory of their own.
+    pub fn to_i420(&self) -> Result<Vec<u8>, Error> {
+        let mut i420 = Vec::new();
+        i420.try_reserve_exact(self.i420_len())
+            .map_err(|_| Error::OutOfMemory)?;
+        for row in self.planes.iter().flat_map(|plane| plane.rows()) {
+            i420.extend_from_slice(row);
+        }
+        Ok(i420)
     }
 }

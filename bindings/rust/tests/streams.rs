@@ -13,15 +13,19 @@ struct Given {
 }
 
 impl Given {
-    fn take_all(&mut self, decoder: &mut Decoder) {
-        for event in decoder.events() {
-            match event.unwrap() {
-                Event::Picture(picture) => {
-                    self.pictures += 1;
-                    self.samples.extend(picture.i420());
-                }
-                Event::Refused(refusal) => self.refusals.push(refusal.to_string()),
+    fn add(&mut self, event: Event<'_>) {
+        match event {
+            Event::Picture(picture) => {
+                self.pictures += 1;
+                self.samples.extend(picture.to_i420().unwrap());
             }
+            Event::Refused(refusal) => self.refusals.push(refusal.to_string()),
+        }
+    }
+
+    fn take_all(&mut self, decoder: &mut Decoder) {
+        while let Some(event) = decoder.take().unwrap() {
+            self.add(event);
         }
     }
 }
@@ -36,6 +40,17 @@ fn decode(bytes: &[u8], piece: usize) -> Given {
     decoder.flush().unwrap();
     given.take_all(&mut decoder);
     assert_eq!(decoder.feed(&[]), Err(Error::Ended));
+    assert_eq!(decoder.feed_unit(&[0]), Err(Error::Ended));
+    given
+}
+
+fn decode_by_units(bytes: &[u8]) -> Given {
+    let mut given = Given::default();
+    avcdec::decode(bytes, Output::Full, |event| {
+        given.add(event);
+        Ok(())
+    })
+    .unwrap();
     given
 }
 
@@ -64,6 +79,7 @@ fn refusals_are_those_expected_however_the_stream_is_cut() {
             .collect();
         assert_eq!(whole.refusals, expected, "{path:?}");
         assert_eq!(decode(&bytes, 7), whole, "{path:?}");
+        assert_eq!(decode_by_units(&bytes), whole, "{path:?}");
     }
 }
 
@@ -86,7 +102,11 @@ fn a_cropped_picture_has_its_planes() {
         (picture.width(), picture.height(), picture.coded_size()),
         (10, 10, (16, 16))
     );
-    assert_eq!(picture.i420(), [128; 150]);
+    assert_eq!(picture.to_i420(), Ok(vec![128; 150]));
+    let mut copied = [0; 150];
+    picture.copy_i420(&mut copied);
+    assert_eq!((copied, picture.i420_len()), ([128; 150], 150));
+    assert!(picture.luma().rows().all(|row| row == [128; 10]));
     assert_eq!(
         picture
             .planes()
@@ -112,4 +132,40 @@ fn a_refusal_names_unit_and_fault() {
         (unit, fault.number(), fault.name().as_str()),
         (0, 10, "Profile")
     );
+}
+
+#[test]
+fn feeding_stops_where_a_unit_has_ended() {
+    let two_units = [0u8, 0, 1, 0x67, 0x42, 0, 0, 1, 0x68, 0xCE];
+    let mut decoder = Decoder::new(Output::Full).unwrap();
+    let used = decoder.feed_unit(&two_units).unwrap();
+    assert!((7..=8).contains(&used), "{used}");
+    assert_eq!(
+        decoder.feed_unit(&two_units[used..]),
+        Ok(two_units.len() - used)
+    );
+    assert_eq!(decoder.feed_unit(&[]), Ok(0));
+}
+
+#[test]
+fn a_decoder_goes_from_thread_to_thread() {
+    let path = streams().remove(0);
+    let bytes = fs::read(path).unwrap();
+    let mut decoder = Decoder::new(Output::Full).unwrap();
+    let mut given = Given::default();
+    for part in bytes.chunks(100) {
+        (decoder, given) = std::thread::spawn({
+            let part = part.to_vec();
+            move || {
+                decoder.feed(&part).unwrap();
+                given.take_all(&mut decoder);
+                (decoder, given)
+            }
+        })
+        .join()
+        .unwrap();
+    }
+    decoder.flush().unwrap();
+    given.take_all(&mut decoder);
+    assert_eq!(given, decode_by_units(&bytes));
 }
