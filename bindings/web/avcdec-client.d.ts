@@ -1,0 +1,36 @@
+// The types of avcdec-client.mjs.
+import type { Crop, DecoderOptions, FeedOptions, FrameInit, Plane, Refusal } from './avcdec.mjs';
+
+/** A picture with samples of its own, as I420 without gaps. */
+export class OwnPicture {
+    private constructor();
+    readonly kind: 'picture';
+    readonly width: number;
+    readonly height: number;
+    readonly codedWidth: number;
+    readonly codedHeight: number;
+    readonly crop: Crop;
+    readonly size: number;
+    samples: Uint8Array;
+    readonly planes: [Plane, Plane, Plane];
+    copy(to?: Uint8Array): Uint8Array;
+    /** Takes the samples over. */
+    frame(init: FrameInit): VideoFrame;
+}
+
+export type OwnEvent = OwnPicture | Pick<Refusal, 'kind' | 'unit' | 'fault' | 'name'>;
+
+/** A decoder in a worker of its own. Calls are answered in their order, and fail with OutOfMemory or DecoderError. */
+export class WorkerDecoder {
+    constructor(options?: DecoderOptions & { module?: URL | string | WebAssembly.Module });
+    readonly ready: Promise<void>;
+    readonly version: string | undefined;
+    readonly memory: number;
+    readonly turns: number;
+    decode(bytes: Uint8Array, options?: FeedOptions & { transfer?: boolean }): Promise<OwnEvent[]>;
+    flush(): Promise<OwnEvent[]>;
+    reset(): Promise<void>;
+    /** Takes the samples of a picture that is done with, for later pictures. */
+    giveBack(picture: OwnPicture): void;
+    close(): void;
+}

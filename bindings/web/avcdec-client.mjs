@@ -1,0 +1,124 @@
+// avcdec-client.mjs: WorkerDecoder, a decoder in a worker of its own, so that the thread of a page stays free.
+import { DecoderError, OutOfMemory } from './avcdec.mjs';
+
+/** A picture with samples of its own, as I420 without gaps: luma, Cb, Cr. */
+export class OwnPicture {
+    constructor(fields) {
+        Object.assign(this, fields);
+        this.size = this.samples.length;
+    }
+
+    /** Luma, Cb, Cr. */
+    get planes() {
+        const { samples, width, height } = this, luma = width * height, chroma = luma / 4;
+        return [[0, luma, 1], [luma, chroma, 2], [luma + chroma, chroma, 2]].map(([from, size, part]) =>
+            ({ samples: samples.subarray(from, from + size), stride: width / part, columns: width / part, rows: height / part }));
+    }
+
+    copy(to = new Uint8Array(this.size)) {
+        to.set(this.samples);
+        return to;
+    }
+
+    /** A VideoFrame that takes the samples over: the picture has none afterwards. */
+    frame(init) {
+        return new VideoFrame(this.samples, { ...init, format: 'I420', codedWidth: this.width, codedHeight: this.height, transfer: [this.samples.buffer] });
+    }
+}
+
+/** A decoder in a worker. Calls are answered in their order. */
+export class WorkerDecoder {
+    #worker;
+    #waiting = new Map();
+    #calls = 0;
+    #buffers = [];
+    #ready;
+    #closed;
+
+    /** `module`: a URL of avcdec.wasm or a WebAssembly.Module. */
+    constructor({ early = false, module } = {}) {
+        this.#ready = this.#begin(early, module);
+        this.#ready.catch(() => {}); // it is told to whoever calls
+    }
+
+    async #begin(early, module) {
+        // the URL stands in the call, where bundlers look for it
+        const worker = typeof Worker === 'undefined'
+            ? new (await import('node:worker_threads')).Worker(new URL('avcdec-worker.mjs', import.meta.url))
+            : new Worker(new URL('avcdec-worker.mjs', import.meta.url), { type: 'module' });
+        this.#worker = worker;
+        const fail = message => this.#end(new DecoderError(`the worker failed: ${message}`));
+        if (worker.on) worker.on('message', it => this.#told(it)).on('error', it => fail(it.message));
+        else worker.onmessage = event => this.#told(event.data), worker.onerror = event => fail(event.message);
+        if (this.#closed) worker.terminate();
+        if (module instanceof URL) module = module.href;
+        return this.#ask('open', { module, early });
+    }
+
+    #told({ id, told, error }) {
+        const { done, failed } = this.#waiting.get(id);
+        this.#waiting.delete(id);
+        if (error) failed(error.name === 'OutOfMemory' ? new OutOfMemory() : Object.assign(new DecoderError('', error.status), { message: error.message }));
+        else {
+            if (told.memory) this.memory = told.memory, this.turns = told.turns;
+            if (told.version) this.version = told.version;
+            told.events = told.events?.map(it => it.kind === 'picture' ? new OwnPicture(it) : it);
+            done(told);
+        }
+    }
+
+    #ask(call, words, transfer = []) {
+        if (this.#closed) return Promise.reject(this.#closed);
+        return new Promise((done, failed) => {
+            const id = this.#calls++, buffers = this.#buffers.splice(0);
+            this.#waiting.set(id, { done, failed });
+            this.#worker.postMessage({ id, call, words, buffers }, [...transfer, ...buffers]);
+        });
+    }
+
+    /** Version of the library, bytes of the module's memory and macroblocks read, as the worker told them last. */
+    version;
+    memory = 0;
+    turns = 0;
+
+    /** Once the worker and its module are there. */
+    get ready() {
+        return this.#ready.then(() => {});
+    }
+
+    /** Gives bytes (Annex B) and answers the events that they bring; with `endsUnit` they end with a whole access unit. All pictures of a call are
+     * answered together: give an access unit or 65,536 bytes at a time. With `transfer` the buffer of the bytes goes to the worker. */
+    async decode(bytes, { endsUnit = false, transfer = false } = {}) {
+        await this.#ready;
+        return (await this.#ask('decode', { bytes, endsUnit }, transfer ? [bytes.buffer] : [])).events;
+    }
+
+    /** Ends the stream; answers what was held. */
+    async flush() {
+        await this.#ready;
+        return (await this.#ask('flush')).events;
+    }
+
+    async reset() {
+        await this.#ready;
+        await this.#ask('reset');
+    }
+
+    /** Takes the samples of a picture that is done with, for later pictures. */
+    giveBack(picture) {
+        if (picture.samples.length > 0 && this.#buffers.length < 8) this.#buffers.push(picture.samples.buffer);
+        picture.samples = new Uint8Array(0);
+    }
+
+    #end(why) {
+        this.#closed ??= why;
+        this.#worker?.terminate();
+        for (const { failed } of this.#waiting.values()) failed(why);
+        this.#waiting.clear();
+    }
+
+    /** Ends the worker; its memory is free. Calls that were not answered fail. */
+    close() {
+        this.#end(new DecoderError('the decoder is closed', 3));
+    }
+}

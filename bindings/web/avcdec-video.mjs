@@ -1,0 +1,331 @@
+// avcdec-video.mjs: AvcVideoDecoder, the proved decoder in the shape of WebCodecs' VideoDecoder, so that a page changes one word:
+//
+//     const decoder = new AvcVideoDecoder({ output: frame => { draw(frame); frame.close(); }, error: console.error });
+//     decoder.configure({ codec: 'avc1.42E01E', description });   // description: avcC, where chunks are as MP4 has them; none: Annex B
+//     decoder.decode(new EncodedVideoChunk({ type: 'key', timestamp: 0, data }));
+//     await decoder.flush();
+//
+// It decodes in a worker, or in this thread where there is none or `library` is given.
+import { Decoder, load } from './avcdec.mjs';
+import { Avcc, bytesOf, ParameterSets, sequenceInfo } from './avcdec-annexb.mjs';
+import { WorkerDecoder } from './avcdec-client.mjs';
+
+const soon = typeof setImmediate === 'function' ? setImmediate : taskBy(new MessageChannel());
+
+function taskBy({ port1, port2 }) {
+    const tasks = [];
+    port1.onmessage = () => tasks.shift()();
+    return task => { tasks.push(task); port2.postMessage(0); };
+}
+
+/** What decodes here: each call gives its events to `take` one by one. */
+class Here {
+    constructor(decoder) {
+        this.decoder = decoder;
+    }
+
+    async decode(bytes, take) {
+        for (const event of this.decoder.decode(bytes, { endsUnit: true })) take(event);
+    }
+
+    async flush(take) {
+        this.decoder.flush();
+        for (const event of this.decoder.events()) take(event);
+    }
+
+    async reset() {
+        this.decoder.reset();
+    }
+
+    close() {
+        this.decoder.close();
+    }
+}
+
+/** What decodes in a worker. */
+class There {
+    constructor(decoder) {
+        this.decoder = decoder;
+    }
+
+    async decode(bytes, take) {
+        (await this.decoder.decode(bytes, { endsUnit: true, transfer: true })).forEach(take);
+    }
+
+    async flush(take) {
+        (await this.decoder.flush()).forEach(take);
+    }
+
+    reset() {
+        return this.decoder.reset();
+    }
+
+    close() {
+        this.decoder.close();
+    }
+}
+
+/** Which chunk each picture comes from. Pictures come in output order, and in no other way than this do they name their chunk: of the chunks
+ * of the earliest coded video sequence that wait, the one with the least timestamp is shown first. */
+class Waiting {
+    #sequences = [[]];
+    #isLost = false;
+    #current;
+
+    /** A chunk that is decoded now. */
+    begin(chunk, { coded, idr }) {
+        this.#current = chunk;
+        if (idr) this.#sequences.push([]);
+        if (idr) this.#isLost = false;
+        if (coded && !this.#isLost) this.#sequences.at(-1).push(chunk);
+    }
+
+    /** The pictures of a chunk are out: an IDR picture has let all before it go, or dropped them (no_output_of_prior_pics_flag). */
+    end({ idr }) {
+        if (idr) this.#sequences.splice(0, this.#sequences.length - 1);
+    }
+
+    /** The chunk that is decoded now is refused: no picture comes of it, nor of those up to the next IDR picture. */
+    refuse() {
+        this.#isLost = true;
+        for (const list of this.#sequences) if (list.at(-1) === this.#current) list.pop();
+        return this.#current;
+    }
+
+    /** The chunk of the next picture. */
+    next() {
+        const list = this.#sequences.find(it => it.length > 0);
+        if (list === undefined) return this.#current;
+        let least = 0;
+        for (let at = 1; at < list.length; at++) if (list[at].timestamp < list[least].timestamp) least = at;
+        return list.splice(least, 1)[0];
+    }
+}
+
+function fault(name, message, more) {
+    return Object.assign(new DOMException(`avcdec: ${message}`, name), more);
+}
+
+/** Profile and constraint flags of a codec string (RFC 6381); undefined where it is not AVC. */
+function codecOf({ codec } = {}) {
+    if (typeof codec !== 'string' || codec.trim() === '') throw new TypeError('avcdec: a codec is wanted');
+    const found = /^avc[13]\.([0-9a-f]{2})([0-9a-f]{2})[0-9a-f]{2}$/i.exec(codec);
+    return found && { profile: parseInt(found[1], 16), flags: parseInt(found[2], 16) };
+}
+
+/** Baseline, and Main and Extended that say that they keep to Constrained Baseline: constraint_set0 and constraint_set1. */
+function isTaken(config) {
+    const codec = codecOf(config);
+    return Boolean(codec) && (codec.profile === 66 || ([77, 88].includes(codec.profile) && (codec.flags & 0xc0) === 0xc0));
+}
+
+export class AvcVideoDecoder extends EventTarget {
+    #output;
+    #error;
+    #refused;
+    #engineOf;
+    #engine;
+    #state = 'unconfigured';
+    #queue = [];
+    #runs = false;
+    #waitsForKey = true;
+    #round = 0; // counts resets and the close: what was begun before is void
+    #config;
+    #sets;
+    #waiting;
+    #isFresh;
+
+    /** `output` and `error` as WebCodecs has them. With `refused`, a refusal goes there, with its chunk's timestamp, and decoding goes on at the
+     * next key picture; without, it is an error and closes the decoder, as WebCodecs has it. `library`: decodes in this thread, in this
+     * library. `module`: where avcdec.wasm is. `worker: false`: decodes in this thread. */
+    constructor({ output, error, refused, library, module, worker = library === undefined && typeof Worker !== 'undefined' }) {
+        super();
+        if (typeof output !== 'function' || typeof error !== 'function') throw new TypeError('avcdec: output and error are wanted');
+        this.#output = output;
+        this.#error = error;
+        this.#refused = refused;
+        this.#engineOf = async early => worker ? new There(new WorkerDecoder({ early, module })) : new Here(new Decoder(await (library ?? (library = load(module))), { early }));
+    }
+
+    static async isConfigSupported(config) {
+        return { supported: isTaken(config), config: { ...config } };
+    }
+
+    ondequeue = null;
+
+    get state() {
+        return this.#state;
+    }
+
+    get decodeQueueSize() {
+        return this.#queue.filter(it => it.chunk).length;
+    }
+
+    configure(config) {
+        this.#wants('configured', 'unconfigured');
+        const isSupported = isTaken(config), { description, optimizeForLatency = false, colorSpace, displayAspectWidth, displayAspectHeight } = config;
+        const avcc = description === undefined ? undefined : new Avcc(description);
+        this.#state = 'configured';
+        this.#waitsForKey = true;
+        this.#put({ run: () => this.#begin(isSupported, { avcc, early: optimizeForLatency, colorSpace, displayAspectWidth, displayAspectHeight }) });
+    }
+
+    decode(chunk) {
+        this.#wants('configured');
+        if (this.#waitsForKey && chunk.type !== 'key') throw fault('DataError', 'a key chunk is wanted after configure and flush');
+        this.#waitsForKey = false;
+        const bytes = new Uint8Array(chunk.byteLength), { timestamp, duration } = chunk;
+        chunk.copyTo(bytes);
+        this.#put({ chunk, run: () => this.#decode(bytes, { timestamp, duration: duration ?? undefined }) });
+    }
+
+    async flush() {
+        this.#wants('configured');
+        this.#waitsForKey = true;
+        return new Promise((done, failed) => this.#put({ failed, run: async () => { await this.#flush(); done(); } }));
+    }
+
+    reset() {
+        this.#wants('configured', 'unconfigured');
+        this.#abort(fault('AbortError', 'reset'));
+        this.#state = 'unconfigured';
+    }
+
+    close() {
+        this.#wants('configured', 'unconfigured');
+        this.#close(fault('AbortError', 'closed'));
+    }
+
+    #wants(...states) {
+        if (!states.includes(this.#state)) throw fault('InvalidStateError', `the decoder is ${this.#state}`);
+    }
+
+    /** Drops what waits. */
+    #abort(why) {
+        this.#round++;
+        this.#engine?.close();
+        this.#engine = undefined;
+        const dropped = this.#queue.splice(0);
+        this.#running?.failed?.(why);
+        for (const { failed } of dropped) failed?.(why);
+        if (dropped.some(it => it.chunk)) this.#dequeued();
+    }
+
+    #close(why) {
+        if (this.#state === 'closed') return;
+        this.#state = 'closed';
+        this.#abort(why);
+    }
+
+    #dequeued() {
+        const event = new Event('dequeue');
+        this.ondequeue?.(event);
+        this.dispatchEvent(event);
+    }
+
+    #running;
+
+    #put(message) {
+        this.#queue.push(message);
+        if (!this.#runs) {
+            this.#runs = true;
+            soon(() => this.#run());
+        }
+    }
+
+    /** Carries out what waits, one a task. */
+    async #run() {
+        const message = this.#running = this.#queue.shift(), round = this.#round;
+        try {
+            if (message?.chunk) this.#dequeued();
+            if (round === this.#round) await message?.run();
+        } catch (thrown) {
+            if (round === this.#round) this.#fail(thrown, message);
+        }
+        this.#running = undefined;
+        if (this.#queue.length > 0) soon(() => this.#run());
+        else this.#runs = false;
+    }
+
+    #fail(thrown, message) {
+        const why = thrown instanceof DOMException ? thrown : fault('EncodingError', thrown.message.replace(/^avcdec: /, ''), { cause: thrown, status: thrown.status });
+        message?.failed?.(why);
+        this.#close(why);
+        this.#error(why);
+    }
+
+    async #begin(isSupported, config) {
+        if (!isSupported) throw fault('NotSupportedError', 'this profile is not decoded: Constrained Baseline is');
+        const round = this.#round;
+        if (this.#engine) await this.#drain();
+        this.#engine?.close();
+        this.#engine = undefined;
+        const engine = await this.#engineOf(config.early);
+        if (round !== this.#round) return engine.close();
+        this.#engine = engine;
+        this.#config = config;
+        this.#sets = new ParameterSets();
+        for (const unit of config.avcc?.sets ?? []) this.#sets.put(unit);
+        this.#restart();
+    }
+
+    #restart() {
+        this.#waiting = new Waiting();
+        this.#isFresh = true;
+    }
+
+    async #decode(sample, chunk) {
+        const bytes = this.#config.avcc ? this.#config.avcc.annexB(sample) : sample;
+        // a stream that begins anew has no parameter sets: it is given those that came last
+        const before = this.#isFresh ? this.#sets.bytes : new Uint8Array(0);
+        const told = this.#sets.note(bytes);
+        this.#isFresh = false;
+        const given = before.length > 0 ? joined(before, bytes) : bytes;
+        const round = this.#round;
+        this.#waiting.begin(chunk, told);
+        await this.#engine.decode(given, event => round === this.#round && this.#take(event));
+        if (round === this.#round) this.#waiting.end(told);
+    }
+
+    async #drain() {
+        const round = this.#round;
+        await this.#engine.flush(event => round === this.#round && this.#take(event));
+    }
+
+    async #flush() {
+        await this.#drain();
+        await this.#engine?.reset();
+        this.#restart();
+    }
+
+    #take(event) {
+        if (event.kind === 'refused') return this.#refuse(event);
+        const { timestamp, duration } = this.#waiting.next();
+        this.#output(event.frame({ timestamp, duration, ...this.#shape(event) }));
+    }
+
+    #refuse({ unit, fault: number, name }) {
+        const { timestamp } = this.#waiting.refuse();
+        const why = fault('EncodingError', `unit ${unit} refused: ${number} ${name}`, { unit, fault: number, faultName: name, timestamp });
+        if (this.#refused) return this.#refused(why);
+        throw why;
+    }
+
+    /** Colour space and displayed size. */
+    #shape({ width, height }) {
+        const { colorSpace, displayAspectWidth: across, displayAspectHeight: down } = this.#config, sequence = this.#sets.sequence;
+        const shape = { colorSpace: colorSpace ?? (sequence && sequenceInfo(sequence).colorSpace) };
+        if (across && down) {
+            const wide = Math.round(height * across / down);
+            Object.assign(shape, wide >= width ? { displayWidth: wide, displayHeight: height } : { displayWidth: width, displayHeight: Math.round(width * down / across) });
+        }
+        return shape;
+    }
+}
+
+function joined(first, second) {
+    const both = new Uint8Array(first.length + second.length);
+    both.set(first);
+    both.set(second, first.length);
+    return both;
+}

@@ -1,0 +1,383 @@
+// avcdec.mjs: the proved decoder for H.264 (Constrained Baseline profile), for pages, workers and Node.
+//
+//     const decoder = new Decoder(await load());
+//     for (const event of decoder.decode(bytes))
+//         if (event.kind === 'picture') draw(event.planes, event.width, event.height);
+//         else console.log(`unit ${event.unit} refused: ${event.name}`);
+//     decoder.flush();
+//
+// The contract is that of include/avcdec.h. One call at a time: the memory of a module belongs to one thread, a page's or a worker's.
+
+const OK = 0, OUT_OF_MEMORY = 1, ENDED = 2;
+const NOTHING = 0, PICTURE = 1;
+const EVENT_SIZE = 40, DECODER_SIZE = 16, ROWS_SIZE = 32, USED_SIZE = 8, NAME_SIZE = 32, PIECE = 65536;
+const END_OF_ACCESS_UNIT = Uint8Array.of(0, 0, 1, 9, 0xf0, 0, 0, 1);
+
+/** A call that did not do its work. `status` is a number of avcdec_status. */
+export class DecoderError extends Error {
+    constructor(message, status) {
+        super(`avcdec: ${message}`);
+        this.name = new.target.name;
+        this.status = status;
+    }
+}
+
+/** No memory was found. The decoder that says so works again after `reset`. */
+export class OutOfMemory extends DecoderError {
+    constructor() {
+        super('no memory; reset or close', OUT_OF_MEMORY);
+    }
+}
+
+function check(status) {
+    if (status === OUT_OF_MEMORY) throw new OutOfMemory();
+    if (status === ENDED) throw new DecoderError('the stream has ended; reset', ENDED);
+    if (status !== OK) throw new DecoderError(`status ${status}`, status);
+}
+
+/** A module that runs, and how its addresses are passed: as BigInt where its memory has addresses of 64 bits. */
+export class Library {
+    #wide;
+    #scratch;
+    #names = new Map();
+
+    /** @param {WebAssembly.Instance} instance of avcdec.wasm */
+    constructor(instance) {
+        this.calls = instance.exports;
+        const probe = this.calls.avcdec_allocate(16n);
+        this.#wide = typeof probe === 'bigint';
+        this.calls.avcdec_release(probe);
+        this.#scratch = this.allocate(NAME_SIZE);
+    }
+
+    /** A number as the module's calls take an address. */
+    address(number) {
+        return this.#wide ? BigInt(number) : number;
+    }
+
+    /** An address as it stands in the module's memory: 8 bytes, of which a memory with addresses of 32 bits uses the lower 4. */
+    addressAt(view, at) {
+        return this.#wide ? Number(view.getBigUint64(at, true)) : view.getUint32(at, true);
+    }
+
+    allocate(size) {
+        const at = Number(this.calls.avcdec_allocate(BigInt(size)));
+        if (at === 0) throw new OutOfMemory();
+        return this.#wide ? at : at >>> 0;
+    }
+
+    release(at) {
+        if (at !== 0) this.calls.avcdec_release(this.address(at));
+    }
+
+    /** The bytes there, until memory grows: ask anew after each call. */
+    bytes(at, size) {
+        return new Uint8Array(this.calls.memory.buffer, at, size);
+    }
+
+    view(at, size) {
+        return new DataView(this.calls.memory.buffer, at, size);
+    }
+
+    /** Whether the library gives one unit at a time, and lends the rows of planes. */
+    get feedsUnits() {
+        return 'avcdec_feed_unit' in this.calls;
+    }
+
+    get lendsPlanes() {
+        return 'avcdec_lend_plane' in this.calls;
+    }
+
+    /** How many bytes the module's memory has. It grows, and is not given back. */
+    get memory() {
+        return this.calls.memory.buffer.byteLength;
+    }
+
+    get version() {
+        const number = this.calls.avcdec_version();
+        return `${number >>> 16}.${(number >>> 8) & 255}.${number & 255}`;
+    }
+
+    /** The name of a fault by its number; undefined where no fault has it. */
+    faultName(fault) {
+        if (!this.#names.has(fault)) {
+            const status = this.calls.avcdec_fault_name(fault, this.address(this.#scratch), BigInt(NAME_SIZE));
+            const bytes = this.bytes(this.#scratch, NAME_SIZE);
+            this.#names.set(fault, status === OK ? String.fromCharCode(...bytes.subarray(0, bytes.indexOf(0))) : undefined);
+        }
+        return this.#names.get(fault);
+    }
+}
+
+/** Loads the module: from a URL (avcdec.wasm beside this file unless named), a Response, its bytes or a WebAssembly.Module. Each library has a
+ * memory of its own; decoders of one library share it. */
+export async function load(from = new URL('avcdec.wasm', import.meta.url)) {
+    from = await from;
+    if (typeof from === 'string') from = new URL(from, globalThis.location?.href ?? import.meta.url);
+    if (from instanceof URL) from = from.protocol === 'file:' ? await (await import('node:fs/promises')).readFile(from) : await fetch(from);
+    return new Library(await instanceOf(from));
+}
+
+async function instanceOf(from) {
+    if (from instanceof WebAssembly.Module) return WebAssembly.instantiate(from, {});
+    if (typeof Response === 'undefined' || !(from instanceof Response)) return (await WebAssembly.instantiate(from, {})).instance;
+    if (!from.ok) throw new DecoderError(`the module was not found: ${from.status} ${from.url}`);
+    // a server that gives the module another type than application/wasm does as well
+    if (from.headers.get('Content-Type') !== 'application/wasm') from = await from.arrayBuffer();
+    return (await (from instanceof Response ? WebAssembly.instantiateStreaming(from, {}) : WebAssembly.instantiate(from, {}))).instance;
+}
+
+/** What a decoder holds in the module's memory. It knows nothing of its Decoder, so that one that is forgotten can be collected. */
+class Handle {
+    /** Counts what ends the time of a picture: another take, a reset, the close. */
+    taken = 0;
+    /** Counts resets. */
+    begun = 0;
+
+    constructor(library, early) {
+        this.library = library;
+        this.blocks = [];
+        try {
+            for (const size of [DECODER_SIZE, EVENT_SIZE, PIECE, ROWS_SIZE]) this.blocks.push(library.allocate(size));
+            [this.decoder, this.event, this.piece, this.rows] = this.blocks;
+            library.bytes(this.decoder, DECODER_SIZE).fill(0);
+            check(library.calls.avcdec_open(this.self, early ? 1 : 0));
+        } catch (thrown) {
+            this.release();
+            throw thrown;
+        }
+        this.isOpen = true;
+    }
+
+    get self() {
+        return this.library.address(this.decoder);
+    }
+
+    /** Gives the first `length` bytes of the piece from `from` on; answers how many were taken. */
+    feed(from, length) {
+        const { library, piece, rows } = this, at = library.address(piece + from), size = BigInt(length);
+        if (!library.feedsUnits) {
+            check(library.calls.avcdec_feed(this.self, at, size));
+            return length;
+        }
+        check(library.calls.avcdec_feed_unit(this.self, at, size, library.address(rows)));
+        return Number(library.view(rows, USED_SIZE).getBigUint64(0, true));
+    }
+
+    release() {
+        for (const block of this.blocks.splice(0)) this.library.release(block);
+        if (this.copy) this.library.release(this.copy.at);
+        this.copy = undefined;
+    }
+
+    close() {
+        if (!this.isOpen) return;
+        this.isOpen = false;
+        this.taken++;
+        this.library.calls.avcdec_close(this.self);
+        this.release();
+    }
+
+    /** Where the shown samples of a picture's plane are, and how far its rows are apart. */
+    place(number, picture) {
+        const columns = number ? picture.width / 2 : picture.width, rows = number ? picture.height / 2 : picture.height;
+        if (!this.library.lendsPlanes) {
+            const luma = picture.width * picture.height;
+            return { at: this.copied(picture) + (number && luma + (number - 1) * columns * rows), stride: columns, columns, rows };
+        }
+        check(this.library.calls.avcdec_lend_plane(this.self, number, this.library.address(this.rows)));
+        const view = this.library.view(this.rows, ROWS_SIZE);
+        return { at: this.library.addressAt(view, 0), stride: Number(view.getBigUint64(16, true)), columns, rows };
+    }
+
+    /** The address of the picture as I420 without gaps, for a library that lends no planes. */
+    copied(picture) {
+        if (this.copyOf !== this.taken) {
+            if (!this.copy || this.copy.size < picture.size) {
+                if (this.copy) this.library.release(this.copy.at);
+                this.copy = undefined;
+                this.copy = { at: this.library.allocate(picture.size), size: picture.size };
+            }
+            check(this.library.calls.avcdec_copy_i420(this.self, this.library.address(this.copy.at), BigInt(picture.size)));
+            this.copyOf = this.taken;
+        }
+        return this.copy.at;
+    }
+}
+
+const forgotten = new FinalizationRegistry(handle => handle.close());
+
+/** A refusal of a picture, or of a unit (NAL units are counted from 0 since the decoder was made or reset). */
+export class Refusal {
+    kind = 'refused';
+
+    constructor(unit, fault, name) {
+        this.unit = unit;
+        this.fault = fault;
+        this.name = name;
+    }
+}
+
+/** A picture, in output order. Its samples are there until the next event is taken, or the decoder is reset or closed; copies stay. */
+export class Picture {
+    #decoder; // so that it isn't collected before its picture
+    #handle;
+    #taken;
+    kind = 'picture';
+
+    constructor(decoder, handle, word) {
+        this.#decoder = decoder;
+        this.#handle = handle;
+        this.#taken = handle.taken;
+        this.codedWidth = word(16);
+        this.codedHeight = word(20);
+        this.crop = { left: word(24), right: word(28), top: word(32), bottom: word(36) };
+        this.width = this.codedWidth - this.crop.left - this.crop.right;
+        this.height = this.codedHeight - this.crop.top - this.crop.bottom;
+        this.size = this.width * this.height * 3 / 2;
+    }
+
+    #places() {
+        if (this.#taken !== this.#handle.taken) throw new DecoderError('this picture is over: another event was taken');
+        return [0, 1, 2].map(number => this.#handle.place(number, this));
+    }
+
+    /** Luma, Cb, Cr: what is shown, as views of the module's memory, to be read and not written. A further call of any decoder of the library may
+     * end them; ask anew then. */
+    get planes() {
+        return this.#places().map(({ at, stride, columns, rows }) =>
+            ({ samples: this.#handle.library.bytes(at, stride * (rows - 1) + columns), stride, columns, rows }));
+    }
+
+    /** Copies what is shown as I420 without gaps: luma, Cb, Cr, each row by row. */
+    copy(to = new Uint8Array(this.size)) {
+        if (to.length < this.size) throw new RangeError(`avcdec: ${this.size} bytes are wanted`);
+        let put = 0;
+        for (const { samples, stride, columns, rows } of this.planes) {
+            if (stride === columns) to.set(samples, put);
+            else for (let y = 0; y < rows; y++) to.set(samples.subarray(y * stride, y * stride + columns), put + y * columns);
+            put += columns * rows;
+        }
+        return to;
+    }
+
+    /** A VideoFrame of its own. `init`: timestamp, in microseconds, and what else a VideoFrame of samples takes. */
+    frame(init) {
+        const places = this.#places(), ends = places.map(it => it.at + it.stride * (it.rows - 1) + it.columns);
+        const from = Math.min(...places.map(it => it.at));
+        return new VideoFrame(this.#handle.library.bytes(from, Math.max(...ends) - from), {
+            ...init, format: 'I420', codedWidth: this.width, codedHeight: this.height,
+            layout: places.map(it => ({ offset: it.at - from, stride: it.stride })),
+        });
+    }
+}
+
+/** A decoder. Bytes are Annex B, cut anywhere. */
+export class Decoder {
+    #library;
+    #handle;
+    #feeding;
+
+    /** With `early`, pictures go out as soon as the stream's max_num_reorder_frames allows: for calls. */
+    constructor(library, { early = false } = {}) {
+        this.#library = library;
+        this.#handle = new Handle(library, early);
+        forgotten.register(this, this.#handle, this.#handle);
+    }
+
+    get #open() {
+        if (!this.#handle.isOpen) throw new DecoderError('the decoder is closed', 3);
+        return this.#handle;
+    }
+
+    /** Gives bytes and yields the events that they bring, one unit at a time, so that few pictures wait. With `endsUnit` the bytes end with a
+     * whole access unit, as a packet or a container's sample does: its picture is decoded now (this counts one more unit). Take all
+     * events: bytes that were not come to are not given. */
+    *decode(bytes, { endsUnit = false } = {}) {
+        const handle = this.#open, { library } = handle, mine = {}, begun = handle.begun;
+        const isOver = () => !handle.isOpen || handle.begun !== begun;
+        if (this.#feeding) throw new DecoderError('an earlier decode is not at its end');
+        this.#feeding = mine;
+        try {
+            for (const given of endsUnit ? [bytes, END_OF_ACCESS_UNIT] : [bytes])
+                for (let from = 0; from < given.length; from += PIECE) {
+                    const piece = given.subarray(from, from + PIECE);
+                    library.bytes(handle.piece, piece.length).set(piece);
+                    for (let at = 0; at < piece.length;) {
+                        at += handle.feed(at, piece.length - at);
+                        yield* this.events();
+                        if (isOver()) return;
+                    }
+                }
+        } finally {
+            if (this.#feeding === mine) this.#feeding = undefined;
+        }
+    }
+
+    /** Gives bytes, all at once. Their pictures wait, each in memory of its own, until they are taken: give at most 65,536 bytes or one access
+     * unit, and take all events after each. */
+    feed(bytes, { endsUnit = false } = {}) {
+        const handle = this.#open, { library } = handle;
+        if (this.#feeding) throw new DecoderError('an earlier decode is not at its end');
+        for (const given of endsUnit ? [bytes, END_OF_ACCESS_UNIT] : [bytes])
+            for (let from = 0; from < given.length; from += PIECE) {
+                const piece = given.subarray(from, from + PIECE);
+                library.bytes(handle.piece, piece.length).set(piece);
+                check(library.calls.avcdec_feed(handle.self, library.address(handle.piece), BigInt(piece.length)));
+            }
+    }
+
+    /** Ends the stream: all pictures that are held can be taken. */
+    flush() {
+        const { self } = this.#open;
+        if (this.#feeding) throw new DecoderError('an earlier decode is not at its end');
+        check(this.#library.calls.avcdec_flush(self));
+    }
+
+    /** Begins a new stream, and forgets the old one: its parameter sets, its events, want of memory. */
+    reset() {
+        const handle = this.#open;
+        handle.taken++;
+        handle.begun++;
+        this.#feeding = undefined;
+        check(this.#library.calls.avcdec_reset(handle.self));
+    }
+
+    /** The events that have come, one by one. */
+    *events() {
+        while (this.#handle.isOpen) {
+            const event = this.take();
+            if (event === undefined) return;
+            yield event;
+        }
+    }
+
+    /** The next event that has come, or undefined. */
+    take() {
+        const handle = this.#open, library = this.#library;
+        handle.taken++;
+        check(library.calls.avcdec_take(handle.self, library.address(handle.event)));
+        const view = library.view(handle.event, EVENT_SIZE), word = at => view.getUint32(at, true);
+        if (word(0) === NOTHING) return undefined;
+        if (word(0) === PICTURE) return new Picture(this, handle, word);
+        return new Refusal(Number(view.getBigUint64(8, true)), word(4), library.faultName(word(4)));
+    }
+
+    /** How many macroblocks were read since the last reset: a measure of the work done. */
+    get turns() {
+        return Number(this.#library.calls.avcdec_turns(this.#open.self));
+    }
+
+    /** How many bytes the module's memory has, with that of other decoders of the library. */
+    get memory() {
+        return this.#library.memory;
+    }
+
+    /** Gives its memory back to the module. A decoder that is forgotten is closed when it is collected, at some time. */
+    close() {
+        forgotten.unregister(this.#handle);
+        this.#feeding = undefined;
+        this.#handle.close();
+    }
+}
+if (Symbol.dispose) Decoder.prototype[Symbol.dispose] = Decoder.prototype.close;
