@@ -1,9 +1,14 @@
 #!/bin/sh
 # install.sh PREFIX: installs the program and the library below PREFIX: bin/avcdec, lib/libavcdec.a, lib/libavcdec.so,
-# include/avcdec.h, lib/pkgconfig/avcdec.pc, share/man/man1/avcdec.1, share/bash-completion/completions/avcdec. What is not built
-# yet is proved and built first.
+# include/avcdec.h, lib/pkgconfig/avcdec.pc, share/man/man3/libavcdec.3, share/man/man1/avcdec.1, share/bash-completion/completions/avcdec.
+# What is not built yet is proved and built first.
 #
-# DESTDIR, where it is set, stands before PREFIX, as packages want it. LIBRARY_ONLY=1 leaves the program out. CC is the C compiler.
+# DESTDIR, where it is set, stands before PREFIX, as packages want it. LIBRARY_ONLY=1 leaves the program out. CC is the C compiler,
+# AR and OBJCOPY binutils' ar and objcopy.
+#
+# TARGET=aarch64-unknown-linux-gnu proves and builds the library for ARM64, over what is proved already; CC, AR and OBJCOPY are then the
+# cross compiler's (aarch64-linux-gnu-gcc, -ar and -objcopy unless named). There is no program for it: the toolchain has the C code that its
+# programs are linked with for x86-64 alone.
 set -eu
 if [ $# -ne 1 ]; then
     echo 'usage: scripts/install.sh PREFIX' >&2
@@ -12,9 +17,27 @@ fi
 top=$(cd "$(dirname "$0")/.." && pwd)
 prefix=$1
 to=${DESTDIR:-}$prefix
-cc=${CC:-cc}
+target=${TARGET:-x86_64-unknown-linux-gnu}
+case $target in
+x86_64-unknown-linux-gnu)
+    cc=${CC:-cc}
+    ar=${AR:-ar}
+    objcopy=${OBJCOPY:-objcopy}
+    ;;
+aarch64-unknown-linux-gnu)
+    cc=${CC:-aarch64-linux-gnu-gcc}
+    ar=${AR:-aarch64-linux-gnu-ar}
+    objcopy=${OBJCOPY:-aarch64-linux-gnu-objcopy}
+    LIBRARY_ONLY=1
+    ;;
+*)
+    echo "install.sh: no such target: $target" >&2
+    exit 2
+    ;;
+esac
 work=$(mktemp -d)
-trap 'rm -rf "$work"' EXIT
+trap 'put_back; rm -rf "$work"' EXIT
+trap 'exit 130' INT TERM
 
 # the version that the header tells
 number() {
@@ -28,22 +51,41 @@ is_old() {
     [ ! -e "$1" ] || [ -n "$(find "$top/crates.txt" "$top"/crates/*/src "$top"/crates/*/specs "$top"/crates/*/proofs -newer "$1" -print | head -n 1)" ]
 }
 
+# rt writes the library of each target to one file: that of x86-64 is put aside while another is built, which has a file of its own
+built=$top/crates/avc_c/out/libavc_c.a
+put_back() {
+    if [ -e "$work/aside.a" ]; then mv -f "$work/aside.a" "$built"; fi
+}
+
+build() {
+    (cd "$top/crates/avc_c" && rt lib "$@" >&2 </dev/null)
+    touch "$built"
+}
+
+build_for_target() {
+    if [ -e "$built" ]; then mv "$built" "$work/aside.a"; fi
+    build --target "$target"
+    mkdir -p "$(dirname "$library")"
+    mv -f "$built" "$library"
+    put_back
+}
+
 program=$top/crates/avc_cli/out/avc_cli
-library=$top/crates/avc_c/out/libavc_c.a
+library=$built
+[ "$target" = x86_64-unknown-linux-gnu ] || library=$top/crates/avc_c/out/$target/libavc_c.a
 if [ -z "${LIBRARY_ONLY:-}" ]; then
     "$top/avcdec" --help >/dev/null
 fi
 if is_old "$library"; then
-    (cd "$top/crates/avc_c" && rt lib >&2 </dev/null)
-    touch "$library"
+    if [ "$library" = "$built" ]; then build; else build_for_target; fi
 fi
 "$cc" -O2 -fPIC -Wall -Wextra -I "$top/include" -c "$top/bindings/c/heap.c" -o "$work/heap.o"
 
-# the static library: the proved code and the heap
-cp "$library" "$work/libavcdec.a"
-chmod u+w "$work/libavcdec.a"
-ar r "$work/libavcdec.a" "$work/heap.o"
-ranlib "$work/libavcdec.a"
+# the static library: the proved code and the heap, as one object of which only the names of the header are seen, so that two such
+# libraries stand in one program
+"$cc" -r -nostdlib -o "$work/avcdec.o" -Wl,--whole-archive "$library" -Wl,--no-whole-archive "$work/heap.o"
+"$objcopy" --wildcard --keep-global-symbol='avcdec_*' "$work/avcdec.o"
+"$ar" rcs "$work/libavcdec.a" "$work/avcdec.o"
 
 # the shared library: of all names only those of the header are seen
 "$cc" -shared -o "$work/libavcdec.so" -Wl,-soname,"libavcdec.so.$major" -Wl,--version-script="$top/bindings/c/avcdec.map" -Wl,-z,relro,-z,now \
@@ -58,6 +100,8 @@ install -m 644 "$work/libavcdec.so" "$to/lib/libavcdec.so.$version"
 ln -sf "libavcdec.so.$version" "$to/lib/libavcdec.so.$major"
 ln -sf "libavcdec.so.$major" "$to/lib/libavcdec.so"
 install -m 644 "$work/avcdec.pc" "$to/lib/pkgconfig/avcdec.pc"
+mkdir -p "$to/share/man/man3"
+install -m 644 "$top/docs/libavcdec.3" "$to/share/man/man3/libavcdec.3"
 if [ -z "${LIBRARY_ONLY:-}" ]; then
     mkdir -p "$to/bin"
     install -m 755 "$program" "$to/bin/avcdec"

@@ -88,6 +88,21 @@ done
 told
 [ -n "$sanitizer" ] || left_out 'AddressSanitizer' "$cc has none"
 
+# whether the static library shows the names of the header and no others
+shows_its_names() {
+    if nm -g --defined-only "$library" | awk 'NF == 3 { print $3 }' | grep -v '^avcdec_'; then return 1; fi
+    grep -o '^[a-z].*avcdec_[a-z0-9_]*(' "$work/usr/include/avcdec.h" | grep -v 'static inline' | grep -o 'avcdec_[a-z0-9_]*(' | tr -d '(' | sort -u >"$work/declared"
+    nm -g --defined-only "$library" | awk 'NF == 3 { print $3 }' | sort -u | cmp -s - "$work/declared"
+}
+
+if has nm; then
+    part 'names of the static library'
+    holds 'those of the header' shows_its_names
+    told
+else
+    left_out 'names of the static library' 'there is no nm'
+fi
+
 part 'examples/c/decode.c'
 for stream in "$vectors"/*/*.264; do
     base=${stream%.264}
@@ -98,6 +113,51 @@ for stream in "$vectors"/*/*.264; do
         "$work/decode" --early "$stream" "$work/out" 2>"$work/told"
         holds "$base --early" is_decoded "$base" $? "$base.early"
     fi
+done
+told
+
+# the lines of the example in the header: its function (1) and the calls (2)
+of_example() {
+    awk -v wanted="$1" '/^ \*\// { exit } /^ \*$/ { part++ } /^ \*     / && part == wanted { print substr($0, 8) }' "$work/usr/include/avcdec.h"
+}
+
+# a program of the example, which writes what it shows and tells what is refused
+{
+    cat <<'C'
+#include <avcdec.h>
+#include <stdio.h>
+static FILE *out;
+static uint8_t bytes[1 << 22];
+static int status;
+static void show(uint32_t plane, size_t y, const uint8_t *row, size_t columns) {
+    (void)plane, (void)y;
+    fwrite(row, 1, columns, out);
+}
+static void refused(uint64_t unit, uint32_t fault) {
+    char name[AVCDEC_NAME_SIZE];
+    avcdec_fault_name(fault, name, sizeof name);
+    fprintf(stderr, "refused unit %llu: %u %s\n", (unsigned long long)unit, (unsigned)fault, name);
+    status = 1;
+}
+C
+    of_example 1
+    cat <<'C'
+int main(int count, char **words) {
+    FILE *in = count == 3 ? fopen(words[1], "rb") : NULL;
+    out = in ? fopen(words[2], "wb") : NULL;
+    if (!out)
+        return 3;
+    size_t length = fread(bytes, 1, sizeof bytes, in);
+    fclose(in);
+C
+    of_example 2
+    echo '    return fclose(out) ? 3 : status; }'
+} >"$work/example.c"
+part 'the example in the header'
+holds 'compiled' compile "$work/example.c" example "$sanitizer"
+for stream in cases/gap cases/held_before_refusal corners/five_g121 encoder/pub_x_crop_18x34; do
+    "$work/example" "$vectors/$stream.264" "$work/out" 2>"$work/told"
+    holds "$stream" is_decoded "$vectors/$stream" $? "$vectors/$stream.md5"
 done
 told
 
@@ -175,25 +235,67 @@ else
     left_out 'Debian package' 'there is no dpkg-deb'
 fi
 
+# whether a program takes at most 60 MB of memory on a small stream of many pictures, and decodes it
+is_small() {
+    /usr/bin/time -f %M -o "$work/memory" "$@" "$vectors/hostile/many_pictures_in_one_piece.264" "$work/out" 2>"$work/told"
+    cmp -s "$work/out" "$work/many" && [ "$(tail -n 1 "$work/memory")" -le 61440 ]
+}
+
+memory=
+if [ -x /usr/bin/time ]; then
+    memory=1
+    part 'memory on a stream of many pictures'
+    # AddressSanitizer takes memory of its own
+    holds 'decode.c' compile "$top/examples/c/decode.c" plain ''
+    "$work/plain" "$vectors/hostile/many_pictures_in_one_piece.264" "$work/many"
+    holds 'examples/c/decode.c' is_small "$work/plain"
+    told
+else
+    left_out 'memory on a stream of many pictures' 'there is no /usr/bin/time'
+fi
+
+# whether an example of a binding decodes some streams, and takes little memory
+decodes() {
+    for stream in cases/gap cases/held_before_refusal encoder/pub_x_crop_18x34; do
+        "$@" "$vectors/$stream.264" "$work/out" 2>"$work/told"
+        is_decoded "$vectors/$stream" $? "$vectors/$stream.md5" || return 1
+    done
+    [ -z "$memory" ] || is_small "$@"
+}
+
 if has cargo; then
     part 'bindings/rust'
     AVCDEC_LIB_DIR=$work/usr/lib AVCDEC_VECTORS=$vectors CARGO_TARGET_DIR=$work/cargo \
         cargo test --offline --release --manifest-path "$top/bindings/rust/Cargo.toml" >"$work/cargo.log" 2>&1 || { cat "$work/cargo.log"; failed=1; }
     passed=$(awk '/^test result:/ { count += $4 } END { print count + 0 }' "$work/cargo.log")
     [ "$passed" -gt 0 ] || failed=1
+    holds 'bindings/rust/examples/decode.rs' decodes "$work/cargo/release/examples/decode"
     told
 else
     left_out 'bindings/rust' 'there is no cargo'
 fi
 
-if has python3; then
+# the first Python with numpy, else the first
+python=
+for each in python3 /usr/bin/python3; do
+    has "$each" || continue
+    [ -n "$python" ] || python=$each
+    if "$each" -c 'import numpy' 2>/dev/null; then
+        python=$each
+        break
+    fi
+done
+if [ -n "$python" ]; then
     part 'bindings/python'
     AVCDEC_LIBRARY=$work/usr/lib/libavcdec.so AVCDEC_VECTORS=$vectors PYTHONPATH=$top/bindings/python PYTHONDONTWRITEBYTECODE=1 \
-        python3 -m unittest discover -s "$top/bindings/python/tests" >"$work/python.log" 2>&1 || { cat "$work/python.log"; failed=1; }
+        "$python" -m unittest discover -s "$top/bindings/python/tests" >"$work/python.log" 2>&1 || { cat "$work/python.log"; failed=1; }
     passed=$(sed -n 's/^Ran \([0-9]*\) test.*/\1/p' "$work/python.log")
-    [ "${passed:-0}" -gt 0 ] || failed=1
+    passed=${passed:-0}
+    [ "$passed" -gt 0 ] || failed=1
+    holds 'examples/python/decode.py' decodes env AVCDEC_LIBRARY="$work/usr/lib/libavcdec.so" PYTHONPATH="$top/bindings/python" PYTHONDONTWRITEBYTECODE=1 \
+        "$python" "$top/examples/python/decode.py"
     told
-    python3 -c 'import numpy' 2>/dev/null || left_out 'arrays of numpy' 'it is not installed'
+    "$python" -c 'import numpy' 2>/dev/null || left_out 'arrays of numpy' 'it is not installed'
 else
     left_out 'bindings/python' 'there is no python3'
 fi
