@@ -15,16 +15,7 @@ trap 'rm -rf "$copy"' EXIT
 
 cp -a "$top/crates" "$top/crates.txt" "$copy"
 crate="$copy/crates/bench_$name"
-mkdir -p "$crate/src"
-cp "$top/bench/$name/main.rt.txt" "$crate/src/main.rt"
-# FUNCTION.answers.txt is what is written of the proof of a function of the program
-for answers in "$top/bench/$name"/*.answers.txt; do
-    [ -e "$answers" ] || continue
-    function=$(basename "$answers" .answers.txt)
-    mkdir -p "$crate/proofs/$function"
-    cp "$answers" "$crate/proofs/$function/Answers.antt"
-done
-echo "bench_$name: $(cat "$top/bench/$name/uses")" >>"$copy/crates.txt"
+"$top/bench/place.sh" "$name" "$copy"
 
 cd "$crate"
 rt run -- 1 "$@" >"$copy/log" 2>&1 || {

@@ -1,6 +1,6 @@
 #!/bin/sh
-# Refuses each growth of memory once, from the first to the last: of the program, on small streams, and of the tests about want of
-# memory. The program must end with status 4 and one line, having written a first part of what it writes with ample memory, or do all
+# Refuses each growth of memory once, from the first to the last: of the program, on small streams, of the library, fed in pieces and unit
+# by unit with its planes lent, and of the tests about want of memory. The program must end with status 4 and one line, having written a first part of what it writes with ample memory, or do all
 # as with ample memory, where it can do without that growth; the tests say themselves what must stand. Then each read of the program
 # fails once, though those after it would not: it must end with status 3 and one line, having written a first part. Wants a C compiler,
 # and the built program and tests. The last line is 'N passed, M failed', where N counts growths and reads.
@@ -139,6 +139,14 @@ failing_in_program() {
     done
 }
 
+# a stream in the library, each growth refused: bindings/c/tests/growths.c says itself what must stand, and how many growths there were
+refused_in_library() {
+    number=all
+    "$room/growths" "$1" >"$work/count" 2>"$work/told"
+    judge $? "the library on ${1#"$here"/}"
+    [ "$failed" != 0 ] || passed=$(cat "$work/count")
+}
+
 # a test, each growth refused: it ends well, or in the want of memory of a growth that is its own
 refused_in_test() {
     tests=$top/crates/$1/out/$1_tests
@@ -169,6 +177,15 @@ for crate in avc_tests avc_stream_tests; do
         exit 1
     fi
 done
+library=$top/crates/avc_c/out/libavc_c.a
+if [ ! -e "$library" ] && ! (cd "$top/crates/avc_c" && rt lib) >"$room/built" 2>&1; then
+    cat "$room/built"
+    exit 1
+fi
+"$cc" -O2 -I "$top/include" -o "$room/growths" "$top/bindings/c/tests/growths.c" "$top/bindings/c/heap.c" "$library" || exit 1
+for name in cases/gap encoder/pub_x_crop_18x34; do
+    beside refused_in_library "$here/$name.264"
+done
 for name in cases/held_before_refusal corners/gap_and_order_g89 corners/operations_k39 corners/five_g121; do
     beside refused_in_program "$here/$name.264" decode
     beside refused_in_program "$here/$name.264" decode --early
@@ -187,6 +204,7 @@ for test in calls_that_begin_anew slices_begin_anew pictures_begin_anew splitter
 done
 beside refused_in_test avc_stream_tests stream_texts::texts_and_pieces
 beside refused_in_test avc_stream_tests decoder_calls::decodes_again_after_want_of_memory
+beside refused_in_test avc_stream_tests worked_streams::the_first_again_after_want_of_memory
 beside growing_at_most 20000 avc_stream_tests decoder_calls::two_hundred_pictures_byte_by_byte
 wait
 

@@ -435,6 +435,35 @@ judge 'a file that is not there' $? 3 "avcdec: read fault: $work/none
 judge 'a directory to be written' $? 3 "avcdec: write fault: $work
 "
 
+# an output is made where there is something to write; else an old one stays as it was
+echo old >"$work/old"
+cp "$work/old" "$work/kept"
+for words in "decode /dev/null" "cut 9 $here/listing/two_pieces.264"; do
+    # shellcheck disable=SC2086
+    "$program" $words -o "$work/kept" >"$work/written" 2>"$work/told"
+    holds "$words: the old output stays" cmp -s "$work/kept" "$work/old"
+    # shellcheck disable=SC2086
+    "$program" $words -o "$work/new" >"$work/written" 2>"$work/told"
+    holds "$words: no output is made" [ ! -e "$work/new" ]
+done
+
+# what is read is not written over, by its name, through a link, or as the standard input
+cp "$picture" "$work/same.264"
+ln -s same.264 "$work/link.264"
+ln "$work/same.264" "$work/hard.264"
+for command in decode 'decode --format md5' 'cut 0'; do
+    for output in same link hard; do
+        # shellcheck disable=SC2086
+        "$program" $command "$work/same.264" -o "$work/$output.264" >"$work/written" 2>"$work/told"
+        judge "$command into its input by $output.264" $? 2 "avcdec: $work/$output.264 is the file that is read
+"
+    done
+done
+"$program" decode -o "$work/same.264" <"$work/same.264" >"$work/written" 2>"$work/told"
+judge 'decode into its standard input' $? 2 "avcdec: $work/same.264 is the file that is read
+"
+holds 'the input is whole' cmp -s "$work/same.264" "$picture"
+
 # the line of a fault has the name of the file, also where that could be opened
 for command in decode 'decode --format md5' 'decode --format framemd5' 'decode --limit 1' "decode --verify $some_md5" units headers info 'info --json' 'cut 0'; do
     # shellcheck disable=SC2086

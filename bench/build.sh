@@ -1,0 +1,25 @@
+#!/bin/sh
+# bench/build.sh [NAME..]: sees that the benchmarks, or those named, are still programs of this repository: each is proved as `rt check` proves
+# any crate, in a copy of the repository, and not run. The last line is 'N passed, M failed'.
+set -eu
+top=$(cd "$(dirname "$0")/.." && pwd)
+copy=$(mktemp -d)
+trap 'rm -rf "$copy"' EXIT
+if [ $# = 0 ]; then
+    set -- $(cd "$top/bench" && ls -d */ | tr -d /)
+fi
+cp -a "$top/crates" "$top/crates.txt" "$copy"
+passed=0
+failed=0
+for name; do
+    "$top/bench/place.sh" "$name" "$copy"
+    if (cd "$copy/crates/bench_$name" && rt check) >"$copy/log" 2>&1 </dev/null; then
+        passed=$((passed + 1))
+    else
+        failed=$((failed + 1))
+        echo "failed: bench/$name"
+        cat "$copy/log"
+    fi
+done
+echo "$passed passed, $failed failed"
+[ "$failed" = 0 ] && [ "$passed" -gt 0 ]
