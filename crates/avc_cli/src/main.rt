@@ -125,7 +125,14 @@ fn show<R: Read, W: Write, E: Write, V: Watch>(
         Form::Null => decode_as(alloc, mode, &format, reader, &mut io::sink(), console),
         Form::Md5 => decode_md5(alloc, mode, &format, reader, writer, console),
         Form::Y4m => show_headed(alloc, HeadedFormat::Y4m, showing, reader, writer, console),
-        Form::FrameMd5 => show_headed(alloc, HeadedFormat::FrameMd5, showing, reader, writer, console),
+        Form::FrameMd5 => show_headed(
+            alloc,
+            HeadedFormat::FrameMd5,
+            showing,
+            reader,
+            writer,
+            console,
+        ),
         Form::Verify(expected) => verify(alloc, mode, &format, expected, reader, console),
     }
 }

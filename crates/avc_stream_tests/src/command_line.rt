@@ -113,11 +113,7 @@ fn takes_words(rt: HostRuntime) -> Result<(), Fail> {
         ),
         (
             "avcdec decode -o out.y4m",
-            named(
-                shown(u64::MAX, Form::Y4m),
-                None,
-                Some("out.y4m"),
-            ),
+            named(shown(u64::MAX, Form::Y4m), None, Some("out.y4m")),
         ),
         (
             "avcdec decode --format i420 -o out.y4m",

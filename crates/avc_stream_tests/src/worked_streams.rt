@@ -13,8 +13,8 @@ use std::test::Fail;
 
 // A sequence parameter set of a 16x16 picture, a picture parameter set, and an IDR picture of one Intra 16x16 macroblock.
 const FIRST: &[u8] = &[
-    0, 0, 0, 1, 0x67, 0x42, 0xC0, 0x0A, 0xDA, 0x71, 0, 0, 0, 1, 0x68, 0xCE, 0x38, 0x80, 0, 0, 1, 0x65,
-    0x88, 0x84, 0x93, 0xC0,
+    0, 0, 0, 1, 0x67, 0x42, 0xC0, 0x0A, 0xDA, 0x71, 0, 0, 0, 1, 0x68, 0xCE, 0x38, 0x80, 0, 0, 1,
+    0x65, 0x88, 0x84, 0x93, 0xC0,
 ];
 
 // The sets alone, and the slice of an I_PCM macroblock up to its samples.
@@ -32,14 +32,15 @@ const STOP: &[u8] = &[0x80];
 
 // Two pictures, of a set by which one frame is held and none is reordered, and what shows the end of the second.
 const ONE_HELD: &[u8] = &[
-    0, 0, 0, 1, 0x67, 0x42, 0xC0, 0x0A, 0xDA, 0x72, 0x01, 0xFD, 0x40, 0, 0, 0, 1, 0x68, 0xCE, 0x38, 0x80,
-    0, 0, 1, 0x65, 0x88, 0x84, 0x93, 0xC0, 0, 0, 1, 0x41, 0x9A, 0x22, 0xA0, 0, 0, 1, 9, 0, 0, 1,
+    0, 0, 0, 1, 0x67, 0x42, 0xC0, 0x0A, 0xDA, 0x72, 0x01, 0xFD, 0x40, 0, 0, 0, 1, 0x68, 0xCE, 0x38,
+    0x80, 0, 0, 1, 0x65, 0x88, 0x84, 0x93, 0xC0, 0, 0, 1, 0x41, 0x9A, 0x22, 0xA0, 0, 0, 1, 9, 0, 0,
+    1,
 ];
 
 // A picture of 16x32 samples in two slices, the lower one 136.
 const TWO_SLICES: &[u8] = &[
-    0, 0, 0, 1, 0x67, 0x42, 0xC0, 0x0A, 0xDA, 0x54, 0x40, 0, 0, 0, 1, 0x68, 0xCE, 0x38, 0x80, 0, 0, 1,
-    0x65, 0x88, 0x84, 0x93, 0xC0, 0, 0, 1, 0x65, 0x42, 0x21, 0x24, 0xC5, 0x00, 0x02, 0x58,
+    0, 0, 0, 1, 0x67, 0x42, 0xC0, 0x0A, 0xDA, 0x54, 0x40, 0, 0, 0, 1, 0x68, 0xCE, 0x38, 0x80, 0, 0,
+    1, 0x65, 0x88, 0x84, 0x93, 0xC0, 0, 0, 1, 0x65, 0x42, 0x21, 0x24, 0xC5, 0x00, 0x02, 0x58,
 ];
 
 fn joined(alloc: Global, parts: &[&[u8]]) -> Result<Vec<u8>, AllocError> {
@@ -82,7 +83,9 @@ fn flat_pictures(decoder: &mut Decoder<1000>, value: u8) -> Result<(usize, usize
     let mut others = 0usize;
     for _ in 0..5 {
         match decoder.take()? {
-            Some(Event::Picture(picture)) if is_flat(&picture, value) => flat = flat.saturating_add(1),
+            Some(Event::Picture(picture)) if is_flat(&picture, value) => flat = flat.saturating_add(
+                1,
+            ),
             Some(_) => others = others.saturating_add(1),
             None => {}
         }
@@ -101,7 +104,10 @@ fn fed_by(
     for part in bytes.chunks(piece.max(1)) {
         decoder.feed(part)?;
         let (flat, others) = flat_pictures(decoder, value)?;
-        before = (before.0.saturating_add(flat), before.1.saturating_add(others));
+        before = (
+            before.0.saturating_add(flat),
+            before.1.saturating_add(others),
+        );
     }
     decoder.flush()?;
     let after = flat_pictures(decoder, value)?;
@@ -125,8 +131,14 @@ fn one_picture_comes_at_the_end(rt: HostRuntime) -> Result<(), Fail> {
     let alloc = rt.alloc();
     let with_zeros = joined(alloc, &[FIRST, &[0, 0]])?;
     for piece in [1, 7, 1000] {
-        assert_eq!(rt; events_of(alloc, Output::Full, FIRST, piece, 128)?, ([(0, 0), (1, 0)], 1));
-        assert_eq!(rt; events_of(alloc, Output::Full, &with_zeros, piece, 128)?, ([(0, 0), (1, 0)], 1));
+        assert_eq!(rt;
+            events_of(alloc, Output::Full, FIRST, piece, 128)?,
+            ([(0, 0), (1, 0)], 1)
+        );
+        assert_eq!(rt;
+            events_of(alloc, Output::Full, &with_zeros, piece, 128)?,
+            ([(0, 0), (1, 0)], 1)
+        );
     }
     Ok(())
 }
@@ -136,8 +148,14 @@ fn one_picture_comes_at_the_end(rt: HostRuntime) -> Result<(), Fail> {
 fn one_frame_is_held(rt: HostRuntime) -> Result<(), Fail> {
     let alloc = rt.alloc();
     for piece in [1, 1000] {
-        assert_eq!(rt; events_of(alloc, Output::Full, ONE_HELD, piece, 128)?, ([(1, 0), (1, 0)], 2));
-        assert_eq!(rt; events_of(alloc, Output::Early, ONE_HELD, piece, 128)?, ([(2, 0), (0, 0)], 2));
+        assert_eq!(rt;
+            events_of(alloc, Output::Full, ONE_HELD, piece, 128)?,
+            ([(1, 0), (1, 0)], 2)
+        );
+        assert_eq!(rt;
+            events_of(alloc, Output::Early, ONE_HELD, piece, 128)?,
+            ([(2, 0), (0, 0)], 2)
+        );
     }
     Ok(())
 }
@@ -149,7 +167,10 @@ fn the_second_drops_the_first(rt: HostRuntime) -> Result<(), Fail> {
     let first = [128; 384];
     let second = [0x50; 384];
     let bytes = joined(alloc, &[SETS, PCM, &first, STOP, SECOND_PCM, &second, STOP])?;
-    assert_eq!(rt; events_of(alloc, Output::Full, &bytes, 1000, 0x50)?, ([(0, 0), (1, 0)], 2));
+    assert_eq!(rt;
+        events_of(alloc, Output::Full, &bytes, 1000, 0x50)?,
+        ([(0, 0), (1, 0)], 2)
+    );
     Ok(())
 }
 
@@ -319,11 +340,17 @@ fn a_run_ends_at_a_fault(rt: HostRuntime) -> Result<(), Fail> {
     let alloc = rt.alloc();
     let bytes = rising(alloc)?;
     let mut failing = FailingReader { bytes: &bytes };
-    assert_eq!(rt; run_from(alloc, &mut failing, 1000)?, (Some(RunFault::Read), 1000));
+    assert_eq!(rt;
+        run_from(alloc, &mut failing, 1000)?,
+        (Some(RunFault::Read), 1000)
+    );
     let mut whole = bytes.as_slice();
     assert_eq!(rt; run_from(alloc, &mut whole, 1000)?, (None, 616));
     let mut first = FIRST;
-    assert_eq!(rt; run_from(alloc, &mut first, 100)?, (Some(RunFault::Write), 0));
+    assert_eq!(rt;
+        run_from(alloc, &mut first, 100)?,
+        (Some(RunFault::Write), 0)
+    );
     Ok(())
 }
 
