@@ -5,22 +5,42 @@
 #include <stdio.h>
 #include <string.h>
 
-/* Bytes that are read at a time, and those that are gathered before they are written. */
+/* Bytes that are read at a time, and of rows that are gathered before they are written: more than a row has. */
 enum { PIECE = 65536, GATHERED = 262144 };
 
 enum { WELL = 0, REFUSED = 1, WORDS = 2, FILE_FAULT = 3, MEMORY = 4 };
 
-/* Writes what is shown of the picture that was taken last, from where it lies: luma, Cb, Cr. */
+/* Rows that wait to be written: a call of fwrite for each row would take a twentieth of the time. */
+static uint8_t gathered[GATHERED];
+static size_t waiting;
+
+static bool write_gathered(FILE *out) {
+    size_t length = waiting;
+    waiting = 0;
+    return fwrite(gathered, 1, length, out) == length;
+}
+
+/* Gathers the rows that are shown of a plane, from where they lie; writes where no more fit. */
+static bool write_rows(const avcdec_rows *lent, FILE *out) {
+    for (size_t y = 0; y < lent->rows; y++) {
+        if (lent->columns > sizeof gathered - waiting && !write_gathered(out))
+            return false;
+        memcpy(gathered + waiting, lent->samples + y * lent->stride, lent->columns);
+        waiting += lent->columns;
+    }
+    return true;
+}
+
+/* Writes what is shown of the picture that was taken last: luma, Cb, Cr. */
 static int write_picture(avcdec_decoder *decoder, FILE *out) {
     for (uint32_t plane = AVCDEC_LUMA; plane <= AVCDEC_CR; plane++) {
         avcdec_rows lent;
         if (avcdec_lend_plane(decoder, plane, &lent) != AVCDEC_OK)
             return MEMORY; /* does not come: the event was a picture */
-        for (size_t y = 0; y < lent.rows; y++)
-            if (fwrite(lent.samples + y * lent.stride, 1, lent.columns, out) != lent.columns)
-                return FILE_FAULT;
+        if (!write_rows(&lent, out))
+            return FILE_FAULT;
     }
-    return WELL;
+    return write_gathered(out) ? WELL : FILE_FAULT;
 }
 
 static void tell_refusal(const avcdec_event *refusal) {
@@ -75,7 +95,6 @@ static int decode(avcdec_decoder *decoder, FILE *in, FILE *out, bool *refused) {
 }
 
 int main(int count, char **words) {
-    static char gathered[GATHERED];
     bool early = count > 1 && strcmp(words[1], "--early") == 0;
     if (count != (early ? 4 : 3)) {
         fprintf(stderr, "usage: decode [--early] IN OUT\n");
@@ -87,7 +106,7 @@ int main(int count, char **words) {
     avcdec_decoder decoder = AVCDEC_DECODER_CLOSED;
     bool refused = false;
     int status = in == NULL || out == NULL ? FILE_FAULT : WELL;
-    if (status == WELL && setvbuf(out, gathered, _IOFBF, sizeof gathered) != 0)
+    if (status == WELL && setvbuf(out, NULL, _IONBF, 0) != 0)
         status = FILE_FAULT;
     if (status == WELL && avcdec_open(&decoder, early) != AVCDEC_OK)
         status = MEMORY;
