@@ -5,13 +5,13 @@ mod output;
 mod progress;
 mod rate;
 
-use avc_formats::{HeadedFormat, Selected, decode_as, decode_headed, decode_md5, verify};
+use avc_console::{
+    Answer, Console, Ending, Names, RunFault, Watch, answer_status, cut, fail, headers, units,
+};
+use avc_formats::{HeadedFormat, I420, Selected};
 use avc_info::{ForPeople, ForPrograms, info};
 use avc_request::{Form, Request, Showing, Task, Telling, requested, words_of};
-use avc_run::{
-    Answer, Console, Ending, I420, Names, RunFault, Watch, answer_status, cut, decode, fail,
-    headers, units,
-};
+use avc_run::{decode, decode_as, decode_headed, decode_md5, verify};
 use clap::error::ErrorKind;
 use output::{OutputFile, is_input};
 use progress::Progress;

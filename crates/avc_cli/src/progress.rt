@@ -2,7 +2,7 @@ ghost use Rattle.std.specs.Prelude.{◌≡◌, ◌++◌, IfOk, OnOk, string_byte
 ghost use Rattle.avc_cli.specs.Progress.{counts_text, progress_line, speed_text, tenths_text, times_by, times_text};
 
 use crate::rate::RateSearch;
-use avc_run::{Report, RunFault, Watch};
+use avc_console::{Report, RunFault, Watch};
 use std::alloc::{AllocError, Global};
 use std::io::Write;
 use std::time::{Duration, Instant};

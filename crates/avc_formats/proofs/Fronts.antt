@@ -181,13 +181,6 @@ pub no_memory : (unread left left' : Option (List ℕ)) (bytes : List ℕ) (s : 
     → fault ≡ Memory → NoFront fault unread left'
 no_memory unread left left' bytes s sets piece fault i more is = rw is (bytes ++ piece, Consumes-trans unread left left' bytes piece i.consumed more)
 
--- ---- what is decoded behind the front
-
--- where there is none
-pub decodes_not : (format : Presentation → Format) (output : Output) (unread left holds : Option (List ℕ)) (r : Result Report RunFault) (fault : RunFault) → IsErrAnd r (λ e. e ≡ fault)
-    → NoFront fault unread left → Decodes format output unread left holds holds r
-decodes_not format output unread left holds r fault is none = in_front fault (err_is r fault is) none (Appends-nil holds)
-
 -- ---- text that is joined in steps
 
 pub joined_shape : (t x w y h z r a s t1 t2 t3 t4 : List ℕ) → t1 ≡ t ++ (x ++ (w ++ (y ++ (h ++ z)))) → t2 ≡ t1 ++ r → t3 ≡ t2 ++ a → t4 ≡ t3 ++ s

@@ -1,7 +1,6 @@
 -- The sequence parameter set of the first slice that is decoded, which is looked for in the front of a stream.
-use Rattle.std.specs.Prelude.{◌≡◌, ℕ, ◌≤◌, Bool, false, if◌then◌else◌, List, [], ◌∷◌, ◌++◌, length, Option, Some, None, Result, Ok, Err}
-use Rattle.std.specs.Option.{option_map}
-use Rattle.std.specs.Io.KnownBytes.{Appends, Consumes}
+use Rattle.std.specs.Prelude.{◌≡◌, ℕ, ◌≤◌, Bool, false, if◌then◌else◌, List, [], ◌∷◌, ◌++◌, length, Option, Some, None, option_and_then, Result, Ok, Err}
+use Rattle.std.specs.Io.KnownBytes.{Consumes}
 use Rattle.avc_types.specs.declared.fault.Fault.{Fault}
 use Rattle.avc_annexb.specs.SplitterState.{SplitterState}
 use Rattle.avc_annexb.specs.Units.{units}
@@ -12,24 +11,16 @@ use Rattle.avc_params.specs.declared.sps.Sps.{Sps}
 use Rattle.avc_slice.specs.declared.header.Header.{Header}
 use Rattle.avc_slice.specs.declared.slice.Slice.{Slice}
 use Rattle.avc_units.specs.Grouping.{is_start, set_units, slice_in}
-use Rattle.avc_decoder.specs.Events.{sets_named}
 use Rattle.avc_tools.specs.Streams.{IsDrained, after_units_left, units_left}
-use Rattle.avc_run.specs.Output.{Output}
-use Rattle.avc_run.specs.Decoding.{max_unit}
-use Rattle.avc_run.specs.Formats.{DecodesAs, Format}
-use Rattle.avc_run.specs.Program.{TellsRun}
-use Rattle.avc_run.specs.Reading.{HasRead}
-use Rattle.avc_run.specs.declared.console.Names.{Names}
-use Rattle.avc_run.specs.declared.exit.Ending.{Ending}
-use Rattle.avc_run.specs.declared.fault.RunFault.{RunFault}
-use Rattle.avc_run.specs.declared.fault.RunFault.TheVariants.{Read, Memory}
-use Rattle.avc_run.specs.declared.report.Report.{Report}
+use Rattle.avc_console.specs.Reading.{max_unit, HasRead}
+use Rattle.avc_console.specs.declared.fault.RunFault.{RunFault}
+use Rattle.avc_console.specs.declared.fault.RunFault.TheVariants.{Read, Memory}
 use Rattle.avc_formats.specs.Presenting.{IsPresented, Says}
 use Rattle.avc_formats.specs.declared.presentation.Presentation.{Presentation}
 
 -- the set that a header refers to (7.4.1.2.1)
 abbrev pub sps_under : Sets → Header → Option Sps
-sps_under sets h = option_map (λ named. named.1) (sets_named sets h)
+sps_under sets h = option_and_then (λ p. sets.sps p.seq_parameter_set_id) (sets.pps h.pic_parameter_set_id)
 
 -- of a slice, where its header can be read
 abbrev pub sps_named : Sets → Result Slice Fault → Option Sps
@@ -71,25 +62,6 @@ abbrev pub NoFront : RunFault → (unread left : Option (List ℕ)) → Type 0
 NoFront Read unread left = (bytes : List ℕ) × Consumes unread left bytes × (stream_sps bytes false ≡ None)
 NoFront Memory unread left = (bytes : List ℕ) × Consumes unread left bytes
 NoFront _ unread left = ⊥
-
--- A stream is decoded in the format that this set decides.
-pub record DecodesBySet (format : Presentation → Format) (output : Output) (unread left held holds : Option (List ℕ)) (run : Result Report RunFault) : Type 0 where
-  pub bytes : List ℕ
-  pub middle : Option (List ℕ)
-  pub said : Presentation
-  pub front : IsFront unread middle bytes said
-  pub decodes : DecodesAs (format said) output unread left held holds run
-
--- A stream is decoded so, or its front can't be read, and nothing is written.
-pub data Decodes (format : Presentation → Format) (output : Output) (unread left held holds : Option (List ℕ)) (run : Result Report RunFault) : Type 0 where
-  by_set : DecodesBySet format output unread left held holds run → Decodes format output unread left held holds run
-  in_front : (fault : RunFault) → run ≡ Err fault → NoFront fault unread left → Appends held holds [] → Decodes format output unread left held holds run
-
--- `decode` in such a format was a run, and its exit status and what it told are those of this run.
-pub record EndsDecodingBySet (names : Names) (format : Presentation → Format) (output : Output) (unread left held holds before now : Option (List ℕ)) (ending : Ending) : Type 0 where
-  pub run : Result Report RunFault
-  pub decodes : Decodes format output unread left held holds run
-  pub tells : TellsRun names run before now ending
 
 -- ---- for private clauses
 

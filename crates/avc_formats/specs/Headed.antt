@@ -2,7 +2,7 @@
 use Rattle.std.specs.Prelude.{ℕ, Bool, false, ◌==◌, ◌&&◌, if◌then◌else◌, List, [], ◌++◌}
 use Rattle.avc_types.specs.declared.picture.Picture.{Picture}
 use Rattle.avc_yuv.specs.I420.{shown_height, shown_width}
-use Rattle.avc_run.specs.Formats.{Format}
+use Rattle.avc_formats.specs.Formats.{Format}
 use Rattle.avc_formats.specs.FrameMd5.{framemd5_head, framemd5_line}
 use Rattle.avc_formats.specs.Y4m.{y4m_frame, y4m_header}
 use Rattle.avc_formats.specs.declared.headed.HeadedFormat.{HeadedFormat}

@@ -1,5 +1,6 @@
+pub mod Formats
 pub mod Selecting
-pub mod Digesting
+pub mod Md5Line
 pub mod Ratios
 pub mod Presenting
 pub mod Front

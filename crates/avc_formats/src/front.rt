@@ -5,8 +5,8 @@ use crate::first_set::find_set;
 use crate::presentation::Presentation;
 use avc_annexb::Splitter;
 use avc_annexb::laws::units_stay;
+use avc_console::{PIECE, RunFault, read_once};
 use avc_params::ParamTable;
-use avc_run::{PIECE, RunFault, read_once};
 use std::alloc::Global;
 use std::io::Read;
 
@@ -18,13 +18,13 @@ const FRONT: usize = MAX_UNIT;
 
 /// The front of a stream, up to the end of the first slice that is decoded, and what that slice's set says.
 #[derive(Drop)]
-pub(crate) struct Front {
+pub struct Front {
     pub bytes: Vec<u8>,
     pub said: Presentation,
 }
 
 /// Reads the front of a stream.
-pub(crate) fn read_front<R: Read>(alloc: Global, reader: &mut R) -> Result<Front, RunFault>
+pub fn read_front<R: Read>(alloc: Global, reader: &mut R) -> Result<Front, RunFault>
     ensures ok { IfOk result (λ front. IsFront (R.remaining reader.old) (R.remaining reader.new) front.bytes.items front.said) }
     ensures err { IfErr result (λ fault. NoFront fault (R.remaining reader.old) (R.remaining reader.new)) }
 {

@@ -4,14 +4,15 @@ ghost use Rattle.std.specs.Prelude.{◌≡◌, ◌++◌, true, IfOk, IfErr, OnOk
 ghost use Rattle.std.specs.Io.KnownBytes.{Appends};
 ghost use Rattle.avc_types.specs.Whole.{IsWhole};
 ghost use Rattle.avc_yuv.specs.I420.{shown_height, shown_width};
-ghost use Rattle.avc_run.specs.Formats.{StopsPicture};
+ghost use Rattle.avc_formats.specs.Formats.{StopsPicture};
 ghost use Rattle.avc_formats.specs.Headed.{before_first, has_size, head_of, headed, picture_text};
 
+use crate::format::PictureFormat;
 use crate::framemd5::{add_framemd5_head, write_line};
 use crate::presentation::Presentation;
 use crate::y4m::{add_y4m_header, write_frame};
+use avc_console::RunFault;
 use avc_plane::{PictureRows, SharedPicture};
-use avc_run::{PictureFormat, RunFault};
 use avc_types::OutOfMemory;
 use std::alloc::Global;
 use std::io::Write;
@@ -28,7 +29,7 @@ pub enum HeadedFormat {
 
 /// A format with a head that says this. A picture of another size is a fault.
 #[derive(Drop)]
-pub(crate) struct Headed {
+pub struct Headed {
     pub alloc: Global,
     pub format: HeadedFormat,
     pub said: Presentation,

@@ -1,24 +1,24 @@
-//! Formats of pictures beside I420: some of them, their checksums, also one by one, and YUV4MPEG2.
+//! Formats in which pictures are written: I420, some of them, their checksums, also one by one, and YUV4MPEG2; and the front of a stream, by
+//! which a format's head is known.
 #![tactic(auto)]
 
-mod by_set;
-mod decoding;
-mod digest;
 mod first_set;
+mod format;
 mod framemd5;
 mod front;
 mod headed;
+mod md5_line;
 mod md5_writer;
 mod presentation;
 mod ratio;
 mod selected;
-mod text;
 mod y4m;
 
-pub use by_set::decode_headed;
-pub use decoding::decode_as;
-pub use digest::{decode_md5, verify};
-pub use headed::HeadedFormat;
+pub use format::{I420, PictureFormat};
+pub use front::{Front, read_front};
+pub use headed::{Headed, HeadedFormat};
+pub use md5_line::write_digest;
+pub use md5_writer::Md5Writer;
 pub use presentation::{ChromaSite, Presentation};
 pub use ratio::Ratio;
 pub use selected::Selected;

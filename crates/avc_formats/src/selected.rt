@@ -1,8 +1,9 @@
 ghost use Rattle.std.specs.Prelude.{◌≡◌, OnOk, IfErr};
 ghost use Rattle.avc_formats.specs.Selecting.{is_wanted, selected};
 
+use crate::format::PictureFormat;
+use avc_console::RunFault;
 use avc_plane::SharedPicture;
-use avc_run::{PictureFormat, RunFault};
 use std::io::Write;
 
 /// Some of the pictures, in a format: all but the first ones, and of these so many at most.

@@ -2,16 +2,15 @@ ghost use Rattle.std.specs.Prelude.{◌≡◌, ◌++◌, true, IfErr, OnOk, stri
 ghost use Rattle.std.specs.Io.KnownBytes.{Appends};
 ghost use Rattle.avc_types.specs.Whole.{IsWhole};
 ghost use Rattle.avc_yuv.specs.I420.{i420};
-ghost use Rattle.avc_run.specs.Formats.{StopsPicture};
-ghost use Rattle.avc_run.specs.Reading.{WritesFirst};
-ghost use Rattle.avc_run.specs.declared.fault.RunFault.TheVariants as faults;
+ghost use Rattle.avc_formats.specs.Formats.{StopsPicture};
+ghost use Rattle.avc_console.specs.Reading.{WritesFirst};
+ghost use Rattle.avc_console.specs.declared.fault.RunFault.TheVariants as faults;
 ghost use Rattle.avc_formats.specs.Y4m.{chroma_words, range_words, ratio_word, shape_words, y4m_frame, y4m_header};
 
 use crate::presentation::{ChromaSite, Presentation};
 use crate::ratio::Ratio;
-use crate::text::write_text;
+use avc_console::{RunFault, write_text};
 use avc_plane::SharedPicture;
-use avc_run::RunFault;
 use avc_types::OutOfMemory;
 use avc_yuv::write_i420;
 use std::io::Write;

@@ -1,10 +1,10 @@
-ghost use Rattle.avc_run.specs.Listing.{Lists};
-ghost use Rattle.avc_run.specs.Program.{EndsListing};
+ghost use Rattle.avc_console.specs.Listing.{Lists};
+ghost use Rattle.avc_console.specs.Program.{EndsListing};
 ghost use Rattle.avc_info.specs.Info.{info_so_far};
 
 use crate::form::InfoForm;
 use crate::info_lines::InfoLines;
-use avc_run::{Console, Ending, RunFault, end_listing, write_stream};
+use avc_console::{Console, Ending, RunFault, end_listing, write_stream};
 use std::alloc::Global;
 use std::io::{Read, Write};
 

@@ -7,14 +7,10 @@ use Rattle.avc_yuv.specs.I420.{i420}
 use Rattle.avc_decoder.specs.Output.{Output}
 use Rattle.avc_decoder.specs.Events.{events, pictures_in, refusals_in}
 use Rattle.avc_decoder.specs.SeenEvents.{Event}
-use Rattle.avc_run.specs.Reading.{HasRead, WritesFirst}
-use Rattle.avc_run.specs.declared.fault.RunFault.{RunFault}
-use Rattle.avc_run.specs.declared.fault.RunFault.TheVariants.{Read, Endless, Write, Memory, Size}
-use Rattle.avc_run.specs.declared.report.Report.{Report}
-
--- A unit of more bytes is too long.
-abbrev pub max_unit : ℕ
-max_unit = 134217728
+use Rattle.avc_console.specs.Reading.{max_unit, HasRead, WritesFirst}
+use Rattle.avc_console.specs.declared.fault.RunFault.{RunFault}
+use Rattle.avc_console.specs.declared.fault.RunFault.TheVariants.{Read, Endless, Write, Memory, Size}
+use Rattle.avc_console.specs.declared.report.Report.{Report}
 
 -- I420 of all pictures among these events, in order
 abbrev pub shown : List Event → List ℕ

@@ -8,12 +8,13 @@ use Rattle.avc_decoder.specs.Machine.{Machine}
 use Rattle.avc_decoder.specs.SeenEvents.{Event}
 use Rattle.avc_decoder.specs.declared.event.Event.TheVariants.{Picture, Refused}
 use Rattle.std.specs.Io.KnownBytes.{Appends, Consumes}
-use Rattle.avc_run.specs.Decoding.{max_unit, report_of}
-use Rattle.avc_run.specs.Formats.{written_from, EndsAtAnotherSize, Format, WritesPicturesAs}
-use Rattle.avc_run.specs.Reading.{WritesFirst}
-use Rattle.avc_run.specs.declared.fault.RunFault.{RunFault}
-use Rattle.avc_run.specs.declared.fault.RunFault.TheVariants.{Read, Endless, Write, Memory, Size}
-use Rattle.avc_run.specs.declared.report.Report.{Report}
+use Rattle.avc_run.specs.Decoding.{report_of}
+use Rattle.avc_formats.specs.Formats.{Format}
+use Rattle.avc_run.specs.Formats.{written_from, EndsAtAnotherSize, WritesPicturesAs}
+use Rattle.avc_console.specs.Reading.{max_unit, WritesFirst}
+use Rattle.avc_console.specs.declared.fault.RunFault.{RunFault}
+use Rattle.avc_console.specs.declared.fault.RunFault.TheVariants.{Read, Endless, Write, Memory, Size}
+use Rattle.avc_console.specs.declared.report.Report.{Report}
 
 -- the events that the bytes so far define
 abbrev pub events_defined : Machine → List Event

@@ -1,29 +1,18 @@
--- What is written where pictures have a format of their own, and not all may be wanted.
+-- What `decode` writes where pictures have a format of their own, and not all may be wanted.
 use Rattle.std.specs.Prelude.{◌≡◌, ℕ, ◌+◌, ◌≤◌, ◌^◌, Bool, true, false, List, [], ◌∷◌, ◌++◌, length, take, Option, Result, Ok, Err}
 use Rattle.std.specs.Io.KnownBytes.{Appends}
 use Rattle.avc_types.specs.declared.picture.Picture.{Picture as Decoded}
 use Rattle.avc_annexb.specs.Units.{saturated}
-use Rattle.avc_yuv.specs.I420.{i420}
 use Rattle.avc_decoder.specs.Output.{Output}
 use Rattle.avc_decoder.specs.Events.{events}
 use Rattle.avc_decoder.specs.SeenEvents.{Event}
 use Rattle.avc_decoder.specs.declared.event.Event.TheVariants.{Picture, Refused}
-use Rattle.avc_run.specs.Decoding.{max_unit, report_of}
-use Rattle.avc_run.specs.Reading.{HasRead, WritesFirst}
-use Rattle.avc_run.specs.declared.fault.RunFault.{RunFault}
-use Rattle.avc_run.specs.declared.fault.RunFault.TheVariants.{Read, Endless, Write, Memory, Size}
-use Rattle.avc_run.specs.declared.report.Report.{Report}
-
--- What is written of the picture of a number (from 0; the greatest number, once there), whether it has the one size that the
--- format can have, and whether so many pictures are all that are wanted.
-pub record Format : Type 0 where
-  pub text : (number : ℕ) → Decoded → List ℕ
-  pub fits : (number : ℕ) → Decoded → Bool
-  pub enough : (pictures : ℕ) → Bool
-
--- I420 of every picture
-abbrev pub plain : Format
-plain = record { text = λ number p. i420 p; fits = λ number p. true; enough = λ pictures. false }
+use Rattle.avc_run.specs.Decoding.{report_of}
+use Rattle.avc_console.specs.Reading.{max_unit, HasRead, WritesFirst}
+use Rattle.avc_formats.specs.Formats.{Format}
+use Rattle.avc_console.specs.declared.fault.RunFault.{RunFault}
+use Rattle.avc_console.specs.declared.fault.RunFault.TheVariants.{Read, Endless, Write, Memory, Size}
+use Rattle.avc_console.specs.declared.report.Report.{Report}
 
 -- how many pictures went out after these events, where so many had before
 abbrev pub pictures_after : (number : ℕ) → List Event → ℕ
@@ -69,10 +58,3 @@ DecodesAs format output unread left held holds (Err Memory) =
     (bytes : List ℕ) × (all : Bool) × HasRead unread left bytes all × WritesPicturesAs format 0 held holds (events output max_unit bytes all)
 DecodesAs format output unread left held holds (Err Size) =
     (bytes : List ℕ) × (all : Bool) × HasRead unread left bytes all × EndsAtAnotherSize format 0 held holds (events output max_unit bytes all)
-
--- A fault stopped the writing of one picture. None comes from reading here.
-abbrev pub StopsPicture : RunFault → (fits : Bool) → (old new : Option (List ℕ)) → List ℕ → Type 0
-StopsPicture Write fits old new bytes = WritesFirst old new bytes
-StopsPicture Memory fits old new bytes = Appends old new []
-StopsPicture Size fits old new bytes = (fits ≡ false) × Appends old new []
-StopsPicture _ fits old new bytes = ⊥

@@ -1,10 +1,7 @@
-pub mod Reading
 pub mod Decoding
 pub mod Formats
-pub mod Listing
-pub mod Status
-pub mod Messages
 pub mod Program
+pub mod BySet
+pub mod Digesting
 pub mod Draining
-pub mod StreamWriting
 pub use Rattle.avc_decoder.specs.Output

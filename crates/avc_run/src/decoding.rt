@@ -1,24 +1,20 @@
 ghost use Rattle.std.specs.Prelude.{◌≡◌, ◌∷◌, [], take, IfErr, IfOk, OnOk};
 ghost use Rattle.std.specs.Io.KnownBytes.{prepend_known, Appends};
 ghost use Rattle.avc_types.specs.Whole.{IsWhole};
-ghost use Rattle.avc_run.specs.Decoding.{max_unit, Decodes};
+ghost use Rattle.avc_console.specs.Reading.{max_unit};
+ghost use Rattle.avc_run.specs.Decoding.{Decodes};
 ghost use Rattle.avc_run.specs.Formats.{written_from, DecodesAs};
 ghost use Rattle.avc_run.specs.Draining.{events_left, report_with, BreaksOff, IfPicture, IsDrained, IsHandled};
 ghost use Rattle.avc_decoder.specs.Machine.{after_feed, after_flush, new_machine, IsUpToUnit};
 
-use crate::console::{Unwatched, Watch};
-use crate::fault::RunFault;
-use crate::format::{I420, PictureFormat};
-use crate::read::{PIECE, READS, read_once};
-use crate::report::{Refusals, Report};
+use crate::calls::{MAX_UNIT, feed_unit, flush, next_event};
+use avc_console::{PIECE, READS, Refusals, Report, RunFault, Unwatched, Watch, read_once};
 use avc_decoder::laws::{events_only_grow, pictures_are_whole};
 use avc_decoder::{Decoder, Event, Output};
+use avc_formats::{I420, PictureFormat};
 use avc_plane::SharedPicture;
 use std::alloc::Global;
 use std::io::{Read, Write};
-
-/// The most bytes of a unit.
-const MAX_UNIT: usize = 134_217_728;
 
 /// Decodes a byte stream (Annex B) and writes its pictures as I420, each as soon as it goes out in this mode of output: before
 /// the next bytes are read, and before the next unit is decoded.
@@ -158,7 +154,7 @@ fn take_unit<F: PictureFormat, W: Write>(
         (W.contents writer.old) (W.contents writer.new) (events_left (after_feed bytes.now decoder.old))) }
 {
     events_only_grow();
-    let used = decoder.feed_unit(bytes)?;
+    let used = feed_unit(decoder, bytes)?;
     drain(decoder, format, writer, report)?;
     Ok(used)
 }
@@ -175,7 +171,7 @@ fn finish<F: PictureFormat, W: Write>(
     ensures err { IfErr result (λ fault. BreaksOff (F.format format.now) report.old.pictures fault
         (W.contents writer.old) (W.contents writer.new) (events_left (after_flush decoder.old))) }
 {
-    decoder.flush()?;
+    flush(decoder)?;
     drain(decoder, format, writer, report)?;
     Ok(())
 }
@@ -193,7 +189,7 @@ fn drain<F: PictureFormat, W: Write>(
         (W.contents writer.old) (W.contents writer.new) (events_left decoder.old)) }
 {
     pictures_are_whole();
-    'events: while let Some(event) = decoder.take()? {
+    'events: while let Some(event) = next_event(decoder)? {
         handle(event, format, writer, report)?;
     }
     Ok(())

@@ -1,29 +1,18 @@
-//! What the program does with a byte stream, what it tells of it, and how it ends.
+//! What the program does with a byte stream: its pictures decoded and written in a format, and how that ends.
 #![tactic(auto)]
 
-mod console;
-mod cutting;
+mod by_set;
+mod calls;
 mod decoding;
-mod exit;
-mod fault;
-mod format;
-mod listing;
-mod messages;
+mod digest;
 mod program;
-mod read;
-mod report;
-mod streaming;
 
+pub use avc_console::{Answer, Console, Ending, Names, PIECE, Refusals, Report, RunFault, Unwatched, Watch};
+pub use avc_console::{answer_status, cut, cut_status, end_listing, fail, fault_status, headers, read_once, refusal_lines, run_cut};
+pub use avc_console::{run_headers, run_units, status, tell, units, write_stream};
 pub use avc_decoder::Output;
-pub use console::{Console, Names, Unwatched, Watch};
-pub use cutting::run_cut;
+pub use avc_formats::{I420, PictureFormat};
+pub use by_set::decode_headed;
 pub use decoding::{run, run_behind, run_watched};
-pub use exit::{Answer, Ending, answer_status, cut_status, fault_status, status};
-pub use fault::RunFault;
-pub use format::{I420, PictureFormat};
-pub use listing::{run_headers, run_units};
-pub use messages::refusal_lines;
-pub use program::{cut, decode, end_listing, fail, headers, tell, units};
-pub use read::{PIECE, read_once};
-pub use report::{Refusals, Report};
-pub use streaming::write_stream;
+pub use digest::{decode_md5, verify};
+pub use program::{decode, decode_as};

@@ -1,20 +1,9 @@
-ghost use Rattle.std.specs.Prelude.{◌≡◌, IfErr, IfOk, OnErr, false, is_ok, true};
-ghost use Rattle.std.specs.Io.KnownBytes.{Keeps};
-ghost use Rattle.avc_tools.specs.Lines.{header_lines_so_far, unit_lines_so_far};
-ghost use Rattle.avc_run.specs.Program.{EndsCutting, EndsDecoding, EndsListing, Tells, TellsListing, TellsRun};
-ghost use Rattle.avc_run.specs.Status.{fault_status};
-ghost use Rattle.avc_run.specs.Messages.{cut_text, fault_line, text_of};
-ghost use Rattle.avc_run.specs.declared.fault.RunFault.TheVariants as faults;
+ghost use Rattle.avc_run.specs.Program.{EndsDecoding, EndsDecodingAs};
 
-use crate::console::{Console, Names, Watch};
-use crate::cutting::run_cut;
-use crate::decoding::run_plain;
-use crate::exit::{Ending, cut_status, fault_status, status};
-use crate::fault::RunFault;
-use crate::listing::{run_headers, run_units};
-use crate::messages::{no_piece_line, refusal_lines, write_fault, write_text};
-use crate::report::Report;
+use crate::decoding::{run_plain, run_watched};
+use avc_console::{Console, Ending, Watch, tell};
 use avc_decoder::Output;
+use avc_formats::PictureFormat;
 use std::alloc::Global;
 use std::io::{Read, Write};
 
@@ -34,149 +23,19 @@ pub fn decode<R: Read, W: Write, E: Write, V: Watch>(
     tell(alloc, &run, &console.names, &mut console.errors)
 }
 
-/// Tells of a run's refusals, or of the fault that ended it, with the name of the file that it is about.
-pub fn tell<E: Write>(
+/// The command `decode` in a format: writes the pictures of a byte stream (Annex B), and tells of its refusals, or of the fault that
+/// ended the run, on the console. Where that takes nothing, the status alone tells.
+pub fn decode_as<F: PictureFormat, R: Read, W: Write, E: Write, V: Watch>(
     alloc: Global,
-    run: &Result<Report, RunFault>,
-    names: &Names<'_>,
-    errors: &mut E,
-) -> Ending
-    ensures { TellsRun names.now run.now (E.contents errors.old) (E.contents errors.new) result }
-{
-    match write_messages(alloc, run, names, errors) {
-        Ok(told) => Ending {
-            status: status(run),
-            told,
-        },
-        Err(fault) => fail(fault, names, errors),
-    }
-}
-
-// Tells of a run, and answers whether all was taken. An error is want of memory for the lines of refusals.
-fn write_messages<E: Write>(
-    alloc: Global,
-    run: &Result<Report, RunFault>,
-    names: &Names<'_>,
-    errors: &mut E,
-) -> Result<bool, RunFault>
-    ensures ok { IfOk result (λ told. Tells (E.contents errors.old) (E.contents errors.new) (text_of names.now run.now) told) }
-    ensures err { IfErr result (λ fault. (fault ≡ faults.Memory) × Keeps (E.contents errors.old) (E.contents errors.new)) }
-    ensures refusals { OnErr result (is_ok run.now ≡ true) }
-{
-    match run {
-        Ok(report) => {
-            let text = refusal_lines(alloc, report)?;
-            Ok(write_what_is_taken(&text, errors))
-        }
-        Err(fault) => Ok(fail(*fault, names, errors).told),
-    }
-}
-
-/// Tells of a fault, with the name of the file that it is about, where it has one.
-pub fn fail<E: Write>(fault: RunFault, names: &Names<'_>, errors: &mut E) -> Ending
-    ensures status { result.status ≡ fault_status fault }
-    ensures told { Tells (E.contents errors.old) (E.contents errors.new) (fault_line names.now fault) result.told }
-{
-    let told = match write_fault(fault, names, errors) {
-        Ok(()) => true,
-        Err(_) => false,
-    };
-    Ending {
-        status: fault_status(fault),
-        told,
-    }
-}
-
-// Whether all of the text was taken.
-fn write_what_is_taken<E: Write>(text: &str, errors: &mut E) -> bool
-    ensures { Tells (E.contents errors.old) (E.contents errors.new) text.now result }
-{
-    match write_text(text, errors) {
-        Ok(()) => true,
-        Err(_) => false,
-    }
-}
-
-/// The command `units`: writes a line for each unit of a byte stream (Annex B), and tells of a fault on the console.
-pub fn units<R: Read, W: Write, E: Write, V>(
-    alloc: Global,
+    output: Output,
+    format: &F,
     reader: &mut R,
     writer: &mut W,
     console: &mut Console<'_, E, V>,
 ) -> Ending
-    ensures { EndsListing console.old.names unit_lines_so_far (R.remaining reader.old) (R.remaining reader.new) (W.contents writer.old)
-        (W.contents writer.new) (E.contents console.old.errors) (E.contents console.new.errors) result }
+    ensures { EndsDecodingAs console.old.names (F.format format.now) output (R.remaining reader.old) (R.remaining reader.new)
+        (W.contents writer.old) (W.contents writer.new) (E.contents console.old.errors) (E.contents console.new.errors) result }
 {
-    let run = run_units(alloc, reader, writer);
-    end_listing(run, &console.names, &mut console.errors)
-}
-
-/// The command `headers`: writes a line for each parameter set and slice of a byte stream (Annex B), and tells of a fault on
-/// the console.
-pub fn headers<R: Read, W: Write, E: Write, V>(
-    alloc: Global,
-    reader: &mut R,
-    writer: &mut W,
-    console: &mut Console<'_, E, V>,
-) -> Ending
-    ensures { EndsListing console.old.names header_lines_so_far (R.remaining reader.old) (R.remaining reader.new) (W.contents writer.old)
-        (W.contents writer.new) (E.contents console.old.errors) (E.contents console.new.errors) result }
-{
-    let run = run_headers(alloc, reader, writer);
-    end_listing(run, &console.names, &mut console.errors)
-}
-
-/// Tells of the fault that ended a run of `units` or `headers`, if one did.
-pub fn end_listing<E: Write>(run: Result<(), RunFault>, names: &Names<'_>, errors: &mut E) -> Ending
-    ensures { TellsListing names.now run (E.contents errors.old) (E.contents errors.new) result }
-{
-    match run {
-        Ok(()) => Ending {
-            status: 0,
-            told: write_what_is_taken("", errors),
-        },
-        Err(fault) => fail(fault, names, errors),
-    }
-}
-
-/// The command `cut`: writes the piece of this number, counted from 0, of a byte stream (Annex B), and tells on the console of a
-/// fault, and where there is no such piece.
-pub fn cut<R: Read, W: Write, E: Write, V>(
-    alloc: Global,
-    number: u32,
-    reader: &mut R,
-    writer: &mut W,
-    console: &mut Console<'_, E, V>,
-) -> Ending
-    ensures { EndsCutting console.old.names number (R.remaining reader.old) (R.remaining reader.new) (W.contents writer.old)
-        (W.contents writer.new) (E.contents console.old.errors) (E.contents console.new.errors) result }
-{
-    match run_cut(alloc, number, reader, writer) {
-        Ok(found) => match write_no_piece(alloc, found, number, &mut console.errors) {
-            Ok(told) => Ending {
-                status: cut_status(found),
-                told,
-            },
-            Err(fault) => fail(fault, &console.names, &mut console.errors),
-        },
-        Err(fault) => fail(fault, &console.names, &mut console.errors),
-    }
-}
-
-// Tells that there is no piece of this number, where there is none. An error is want of memory for the text.
-fn write_no_piece<E: Write>(
-    alloc: Global,
-    found: bool,
-    number: u32,
-    errors: &mut E,
-) -> Result<bool, RunFault>
-    ensures ok { IfOk result (λ told. Tells (E.contents errors.old) (E.contents errors.new) (cut_text number found) told) }
-    ensures err { IfErr result (λ fault. (fault ≡ faults.Memory) × Keeps (E.contents errors.old) (E.contents errors.new)) }
-    ensures none { OnErr result (found ≡ false) }
-{
-    if found {
-        return Ok(write_what_is_taken("", errors));
-    }
-    let text = no_piece_line(alloc, number)?;
-    Ok(write_what_is_taken(&text, errors))
+    let run = run_watched(alloc, output, format, &mut console.watch, reader, writer);
+    tell(alloc, &run, &console.names, &mut console.errors)
 }

@@ -17,15 +17,11 @@ pub use Rattle.avc_annexb.specs.declared.unit.Unit.{Unit}
 pub use Rattle.avc_params.specs.Tables.{sets_after}
 pub use Rattle.avc_params.specs.declared.set_unit.SetUnit.{SetUnit}
 pub use Rattle.avc_params.specs.declared.sps.Sps.{Sps}
-pub use Rattle.avc_run.proofs.Running.Telling.{stopped_after}
-pub use Rattle.avc_run.proofs.Running.{err_is, nothing_more}
-pub use Rattle.avc_run.specs.Decoding.{max_unit}
-pub use Rattle.avc_run.specs.Formats.{Format, StopsPicture}
-pub use Rattle.avc_run.specs.Output.{Output}
-pub use Rattle.avc_run.specs.Reading.{WritesFirst}
-pub use Rattle.avc_run.specs.declared.fault.RunFault.{RunFault}
-pub use Rattle.avc_run.specs.declared.fault.RunFault.TheVariants.{Read, Memory, Write}
-pub use Rattle.avc_run.specs.declared.report.Report.{Report}
+pub use Rattle.avc_console.proofs.Texts.Telling.{stopped_after}
+pub use Rattle.avc_console.proofs.Texts.{nothing_more}
+pub use Rattle.avc_console.specs.Reading.{max_unit, WritesFirst}
+pub use Rattle.avc_console.specs.declared.fault.RunFault.{RunFault}
+pub use Rattle.avc_console.specs.declared.fault.RunFault.TheVariants.{Read, Memory, Write}
 pub use Rattle.avc_tools.proofs.Taking.{IsDraining, one_more, all_taken}
 pub use Rattle.avc_tools.proofs.Taking.Stages.{AreLeft, drained, left_by_feed, left_by_finish}
 pub use Rattle.avc_units.proofs.SetUnits.{set_units-append, sets_then}
@@ -34,13 +30,12 @@ pub use Rattle.avc_units.specs.Grouping.{set_units}
 pub use Rattle.avc_yuv.specs.I420.{i420}
 pub use Rattle.hex.specs.Hex.{encode_lower}
 pub use Rattle.md5.specs.Md5.{md5}
+pub use Rattle.avc_formats.specs.Formats.{StopsPicture}
 pub use Rattle.avc_formats.specs.FrameMd5.{column, aspect_line, codec_lines, columns_line, dimensions_line, format_lines, time_base_line, framemd5_line}
 pub use Rattle.avc_formats.specs.FrameMd5.{size_text, times_text}
-pub use Rattle.avc_formats.specs.Front.{first_of, first_sps, starting_sps, IsFound, IsSaid, in_front, stream_sps, Decodes, IsFront, IsLooking, NoFront}
+pub use Rattle.avc_formats.specs.Front.{first_of, first_sps, starting_sps, IsFound, IsSaid, stream_sps, IsFront, IsLooking, NoFront}
 pub use Rattle.avc_formats.specs.Front.{front_length}
-pub use Rattle.avc_formats.specs.Headed.{headed}
 pub use Rattle.avc_formats.specs.Presenting.{no_presentation, Says}
-pub use Rattle.avc_formats.specs.Selecting.{selected}
 pub use Rattle.avc_formats.specs.Text.{newline}
 pub use Rattle.avc_formats.specs.Y4m.{chroma_words, range_words, shape_words, ratio_word}
 pub use Rattle.avc_formats.specs.declared.presentation.Presentation.{Presentation}

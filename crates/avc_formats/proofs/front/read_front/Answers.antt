@@ -1,5 +1,5 @@
 use Rattle.avc_formats.proofs.Fronts.{◌∙◌, ap, refl, rules, unwrap_or, NoFront, front_ended, front_found, looking_more, no_memory, err_with}
-use Rattle.avc_run.specs.declared.fault.RunFault.TheVariants as faults
+use Rattle.avc_console.specs.declared.fault.RunFault.TheVariants as faults
 use Rattle.avc_formats.proofs.front.read_front.Goals as goal
 
 pub returns-in_err-find_set-clause-err : goal.returns-in_err-find_set-clause-err

@@ -1,5 +1,5 @@
 use Rattle.avc_formats.proofs.Fronts.{◌≡◌, ◌++◌, refl, i420, WritesFirst, err_with, second_broken}
-use Rattle.avc_run.specs.declared.fault.RunFault.TheVariants as faults
+use Rattle.avc_console.specs.declared.fault.RunFault.TheVariants as faults
 use Rattle.avc_formats.proofs.y4m.write_behind.Goals as goal
 
 pub returns-in_err-write_i420-clause-err : goal.returns-in_err-write_i420-clause-err

@@ -7,4 +7,4 @@ returns-in_err-drain-clause-err g c =
     let fault = c.in_err-drain.field-0.0 in
     by_fault c.from_residual-in_err-drain.result fault _ c.from_residual-in_err-drain.ensures.1
     (front_broken f c.events_only_grow.ensures c.args.decoder.now c.args.bytes.now c.in_ok-used.used c.args.report.now _ _ fault c.requires
-    (subst (λ m. BreaksOff f c.args.report.now.pictures fault (g.W.Write.contents c.args.writer.now) (g.W.Write.contents c.drain.new.writer) (events_left m)) c.in_ok-used.ensures.1.2 c.in_err-drain.ensures.err))
+    (subst (λ m. BreaksOff f c.args.report.now.pictures fault (g.W.Write.contents c.args.writer.now) (g.W.Write.contents c.drain.new.writer) (events_left m)) c.in_ok-used.ensures.ok c.in_err-drain.ensures.err))

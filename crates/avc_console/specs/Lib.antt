@@ -1,0 +1,6 @@
+pub mod Reading
+pub mod Listing
+pub mod Status
+pub mod Messages
+pub mod Program
+pub mod StreamWriting

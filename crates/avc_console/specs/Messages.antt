@@ -1,0 +1,62 @@
+-- What the program tells on the standard error.
+use Rattle.std.specs.Prelude.{ℕ, Bool, if◌then◌else◌, List, ◌∷◌, ◌++◌, [], Option, Some, None, Result, Ok, Err, codes}
+use Rattle.std.specs.List.{flat_map}
+use Rattle.std.specs.Borrow.{Bor}
+use Rattle.std.specs.Fmt.{decimal}
+use Rattle.avc_types.specs.declared.fault.Fault.{Fault}
+use Rattle.avc_types.specs.Faults.{number_of, name_of}
+use Rattle.avc_console.specs.declared.console.Names.{Names}
+use Rattle.avc_console.specs.declared.fault.RunFault.{RunFault}
+use Rattle.avc_console.specs.declared.fault.RunFault.TheVariants.{Read, Endless, Write, Memory, Size}
+use Rattle.avc_console.specs.declared.report.Report.{Report}
+
+-- the end of a line
+abbrev newline : List ℕ
+newline = 10 ∷ []
+
+-- of the unit at this place among the stream's units, which has this fault
+abbrev pub refusal_line : ℕ × Fault → List ℕ
+refusal_line (unit, fault) =
+    codes "refused unit " ++ decimal unit ++ codes ": " ++ decimal (number_of fault) ++ codes " " ++ name_of fault ++ newline
+
+-- one line for each refusal
+abbrev pub refusal_lines : Report → List ℕ
+refusal_lines report = flat_map refusal_line report.refused
+
+-- why the program stopped
+abbrev pub fault_text : RunFault → List ℕ
+fault_text Read = codes "avcdec: read fault"
+fault_text Endless = codes "avcdec: read fault"
+fault_text Write = codes "avcdec: write fault"
+fault_text Memory = codes "avcdec: out of memory"
+fault_text Size = codes "avcdec: a picture of another size"
+
+-- the file to which it happened, where that has a name
+abbrev pub file_of : Names → RunFault → Option (Bor (List ℕ))
+file_of names Read = names.input
+file_of names Endless = names.input
+file_of names Write = names.output
+file_of names Memory = None
+file_of names Size = None
+
+-- behind what happened
+abbrev pub name_text : Option (Bor (List ℕ)) → List ℕ
+name_text None = []
+name_text (Some name) = codes ": " ++ name.now
+
+-- of a fault
+abbrev pub fault_line : Names → RunFault → List ℕ
+fault_line names fault = fault_text fault ++ name_text (file_of names fault) ++ newline
+
+-- of a run
+abbrev pub text_of : Names → Result Report RunFault → List ℕ
+text_of names (Ok report) = refusal_lines report
+text_of names (Err fault) = fault_line names fault
+
+-- that no piece has this number
+abbrev pub no_piece_line : (number : ℕ) → List ℕ
+no_piece_line number = codes "avcdec: no piece " ++ decimal number ++ newline
+
+-- where one has it or not
+abbrev pub cut_text : (number : ℕ) → (found : Bool) → List ℕ
+cut_text number found = if found then [] else no_piece_line number

@@ -1,0 +1,24 @@
+//! What the program tells on its console, how it ends, and what it lists and cuts of a stream without decoding it.
+#![tactic(auto)]
+
+mod console;
+mod cutting;
+mod exit;
+mod fault;
+mod listing;
+mod messages;
+mod program;
+mod read;
+mod report;
+mod streaming;
+
+pub use console::{Console, Names, Unwatched, Watch};
+pub use cutting::run_cut;
+pub use exit::{Answer, Ending, answer_status, cut_status, fault_status, status};
+pub use fault::RunFault;
+pub use listing::{run_headers, run_units};
+pub use messages::{refusal_lines, write_text};
+pub use program::{cut, end_listing, fail, headers, tell, units};
+pub use read::{PIECE, READS, read_once};
+pub use report::{Refusals, Report};
+pub use streaming::write_stream;

@@ -1,0 +1,363 @@
+-- Events that are taken one after another.
+pub mod Common
+unfoldable pub use Common.*
+
+-- ---- lists of events
+
+pub written-append : (f : Format) (n : ℕ) (a b : List Event) → written_from f n (a ++ b) ≡ written_from f n a ++ written_from f (pictures_after n a) b
+written-append f n [] b = refl
+written-append f n (Picture p ∷ a) b =
+    let k = saturated (n + 1) in
+    ap (λ bs. f.text n p ++ bs) (written-append f k a b) ∙ sym (append_assoc (f.text n p) (written_from f k a) (written_from f (pictures_after k a) b))
+written-append f n (Refused unit x ∷ a) b = written-append f n a b
+
+after-append : (n : ℕ) (a b : List Event) → pictures_after n (a ++ b) ≡ pictures_after (pictures_after n a) b
+after-append n [] b = refl
+after-append n (Picture p ∷ a) b = after-append (saturated (n + 1)) a b
+after-append n (Refused unit x ∷ a) b = after-append n a b
+
+-- the number of pictures that a report has
+pub pictures_now : (r : Report) (a : List Event) → (report_with r a).pictures ≡ pictures_after r.pictures a
+pictures_now r [] = refl
+pictures_now r (Picture p ∷ a) = pictures_now (record r { pictures = saturated (r.pictures + 1) }) a
+pictures_now r (Refused unit f ∷ a) = pictures_now (record r { refused = r.refused ++ (unit, f) ∷ [] }) a
+
+pub number_after : (r r' : Report) (a : List Event) → r' ≡ report_with r a → r'.pictures ≡ pictures_after r.pictures a
+number_after r r' a is = ap (λ q. q.pictures) is ∙ pictures_now r a
+
+-- what was written behind other events
+pub behind : (f : Format) (r r' : Report) (w0 w w' : Option (List ℕ)) (a b : List Event) → r' ≡ report_with r a → Appends w0 w (written_from f r.pictures a)
+    → Appends w w' (written_from f r'.pictures b) → Appends w0 w' (written_from f r.pictures (a ++ b))
+behind f r r' w0 w w' a b told before more =
+    subst (Appends w0 w') (sym (written-append f r.pictures a b))
+    (Appends-trans w0 w w' (written_from f r.pictures a) (written_from f (pictures_after r.pictures a) b) before
+    (subst (λ n. Appends w w' (written_from f n b)) (number_after r r' a told) more))
+
+pub report_with-append : (r : Report) (a b : List Event) → report_with r (a ++ b) ≡ report_with (report_with r a) b
+report_with-append r [] b = refl
+report_with-append r (Picture p ∷ a) b = report_with-append (record r { pictures = saturated (r.pictures + 1) }) a b
+report_with-append r (Refused unit f ∷ a) b = report_with-append (record r { refused = r.refused ++ (unit, f) ∷ [] }) a b
+
+held_more : (m : ℕ) → saturated (saturated m + 1) ≡ saturated (m + 1)
+held_more m = omega arith
+
+pub reported_is : (m : ℕ) (refused : List (ℕ × Fault)) (events : List Event)
+    → report_with (record { pictures = saturated m; refused = refused }) events ≡ record { pictures = saturated (m + length (pictures_in events)); refused = refused ++ refusals_in events }
+reported_is m refused [] = rw append-nil (ap (λ k. record { pictures = saturated k; refused = refused }) (omega arith))
+reported_is m refused (Picture p ∷ events) =
+    let n = length (pictures_in events) in
+    let same : m + 1 + n ≡ m + suc n = omega arith in
+    ap (λ k. report_with (record { pictures = k; refused = refused }) events) (held_more m)
+    ∙ reported_is (m + 1) refused events
+    ∙ ap (λ k. record { pictures = saturated k; refused = refused ++ refusals_in events }) same
+reported_is m refused (Refused unit f ∷ events) = reported_is m (refused ++ (unit, f) ∷ []) events ∙ rw append_assoc refl
+
+-- ---- the next one
+
+drop_none : {A : Type 0} (xs : List A) (k : ℕ) → slice_get xs k ≡ None → drop k xs ≡ []
+drop_none [] k e = drop-nil k
+drop_none (x ∷ xs) zero e = cc
+drop_none (x ∷ xs) (suc k) e = drop_none xs k e
+
+-- ---- one event more
+
+-- where an event is taken
+due_next : (d : Machine) (e : Event) → Some e ≡ next_event max_unit d → events_left d ≡ e ∷ events_left (after_take (Some e) d)
+due_next d e is =
+    let all = events_defined d in
+    drop_more all d.taken e (slice_get_within all d.taken e (sym is)) ∙ ap (λ y. y ∷ drop (d.taken + 1) all) (get_or_from_slice_get all d.taken e e (sym is))
+
+pub begun : (f : Format) (d : Machine) (r : Report) (held : Option (List ℕ)) → Appends held held [] → IsDraining f d d r r held held
+begun f d r holds nothing = record { done = []; rest = refl; machine = ap (λ k. record d { taken = k }) (omega arith); report = refl; written = nothing }
+
+pub one_more : (f : Format) (d0 d d' : Machine) (r0 r r' : Report) (w0 w w' : Option (List ℕ)) (e : Event)
+    → Some e ≡ next_event max_unit d → d' ≡ after_take (Some e) d → r' ≡ report_with r (e ∷ []) → Appends w w' (written_from f r.pictures (e ∷ []))
+    → IsDraining f d0 d r0 r w0 w → IsDraining f d0 d' r0 r' w0 w'
+one_more f d0 d d' r0 r r' w0 w w' e next taken told wrote i =
+    let after = i.done ++ e ∷ [] in
+    let count : length after ≡ length i.done + 1 = length-append i.done (e ∷ []) in
+    let more : (d0.taken + length i.done) + 1 ≡ d0.taken + length after = omega (arith, count) in
+    record {
+      done = after;
+      rest = i.rest ∙ ap (λ es. i.done ++ es) (due_next d e next ∙ ap (λ m. e ∷ events_left m) (sym taken)) ∙ sym (append_assoc i.done (e ∷ []) (events_left d'));
+      machine = taken ∙ ap (λ m. after_take (Some e) m) i.machine ∙ ap (λ k. record d0 { taken = k }) more;
+      report = told ∙ ap (λ q. report_with q (e ∷ [])) i.report ∙ sym (report_with-append r0 i.done (e ∷ []));
+      written = behind f r0 r w0 w w' i.done (e ∷ []) i.report i.written wrote;
+    }
+
+-- ---- the end
+
+-- all that were due are done
+all_done : (f : Format) (d0 d : Machine) (r0 r : Report) (w0 w : Option (List ℕ)) → None ≡ next_event max_unit d → (i : IsDraining f d0 d r0 r w0 w) → i.done ≡ events_left d0
+all_done f d0 d r0 r w0 w none i = sym (i.rest ∙ ap (λ es. i.done ++ es) (drop_none (events_defined d) d.taken (sym none)) ∙ append-nil i.done)
+
+pub handled : (f : Format) (d0 d d' : Machine) (r0 r : Report) (w0 w : Option (List ℕ)) → None ≡ next_event max_unit d → d' ≡ d → IsDraining f d0 d r0 r w0 w → IsHandled f d0 d' r0 r w0 w
+handled f d0 d d' r0 r w0 w none same i =
+    let all = all_done f d0 d r0 r w0 w none i in
+    record {
+      machine = same ∙ i.machine ∙ ap (λ es. record d0 { taken = d0.taken + length es }) all;
+      report = i.report ∙ ap (λ es. report_with r0 es) all;
+      written = subst (λ es. Appends w0 w (written_from f r0.pictures es)) all i.written;
+    }
+
+-- ---- a fault
+
+take_behind : {A : Type 0} (a b c : List A) (n : ℕ) → n ≤ length b → take (length a + n) (a ++ (b ++ c)) ≡ a ++ take n b
+take_behind a b c n within = take-append-add a (b ++ c) n ∙ ap (λ t. a ++ t) (take-append-le n b c within)
+
+written_three : (f : Format) (n : ℕ) (a b c : List Event) → written_from f n (a ++ (b ++ c))
+    ≡ written_from f n a ++ (written_from f (pictures_after n a) b ++ written_from f (pictures_after (pictures_after n a) b) c)
+written_three f n a b c = rw (written-append f n a (b ++ c), written-append f (pictures_after n a) b c) refl
+
+-- the pictures of a, and of the first n events of b, before what would have followed
+parts : (f : Format) (m : ℕ) (w0 w w' : Option (List ℕ)) (a b c : List Event) (n : ℕ) → n ≤ length b → Appends w0 w (written_from f m a)
+    → Appends w w' (written_from f (pictures_after m a) (take n b)) → Appends w0 w' (written_from f m (take (length a + n) (a ++ (b ++ c))))
+parts f m w0 w w' a b c n within all some =
+    subst (Appends w0 w') (sym (ap (λ es. written_from f m es) (take_behind a b c n within) ∙ written-append f m a (take n b)))
+    (Appends-trans w0 w w' (written_from f m a) (written_from f (pictures_after m a) (take n b)) all some)
+
+-- a fault in b, after all of a and before c
+pub breaks_later : (f : Format) (n : ℕ) (fault : RunFault) (w0 w w' : Option (List ℕ)) (a b c : List Event) → Appends w0 w (written_from f n a)
+    → BreaksOff f (pictures_after n a) fault w w' b → BreaksOff f n fault w0 w' (a ++ (b ++ c))
+breaks_later f n Read w0 w w' a b c all some = some
+breaks_later f n Endless w0 w w' a b c all some = some
+breaks_later f n Write w0 w w' a b c all some =
+    let m = pictures_after n a in
+    let y = written_from f m b in
+    let z = written_from f (pictures_after m b) c in
+    subst (WritesFirst w0 w') (sym (written_three f n a b c)) (stopped_after w0 w w' (written_from f n a) (y ++ z) all (stopped_before w w' y z some))
+breaks_later f n Memory w0 w w' a b c all some = record {
+  count = length a + some.count;
+  within = omega (arith, length-append a (b ++ c), length-append b c, some.within);
+  written = parts f n w0 w w' a b c some.count some.within all some.written;
+}
+breaks_later f n Size w0 w w' a b c all some =
+    let next = Picture some.picture in
+    record {
+      front = a ++ some.front;
+      picture = some.picture;
+      rest = some.rest ++ c;
+      parts = ap (λ es. a ++ es) (ap (λ es. es ++ c) some.parts ∙ append_assoc some.front (next ∷ some.rest) c) ∙ sym (append_assoc a some.front (next ∷ (some.rest ++ c)));
+      another = ap (λ k. f.fits k some.picture) (after-append n a some.front) ∙ some.another;
+      written =
+          subst (Appends w0 w') (sym (written-append f n a some.front))
+          (Appends-trans w0 w w' (written_from f n a) (written_from f (pictures_after n a) some.front) all some.written);
+    }
+
+-- the same, told by the report
+pub breaks_behind : (f : Format) (r r' : Report) (fault : RunFault) (w0 w w' : Option (List ℕ)) (a b c : List Event) → r' ≡ report_with r a
+    → Appends w0 w (written_from f r.pictures a) → BreaksOff f r'.pictures fault w w' b → BreaksOff f r.pictures fault w0 w' (a ++ (b ++ c))
+breaks_behind f r r' fault w0 w w' a b c told all some =
+    breaks_later f r.pictures fault w0 w w' a b c all (subst (λ n. BreaksOff f n fault w w' b) (number_after r r' a told) some)
+
+-- before an event was taken
+pub stopped : (f : Format) (d0 d : Machine) (r0 r : Report) (w0 w : Option (List ℕ)) → IsDraining f d0 d r0 r w0 w → WritesPicturesAs f r0.pictures w0 w (events_left d0)
+stopped f d0 d r0 r w0 w i =
+    record {
+      count = length i.done;
+      within = omega (arith, ap (λ es. length es) i.rest, length-append i.done (events_left d));
+      written =
+          subst (Appends w0 w) (sym (ap (λ es. written_from f r0.pictures (take (length i.done) es)) i.rest
+          ∙ ap (λ es. written_from f r0.pictures es) (take-append_seam i.done (events_left d)))) i.written;
+    }
+
+-- in the midst of one
+pub stopped_in : (f : Format) (fault : RunFault) (d0 d : Machine) (r0 r : Report) (w0 w w' : Option (List ℕ)) (e : Event)
+    → Some e ≡ next_event max_unit d → BreaksOff f r.pictures fault w w' (e ∷ []) → IsDraining f d0 d r0 r w0 w → BreaksOff f r0.pictures fault w0 w' (events_left d0)
+stopped_in f fault d0 d r0 r w0 w w' e next some i =
+    let c = events_left (after_take (Some e) d) in
+    let all : events_left d0 ≡ i.done ++ ((e ∷ []) ++ c) = i.rest ∙ ap (λ es. i.done ++ es) (due_next d e next) in
+    subst (BreaksOff f r0.pictures fault w0 w') (sym all) (breaks_behind f r0 r fault w0 w w' i.done (e ∷ []) c i.report i.written some)
+
+-- in the writing of one picture
+in_picture : (f : Format) (n : ℕ) (fault : RunFault) (w w' : Option (List ℕ)) (p : Decoded) → StopsPicture fault (f.fits n p) w w' (f.text n p) → BreaksOff f n fault w w' (Picture p ∷ [])
+in_picture f n Write w w' p some = rw append-nil some
+in_picture f n Memory w w' p some = record { count = 0; within = omega arith; written = some }
+in_picture f n Size w w' p some = record { front = []; picture = p; rest = []; parts = refl; another = some.0; written = some.1 }
+in_picture f n _ w w' p some = absurd some
+
+pub picture_broken : (f : Format) (n : ℕ) (fault : RunFault) (w w' : Option (List ℕ)) (e : Event) (p : Decoded) → e ≡ Picture p → StopsPicture fault (f.fits n p) w w' (f.text n p)
+    → BreaksOff f n fault w w' (e ∷ [])
+picture_broken f n fault w w' e p is some = rw is (in_picture f n fault w w' p some)
+
+-- nothing was handled
+pub none_handled : (f : Format) (n : ℕ) (w : Option (List ℕ)) (events : List Event) → WritesPicturesAs f n w w events
+none_handled f n w events = record { count = 0; within = omega arith; written = Appends-nil w }
+
+-- ---- as the loop says it
+
+pub smaller : (d d' : Machine) (e : Event) → Some e ≡ next_event max_unit d → d' ≡ after_take (Some e) d → count_left d' < count_left d
+smaller d d' e next taken =
+    let within = slice_get_within (events_defined d) d.taken e (sym next) in
+    let less : length (events_defined d) - (d.taken + 1) < length (events_defined d) - d.taken = omega (arith, within) in
+    subst (λ m. count_left m < count_left d) (sym taken) less
+
+pub is_none : {A : Type 0} (o : Option A) → ((x : A) → o ≡ Some x → ⊥) → o ≡ None
+is_none None other = refl
+is_none (Some x) other = absurd (other x refl)
+
+-- ---- a piece that is fed in parts
+
+abbrev given : Machine → (bytes : List ℕ) (taken : ℕ) → Machine
+given m bytes taken = record m { bytes = bytes; taken = taken }
+
+-- what comes by a part
+pub record Comes (d : Machine) (part : List ℕ) : Type 0 where
+  pub others : List Event
+  pub defined : events_defined (after_feed part d) ≡ events_defined d ++ others
+  pub left : events_left (after_feed part d) ≡ others
+
+comes : EventsOnlyGrow → (d : Machine) (part : List ℕ) → IsDrained d → Comes d part
+comes grow d part i =
+    let later = grow d.output max_unit d.bytes part d.ended in
+    let same : events d.output max_unit d.bytes false ≡ events_defined d = ap (λ b. events d.output max_unit d.bytes b) (sym i.goes_on) in
+    let all = later.1 ∙ ap (λ es. es ++ later.0) same in
+    record {
+      others = later.0;
+      defined = all;
+      left = ap (λ n. drop n (events_defined (after_feed part d))) i.taken ∙ ap (λ es. drop (length (events_defined d)) es) all ∙ drop-append_seam (events_defined d) later.0;
+    }
+
+-- after a part all that came is taken
+pub drained_after : (f : Format) → EventsOnlyGrow → (d0 d : Machine) (part : List ℕ) (r0 r : Report) (w0 w : Option (List ℕ)) → IsDrained d0 → IsHandled f (after_feed part d0) d r0 r w0 w → IsDrained d
+drained_after f grow d0 d part r0 r w0 w i h =
+    let x = comes grow d0 part i in
+    let m = after_feed part d0 in
+    let count : d0.taken + length (events_left m) ≡ length (events_defined m) =
+    ap (λ n. n + length (events_left m)) i.taken ∙ ap (λ es. length (events_defined d0) + length es) x.left ∙ sym (length-append (events_defined d0) x.others) ∙ sym (ap (λ es. length es) x.defined) in
+    record {
+      goes_on = ap (λ n. n.ended) h.machine ∙ i.goes_on;
+      taken = ap (λ n. n.taken) h.machine ∙ count ∙ ap (λ n. length (events_defined n)) (sym h.machine);
+    }
+
+-- two parts
+both : (f : Format) → EventsOnlyGrow → (d0 d : Machine) (a b : List ℕ) (r0 r : Report) (w0 w : Option (List ℕ)) → IsDrained d0 → IsHandled f (after_feed a d0) d r0 r w0 w
+    → events_left (after_feed (a ++ b) d0) ≡ events_left (after_feed a d0) ++ events_left (after_feed b d)
+both f grow d0 d a b r0 r w0 w i h =
+    let x = comes grow d0 a i in
+    let y = comes grow d b (drained_after f grow d0 d a r0 r w0 w i h) in
+    let z = comes grow d0 (a ++ b) i in
+    let joined : events_defined (after_feed (a ++ b) d0) ≡ events_defined (after_feed b d) =
+    ap (λ bs. events d0.output max_unit bs d0.ended) (sym (append_assoc d0.bytes a b)) ∙ ap (λ n. events_defined (after_feed b n)) (sym h.machine) in
+    let front : events_defined d ≡ events_defined d0 ++ x.others = ap (λ n. events_defined n) h.machine ∙ x.defined in
+    let all : events_defined (after_feed (a ++ b) d0) ≡ events_defined d0 ++ (x.others ++ y.others) =
+    joined ∙ y.defined ∙ ap (λ es. es ++ y.others) front ∙ append_assoc (events_defined d0) x.others y.others in
+    ap (λ n. drop n (events_defined (after_feed (a ++ b) d0))) i.taken ∙ ap (λ es. drop (length (events_defined d0)) es) all
+    ∙ drop-append_seam (events_defined d0) (x.others ++ y.others) ∙ ap (λ es. es ++ y.others) (sym x.left) ∙ ap (λ es. events_left (after_feed a d0) ++ es) (sym y.left)
+
+-- what comes by more bytes
+later_events : EventsOnlyGrow → (d : Machine) (front rest : List ℕ) → IsDrained d → (others : List Event) × (events_left (after_feed (front ++ rest) d) ≡ events_left (after_feed front d) ++ others)
+later_events grow d front rest i =
+    let x = comes grow d front i in
+    let later = grow d.output max_unit (d.bytes ++ front) rest d.ended in
+    let same : events d.output max_unit (d.bytes ++ front) false ≡ events_defined (after_feed front d) = ap (λ b. events d.output max_unit (d.bytes ++ front) b) (sym i.goes_on) in
+    let all : events_defined (after_feed (front ++ rest) d) ≡ events_defined d ++ (x.others ++ later.0) =
+    ap (λ bs. events d.output max_unit bs d.ended) (sym (append_assoc d.bytes front rest)) ∙ later.1 ∙ ap (λ es. es ++ later.0) (same ∙ x.defined) ∙ append_assoc (events_defined d) x.others later.0 in (
+      later.0,
+      ap (λ n. drop n (events_defined (after_feed (front ++ rest) d))) i.taken ∙ ap (λ es. drop (length (events_defined d)) es) all
+          ∙ drop-append_seam (events_defined d) (x.others ++ later.0) ∙ ap (λ es. es ++ later.0) (sym x.left),
+    )
+
+handled_both : (f : Format) → EventsOnlyGrow → (d0 d d' : Machine) (a b : List ℕ) (r0 r r' : Report) (w0 w w' : Option (List ℕ)) → IsDrained d0
+    → IsHandled f (after_feed a d0) d r0 r w0 w → IsHandled f (after_feed b d) d' r r' w w' → IsHandled f (after_feed (a ++ b) d0) d' r0 r' w0 w'
+handled_both f grow d0 d d' a b r0 r r' w0 w w' i h more =
+    let x = events_left (after_feed a d0) in
+    let y = events_left (after_feed b d) in
+    let all = both f grow d0 d a b r0 r w0 w i h in
+    let bytes : d.bytes ++ b ≡ d0.bytes ++ (a ++ b) = ap (λ n. n.bytes ++ b) h.machine ∙ append_assoc d0.bytes a b in
+    let count : d.taken + length y ≡ d0.taken + length (events_left (after_feed (a ++ b) d0)) =
+    omega (arith, ap (λ n. n.taken) h.machine, ap (λ es. length es) all, length-append x y) in
+    record {
+      machine = more.machine ∙ ap (λ n. given n (d.bytes ++ b) (d.taken + length y)) h.machine
+          ∙ ap (λ bs. given d0 bs (d.taken + length y)) bytes ∙ ap (given d0 (d0.bytes ++ (a ++ b))) count;
+      report = more.report ∙ ap (λ q. report_with q y) h.report ∙ sym (report_with-append r0 x y) ∙ ap (λ es. report_with r0 es) (sym all);
+      written = subst (λ es. Appends w0 w' (written_from f r0.pictures es)) (sym all) (behind f r0 r w0 w w' x y h.report h.written more.written);
+    }
+
+-- ---- as the loop says it
+
+-- before the first part
+pub none_fed : (f : Format) → EventsOnlyGrow → (d : Machine) (r : Report) (w : Option (List ℕ)) (piece : List ℕ) → IsDrained d → IsHandled f (after_feed (take 0 piece) d) d r r w w
+none_fed f grow d r w piece i =
+    let nothing : events_left (after_feed [] d) ≡ [] =
+    ap (λ bs. drop d.taken (events d.output max_unit bs d.ended)) (append-nil d.bytes) ∙ ap (λ n. drop n (events_defined d)) i.taken
+    ∙ ap (λ es. drop (length (events_defined d)) es) (sym (append-nil (events_defined d))) ∙ drop-append_seam (events_defined d) [] in
+    let count : d.taken ≡ d.taken + length (events_left (after_feed [] d)) = omega (arith, ap (λ es. length es) nothing) in
+    record {
+      machine = ap (λ bs. given d bs d.taken) (sym (append-nil d.bytes)) ∙ ap (given d (d.bytes ++ [])) count;
+      report = ap (λ es. report_with r es) (sym nothing);
+      written = subst (Appends w w) (ap (λ es. written_from f r.pictures es) (sym nothing)) (Appends-nil w);
+    }
+
+-- n bytes, and then so many more
+first_more : (piece : List ℕ) (n len : ℕ) (part : List ℕ) → part ≡ take (n + len - n) (drop n piece) → take n piece ++ part ≡ take (n + len) piece
+first_more piece n len part is =
+    let few : n + len - n ≡ len = omega arith in
+    ap (λ p. take n piece ++ p) (is ∙ ap (λ k. take k (drop n piece)) few) ∙ sym (take-add n len piece)
+
+pub one_part : (f : Format) → EventsOnlyGrow → (d0 d d' : Machine) (piece part : List ℕ) (n len : ℕ) (r0 r r' : Report) (w0 w w' : Option (List ℕ)) → IsDrained d0 → part ≡ take (n + len - n) (drop n piece)
+    → IsHandled f (after_feed (take n piece) d0) d r0 r w0 w → IsHandled f (after_feed part d) d' r r' w w' → IsHandled f (after_feed (take (n + len) piece) d0) d' r0 r' w0 w'
+one_part f grow d0 d d' piece part n len r0 r r' w0 w w' i is h more =
+    subst (λ bs. IsHandled f (after_feed bs d0) d' r0 r' w0 w') (first_more piece n len part is) (handled_both f grow d0 d d' (take n piece) part r0 r r' w0 w w' i h more)
+
+-- all parts
+pub all_fed : (f : Format) (d0 d : Machine) (piece : List ℕ) (n : ℕ) (r0 r : Report) (w0 w : Option (List ℕ)) → n ≡ length piece → IsHandled f (after_feed (take n piece) d0) d r0 r w0 w → IsHandled f (after_feed piece d0) d r0 r w0 w
+all_fed f d0 d piece n r0 r w0 w all h = subst (λ bs. IsHandled f (after_feed bs d0) d r0 r w0 w) (ap (λ k. take k piece) all ∙ take-length piece) h
+
+-- a fault in a part
+pub part_broken : (f : Format) → EventsOnlyGrow → (d0 d : Machine) (piece part : List ℕ) (n len : ℕ) (r0 r : Report) (w0 w w' : Option (List ℕ)) (fault : RunFault) → IsDrained d0
+    → part ≡ take (n + len - n) (drop n piece) → IsHandled f (after_feed (take n piece) d0) d r0 r w0 w → BreaksOff f r.pictures fault w w' (events_left (after_feed part d))
+    → BreaksOff f r0.pictures fault w0 w' (events_left (after_feed piece d0))
+part_broken f grow d0 d piece part n len r0 r w0 w w' fault i is h off =
+    let front = take (n + len) piece in
+    let rest = drop (n + len) piece in
+    let a = events_left (after_feed (take n piece) d0) in
+    let b = events_left (after_feed part d) in
+    let so_far : events_left (after_feed front d0) ≡ a ++ b =
+    ap (λ bs. events_left (after_feed bs d0)) (sym (first_more piece n len part is)) ∙ both f grow d0 d (take n piece) part r0 r w0 w i h in
+    let c = later_events grow d0 front rest i in
+    let whole : events_left (after_feed piece d0) ≡ a ++ (b ++ c.0) =
+    ap (λ bs. events_left (after_feed bs d0)) (sym (take-append-drop (n + len) piece)) ∙ c.1 ∙ ap (λ es. es ++ c.0) so_far ∙ append_assoc a b c.0 in
+    subst (BreaksOff f r0.pictures fault w0 w') (sym whole) (breaks_behind f r0 r fault w0 w w' a b c.0 h.report h.written off)
+
+-- a fault at the events of the first of these bytes
+pub front_broken : (f : Format) → EventsOnlyGrow → (d : Machine) (bytes : List ℕ) (used : ℕ) (r : Report) (w w' : Option (List ℕ)) (fault : RunFault) → IsDrained d
+    → BreaksOff f r.pictures fault w w' (events_left (after_feed (take used bytes) d)) → BreaksOff f r.pictures fault w w' (events_left (after_feed bytes d))
+front_broken f grow d bytes used r w w' fault i off =
+    part_broken f grow d d bytes (take used bytes) 0 used r r w w w' fault i (ap (λ k. take k bytes) (omega arith)) (none_fed f grow d r w bytes i) off
+
+-- of what is left behind n bytes the first, and all of it
+pub first_left : (piece : List ℕ) (n used : ℕ) → take used (take (length piece - n) (drop n piece)) ≡ take (n + used - n) (drop n piece)
+first_left piece n used = search (rules, take_rest)
+
+-- how many they are
+pub length_left : (piece : List ℕ) (n : ℕ) → n ≤ length piece → length (take (length piece - n) (drop n piece)) ≡ length piece - n
+length_left piece n within = ap length (take_rest piece n) ∙ length-drop n piece
+
+-- all of them
+pub all_left : (piece : List ℕ) (n : ℕ) → n ≤ length piece → take (length piece - n) (drop n piece) ≡ take (n + (length piece - n) - n) (drop n piece)
+all_left piece n within = ap (λ k. take k (drop n piece)) (omega arith)
+
+-- ---- where every picture is written as I420, and all are wanted
+
+-- it is what is shown
+written_plain : (n : ℕ) (es : List Event) → written_from plain n es ≡ shown es
+written_plain n [] = refl
+written_plain n (Picture p ∷ es) = ap (λ bs. i420 p ++ bs) (written_plain (saturated (n + 1)) es)
+written_plain n (Refused unit f ∷ es) = written_plain n es
+
+pub plainly : (output : Output) (unread left held holds : Option (List ℕ)) (result : Result Report RunFault) → DecodesAs plain output unread left held holds result
+    → Decodes output unread left held holds result
+plainly output unread left held holds (Ok report) (bytes, true, read, wrote, told, wanted) =
+    (bytes, read, subst (Appends held holds) (written_plain 0 (events output max_unit bytes true)) wrote, told)
+plainly output unread left held holds (Ok report) (bytes, false, read, wrote, told, wanted) = cc (wanted refl)
+plainly output unread left held holds (Err Read) (bytes, read, wrote) =
+    (bytes, read, subst (Appends held holds) (written_plain 0 (events output max_unit bytes false)) wrote)
+plainly output unread left held holds (Err Endless) (bytes, read, wrote, many) =
+    (bytes, read, subst (Appends held holds) (written_plain 0 (events output max_unit bytes false)) wrote, many)
+plainly output unread left held holds (Err Write) (bytes, all, read, some) =
+    (bytes, all, read, subst (WritesFirst held holds) (written_plain 0 (events output max_unit bytes all)) some)
+plainly output unread left held holds (Err Memory) (bytes, all, read, some) =
+    let is = written_plain 0 (take some.count (events output max_unit bytes all)) in
+    (bytes, all, read, record { count = some.count; within = some.within; written = subst (Appends held holds) is some.written })
+plainly output unread left held holds (Err Size) (bytes, all, read, some) = let another : true ≡ false = some.another in cc

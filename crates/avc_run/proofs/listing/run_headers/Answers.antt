@@ -1,5 +1,0 @@
-use Rattle.avc_run.proofs.Running.{listed}
-use Rattle.avc_run.proofs.listing.run_headers.Goals as goal
-
-pub returns : goal.returns
-returns g c = listed _ _ _ _ _ _ c.in_ok-write_stream.ensures.ok

@@ -1,7 +1,0 @@
-use Rattle.avc_run.proofs.Running.{Memory, by_fault, no_memory_in}
-use Rattle.avc_run.proofs.streaming.take_in.Goals as goal
-
-pub returns-in_err-added-clause-err : goal.returns-in_err-added-clause-err
-returns-in_err-added-clause-err g c =
-    by_fault c.from_residual.result Memory _ c.from_residual.ensures.1
-    (no_memory_in _ c.text_only_grows.ensures _ c.args.piece.now _ c.requires.open_end c.requires.short)
