@@ -7,6 +7,7 @@ pub const OK: u32 = 0;
 pub const OUT_OF_MEMORY: u32 = 1;
 pub const ENDED: u32 = 2;
 
+pub const NOTHING: u32 = 0;
 pub const PICTURE: u32 = 1;
 pub const REFUSED: u32 = 2;
 

@@ -30,14 +30,20 @@
 //! # Ok::<(), avcdec::Error>(())
 //! ```
 //!
-//! [`decode`] does this for a whole file.
+//! [`decode`] does this for a whole file, and [`events`] is an iterator over one, whose pictures have memory of their own.
+//!
+//! **Want of memory** is an error, [`Error::OutOfMemory`], and ends no program: each growth of this crate and of the library is asked for.
 
-#![warn(missing_docs)]
+#![deny(missing_docs, missing_debug_implementations)]
 
 mod c;
+mod events;
+mod fault;
 mod picture;
 
-pub use picture::{Picture, Plane};
+pub use events::{decode, events, Events};
+pub use fault::{Fault, FaultName, Refusal};
+pub use picture::{OwnedPicture, Picture, Plane};
 
 use std::{fmt, io};
 
@@ -53,7 +59,8 @@ pub enum Output {
 /// Why a call was not carried out.
 #[derive(Clone, Copy, Debug, PartialEq, Eq)]
 pub enum Error {
-    /// The system gave no memory: each call answers so until [`Decoder::reset`].
+    /// The system gave no memory. Where feeding, flushing or taking answers so, each does until [`Decoder::reset`]; where copying a picture
+    /// does, nothing has changed.
     OutOfMemory,
     /// The stream has been ended by [`Decoder::flush`]. Nothing changes.
     Ended,
@@ -74,64 +81,8 @@ impl From<Error> for io::Error {
     fn from(error: Error) -> io::Error {
         match error {
             Error::OutOfMemory => io::ErrorKind::OutOfMemory.into(),
-            Error::Ended => io::Error::new(io::ErrorKind::InvalidInput, error),
+            Error::Ended => io::ErrorKind::InvalidInput.into(),
         }
-    }
-}
-
-/// What is wrong with a unit or a picture, by its number.
-#[derive(Clone, Copy, Debug, PartialEq, Eq, Hash)]
-pub struct Fault(u32);
-
-impl Fault {
-    /// The number, as 32.
-    #[must_use]
-    pub fn number(self) -> u32 {
-        self.0
-    }
-
-    /// The name, as `FrameNumGap`.
-    ///
-    /// ```
-    /// # let mut decoder = avcdec::Decoder::new(avcdec::Output::Full)?;
-    /// decoder.feed(&[0, 0, 1, 0xE7, 0x42])?;
-    /// decoder.flush()?;
-    /// match decoder.take()? {
-    ///     Some(avcdec::Event::Refused(refusal)) => assert_eq!(refusal.fault.name(), "ForbiddenBit"),
-    ///     other => panic!("{other:?}"),
-    /// }
-    /// # Ok::<(), avcdec::Error>(())
-    /// ```
-    #[must_use]
-    pub fn name(self) -> String {
-        let mut name = [0u8; c::NAME_SIZE];
-        // the name has room, and ends in a 0
-        unsafe { c::avcdec_fault_name(self.0, name.as_mut_ptr().cast(), name.len()) };
-        name.iter()
-            .take_while(|byte| **byte != 0)
-            .map(|byte| char::from(*byte))
-            .collect()
-    }
-}
-
-impl fmt::Display for Fault {
-    fn fmt(&self, f: &mut fmt::Formatter<'_>) -> fmt::Result {
-        write!(f, "{} {}", self.0, self.name())
-    }
-}
-
-/// A refusal of a picture or of a unit. Its printed text is that of the program.
-#[derive(Clone, Copy, Debug, PartialEq, Eq, Hash)]
-pub struct Refusal {
-    /// The NAL unit in which the fault stands, counted from 0 since the last reset.
-    pub unit: u64,
-    /// What is wrong.
-    pub fault: Fault,
-}
-
-impl fmt::Display for Refusal {
-    fn fmt(&self, f: &mut fmt::Formatter<'_>) -> fmt::Result {
-        write!(f, "refused unit {}: {}", self.unit, self.fault)
     }
 }
 
@@ -144,9 +95,40 @@ pub enum Event<'a> {
     Refused(Refusal),
 }
 
+impl Event<'_> {
+    /// The event with its picture in memory of its own.
+    pub fn keep(&self) -> Result<OwnedEvent, Error> {
+        Ok(match self {
+            Event::Picture(picture) => OwnedEvent::Picture(picture.keep()?),
+            Event::Refused(refusal) => OwnedEvent::Refused(*refusal),
+        })
+    }
+}
+
+/// An event whose picture has memory of its own.
+#[derive(Debug, PartialEq, Eq)]
+pub enum OwnedEvent {
+    /// A picture, in output order.
+    Picture(OwnedPicture),
+    /// A refusal of a picture or of a unit. Decoding goes on by itself.
+    Refused(Refusal),
+}
+
+/// What [`Decoder::take_into`] took.
+#[derive(Clone, Copy, Debug, PartialEq, Eq)]
+pub enum Taken {
+    /// A picture, which was copied.
+    Picture,
+    /// A refusal of a picture or of a unit. Decoding goes on by itself.
+    Refused(Refusal),
+}
+
 /// A decoder of one byte stream at a time.
+#[must_use]
 pub struct Decoder {
     handle: c::Decoder,
+    // a picture that was taken, and for whose copy there was no memory
+    waiting: Option<c::Event>,
 }
 
 // It may go to another thread: the library's state belongs to one decoder alone and is not bound to a thread. It asks for one call at a
@@ -158,7 +140,10 @@ impl Decoder {
     pub fn new(output: Output) -> Result<Decoder, Error> {
         let mut handle = c::Decoder::closed();
         told(unsafe { c::avcdec_open(&mut handle, output == Output::Early) })?;
-        Ok(Decoder { handle })
+        Ok(Decoder {
+            handle,
+            waiting: None,
+        })
     }
 
     /// Takes the next bytes of the stream. All pictures that they bring wait inside until they are taken, and a small piece can bring
@@ -228,6 +213,7 @@ impl Decoder {
 
     /// Forgets everything, want of memory too: a new stream begins. When pictures go out stays as it was.
     pub fn reset(&mut self) {
+        self.waiting = None;
         unsafe { c::avcdec_reset(&mut self.handle) };
     }
 
@@ -251,16 +237,61 @@ impl Decoder {
     /// # Ok::<(), avcdec::Error>(())
     /// ```
     pub fn take(&mut self) -> Result<Option<Event<'_>>, Error> {
+        let event = self.next_event()?;
+        Ok(self.event(&event))
+    }
+
+    /// Takes the next event as [`Decoder::take`] does, and copies its picture, whose memory is used again from one to the next. Where there
+    /// is no memory for the copy, `picture` is empty, and the next call takes the same event.
+    ///
+    /// ```
+    /// # let mut decoder = avcdec::Decoder::new(avcdec::Output::Full)?;
+    /// let mut picture = avcdec::OwnedPicture::new();
+    /// while let Some(taken) = decoder.take_into(&mut picture)? {
+    ///     if taken == avcdec::Taken::Picture {
+    ///         println!("{} bytes", picture.i420().len());
+    ///     }
+    /// }
+    /// # Ok::<(), avcdec::Error>(())
+    /// ```
+    pub fn take_into(&mut self, picture: &mut OwnedPicture) -> Result<Option<Taken>, Error> {
+        let event = self.next_event()?;
+        let copied = match self.event(&event) {
+            None => return Ok(None),
+            Some(Event::Refused(refusal)) => return Ok(Some(Taken::Refused(refusal))),
+            Some(Event::Picture(lent)) => lent.keep_in(picture),
+        };
+        if copied.is_err() {
+            self.waiting = Some(event);
+        }
+        copied.map(|()| Some(Taken::Picture))
+    }
+
+    // What the library tells next: a picture that waits, or what it takes.
+    fn next_event(&mut self) -> Result<c::Event, Error> {
+        if let Some(event) = self.waiting.take() {
+            return Ok(event);
+        }
         let mut event = c::Event::default();
         told(unsafe { c::avcdec_take(&mut self.handle, &mut event) })?;
-        Ok(match event.kind {
-            c::PICTURE => Some(Event::Picture(self.picture(&event))),
+        Ok(event)
+    }
+
+    // whether something was told
+    fn is_one(&self, event: &c::Event) -> bool {
+        event.kind != c::NOTHING
+    }
+
+    // what the library told last
+    fn event(&mut self, event: &c::Event) -> Option<Event<'_>> {
+        match event.kind {
+            c::PICTURE => Some(Event::Picture(self.picture(event))),
             c::REFUSED => Some(Event::Refused(Refusal {
                 unit: event.unit,
-                fault: Fault(event.fault),
+                fault: Fault::new(event.fault),
             })),
             _ => None,
-        })
+        }
     }
 
     // the picture that was taken last
@@ -290,41 +321,6 @@ impl fmt::Debug for Decoder {
     }
 }
 
-/// Decodes a whole stream, as a file or a pipe, and hands on each event as it comes. An error is one of reading, of `each`, or want of
-/// memory.
-///
-/// ```
-/// # let stream = std::io::Cursor::new([0u8, 0, 1, 0xE7, 0x42]);
-/// avcdec::decode(stream, avcdec::Output::Full, |event| {
-///     println!("{event:?}");
-///     Ok(())
-/// })?;
-/// # Ok::<(), std::io::Error>(())
-/// ```
-pub fn decode(
-    mut source: impl io::Read,
-    output: Output,
-    mut each: impl FnMut(Event<'_>) -> io::Result<()>,
-) -> io::Result<()> {
-    let mut decoder = Decoder::new(output)?;
-    let mut piece = Vec::new();
-    piece
-        .try_reserve_exact(PIECE)
-        .map_err(|_| Error::OutOfMemory)?;
-    piece.resize(PIECE, 0);
-    loop {
-        match source.read(&mut piece) {
-            Ok(0) => return decoder.finish(each),
-            Ok(length) => decoder.decode(&piece[..length], &mut each)?,
-            Err(error) if error.kind() == io::ErrorKind::Interrupted => {}
-            Err(error) => return Err(error),
-        }
-    }
-}
-
-// how many bytes are read at a time
-const PIECE: usize = 65_536;
-
 /// The version of the library: 65536 times its first number, 256 times its second, and its third.
 #[must_use]
 pub fn version() -> u32 {
@@ -339,3 +335,8 @@ fn told(status: u32) -> Result<(), Error> {
         other => unreachable!("status {other} of an open decoder"),
     }
 }
+
+// the README's programs are compiled as tests
+#[cfg(doctest)]
+#[doc = include_str!("../README.md")]
+struct Readme;

@@ -5,7 +5,7 @@ use std::slice;
 /// What is shown of a decoded picture: the crop window, at 4:2:0 with samples of eight bits.
 ///
 /// Its planes lie in the decoder's memory and are not copied: it borrows the decoder, until the next call. To keep it, copy it by
-/// [`Picture::to_i420`] or [`Picture::copy_i420`].
+/// [`Picture::keep`], [`Picture::to_i420`] or [`Picture::copy_i420`].
 #[derive(Clone, Copy, PartialEq, Eq)]
 pub struct Picture<'a> {
     coded: (usize, usize),
@@ -149,11 +149,87 @@ impl<'a> Picture<'a> {
     /// Luma, Cb and Cr, each row by row without gaps, in memory of their own.
     pub fn to_i420(&self) -> Result<Vec<u8>, Error> {
         let mut i420 = Vec::new();
-        i420.try_reserve_exact(self.i420_len())
+        self.add_i420(&mut i420)?;
+        Ok(i420)
+    }
+
+    /// The picture in memory of its own.
+    pub fn keep(&self) -> Result<OwnedPicture, Error> {
+        let mut to = OwnedPicture::new();
+        self.keep_in(&mut to)?;
+        Ok(to)
+    }
+
+    /// The same in memory that is there already and is used again; it grows where the picture is larger. Where it can't, `to` is empty.
+    pub fn keep_in(&self, to: &mut OwnedPicture) -> Result<(), Error> {
+        to.i420.clear();
+        (to.coded, to.shown) = ((0, 0), (0, 0));
+        self.add_i420(&mut to.i420)?;
+        (to.coded, to.shown) = (self.coded, (self.width(), self.height()));
+        Ok(())
+    }
+
+    // to no bytes
+    fn add_i420(&self, to: &mut Vec<u8>) -> Result<(), Error> {
+        to.try_reserve_exact(self.i420_len())
             .map_err(|_| Error::OutOfMemory)?;
         for row in self.planes.iter().flat_map(|plane| plane.rows()) {
-            i420.extend_from_slice(row);
+            to.extend_from_slice(row);
         }
-        Ok(i420)
+        Ok(())
+    }
+}
+
+/// What is shown of a decoded picture, in memory of its own: I420, without gaps. [`Picture::keep`], [`Picture::keep_in`] and
+/// [`Decoder::take_into`](crate::Decoder::take_into) fill it.
+#[derive(Default, PartialEq, Eq, Hash)]
+pub struct OwnedPicture {
+    coded: (usize, usize),
+    shown: (usize, usize),
+    i420: Vec<u8>,
+}
+
+impl OwnedPicture {
+    /// An empty one, of 0 by 0 samples, which takes no memory.
+    #[must_use]
+    pub const fn new() -> OwnedPicture {
+        OwnedPicture {
+            coded: (0, 0),
+            shown: (0, 0),
+            i420: Vec::new(),
+        }
+    }
+
+    /// The picture with its planes.
+    #[must_use]
+    pub fn picture(&self) -> Picture<'_> {
+        let (width, height) = self.shown;
+        let (luma, chroma) = self.i420.split_at(width * height);
+        let (cb, cr) = chroma.split_at(chroma.len() / 2);
+        let plane = |samples, parts| Plane {
+            samples,
+            stride: width / parts,
+            width: width / parts,
+            height: height / parts,
+        };
+        Picture::new(self.coded, [plane(luma, 1), plane(cb, 2), plane(cr, 2)])
+    }
+
+    /// Luma, Cb and Cr, each row by row without gaps.
+    #[must_use]
+    pub fn i420(&self) -> &[u8] {
+        &self.i420
+    }
+
+    /// The same, given away.
+    #[must_use]
+    pub fn into_i420(self) -> Vec<u8> {
+        self.i420
+    }
+}
+
+impl fmt::Debug for OwnedPicture {
+    fn fmt(&self, f: &mut fmt::Formatter<'_>) -> fmt::Result {
+        write!(f, "OwnedPicture({}x{})", self.shown.0, self.shown.1)
     }
 }

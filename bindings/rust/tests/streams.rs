@@ -1,7 +1,8 @@
-//! Streams with what must come out. AVCDEC_VECTORS is the folder of streams, else that of the repository.
+//! Streams with what must come out: those of tests/cases, or of the folder `cases` of AVCDEC_VECTORS.
 
-use avcdec::{Decoder, Error, Event, Output, Refusal};
+use avcdec::{Decoder, Error, Event, Output, OwnedEvent, OwnedPicture, Refusal, Taken};
 use std::fs;
+use std::io::{self, Read};
 use std::path::{Path, PathBuf};
 
 // what a decoder hands out: how many pictures, all samples, and the refusals as lines
@@ -54,8 +55,37 @@ fn decode_by_units(bytes: &[u8]) -> Given {
     given
 }
 
+// by the iterator
+fn decode_by_events(bytes: &[u8]) -> Given {
+    let mut given = Given::default();
+    for event in avcdec::events(bytes, Output::Full).unwrap() {
+        match event.unwrap() {
+            OwnedEvent::Picture(picture) => given.add(Event::Picture(picture.picture())),
+            OwnedEvent::Refused(refusal) => given.add(Event::Refused(refusal)),
+        }
+    }
+    given
+}
+
+// into one picture's memory
+fn decode_into(bytes: &[u8]) -> Given {
+    let mut decoder = Decoder::new(Output::Full).unwrap();
+    decoder.feed(bytes).unwrap();
+    decoder.flush().unwrap();
+    let mut given = Given::default();
+    let mut picture = OwnedPicture::new();
+    while let Some(taken) = decoder.take_into(&mut picture).unwrap() {
+        match taken {
+            Taken::Picture => given.add(Event::Picture(picture.picture())),
+            Taken::Refused(refusal) => given.add(Event::Refused(refusal)),
+        }
+    }
+    given
+}
+
 fn streams() -> Vec<PathBuf> {
-    let vectors = std::env::var("AVCDEC_VECTORS").unwrap_or_else(|_| "../../vectors".into());
+    let vectors = std::env::var("AVCDEC_VECTORS")
+        .unwrap_or_else(|_| concat!(env!("CARGO_MANIFEST_DIR"), "/tests").into());
     let folder = Path::new(&vectors).join("cases");
     let mut streams: Vec<PathBuf> = fs::read_dir(folder)
         .unwrap()
@@ -80,6 +110,8 @@ fn refusals_are_those_expected_however_the_stream_is_cut() {
         assert_eq!(whole.refusals, expected, "{path:?}");
         assert_eq!(decode(&bytes, 7), whole, "{path:?}");
         assert_eq!(decode_by_units(&bytes), whole, "{path:?}");
+        assert_eq!(decode_by_events(&bytes), whole, "{path:?}");
+        assert_eq!(decode_into(&bytes), whole, "{path:?}");
     }
 }
 
@@ -107,6 +139,9 @@ fn a_cropped_picture_has_its_planes() {
     picture.copy_i420(&mut copied);
     assert_eq!((copied, picture.i420_len()), ([128; 150], 150));
     assert!(picture.luma().rows().all(|row| row == [128; 10]));
+    let kept = picture.keep().unwrap();
+    assert_eq!((kept.picture(), kept.i420()), (picture, &[128; 150][..]));
+    assert_eq!(kept.into_i420(), [128; 150]);
     assert_eq!(
         picture
             .planes()
@@ -128,9 +163,10 @@ fn a_refusal_names_unit_and_fault() {
     let Ok(Some(Event::Refused(Refusal { unit, fault }))) = decoder.take() else {
         panic!("no refusal");
     };
+    assert_eq!((unit, fault.number(), &*fault.name()), (0, 10, "Profile"));
     assert_eq!(
-        (unit, fault.number(), fault.name().as_str()),
-        (0, 10, "Profile")
+        format!("{fault}, {:>8}", fault.name()),
+        "10 Profile,  Profile"
     );
 }
 
@@ -168,4 +204,35 @@ fn a_decoder_goes_from_thread_to_thread() {
     decoder.flush().unwrap();
     given.take_all(&mut decoder);
     assert_eq!(given, decode_by_units(&bytes));
+}
+
+// gives some bytes, and fails then
+struct Failing<'a>(&'a [u8]);
+
+impl Read for Failing<'_> {
+    fn read(&mut self, to: &mut [u8]) -> io::Result<usize> {
+        match self.0.read(to)? {
+            0 => Err(io::ErrorKind::ConnectionReset.into()),
+            length => Ok(length),
+        }
+    }
+}
+
+#[test]
+fn a_fault_of_reading_is_the_last_event() {
+    // a picture, which goes out at the next IDR picture, and a refusal
+    let stream = [
+        0u8, 0, 0, 1, 0x67, 0x42, 0xC0, 0x0A, 0xDA, 0x71, 0, 0, 0, 1, 0x68, 0xCE, 0x38, 0x80, 0, 0,
+        1, 0x65, 0x88, 0x84, 0x93, 0xC0, 0, 0, 1, 0xE7, 0x42, 0, 0, 1,
+    ];
+    let mut events = avcdec::events(Failing(&stream), Output::Full).unwrap();
+    let Some(Ok(OwnedEvent::Refused(refusal))) = events.next() else {
+        panic!("no refusal");
+    };
+    assert_eq!(refusal.to_string(), "refused unit 3: 4 ForbiddenBit");
+    let Some(Err(error)) = events.next() else {
+        panic!("no fault");
+    };
+    assert_eq!(error.kind(), io::ErrorKind::ConnectionReset);
+    assert!(events.next().is_none() && events.next().is_none());
 }
