@@ -19,6 +19,7 @@ has() {
 }
 has crates/avc_request/src/grammar.rt "        .version(\"$version\")"
 has bindings/python/pyproject.toml "version = \"$version\""
+has bindings/python/avcdec/__init__.py "__version__ = \"$version\""
 has bindings/rust/Cargo.toml "version = \"$version\""
 has bindings/gstreamer/gstavcdec.c "#define VERSION \"$version\""
 has CHANGELOG.md "## $version, not released yet"

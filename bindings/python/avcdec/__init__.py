@@ -10,8 +10,8 @@
 A picture has memory of its own, one copy of what is shown. With `lend=True` it is not copied: its planes are views of the rows in the
 decoder's memory, until the next event. Then they are released, and `Picture.copy` keeps one.
 
-It stands on the shared library libavcdec, which scripts/install.sh installs: the file that AVCDEC_LIBRARY names, or where the system
-finds it. It needs nothing else; where numpy is installed, a Plane gives an array.
+It stands on the shared library libavcdec: the file that AVCDEC_LIBRARY names, else the one that `pip install` has put beside this file,
+else where the system finds it. It needs nothing else; where numpy is installed, a Plane gives an array.
 """
 
 from __future__ import annotations
@@ -29,10 +29,11 @@ if TYPE_CHECKING:
     import numpy.typing
 
 __all__ = [
-    "Decoder", "Ended", "Error", "Event", "OutOfMemory", "Picture", "Plane", "Refusal", "decode", "version",
+    "Closed", "Decoder", "Ended", "Error", "Event", "OutOfMemory", "Picture", "Plane", "Refusal", "decode", "version",
 ]
 
-_OK, _OUT_OF_MEMORY, _ENDED = 0, 1, 2
+__version__ = "0.1.0"
+
 _PICTURE, _REFUSED = 1, 2
 _NAME_SIZE = 32
 # the most bytes that `decode` reads at a time
@@ -67,9 +68,18 @@ class _Rows(ctypes.Structure):
     ]
 
 
+def _open_library() -> ctypes.CDLL:
+    beside = os.path.join(os.path.dirname(os.path.abspath(__file__)), "libavcdec.so.0")
+    name = os.environ.get("AVCDEC_LIBRARY") or (os.path.exists(beside) and beside) or ctypes.util.find_library("avcdec") or "libavcdec.so.0"
+    try:
+        return ctypes.CDLL(name)
+    except OSError as error:
+        text = f"{error}. `pip install bindings/python` brings the library, and AVCDEC_LIBRARY names another: PREFIX/lib/libavcdec.so"
+        raise ImportError(text) from None
+
+
 def _load() -> ctypes.CDLL:
-    name = os.environ.get("AVCDEC_LIBRARY") or ctypes.util.find_library("avcdec") or "libavcdec.so.0"
-    library = ctypes.CDLL(name)
+    library = _open_library()
     handle, status = ctypes.POINTER(_Handle), ctypes.c_uint32
     for function, result, arguments in [
         ("avcdec_open", status, [handle, ctypes.c_bool]),
@@ -103,6 +113,23 @@ class OutOfMemory(Error, MemoryError):
 
 class Ended(Error):
     """The stream has been ended by `Decoder.flush`. Nothing changes."""
+
+
+class Closed(Error):
+    """The decoder has been closed. Nothing changes."""
+
+
+# what a call answers, but for 0, and its text; those that no call of this package gets have no name of their own
+_STATUSES: list[tuple[type[Error], str]] = [
+    (OutOfMemory, "out of memory"),
+    (Ended, "the stream has ended"),
+    (Closed, "the decoder is closed"),
+    (Error, "the decoder is open already"),
+    (Error, "no picture was taken last"),
+    (Error, "too little room"),
+    (Error, "no such plane"),
+    (Error, "no such fault"),
+]
 
 
 @dataclass(frozen=True)
@@ -316,7 +343,7 @@ class Decoder:
         return int(_library.avcdec_turns(self._handle))
 
     def close(self) -> None:
-        """Frees what the decoder holds. A closed one answers each call by an Error."""
+        """Frees what the decoder holds. A closed one answers each call by `Closed`."""
         self._take_back()
         _library.avcdec_close(self._handle)
 
@@ -362,8 +389,8 @@ Source = Union["os.PathLike[str]", str, BinaryIO, Data, Iterable[bytes]]
 
 
 def decode(source: Source, early: bool = False, lend: bool = False) -> Iterator[Event]:
-    """The events of a whole stream: of a file or its path, of bytes, or of pieces of bytes. With `lend` a picture is not copied: it is there until the
-    next event, as `Decoder.take` says."""
+    """The events of a whole stream: of a file or its path (a text or a `pathlib.Path`), of bytes, or of pieces of bytes. With `lend` a picture
+    is not copied: it is there until the next event, as `Decoder.take` says."""
     with Decoder(early) as decoder:
         for piece in _pieces(source):
             yield from decoder.decode(piece, lend)
@@ -378,13 +405,15 @@ def version() -> tuple[int, int, int]:
 
 
 def _pieces(source: Source) -> Iterator[Data]:
+    read = getattr(source, "read", None)
     if isinstance(source, (str, os.PathLike)):
         with open(source, "rb") as file:
             yield from _pieces(file)
     elif isinstance(source, (bytes, bytearray, memoryview)):
         yield source
-    elif hasattr(source, "read"):
-        yield from iter(lambda: source.read(_PIECE), b"")
+    elif read is not None:
+        while piece := read(_PIECE):
+            yield piece
     else:
         yield from source
 
@@ -408,9 +437,6 @@ def _address(data: bytes) -> int:
 
 
 def _tell(status: int) -> None:
-    if status == _OUT_OF_MEMORY:
-        raise OutOfMemory("out of memory")
-    if status == _ENDED:
-        raise Ended("the stream has ended")
-    if status != _OK:
-        raise Error(f"status {status}")
+    if status:
+        kind, text = _STATUSES[status - 1]
+        raise kind(text)

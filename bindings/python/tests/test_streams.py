@@ -6,6 +6,7 @@ import io
 import os
 import pathlib
 import random
+import tracemalloc
 import unittest
 
 import avcdec
@@ -165,8 +166,9 @@ class Calls(unittest.TestCase):
             decoder.reset()
             self.assertEqual(decoder.turns, 0)
             decoder.feed(b"")
-        with self.assertRaises(avcdec.Error):
-            decoder.feed(b"")
+        for call in [lambda: decoder.feed(b""), lambda: decoder.feed_unit(b""), decoder.take, decoder.flush, decoder.reset]:
+            with self.assertRaisesRegex(avcdec.Closed, "^the decoder is closed$"):
+                call()
 
     def test_a_picture_waits_until_its_place_is_wanted(self) -> None:
         one_frame_held = bytes.fromhex("000000016742C00ADA7201FD40 0000000168CE3880 00000165888493C0")
@@ -204,8 +206,27 @@ class Calls(unittest.TestCase):
                     told = "22 MissingMacroblocks" if count == 25 else "1 Truncated"
                     self.assertEqual([str(event) for event in events], [f"refused unit 2: {told}"])
 
+    def test_a_picture_is_shown_short(self) -> None:
+        (picture,) = avcdec.decode(GREY)
+        self.assertEqual((repr(picture), repr(picture.cb)), ("Picture(16x16)", "Plane(8x8)"))
+
+    def test_a_picture_is_copied_once(self) -> None:
+        large = VECTORS / "large" / "pub_l_16000x64.264"
+        with avcdec.Decoder() as decoder:
+            decoder.feed(large.read_bytes())
+            decoder.flush()
+            size = 16000 * 64 * 3 // 2
+            for lend, most in [(False, size + 20_000), (True, 20_000)]:
+                tracemalloc.start()
+                picture = decoder.take(lend)
+                self.assertLess(tracemalloc.get_traced_memory()[1], most)
+                tracemalloc.stop()
+                self.assertEqual((picture.width, picture.height), (16000, 64))
+            self.assertEqual(picture.copy().i420, picture.i420)
+
     def test_the_version_is_that_of_the_header(self) -> None:
         self.assertEqual(avcdec.version(), (0, 1, 0))
+        self.assertEqual(avcdec.__version__, "0.1.0")
 
 
 if __name__ == "__main__":
