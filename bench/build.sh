@@ -6,7 +6,8 @@ top=$(cd "$(dirname "$0")/.." && pwd)
 copy=$(mktemp -d)
 trap 'rm -rf "$copy"' EXIT
 if [ $# = 0 ]; then
-    set -- $(cd "$top/bench" && ls -d */ | tr -d /)
+    # shellcheck disable=SC2046
+    set -- $(cd "$top/bench" && ls -d */uses | cut -d / -f 1)
 fi
 cp -a "$top/crates" "$top/crates.txt" "$copy"
 passed=0

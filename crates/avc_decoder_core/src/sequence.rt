@@ -1,4 +1,5 @@
-ghost use Rattle.std.specs.Prelude.{◌≡◌, true, false, IfOk, IfErr, OnErr, None, Some, is_some};
+ghost use Rattle.std.specs.Prelude.{◌≡◌, true, false, IfOk, IfErr, OnErr, Err, None, Some, is_some};
+ghost use Rattle.avc_types.specs.declared.picture_error.PictureError.TheVariants.{OutOfMemory as NoMemory};
 ghost use Rattle.avc_decoder_core.specs.History.{history_after_closing, history_at_opening};
 ghost use Rattle.avc_decoder_core.specs.Opening.{set_with, Finds};
 ghost use Rattle.avc_decoder_core.specs.SequenceState.{empty_sequence, current_history, Fails, AreFramesIn};
@@ -126,7 +127,7 @@ impl Sequence {
     }
 
     /// Closes the open picture, whose samples are these: marks it, and lets pictures go out. Answers these. With an IDR picture the
-    /// history begins anew.
+    /// history begins anew. After want of memory it answers so, whether a picture is open or not, and nothing changes.
     pub fn close(
         &mut self,
         planes: SharedPlanes<PADDING>,
@@ -138,6 +139,8 @@ impl Sequence {
         ensures err { IfErr result (λ error.
             (o : OpenPictureStart) → self.old.open_picture ≡ Some o →
             Fails self.old (history_after_closing o.sps o.header planes (current_history self.old)) error self.new) }
+        ensures memory { self.old.failed ≡ true → result ≡ Err NoMemory }
+        ensures stays { self.old.failed ≡ true → self.new ≡ self.old }
     {
         if self.failed {
             return Err(PictureError::OutOfMemory);

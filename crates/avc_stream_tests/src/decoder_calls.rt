@@ -29,7 +29,7 @@ const FIRST: &[u8] = &[0, 0, 1, 0x65, 0x88, 0x84, 0x86, 0x80];
 const GREY: &[u8] = &[0x80; 385];
 
 // An access unit delimiter, and the next start code, by which its end is seen.
-const DELIMITER: &[u8] = &[0, 0, 1, 9, 0x10, 0, 0, 1];
+const DELIMITER: &[u8] = &[0, 0, 1, 9, 0, 0, 1];
 
 fn joined(alloc: Global, parts: &[&[u8]]) -> Result<Vec<u8>, AllocError> {
     let mut bytes = Vec::new(alloc);
