@@ -1,7 +1,8 @@
 #!/bin/sh
 # Sees that the documents that scripts make are up to date; proves every crate from nothing, tries the edits that must fail, and runs the
 # tests; then decodes the streams of vectors/ with the built program, refuses each growth of memory once, and tests the library with its
-# bindings and the GStreamer element, where their tools are there. Each part that counts ends in a line 'N passed, 0 failed'.
+# bindings, for ARM64 too, the GStreamer element and the module for pages, where their tools are there. Each part that counts ends in a line
+# 'N passed, 0 failed'.
 set -eu
 cd "$(dirname "$0")"
 scripts/documents.sh check
@@ -10,3 +11,4 @@ vectors/run.sh
 vectors/growths.sh
 scripts/test-library.sh
 bindings/gstreamer/test.sh --short
+bindings/web/test.sh

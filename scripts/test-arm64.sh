@@ -1,15 +1,16 @@
 #!/bin/sh
 # Tests the library for ARM64 as its callers have it: examples/c/decode.c, built by the cross compiler, decodes all streams under
 # qemu-aarch64, plain and early; the shared library and the package for arm64 are looked at. The last line is 'library, ARM64: N passed, 0 failed', or
-# says that it was left out and why. Debian's packages: qemu-user gcc-aarch64-linux-gnu libc6-dev-arm64-cross. CROSS_CC and CROSS_AR
-# name another cross compiler, SYSROOT its C library.
+# says that it was left out and why. Debian's packages: qemu-user gcc-aarch64-linux-gnu libc6-dev-arm64-cross. CROSS_CC, CROSS_AR
+# and CROSS_OBJCOPY name another cross compiler, SYSROOT its C library.
 set -u
 top=$(cd "$(dirname "$0")/.." && pwd)
 cc=${CROSS_CC:-aarch64-linux-gnu-gcc}
 ar=${CROSS_AR:-aarch64-linux-gnu-ar}
+objcopy=${CROSS_OBJCOPY:-aarch64-linux-gnu-objcopy}
 sysroot=${SYSROOT:-/usr/aarch64-linux-gnu}
 vectors=$top/vectors
-for tool in "$cc" "$ar" qemu-aarch64; do
+for tool in "$cc" "$ar" "$objcopy" qemu-aarch64; do
     if ! command -v "$tool" >/dev/null 2>&1; then
         echo "library, ARM64: left out: there is no $tool"
         exit 0
@@ -33,7 +34,14 @@ holds() {
     fi
 }
 
-TARGET=aarch64-unknown-linux-gnu CC=$cc AR=$ar "$top/scripts/install.sh" "$work/usr" || exit 1
+# ends where nothing more can be tried
+stop() {
+    echo "failed: ARM64: $1"
+    echo "library, ARM64: $passed passed, $((failed + 1)) failed"
+    exit 1
+}
+
+TARGET=aarch64-unknown-linux-gnu CC=$cc AR=$ar OBJCOPY=$objcopy "$top/scripts/install.sh" "$work/usr" || stop 'the library is not built'
 library=$work/usr/lib/libavcdec.a
 
 run() {
@@ -55,7 +63,8 @@ is_decoded() {
     [ $? = $status ] && cmp -s "$text" "$work/told" && [ "$(md5sum <"$work/out" | cut -d ' ' -f 1)" = "$(cut -d ' ' -f 1 <"$md5")" ]
 }
 
-"$cc" -std=c99 -O2 -Wall -Wextra -Wpedantic -Werror -I"$work/usr/include" "$top/examples/c/decode.c" -o "$work/decode" "$library" || exit 1
+"$cc" -std=c99 -O2 -Wall -Wextra -Wpedantic -Werror -I"$work/usr/include" "$top/examples/c/decode.c" -o "$work/decode" "$library" ||
+    stop 'examples/c/decode.c is not compiled'
 for md5 in "$vectors"/*/*.md5; do
     base=${md5%.md5}
     [ -e "$base.264" ] || continue
@@ -78,7 +87,7 @@ by_shared_library() {
 }
 
 is_packaged() {
-    TARGET=aarch64-unknown-linux-gnu CC=$cc AR=$ar "$top/scripts/package.sh" "$work/avcdec.deb" &&
+    TARGET=aarch64-unknown-linux-gnu CC=$cc AR=$ar OBJCOPY=$objcopy "$top/scripts/package.sh" "$work/avcdec.deb" &&
         [ "$(dpkg-deb --field "$work/avcdec.deb" Architecture)" = arm64 ] &&
         dpkg-deb --contents "$work/avcdec.deb" | grep -q './usr/lib/libavcdec.a' && ! dpkg-deb --contents "$work/avcdec.deb" | grep -q './usr/bin'
 }

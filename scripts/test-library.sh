@@ -299,4 +299,5 @@ if [ -n "$python" ]; then
 else
     left_out 'bindings/python' 'there is no python3'
 fi
+"$top/scripts/test-arm64.sh" || all_well=false
 "$all_well"

@@ -38,5 +38,7 @@ export interface SequenceInfo {
     rate: number | undefined;
     aspect: [number, number];
     colorSpace: VideoColorSpaceInit | undefined;
+    /** chroma_sample_loc_type_top_field; 0 where it is not told. */
+    chromaLocation: number;
 }
 export function sequenceInfo(unit: Uint8Array): SequenceInfo;

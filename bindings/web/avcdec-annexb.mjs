@@ -164,12 +164,12 @@ const PRIMARIES = { 1: 'bt709', 5: 'bt470bg', 6: 'smpte170m', 9: 'bt2020' };
 const TRANSFERS = { 1: 'bt709', 6: 'smpte170m', 13: 'iec61966-2-1' };
 
 /** What a sequence parameter set (7.3.2.1.1, of profiles 66, 77 and 88) and its VUI (E.1.1) tell of profile, level, rate (pictures a second; undefined
- * where it is not told), the sample aspect ratio, and the colour space as WebCodecs has it. */
+ * where it is not told), the sample aspect ratio, the colour space as WebCodecs has it, and chroma_sample_loc_type (Figure E-1; 0 where it is not told). */
 export function sequenceInfo(unit) {
     const bits = new Bits(unit, 1);
     const profile = bits.u(8);
     bits.skip(8);
-    const info = { profile, level: bits.u(8), rate: undefined, aspect: [1, 1], colorSpace: undefined };
+    const info = { profile, level: bits.u(8), rate: undefined, aspect: [1, 1], colorSpace: undefined, chromaLocation: 0 };
     bits.ue(); // seq_parameter_set_id
     if (![66, 77, 88].includes(profile)) return info;
     bits.ue(); // log2_max_frame_num_minus4
@@ -197,7 +197,7 @@ export function sequenceInfo(unit) {
         const [primaries, transfer, matrix] = bits.u(1) ? [bits.u(8), bits.u(8), bits.u(8)] : [2, 2, 2];
         info.colorSpace = { primaries: PRIMARIES[primaries] ?? null, transfer: TRANSFERS[transfer] ?? null, matrix: MATRICES[matrix] ?? null, fullRange };
     }
-    if (bits.u(1)) bits.ue(), bits.ue(); // chroma location
+    if (bits.u(1)) info.chromaLocation = bits.ue(), bits.ue(); // of the top field, which is that of a frame, and of the bottom field
     if (bits.u(1)) {
         const tick = bits.u(32), scale = bits.u(32), rate = scale / (2 * tick);
         if (rate > 0 && rate <= 1000) info.rate = rate;

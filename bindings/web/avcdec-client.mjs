@@ -1,5 +1,5 @@
 // avcdec-client.mjs: WorkerDecoder, a decoder in a worker of its own, so that the thread of a page stays free.
-import { DecoderError, OutOfMemory } from './avcdec.mjs';
+import { DecoderError, frameOf, OutOfMemory } from './avcdec.mjs';
 
 /** A picture with samples of its own, as I420 without gaps: luma, Cb, Cr. */
 export class OwnPicture {
@@ -22,7 +22,7 @@ export class OwnPicture {
 
     /** A VideoFrame that takes the samples over: the picture has none afterwards. */
     frame(init) {
-        return new VideoFrame(this.samples, { ...init, format: 'I420', codedWidth: this.width, codedHeight: this.height, transfer: [this.samples.buffer] });
+        return frameOf(this.samples, this, init);
     }
 }
 

@@ -218,6 +218,12 @@ export class Refusal {
     }
 }
 
+/** A VideoFrame that takes over samples as I420 without gaps. Of rows that lie apart, as in the module's memory, it would want the last one whole
+ * too, up to where the next would begin. */
+export function frameOf(samples, { width, height }, init) {
+    return new VideoFrame(samples, { ...init, format: 'I420', codedWidth: width, codedHeight: height, transfer: [samples.buffer] });
+}
+
 /** A picture, in output order. Its samples are there until the next event is taken, or the decoder is reset or closed; copies stay. */
 export class Picture {
     #decoder; // so that it isn't collected before its picture
@@ -263,12 +269,7 @@ export class Picture {
 
     /** A VideoFrame of its own. `init`: timestamp, in microseconds, and what else a VideoFrame of samples takes. */
     frame(init) {
-        const places = this.#places(), ends = places.map(it => it.at + it.stride * (it.rows - 1) + it.columns);
-        const from = Math.min(...places.map(it => it.at));
-        return new VideoFrame(this.#handle.library.bytes(from, Math.max(...ends) - from), {
-            ...init, format: 'I420', codedWidth: this.width, codedHeight: this.height,
-            layout: places.map(it => ({ offset: it.at - from, stride: it.stride })),
-        });
+        return frameOf(this.copy(), this, init);
     }
 }
 

@@ -81,7 +81,7 @@ async function load(bytes, name, picture = 0) {
         at('refusals').parentElement.classList.remove('warns');
         const stream = new Stream(bytes, name);
         at('refused').replaceChildren(Object.assign(document.createElement('li'), { className: 'none', textContent: 'None.' }));
-        screen.color(stream.info.colorSpace);
+        screen.color(stream.info.colorSpace, stream.info.chromaLocation);
         at('place').max = stream.units.length - 1;
         at('keys').replaceChildren(...(stream.keys.length > 400 ? [] : stream.keys).map(key => {
             const tick = document.createElement('i');

@@ -11,11 +11,11 @@ precision highp float;
 uniform sampler2D luma, cb, cr;
 uniform mat3 matrix;
 uniform vec3 black;
+uniform vec2 site;
 in vec2 at;
 out vec4 color;
 void main() {
-    // a chroma sample stands over every other luma sample and between two rows (chroma_sample_loc_type 0)
-    vec2 place = at + vec2(0.25 / float(textureSize(cb, 0).x), 0.0);
+    vec2 place = at + site / vec2(textureSize(cb, 0));
     color = vec4(matrix * (vec3(texture(luma, at).r, texture(cb, place).r, texture(cr, place).r) - black), 1.0);
 }`;
 
@@ -31,6 +31,12 @@ export function conversion({ matrix, fullRange = false } = {}) {
         matrix: [luma, luma, luma, 0, -forBlue * blue / green, forBlue, forRed, -forRed * red / green, 0],
         black: [fullRange ? 0 : 16 / 255, 128 / 255, 128 / 255],
     };
+}
+
+/** What is added to the place of a luma sample, in chroma samples, to read the chroma there, by chroma_sample_loc_type (Figure E-1): chroma stands
+ * to the left or amid, between the two rows, on the upper or on the lower. */
+export function siteOf(location) {
+    return [[0.25, 0], [0, 0], [0.25, 0.25], [0, 0.25], [0.25, -0.25], [0, -0.25]][location] ?? [0.25, 0];
 }
 
 export class Screen {
@@ -61,9 +67,10 @@ export class Screen {
         this.color();
     }
 
-    /** The colour space of what is drawn, as WebCodecs names it. */
-    color(space) {
+    /** The colour space of what is drawn, as WebCodecs names it, and its chroma_sample_loc_type. */
+    color(space, location) {
         const { gl } = this, { matrix, black } = conversion(space);
+        gl.uniform2fv(gl.getUniformLocation(this.#program, 'site'), siteOf(location));
         gl.uniformMatrix3fv(gl.getUniformLocation(this.#program, 'matrix'), false, matrix);
         gl.uniform3fv(gl.getUniformLocation(this.#program, 'black'), black);
     }

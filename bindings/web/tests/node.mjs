@@ -1,7 +1,7 @@
 // node [--expose-gc] node.mjs MODULE [streams|calls]: the module and its wrapper in Node. The last line is 'N passed, M failed'.
 import { readFileSync } from 'node:fs';
 import { Decoder, DecoderError, load, OutOfMemory } from '../avcdec.mjs';
-import { accessUnits, Avcc, ParameterSets, sequenceInfo, unitsOf } from '../avcdec-annexb.mjs';
+import { accessUnits, Avcc, ParameterSets, sequenceInfo, SPS, unitsOf } from '../avcdec-annexb.mjs';
 import { WorkerDecoder } from '../avcdec-client.mjs';
 import { AvcVideoDecoder } from '../avcdec-video.mjs';
 import { avccOf } from './avcc.mjs';
@@ -46,7 +46,7 @@ async function allStreams() {
     console.log(`${list.length} streams, ${got.pictures} pictures, memory ${library.memory} bytes`);
 }
 
-// what Node lacks of WebCodecs
+// what Node lacks of WebCodecs, as strict as that
 class Chunk {
     constructor(init) {
         Object.assign(this, init);
@@ -63,7 +63,9 @@ class Frame {
         Object.assign(this, init);
         const { codedWidth: width, codedHeight: height } = init;
         const layout = init.layout ?? [{ offset: 0, stride: width }, { offset: width * height, stride: width / 2 }, { offset: width * height * 5 / 4, stride: width / 2 }];
-        const md5 = new Md5();
+        const md5 = new Md5(), spans = layout.map(({ offset, stride }, i) => [offset, offset + stride * (i ? height / 2 : height)]);
+        if (spans.some(([, end]) => end > samples.length)) throw new TypeError('VideoFrame: data is not large enough');
+        if (spans.some(([from, end], i) => spans.slice(0, i).some(other => from < other[1] && other[0] < end))) throw new TypeError('VideoFrame: planes overlap');
         layout.forEach(({ offset, stride }, i) => {
             for (let y = 0; y < (i ? height / 2 : height); y++) md5.update(samples.subarray(offset + y * stride, offset + y * stride + (i ? width / 2 : width)));
         });
@@ -273,6 +275,12 @@ async function calls() {
         same(sets.note(units[0].bytes), { coded: true, idr: true });
         const { profile, rate } = sequenceInfo(sets.sequence);
         same([profile, rate > 0 && rate < 200], [66, true]);
+    });
+    // as ffprobe tells them
+    for (const [name, matrix, fullRange, location] of [['speed/cif', undefined, undefined, 0], ['speed/call', undefined, undefined, 1], ['encoder/pub_x_hrd_vui', 'bt709', true, 2],
+        ['encoder/pub_o_crop_150x90', 'bt709', false, 0], ['encoder/pub_f_aud_fullrange', null, true, 0]]) await test(`${name}: how it is shown`, () => {
+        const stream = bytesOf(name), { from, to } = [...unitsOf(stream)].find(it => it.type === SPS), { colorSpace, chromaLocation } = sequenceInfo(stream.subarray(from, to));
+        same([colorSpace?.matrix, colorSpace?.fullRange, chromaLocation], [matrix, fullRange, location]);
     });
     await test('avcC that ends early is a TypeError', async () => {
         for (const size of [0, 6, 8, 12]) await throws(() => new Avcc(avccOf(accessUnits(bytes)).record.subarray(0, size)), TypeError, 'avcdec');

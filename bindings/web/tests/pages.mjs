@@ -10,6 +10,10 @@ import { bytesOf, streams, top, vectors } from './streams.mjs';
 const [, , file, part = 'calls', folder] = process.argv;
 const ALIKE = ['encoder/pub_x_aud', 'encoder/pub_x_keyint3', 'encoder/pub_x_crop_18x34', 'encoder/pub_x_allintra', 'speed/cif', 'speed/call',
     'encoder/pub_o_idr_listing', 'speed/720p', 'speed/1080i', 'speed/still'];
+const LEAST_QUALITY = 60; // dB; chroma half a sample away gives at most 54
+// pictures with their width and height: chroma left, centred, and at the top left; BT.601 and 709, limited and full range; cropped
+const DRAWN = [['speed/cif', 17, 352, 288], ['speed/call', 30, 640, 360], ['encoder/pub_x_hrd_vui', 2, 96, 80], ['encoder/pub_o_crop_150x90', 3, 150, 90],
+    ['encoder/pub_f_aud_fullrange', 2, 128, 96]];
 let passed = 0, failed = 0, allWell = true;
 
 async function test(name, body) {
@@ -43,11 +47,19 @@ function psnr(a, b) {
 
 /** RGB of a picture of a stream, or of a PNG, by ffmpeg. */
 function rgb(...words) {
-    return execFileSync('ffmpeg', ['-v', 'error', ...words, '-frames:v', '1', '-f', 'rawvideo', '-pix_fmt', 'rgb24', '-'], { maxBuffer: 2 ** 28 });
+    return execFileSync('ffmpeg', ['-v', 'error', ...words, '-fps_mode', 'passthrough', '-frames:v', '1', '-f', 'rawvideo', '-pix_fmt', 'rgb24', '-'], { maxBuffer: 2 ** 28 });
+}
+
+/** Where chroma stands by ffprobe, as ffmpeg's scaler takes it: in 1/256 of a luma sample from the first one. Left alone the scaler takes the centre; and
+ * where it writes RGB together and not by planes, it takes a chroma row or the mean of two, and not the weights between. */
+function chromaPlace(file) {
+    const told = execFileSync('ffprobe', ['-v', 'error', '-select_streams', 'v', '-show_entries', 'stream=chroma_location', '-of', 'csv=p=0', file], { encoding: 'utf8' }).trim();
+    const [across, down] = { left: [0, 128], center: [128, 128], topleft: [0, 0], top: [128, 0], bottomleft: [0, 256], bottom: [128, 256] }[told];
+    return `in_h_chr_pos=${across}:in_v_chr_pos=${down}`;
 }
 
 async function demo(browser, address) {
-    for (const [name, number, width, height] of [['speed/cif', 17, 352, 288], ['speed/call', 30, 640, 360]]) {
+    for (const [name, number, width, height] of DRAWN) {
         await test(`the demo at picture ${number} of ${name}`, async () => {
             const page = await browser.page(`${address}/bindings/web/demo/?module=/module.wasm&stream=/vectors/${name}.264&picture=${number}&size=actual`, 1280, 800);
             await page.until(`document.body.dataset.picture === '${number}' || document.body.dataset.fault`, 120);
@@ -61,13 +73,13 @@ async function demo(browser, address) {
                 writeFileSync(`${folder}/demo-${name.split('/')[1]}.png`, await page.screenshot());
             }
             const ours = rgb('-i', `${work}/shot.png`);
-            const theirs = rgb('-flags', 'unaligned', '-i', `${vectors}/${name}.264`, '-vf', `select=eq(n\\,${number}),scale=flags=bilinear+accurate_rnd+full_chroma_int`);
+            const theirs = rgb('-flags', 'unaligned', '-i', `${vectors}/${name}.264`, '-vf', `select=eq(n\\,${number}),scale=flags=bilinear+accurate_rnd+full_chroma_int:${chromaPlace(`${vectors}/${name}.264`)},format=gbrp`);
             rmSync(work, { recursive: true });
             await page.close();
             if (ours.length !== theirs.length || ours.length !== width * height * 3) return `${clip.width}x${clip.height}: ${ours.length} bytes, wanted ${theirs.length}`;
             const quality = psnr(ours, theirs);
             console.log(`${name}, picture ${number}: ${quality.toFixed(1)} dB to ffmpeg's RGB`);
-            return quality > 40 ? undefined : `${quality} dB`;
+            return quality > LEAST_QUALITY ? undefined : `${quality} dB`;
         });
     }
     await test('the demo plays, steps and seeks', async () => {
@@ -132,7 +144,7 @@ try {
         told('the worker in Chromium');
         if (await page.evaluate("typeof VideoDecoder === 'function' && VideoDecoder.isConfigSupported({ codec: 'avc1.42E028', hardwareAcceleration: 'prefer-software' }).then(it => it.supported)")) {
             for (const name of there) await test(`${name} beside VideoDecoder`, () => inPage(page, 'besides', name));
-            await test(`${there[1]} beside VideoDecoder, in the page's thread`, () => inPage(page, 'besides', there[1], { here: true }));
+            for (const name of there) await test(`${name} beside VideoDecoder, in the page's thread`, () => inPage(page, 'besides', name, { here: true }));
             await test(`${there[1]} beside VideoDecoder, from avcC`, () => inPage(page, 'besides', there[1], { avcc: true }));
             told("beside Chromium's VideoDecoder");
         } else {
@@ -150,6 +162,10 @@ try {
             console.log('web, the demo: left out: there is no ffmpeg');
         }
     }
+} catch (thrown) {
+    failed++;
+    console.log(`failed: ${thrown.message}`);
+    told('Chromium');
 } finally {
     await browser.close();
     close();
