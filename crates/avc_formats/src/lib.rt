@@ -1,5 +1,4 @@
-//! Formats in which pictures are written: I420, some of them, their checksums, also one by one, and YUV4MPEG2; and the front of a stream, by
-//! which a format's head is known.
+//! How pictures are written: as I420, some of them, their checksums, also one by one, and as YUV4MPEG2.
 #![tactic(auto)]
 
 mod first_set;

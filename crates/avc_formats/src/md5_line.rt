@@ -9,7 +9,11 @@ use std::alloc::Global;
 use std::io::Write;
 
 /// Writes a digest as `md5sum` writes that of its standard input.
-pub fn write_digest<W: Write>(alloc: Global, digest: [u8; 16], writer: &mut W) -> Result<(), RunFault>
+pub fn write_digest<W: Write>(
+    alloc: Global,
+    digest: [u8; 16],
+    writer: &mut W,
+) -> Result<(), RunFault>
     ensures ok { OnOk result (Appends (W.contents writer.old) (W.contents writer.new) (digest_line digest)) }
     ensures err { IfErr result (λ fault. StopsPicture fault true (W.contents writer.old) (W.contents writer.new) (digest_line digest)) }
 {

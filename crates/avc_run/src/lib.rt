@@ -7,9 +7,11 @@ mod decoding;
 mod digest;
 mod program;
 
-pub use avc_console::{Answer, Console, Ending, Names, PIECE, Refusals, Report, RunFault, Unwatched, Watch};
-pub use avc_console::{answer_status, cut, cut_status, end_listing, fail, fault_status, headers, read_once, refusal_lines, run_cut};
-pub use avc_console::{run_headers, run_units, status, tell, units, write_stream};
+pub use avc_console::{
+    Answer, Console, Ending, Names, PIECE, Refusals, Report, RunFault, Unwatched, Watch,
+    answer_status, cut, cut_status, end_listing, fail, fault_status, headers, read_once,
+    refusal_lines, run_cut, run_headers, run_units, status, tell, units, write_stream,
+};
 pub use avc_decoder::Output;
 pub use avc_formats::{I420, PictureFormat};
 pub use by_set::decode_headed;
