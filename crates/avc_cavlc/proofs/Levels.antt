@@ -43,7 +43,7 @@ level_code_most prefix sl suffix above_one most few small first = elim (cases_lt
 -- ---- one level more
 
 -- the others after one
-after_level : (r : Result (List ℤ × Bits) Fault) (done : List ℤ) (l : ℤ) (b : Bits) →
+pub after_level : (r : Result (List ℤ × Bits) Fault) (done : List ℤ) (l : ℤ) (b : Bits) →
     (((λ _. r) >>= (λ others. give (l ∷ others))) >>= (λ others. give (done ++ others))) b ≡ ((λ _. r) >>= (λ others. give ((done ++ l ∷ []) ++ others))) b
 after_level (Ok p) done l b = ap (λ t. Ok (t, p.1)) (sym (append_assoc done (l ∷ []) p.0))
 after_level (Err f) done l b = refl
@@ -57,39 +57,10 @@ level_fault done total k sl above_one f b some is = let left : total - k ≡ suc
 pub all_more : {A : Type 0} (P : A → Type 0) (xs : List A) (k : ℕ) (x : A) → k < length xs → All P (take k xs) → P x → All P (take (k + 1) (set xs k x))
 all_more P xs k x within all here = rw (take_more_set xs k x within) (All-push P (take k xs) x all here)
 
--- k levels stand in the array, after which the others are read
-pub record AreRead (values : List ℤ) (total k sl : ℕ) (above_one : Bool) (b : Bits) (all : Result (List ℤ × Bits) Fault) : Type 0 where
-  pub long : length values ≡ 16
-  pub read : all ≡ levels_after (take k values) (total - k) sl above_one b
-  pub size : All IsLevel (take k values)
-
 -- ---- a level with a short prefix
 
 pub short_suffix : (prefix sl : ℕ) → prefix ≤ 13 → suffix_size prefix sl ≡ sl
 short_suffix prefix sl few = grind (arith, nat_tests)
-
--- ---- suffixLength
-
-raised_next : (sl least size : ℕ) (l : ℤ) → least ≡ max sl 1 → size ≡ nat_abs l → raised least size ≡ next_suffix_length sl l
-raised_next sl least size l is same = grind (arith, nat_tests)
-
--- one level more, by its levelCode
-pub level_read : (values : List ℤ) (total k sl next least size code : ℕ) (above_one : Bool) (b mid : Bits) (all : Result (List ℤ × Bits) Fault) (l : ℤ) → AreRead values total k sl above_one b all → k < total → total ≤ 16 →
-    level sl above_one b ≡ Ok (level_of_code code, mid) → l ≡ level_of_code code → IsLevel l → least ≡ max sl 1 → size ≡ nat_abs (level_of_code code) → next ≡ raised least size →
-    AreRead (set values k (to_z w16 (of_z w16 l))) total (k + 1) next false mid all
-level_read values total k sl next least size code above_one b mid all l are some few is_level value is_small is_least is_size is =
-    let n = total - (k + 1) in
-    let left : total - k ≡ suc n = omega arith in
-    let within : k < length values = omega (arith, are.long) in
-    let back : to_z w16 (of_z w16 l) ≡ l = omega (arith, ints, is_small.most) in
-    let is_next : next ≡ next_suffix_length sl l = is ∙ raised_next sl least size l is_least (rw value is_size) in
-    let step : levels_after (take k values) (total - k) sl above_one b ≡ levels_after (take k values ++ l ∷ []) n (next_suffix_length sl l) false mid =
-    rw (left, is_level, ← value) (after_level (levels n (next_suffix_length sl l) false mid) (take k values) l mid) in
-    rw back (record {
-      long = length-set values k l ∙ are.long;
-      read = are.read ∙ step ∙ rw (is_next, take_more_set values k l within) refl;
-      size = all_more IsLevel values k l within are.size is_small;
-    })
 
 -- ---- how many bits a level has
 
@@ -145,16 +116,6 @@ skipped_is n b after within is = (ok_parts (sym (skip_long n b within) ∙ is)).
 
 pub never_cut : {P : Type 0} (n : ℕ) (b : Bits) (f : Fault) → n ≤ length b.ahead → skip n b ≡ Err f → P
 never_cut n b f within is = let whole = skip_long n b within in cc
-
--- ---- how many bits are left
-
-pub few_passed : (b after : Bits) (first n value : ℕ) → u n (passed b first) ≡ Ok (value, after) → length b.ahead ≤ length after.ahead + (first + n)
-few_passed b after first n value is =
-    let p = suffix_passed (passed b first) after n value is in
-    omega (arith, p.within, ap (λ x. length x.ahead) p.same, length-drop n (drop first b.ahead), length-drop first b.ahead)
-
-pub few_skipped : (n : ℕ) (b after : Bits) → n ≤ length b.ahead → skip n b ≡ Ok (tt, after) → length b.ahead ≤ length after.ahead + n
-few_skipped n b after within is = omega (arith, ap (λ x. length x.ahead) (skipped_is n b after within is), length-drop n b.ahead)
 
 -- ---- a block from its parts
 

@@ -1,11 +1,13 @@
 -- What is left to read of a block when some of it has been read.
-use Rattle.std.specs.Prelude.{◌≡◌, ℕ, ◌+◌, ◌-◌, ◌*◌, ◌^◌, ◌≤◌, ℤ, pos, neg_ℤ, Bool, ◌&&◌, nat_lt, if◌then◌else◌, List, ◌++◌, length, Result, Ok, Err, MatchResult}
+use Rattle.std.specs.Prelude.{◌≡◌, ℕ, ◌+◌, ◌-◌, ◌*◌, ◌^◌, ◌≤◌, ℤ, pos, neg_ℤ, Bool, ◌&&◌, nat_lt, if◌then◌else◌, List, ◌++◌, length, map, Result, Ok, Err, MatchResult}
+use Rattle.std.specs.List.{range_with_len}
 use Rattle.avc_types.specs.declared.fault.Fault.{Fault}
 use Rattle.avc_bits.specs.Reader.{reader_bits, reader_bytes}
 use Rattle.avc_bits.specs.declared.reader.BitReader.{BitReader}
-use Rattle.avc_bits.specs.Bits.{Bits, Read, ◌>>=◌, give, passed}
+use Rattle.avc_bits.specs.Bits.{Bits, Read, ◌>>=◌, bits_of, give, passed}
+use Rattle.avc_cavlc.specs.declared.level.Level.{Level}
 use Rattle.avc_cavlc.specs.declared.level.LongCode.{LongCode}
-use Rattle.avc_cavlc.specs.Block.{each_after_zeros, level_of_code, levels, placed, runs}
+use Rattle.avc_cavlc.specs.Block.{each_after_zeros, level, level_of_code, levels, next_suffix_length, placed, runs}
 
 -- What was read into a place is what this part of the syntax reads, and the reader goes on after it.
 abbrev pub ReadsInto : {V A : Type 0} → Result V Fault → A → Read A → BitReader → BitReader → Type 0
@@ -13,16 +15,16 @@ ReadsInto result value read old new = MatchResult result
     (λ _. (read (reader_bits old) ≡ Ok (value, reader_bits new)) × (reader_bytes new ≡ reader_bytes old))
     (λ fault. read (reader_bits old) ≡ Err fault)
 
--- The same, where what goes on after it is the result.
-abbrev pub ReadsOn : {A : Type 0} → Result BitReader Fault → A → Read A → BitReader → Type 0
-ReadsOn result value read old = MatchResult result
-    (λ new. (read (reader_bits old) ≡ Ok (value, reader_bits new)) × (reader_bytes new ≡ reader_bytes old))
-    (λ fault. read (reader_bits old) ≡ Err fault)
-
 -- The levelCode that was read is that of the level that this part of the syntax reads.
 abbrev pub ReadsCode : Result ℕ Fault → Read ℤ → BitReader → BitReader → Type 0
 ReadsCode result read old new = MatchResult result
     (λ code. (read (reader_bits old) ≡ Ok (level_of_code code, reader_bits new)) × (reader_bytes new ≡ reader_bytes old))
+    (λ fault. read (reader_bits old) ≡ Err fault)
+
+-- The level that was read is what this part of the syntax reads.
+abbrev pub ReadsLevel : Result Level Fault → Read ℤ → BitReader → BitReader → Type 0
+ReadsLevel result read old new = MatchResult result
+    (λ l. (read (reader_bits old) ≡ Ok (l.value, reader_bits new)) × (reader_bytes new ≡ reader_bytes old))
     (λ fault. read (reader_bits old) ≡ Err fault)
 
 -- The levelCode is that of the level that this part of the syntax reads, and its length is that of what is read.
@@ -51,3 +53,25 @@ placed_by_runs max values n zeros = runs n zeros >>= λ zero_runs. give (placed 
 -- the runs of the n values that are left, which are placed before those that are done
 abbrev pub placed_before : (done values : List ℤ) → (n zeros_left : ℕ) → Read (List ℤ)
 placed_before done values n zeros_left = runs n zeros_left >>= λ zero_runs. give (each_after_zeros values zero_runs ++ done)
+
+-- ---- levels by their stage: suffixLength, or 7 more where the size is known to be above 1
+
+-- the suffixLength of a stage
+abbrev pub stage_length : ℕ → ℕ
+stage_length stage = if nat_lt stage 7 then stage else stage - 7
+
+-- whether the size of its level is known to be above 1
+abbrev pub stage_above : ℕ → Bool
+stage_above stage = nat_lt 6 stage
+
+-- What seven bits say of the level whose codeword they begin with (9.2.2); a length of 0 where none is so short.
+unfoldable pub short_level : (stage bits : ℕ) → Level
+short_level stage bits =
+    elim (level (stage_length stage) (stage_above stage) (record { position = 0; ahead = bits_of 7 bits })) [
+      | Ok r ↦ record { value = r.0; length = r.1.position; next = next_suffix_length (stage_length stage) r.0 }
+      | Err f ↦ record { value = pos 0; length = 0; next = 0 }
+    ]
+
+-- the tables are what the bits say, by stages
+pub record AreShortLevels (tables : List (List Level)) : Type 0 where
+  pub same : map (λ stage. map (short_level stage) (range_with_len 0 128)) (range_with_len 0 9) ≡ tables

@@ -1,10 +1,10 @@
 //! Levels that are not 0 (9.2.2).
-ghost use Rattle.std.specs.Prelude.{◌≡◌, ◌+◌, ◌-◌, ◌*◌, ◌/◌, ◌%◌, ◌==◌, ◌^◌, ◌≤◌, ◌<◌, ℤ, pos, length, take, nat_abs, IfOk, IsTrue, MatchOption, All};
+ghost use Rattle.std.specs.Prelude.{◌≡◌, ◌+◌, ◌-◌, ◌*◌, ◌/◌, ◌%◌, ◌==◌, ◌^◌, ◌≤◌, ◌<◌, ℤ, pos, length, take, nat_abs, nat_lt, ◌&&◌, if◌then◌else◌, IfOk, IsTrue, MatchOption, All};
 ghost use Rattle.avc_bits.specs.Bits.{times};
-ghost use Rattle.avc_bits.specs.Reader.{IsZerosAndBits, reader_bits};
+ghost use Rattle.avc_bits.specs.Reader.{reader_bits};
 ghost use Rattle.avc_vlc.specs.Reading.{IsToken};
 ghost use Rattle.avc_cavlc.specs.Block.{IsLevel, level, level_code, level_of_code, next_suffix_length, suffix_size, token_levels, trailing_one};
-ghost use Rattle.avc_cavlc.specs.Steps.{IsLongCode, ReadsCode, ReadsInto, ReadsOn, levels_after, one_of_sign, raised};
+ghost use Rattle.avc_cavlc.specs.Steps.{AreShortLevels, IsLongCode, ReadsCode, ReadsInto, ReadsLevel, levels_after, one_of_sign, raised, short_level, stage_above, stage_length};
 
 use avc_bits::BitReader;
 use avc_types::Fault;
@@ -13,8 +13,17 @@ use avc_vlc::Token;
 /// The greatest suffixLength.
 const MOST_SUFFIX_BITS: u32 = 6;
 
-/// Surely more than the levels of a block take, which have at most 28 bits each, and the eight bytes of a look.
-const BYTES_OF_LEVELS: usize = 72;
+// The stage of a level that comes after others is its suffixLength; that of the first one is greater by this, where its
+// size is known to be above 1.
+const ABOVE_ONE: u8 = 7;
+
+// A level, how many bits its codeword has, which is 0 where it has more than seven, and the stage of the level after it.
+#[derive(Clone, Copy)]
+struct Level {
+    value: i16,
+    length: u8,
+    next: u8,
+}
 
 /// Reads the levels of a block that are not 0, the highest frequency first, into the first of the values.
 #[inline(always)]
@@ -31,11 +40,26 @@ pub(crate) fn read_levels(
     if token.ones == token.total {
         return Ok(());
     }
-    let few_ones = token.ones < 3;
-    let suffix_length = if token.total > 10 && few_ones { 1 } else { 0 };
     let ones = token.ones as usize;
     let total = token.total as usize;
-    read_others(reader, values, ones, total, suffix_length, few_ones)
+    read_others(reader, values, ones, total, first_stage(token))
+}
+
+// the stage of the first level that is no trailing one
+#[inline(always)]
+fn first_stage(token: Token) -> u8
+    requires { token.ones ≤ 3 }
+    ensures below { result < 9 }
+    ensures length { stage_length result ≡ (if nat_lt 10 token.total && nat_lt token.ones 3 then 1 else 0) }
+    ensures above { stage_above result ≡ nat_lt token.ones 3 }
+{
+    if token.ones == 3 {
+        0
+    } else if token.total > 10 {
+        ABOVE_ONE + 1
+    } else {
+        ABOVE_ONE
+    }
 }
 
 // The trailing ones, by one look at their signs, into the first of the values.
@@ -85,120 +109,119 @@ fn read_others(
     values: &mut [i16; 16],
     ones: usize,
     total: usize,
-    suffix_length: u32,
-    above_one: bool,
+    first: u8,
 ) -> Result<(), Fault>
-    requires some { ones < total }
+    requires some { ones ≤ total }
     requires few { total ≤ 16 }
     requires ones { All IsLevel (take ones values.old) }
-    requires length { suffix_length ≤ 1 }
+    requires stage { first < 9 }
     ensures read { ReadsInto result (take total values.new)
-        (levels_after (take ones values.old) (total - ones) suffix_length above_one) reader.old reader.new }
+        (levels_after (take ones values.old) (total - ones) (stage_length first) (stage_above first)) reader.old reader.new }
     ensures size { IfOk result (λ _. All IsLevel (take total values.new)) }
 {
-    if reader.has_bytes(BYTES_OF_LEVELS) {
-        return read_others_by(reader, values, ones, total, suffix_length, above_one, true);
+    let mut stage = first;
+    'levels: for k in ones..total {
+        let level = read_level(reader, stage)?;
+        values[k] = level.value;
+        stage = level.next;
     }
-    *reader = others_near_end(*reader, values, ones, total, suffix_length, above_one)?;
     Ok(())
 }
 
-// The same where the stop bit may be near. The reader is a copy, so that the caller's may stay in registers.
-#[cold]
-#[inline(never)]
-fn others_near_end<'a>(
-    reader: BitReader<'a>,
-    values: &mut [i16; 16],
-    ones: usize,
-    total: usize,
-    suffix_length: u32,
-    above_one: bool,
-) -> Result<BitReader<'a>, Fault>
-    requires some { ones < total }
-    requires few { total ≤ 16 }
-    requires ones { All IsLevel (take ones values.old) }
-    requires length { suffix_length ≤ 1 }
-    ensures read { ReadsOn result (take total values.new)
-        (levels_after (take ones values.old) (total - ones) suffix_length above_one) reader.entry }
-    ensures size { IfOk result (λ _. All IsLevel (take total values.new)) }
-{
-    let mut after = reader;
-    read_others_by(
-        &mut after,
-        values,
-        ones,
-        total,
-        suffix_length,
-        above_one,
-        false,
-    )?;
-    Ok(after)
-}
-
-// The same; `far` says that 32 bits a level and 64 more stand ahead.
+// One level that is no trailing one: by a table where its codeword is short, which most are.
 #[inline(always)]
-fn read_others_by(
-    reader: &mut BitReader,
-    values: &mut [i16; 16],
-    ones: usize,
-    total: usize,
-    suffix_length: u32,
-    above_one: bool,
-    far: bool,
-) -> Result<(), Fault>
-    requires some { ones < total }
-    requires few { total ≤ 16 }
-    requires ones { All IsLevel (take ones values.old) }
-    requires length { suffix_length ≤ 1 }
-    requires room { IsTrue far → 32 * (total - ones) + 64 ≤ length (reader_bits reader.old).ahead }
-    ensures read { ReadsInto result (take total values.new)
-        (levels_after (take ones values.old) (total - ones) suffix_length above_one) reader.old reader.new }
-    ensures size { IfOk result (λ _. All IsLevel (take total values.new)) }
+fn read_level(reader: &mut BitReader, stage: u8) -> Result<Level, Fault>
+    requires stage { stage < 9 }
+    ensures read { ReadsLevel result (level (stage_length stage) (stage_above stage)) reader.old reader.new }
+    ensures size { IfOk result (λ l. IsLevel l.value) }
+    ensures next { IfOk result (λ l. l.next ≡ next_suffix_length (stage_length stage) l.value) }
 {
-    let code = read_level_code(reader, suffix_length, above_one, far)?;
-    values[ones] = level_of_code(code);
-    let mut bits = raised(suffix_length.max(1), size_of_code(code));
-    'levels: for k in ones + 1..total {
-        let code = read_level_code(reader, bits, false, far)?;
-        values[k] = level_of_code(code);
-        bits = raised(bits, size_of_code(code));
+    if reader.has_many() {
+        let short = short_level(stage, reader.peek(7));
+        if short.length > 0 {
+            reader.skip_ahead(u32::from(short.length));
+            return Ok(short);
+        }
     }
-    Ok(())
+    read_long_level(reader, stage)
 }
 
-// levelCode of one level that is no trailing one; above_one says that its size is known to be above 1, and `far` that
-// 64 bits stand ahead.
+// What the next seven bits say of a level.
+#[tactic(auto, unfolding(crate::specs::Steps::short_level))]
+#[inline(always)]
+fn short_level(stage: u8, bits: u32) -> Level
+    requires stage { stage < 9 }
+    requires seven { bits < 128 }
+    ensures { result ≡ short_level stage bits }
+{
+    short_level_in(&SHORT_LEVELS, usize::from(stage), bits as usize)
+}
+
+#[inline(always)]
+fn short_level_in(tables: &[[Level; 128]; 9], stage: usize, bits: usize) -> Level
+    requires stage { stage < 9 }
+    requires seven { bits < 128 }
+    ensures { AreShortLevels tables.now → result ≡ short_level stage bits }
+{
+    tables[stage][bits]
+}
+
+// Any level that is no trailing one.
+#[inline(always)]
+fn read_long_level(reader: &mut BitReader, stage: u8) -> Result<Level, Fault>
+    requires stage { stage < 9 }
+    ensures read { ReadsLevel result (level (stage_length stage) (stage_above stage)) reader.old reader.new }
+    ensures size { IfOk result (λ l. IsLevel l.value) }
+    ensures next { IfOk result (λ l. l.next ≡ next_suffix_length (stage_length stage) l.value) }
+{
+    let suffix_length = stage_length(stage);
+    let code = read_level_code(reader, suffix_length, stage_above(stage))?;
+    Ok(Level {
+        value: level_of_code(code),
+        length: 0,
+        next: raised(suffix_length.max(1), size_of_code(code)) as u8,
+    })
+}
+
+// the suffixLength of a stage
+#[inline(always)]
+fn stage_length(stage: u8) -> u32
+    requires { stage < 9 }
+    ensures value { result ≡ stage_length stage }
+    ensures few { result ≤ 6 }
+{
+    if stage < ABOVE_ONE {
+        u32::from(stage)
+    } else {
+        u32::from(stage - ABOVE_ONE)
+    }
+}
+
+// whether the size of the level is known to be above 1
+#[inline(always)]
+fn stage_above(stage: u8) -> bool
+    requires { stage < 9 }
+    ensures value { result ≡ stage_above stage }
+    ensures first { IsTrue result → stage_length stage ≤ 1 }
+{
+    stage >= ABOVE_ONE
+}
+
+// levelCode of one level that is no trailing one; above_one says that its size is known to be above 1.
 #[inline(always)]
 fn read_level_code(
     reader: &mut BitReader,
     suffix_length: u32,
     above_one: bool,
-    far: bool,
 ) -> Result<u32, Fault>
     requires length { suffix_length ≤ 6 }
     requires first { IsTrue above_one → suffix_length ≤ 1 }
-    requires ahead { IsTrue far → 64 ≤ length (reader_bits reader.old).ahead }
     ensures read { ReadsCode result (level suffix_length above_one) reader.old reader.new }
     ensures most { IfOk result (λ code. code ≤ 5055) }
-    ensures short { IfOk result (λ _. length (reader_bits reader.old).ahead ≤ length (reader_bits reader.new).ahead + 32) }
 {
-    match prefix_and_suffix(reader, suffix_length, far) {
+    match reader.zeros_and_bits(13, suffix_length) {
         Some((prefix, suffix)) => Ok(level_code(prefix, suffix_length, suffix, above_one)),
         None => read_long_code(reader, suffix_length, above_one),
-    }
-}
-
-// level_prefix up to 13 and level_suffix by one look.
-#[inline(always)]
-fn prefix_and_suffix(reader: &mut BitReader, suffix_length: u32, far: bool) -> Option<(u32, u32)>
-    requires length { suffix_length ≤ 6 }
-    requires ahead { IsTrue far → 64 ≤ length (reader_bits reader.old).ahead }
-    ensures { MatchOption result (reader.new ≡ reader.old) (λ p. IsZerosAndBits 13 suffix_length p.0 p.1 reader.old reader.new) }
-{
-    if far {
-        reader.zeros_and_bits_ahead(13, suffix_length)
-    } else {
-        reader.zeros_and_bits(13, suffix_length)
     }
 }
 
@@ -209,7 +232,6 @@ fn read_long_code(reader: &mut BitReader, suffix_length: u32, above_one: bool) -
     requires first { IsTrue above_one → suffix_length ≤ 1 }
     ensures read { ReadsCode result (level suffix_length above_one) reader.old reader.new }
     ensures most { IfOk result (λ code. code ≤ 5055) }
-    ensures short { IfOk result (λ _. length (reader_bits reader.old).ahead ≤ length (reader_bits reader.new).ahead + 32) }
 {
     let code = long_code(*reader, suffix_length, above_one)?;
     reader.skip(code.length)?;
@@ -231,7 +253,6 @@ fn long_code(reader: BitReader, suffix_length: u32, above_one: bool) -> Result<L
     requires first { IsTrue above_one → suffix_length ≤ 1 }
     ensures read { IsLongCode result (level suffix_length above_one) (reader_bits reader.entry) }
     ensures most { IfOk result (λ code. code.number ≤ 5055) }
-    ensures short { IfOk result (λ code. code.length ≤ 28) }
 {
     let mut after = reader;
     let prefix = after.zeros_before_one(15, Fault::BadCode)?;
@@ -325,3 +346,62 @@ fn raised(suffix_length: u32, size: u32) -> u32
         suffix_length
     }
 }
+
+// What seven bits say that begin with so many zeros, at a suffixLength. levelCode is greater by `above`, and the suffixLength
+// after it is `least`, or 1 more where the size is above `limit`.
+macro_rules! short_level {
+    ($suffix_length:literal, $least:literal, $limit:literal, $above:literal, $zeros:literal, $bits:expr) => {
+        level_of!(
+            ($zeros << $suffix_length) + (($bits << ($zeros + 1)) % 128 >> (7 - $suffix_length)) + $above,
+            $zeros + 1 + $suffix_length,
+            $least,
+            $limit
+        )
+    };
+}
+
+macro_rules! level_of {
+    ($code:expr, $length:expr, $least:literal, $limit:literal) => {
+        Level {
+            value: (($length <= 7) as i16) * ($code / 2 + 1) * (1 - 2 * ($code % 2)),
+            length: (($length <= 7) as u8) * $length,
+            next: (($length <= 7) as u8) * ($least + (($code / 2 >= $limit) as u8)),
+        }
+    };
+}
+
+macro_rules! levels {
+    ($s:literal, $l:literal, $m:literal, $a:literal; $($zeros:literal $bits:literal),+) => {
+        [$(short_level!($s, $l, $m, $a, $zeros, $bits)),+]
+    };
+}
+
+// Those of a stage: each number of seven bits, and before it how many zeros it begins with.
+macro_rules! stage {
+    ($s:literal, $l:literal, $m:literal, $a:literal) => {
+        levels!(
+            $s, $l, $m, $a;
+            7 0, 6 1, 5 2, 5 3, 4 4, 4 5, 4 6, 4 7, 3 8, 3 9, 3 10, 3 11, 3 12, 3 13, 3 14, 3 15,
+            2 16, 2 17, 2 18, 2 19, 2 20, 2 21, 2 22, 2 23, 2 24, 2 25, 2 26, 2 27, 2 28, 2 29, 2 30, 2 31,
+            1 32, 1 33, 1 34, 1 35, 1 36, 1 37, 1 38, 1 39, 1 40, 1 41, 1 42, 1 43, 1 44, 1 45, 1 46, 1 47,
+            1 48, 1 49, 1 50, 1 51, 1 52, 1 53, 1 54, 1 55, 1 56, 1 57, 1 58, 1 59, 1 60, 1 61, 1 62, 1 63,
+            0 64, 0 65, 0 66, 0 67, 0 68, 0 69, 0 70, 0 71, 0 72, 0 73, 0 74, 0 75, 0 76, 0 77, 0 78, 0 79,
+            0 80, 0 81, 0 82, 0 83, 0 84, 0 85, 0 86, 0 87, 0 88, 0 89, 0 90, 0 91, 0 92, 0 93, 0 94, 0 95,
+            0 96, 0 97, 0 98, 0 99, 0 100, 0 101, 0 102, 0 103, 0 104, 0 105, 0 106, 0 107, 0 108, 0 109, 0 110, 0 111,
+            0 112, 0 113, 0 114, 0 115, 0 116, 0 117, 0 118, 0 119, 0 120, 0 121, 0 122, 0 123, 0 124, 0 125, 0 126, 0 127
+        )
+    };
+}
+
+// By the stage: suffixLength 0 to 6, and 0 and 1 where the size is known to be above 1.
+static SHORT_LEVELS: [[Level; 128]; 9] = [
+    stage!(0, 1, 3, 0),
+    stage!(1, 1, 3, 0),
+    stage!(2, 2, 6, 0),
+    stage!(3, 3, 12, 0),
+    stage!(4, 4, 24, 0),
+    stage!(5, 5, 48, 0),
+    stage!(6, 6, 100, 0),
+    stage!(0, 1, 3, 2),
+    stage!(1, 1, 3, 2),
+];

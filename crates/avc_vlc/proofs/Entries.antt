@@ -235,6 +235,34 @@ front_entry each tables k n ahead none e are within narrow there at = record {
   agrees = at.agrees;
 }
 
+-- the run of three bits
+pub run_decides : (tables : List (List Run)) (k n : ℕ) (ahead : List Bool) (none : Run) → AreRuns tables → k < length tables → n < 8 → n < length (get_or tables k []) → IsFrontOf ahead 3 n →
+    Decides (few_table k) ahead (entry_of_run (get_or (get_or tables k []) n none))
+run_decides tables k n ahead none are within narrow there at =
+    let row : get_or (map (map entry_of_run) tables) k [] ≡ map entry_of_run (get_or tables k []) = get_or-map (map entry_of_run) tables k [] [] within in
+    let same : get_or (get_or (map (map entry_of_run) tables) k []) n (entry_of_run none) ≡ entry_of_run (get_or (get_or tables k []) n none) =
+    ap (λ l. get_or l n (entry_of_run none)) row ∙ get_or-map entry_of_run (get_or tables k []) n none (entry_of_run none) there in
+    subst (Decides (few_table k) ahead) same
+    (front_entry few_table (map (map entry_of_run) tables) k n ahead [] (entry_of_run none) are.fronts (omega (arith, length-map tables (map entry_of_run))) narrow
+    (omega (arith, ap length row, length-map (get_or tables k []) entry_of_run)) at)
+
+-- what a test of a whole row says of one of its runs
+row_passes : (tables : List (List Run)) (test : ℕ → Run → Bool) (k n : ℕ) (none : Run) →
+    map (λ k. list_all (test k) (get_or tables k [])) (range_with_len 0 6) ≡ replicate 6 true → k < 6 → n < length (get_or tables k []) → test k (get_or (get_or tables k []) n none) ≡ true
+row_passes tables test k n none passes within there =
+    all_at (test k) (get_or tables k []) n none
+    (sym (get_or-map-range_with_len (λ k. list_all (test k) (get_or tables k [])) 0 6 k k true within (omega arith)) ∙ ap (λ l. get_or l k true) passes ∙ get_or-replicate 6 k true true within) there
+
+pub run_most : (tables : List (List Run)) (k n : ℕ) (none : Run) → AreRuns tables → k < 6 → n < length (get_or tables k []) → (get_or (get_or tables k []) n none).zeros ≤ k + 1
+run_most tables k n none are within there = leb-true _ (k + 1) (row_passes tables (λ k r. nat_le r.zeros (k + 1)) k n none are.most within there)
+
+pub run_short : (tables : List (List Run)) (k n : ℕ) (none : Run) → AreRuns tables → k < 6 → n < length (get_or tables k []) → (get_or (get_or tables k []) n none).length ≤ 3
+run_short tables k n none are within there = leb-true _ 3 (row_passes tables (λ _ r. nat_le r.length 3) k n none are.short within there)
+
+-- a run that is not above zerosLeft
+pub run_read : (zeros_left run : ℕ) (b left : Bits) → table_code (run_table zeros_left) b ≡ Ok (run, left) → run ≤ zeros_left → run_before zeros_left b ≡ Ok (run, left)
+run_read zeros_left run b left is few = rw (is, le-leb run zeros_left few) refl
+
 six_computed : map (λ n. entry_of tokens_8 (bits_of 6 n)) (range_with_len 0 64) ≡ map (λ n. Some (six_bit_entry n)) (range_with_len 0 64)
 six_computed = refl
 

@@ -1,11 +1,14 @@
 -- Tables that are indexed by the bits ahead: an entry says what the first of these bits decide.
 use Rattle.std.specs.Prelude.{◌≡◌, ℕ, ◌+◌, ◌-◌, ◌*◌, ◌/◌, ◌%◌, ◌^◌, ◌<◌, ◌==◌, Bool, true, false, nat_le, nat_lt, if◌then◌else◌, List, [], ◌∷◌, ◌++◌, length, map, take, replicate, Option, Some, None}
 use Rattle.std.specs.List.{enumerate_from, list_all, list_any, range_with_len}
+use Rattle.std.specs.Prelude.{slice_index_or}
 use Rattle.avc_bits.specs.Bits.{bits_of}
 use Rattle.avc_vlc.specs.declared.code.Code.{Code}
 use Rattle.avc_vlc.specs.declared.entry.Entry.{Entry}
 use Rattle.avc_vlc.specs.declared.coeff_token.Token.{Token}
-use Rattle.avc_vlc.specs.Reading.{Table, after_word, is_prefix, lookup, token}
+use Rattle.avc_vlc.specs.declared.run_before.Run.{Run}
+use Rattle.avc_vlc.specs.Reading.{Table, after_word, is_prefix, lookup, row_at, row_table, token}
+use Rattle.avc_vlc.specs.Tables.{run_before_codes}
 use Rattle.avc_vlc.specs.Writing.{word_of}
 
 -- whether a codeword begins with the bits
@@ -80,6 +83,20 @@ pub record AreIndexed {A : Type 0} (each : ℕ → Table A) (tail rows : ℕ) (t
 -- each of the tables in the list is what the values of three bits decide by its table
 pub record AreFronts {A : Type 0} (each : ℕ → Table A) (tables : List (List (Entry A))) : Type 0 where
   pub same : map (λ k. map (λ n. entry_of (each k) (bits_of 3 n)) (range_with_len 0 8)) (range_with_len 0 (length tables)) ≡ map (map Some) tables
+
+-- what a codeword of run_before decides
+abbrev pub entry_of_run : Run → Entry ℕ
+entry_of_run r = record { length = r.length; value = Some r.zeros }
+
+-- the codewords of run_before where this number and one more zeros are left, six at most (Table 9-10)
+abbrev pub few_table : ℕ → Table ℕ
+few_table k = row_table (row_at run_before_codes k)
+
+-- the tables are what three bits decide where one to six zeros are left, no run is longer, and no codeword has more bits
+pub record AreRuns (tables : List (List Run)) : Type 0 where
+  pub fronts : AreFronts few_table (map (map entry_of_run) tables)
+  pub most : map (λ k. list_all (λ r. nat_le r.zeros (k + 1)) (slice_index_or tables k [])) (range_with_len 0 6) ≡ replicate 6 true
+  pub short : map (λ k. list_all (λ r. nat_le r.length 3) (slice_index_or tables k [])) (range_with_len 0 6) ≡ replicate 6 true
 
 -- the place is that of the bits ahead
 pub record IsPlaceOf (ahead : List Bool) (last tail row column : ℕ) : Type 0 where

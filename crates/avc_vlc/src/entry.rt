@@ -2,7 +2,7 @@ ghost use Rattle.std.specs.Prelude.{◌≡◌, ◌≤◌, ℕ, List, Bool, true,
 ghost use Rattle.std.specs.List.{list_any};
 ghost use Rattle.avc_bits.specs.Reader.{Reads, reader_bits};
 ghost use Rattle.avc_vlc.specs.Reading.{Table, table_code};
-ghost use Rattle.avc_vlc.specs.Indexing.{AreFronts, AreIndexed, Decides, IsIndexed, Shows, holds};
+ghost use Rattle.avc_vlc.specs.Indexing.{AreIndexed, Decides, IsIndexed, Shows, holds};
 
 use crate::code::Code;
 use crate::coeff_token::Token;
@@ -173,16 +173,6 @@ pub(crate) fn number_in<const ROWS: usize, const TABLES: usize>(
     ensures { (each : ℕ → Table ℕ) (ahead : List Bool) → AreIndexed each 2 ROWS tables.now → Shows code ahead → Decides (each table) ahead result }
 {
     number_at(code, &tables[table])
-}
-
-// What the first three bits decide by one of several tables of numbers, which have an entry for each value of them.
-#[inline(always)]
-pub(crate) fn number_of_three(code: Code<16>, tables: &[[Entry<u8>; 8]], table: usize) -> Entry<u8>
-    requires { table < length tables.now }
-    ensures { (each : ℕ → Table ℕ) (ahead : List Bool) → AreFronts each tables.now → Shows code ahead → Decides (each table) ahead result }
-{
-    let front = code.front(3) as usize;
-    tables[table][front]
 }
 
 // An entry: (length) of a front with which no codeword begins, (length, value) of a codeword, (length, TotalCoeff,

@@ -1,18 +1,25 @@
 //! run_before (9.2.3, Table 9-10). Where six zeros are left at most, the next three bits decide. Else a table has a row for
 //! each number of zeros in front of the first 1, the last for all that are more, and a column for each value of the two
 //! bits behind that 1.
-ghost use Rattle.std.specs.Prelude.{◌≡◌, ◌≤◌, ◌<◌, List, Bool, Err, IfOk, IfSome, OnErr};
-ghost use Rattle.avc_bits.specs.Reader.{Reads, reader_bits};
+ghost use Rattle.std.specs.Prelude.{◌≡◌, ◌+◌, ◌≤◌, ◌<◌, List, Bool, Ok, Err, IfOk, IfSome, OnErr, length};
+ghost use Rattle.avc_bits.specs.Reader.{Reads, reader_bits, reader_bytes};
 ghost use Rattle.avc_vlc.specs.Reading.{run_before, run_table};
-ghost use Rattle.avc_vlc.specs.Indexing.{Decides, Shows};
+ghost use Rattle.avc_vlc.specs.Indexing.{AreRuns, Decides, Shows, entry_of_run, few_table};
 ghost use Rattle.avc_vlc.specs.Writing.{is_number_same, run_word, word_bits, word_of};
 ghost use Rattle.std.specs.Option.{option_map};
 
 use crate::code::Code;
 use crate::codeword::Codeword;
-use crate::entry::{Entry, entry, number_at, number_of_three, row4, row8};
+use crate::entry::{Entry, entry, number_at, row4};
 use avc_bits::BitReader;
 use avc_types::Fault;
+
+// a codeword: how many bits it has, and how many zeros it stands for
+#[derive(Clone, Copy)]
+struct Run {
+    length: u8,
+    zeros: u8,
+}
 
 /// Reads how many zeros stand right before a level, where `zeros_left` zeros are left for it and those before it.
 /// Answers `Truncated`, or `BadCode` where no codeword stands or the run is longer; the reader then stays.
@@ -22,12 +29,29 @@ pub fn read_run_before(reader: &mut BitReader, zeros_left: u8) -> Result<u8, Fau
     ensures most { IfOk result (λ run. run ≤ zeros_left) }
     ensures stays { OnErr result (reader.new ≡ reader.old) }
 {
-    if reader.has_many() {
-        let code = Code::<16>::look(reader);
-        read_coded(reader, run_entry(code, zeros_left), zeros_left)
-    } else {
-        read_near_end(reader, zeros_left)
+    if !reader.has_many() {
+        return read_near_end(reader, zeros_left);
     }
+    if zeros_left > 0 && zeros_left <= 6 {
+        return Ok(read_few(reader, zeros_left));
+    }
+    let code = Code::<16>::look(reader);
+    read_coded(reader, run_entry(code, zeros_left), zeros_left)
+}
+
+// The same where one to six zeros are left and the stop bit is not near: any three bits begin with a codeword.
+#[inline(always)]
+fn read_few(reader: &mut BitReader, zeros_left: u8) -> u8
+    requires some { 1 ≤ zeros_left }
+    requires few { zeros_left ≤ 6 }
+    requires ahead { 256 ≤ length (reader_bits reader.old).ahead }
+    ensures read { run_before zeros_left (reader_bits reader.old) ≡ Ok (result, reader_bits reader.new) }
+    ensures bytes { reader_bytes reader.new ≡ reader_bytes reader.old }
+    ensures most { result ≤ zeros_left }
+{
+    let run = few_run(Code::<16>::look(reader), zeros_left);
+    reader.skip_ahead(u32::from(run.length));
+    run.zeros
 }
 
 // The same, where the stop bit may be near.
@@ -108,11 +132,40 @@ fn few_entry(code: Code<16>, zeros_left: u8) -> Entry<u8>
     requires { zeros_left ≤ 6 }
     ensures { (ahead : List Bool) → Shows code ahead → Decides (run_table zeros_left) ahead result }
 {
-    number_of_three(
+    let run = run_of_three(
         code,
         &RUNS_BY_FRONT,
         usize::from(zeros_left.saturating_sub(1)),
-    )
+    );
+    Entry {
+        length: run.length,
+        value: Some(run.zeros),
+    }
+}
+
+// the same where one to six are left
+#[inline(always)]
+fn few_run(code: Code<16>, zeros_left: u8) -> Run
+    requires some { 1 ≤ zeros_left }
+    requires few { zeros_left ≤ 6 }
+    ensures decides { (ahead : List Bool) → Shows code ahead → Decides (run_table zeros_left) ahead (entry_of_run result) }
+    ensures most { result.zeros ≤ zeros_left }
+    ensures short { result.length ≤ 3 }
+{
+    run_of_three(code, &RUNS_BY_FRONT, usize::from(zeros_left - 1))
+}
+
+// What the first three bits decide by one of the tables, each of which has an entry for each value of them.
+#[inline(always)]
+fn run_of_three(code: Code<16>, tables: &[[Run; 8]], table: usize) -> Run
+    requires there { table < length tables.now }
+    requires few { table < 6 }
+    ensures decides { (ahead : List Bool) → AreRuns tables.now → Shows code ahead → Decides (few_table table) ahead (entry_of_run result) }
+    ensures most { AreRuns tables.now → result.zeros ≤ table + 1 }
+    ensures short { AreRuns tables.now → result.length ≤ 3 }
+{
+    let front = code.front(3) as usize;
+    tables[table][front]
 }
 
 /// The codeword of so many zeros right before a level, where `zeros_left` zeros are left for it and those before it;
@@ -167,8 +220,15 @@ macro_rules! by_zeros {
     };
 }
 
+// The same as runs.
+macro_rules! runs8 {
+    ($(($length:literal, $zeros:literal)),+) => {
+        [$(Run { length: $length, zeros: $zeros }),+]
+    };
+}
+
 // By zerosLeft, 1 to 6.
-static RUNS_BY_FRONT: [[Entry<u8>; 8]; 6] = few_runs!(row8);
+static RUNS_BY_FRONT: [[Run; 8]; 6] = few_runs!(runs8);
 
 static RUNS_OF_FEW: [[[Entry<u8>; 4]; 4]; 6] = few_runs!(by_zeros);
 

@@ -1,4 +1,4 @@
-use Rattle.avc_cavlc.proofs.Levels.{Ok, ap, arith, ◌∙◌, reader_bits, level_of_code, few_skipped, skipped_is, never_cut}
+use Rattle.avc_cavlc.proofs.Levels.{Ok, ap, ◌∙◌, reader_bits, level_of_code, skipped_is, never_cut}
 use Rattle.avc_cavlc.proofs.level.read_long_code.Goals as goal
 
 pub returns-in_err-skip-clause-read : goal.returns-in_err-skip-clause-read
@@ -9,7 +9,3 @@ pub returns-clause-read : goal.returns-clause-read
 returns-clause-read c =
     let left = skipped_is c.in_ok-code.code.length (reader_bits c.args.reader.now) (reader_bits c.skip.new.self) c.in_ok-code.ensures.read.1 c.in_ok-skip.ensures.read.0 in
     (c.in_ok-code.ensures.read.0 ∙ ap (λ b. Ok (level_of_code c.in_ok-code.code.number, b)) left, c.in_ok-skip.ensures.read.1)
-
-pub returns-clause-short : goal.returns-clause-short
-returns-clause-short c =
-    omega (arith, c.in_ok-code.ensures.short, few_skipped c.in_ok-code.code.length (reader_bits c.args.reader.now) (reader_bits c.skip.new.self) c.in_ok-code.ensures.read.1 c.in_ok-skip.ensures.read.0)

@@ -1,8 +1,5 @@
-use Rattle.avc_vlc.proofs.Entries.{arith, ◌≡◌, ◌≤◌, ℕ, Ok, refl, le-leb, Bits, reader_bits, run_before, run_table, table_code, reads_word, reads_cut}
+use Rattle.avc_vlc.proofs.Entries.{arith, refl, reader_bits, run_table, reads_word, reads_cut, run_read}
 use Rattle.avc_vlc.proofs.run_before.read_coded.Goals as goal
-
-run_read : (zeros_left run : ℕ) (b left : Bits) → table_code (run_table zeros_left) b ≡ Ok (run, left) → run ≤ zeros_left → run_before zeros_left b ≡ Ok (run, left)
-run_read zeros_left run b left is few = rw (is, le-leb run zeros_left few) refl
 
 pub returns-in-Ok-clause-read : goal.returns-in-Ok-clause-read
 returns-in-Ok-clause-read c =
