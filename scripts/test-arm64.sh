@@ -89,7 +89,7 @@ by_shared_library() {
 is_packaged() {
     TARGET=aarch64-unknown-linux-gnu CC=$cc AR=$ar OBJCOPY=$objcopy "$top/scripts/package.sh" "$work/avcdec.deb" &&
         [ "$(dpkg-deb --field "$work/avcdec.deb" Architecture)" = arm64 ] &&
-        dpkg-deb --contents "$work/avcdec.deb" | grep -q './usr/lib/libavcdec.a' && ! dpkg-deb --contents "$work/avcdec.deb" | grep -q './usr/bin'
+        dpkg-deb --contents "$work/avcdec.deb" >"$work/contents" && grep -q './usr/lib/libavcdec.a' "$work/contents" && ! grep -q './usr/bin' "$work/contents"
 }
 
 holds 'the shared library' by_shared_library
