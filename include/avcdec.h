@@ -94,7 +94,7 @@ typedef struct avcdec_event {
     uint32_t crop_left, crop_right, crop_top, crop_bottom; /* of a picture: luma samples not shown, from each side; all even */
 } avcdec_event;
 
-/* The name of a status, as "out of memory". */
+/* The name of a status, as "out of memory". What this header defines itself (static inline) is tested, and not proved as the rest is. */
 static inline const char *avcdec_status_name(avcdec_status status) {
     switch (status) {
     case AVCDEC_OK: return "ok";

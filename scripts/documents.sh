@@ -1,6 +1,6 @@
 #!/bin/sh
 # documents.sh [check]: makes the documents that are made of the sources; with `check` it changes none, and says which are out of date. It
-# sees too that what docs/PROVED.md quotes stands in the sources, and that the version is one.
+# sees too that what docs/PROVED.md quotes stands in the sources, that the version is one, and that README's numbers are those of this commit.
 set -eu
 cd "$(dirname "$0")/.."
 page=$(mktemp)
@@ -21,4 +21,5 @@ for made in trusted:TRUSTED.md crates:CRATES.md codewords:CODEWORDS.md manual:li
 done
 scripts/quoted.sh || status=1
 scripts/version.sh >/dev/null || status=1
+scripts/numbers.py ${1:+"$1"} || status=1
 exit "$status"

@@ -1,10 +1,11 @@
 #!/bin/sh
 # install.sh PREFIX: installs the program and the library below PREFIX: bin/avcdec, lib/libavcdec.a, lib/libavcdec.so,
-# include/avcdec.h, lib/pkgconfig/avcdec.pc, share/man/man3/libavcdec.3, share/man/man1/avcdec.1, share/bash-completion/completions/avcdec.
-# What is not built yet is proved and built first.
+# include/avcdec.h, lib/pkgconfig/avcdec.pc, share/man/man3/libavcdec.3, share/man/man1/avcdec.1, share/bash-completion/completions/avcdec,
+# and in share/doc/avcdec README.md, CHANGELOG.md, behaviour.md and the list of faults, faults.tsv.
+# What is not proved and built yet is so first, by scripts/prove.py.
 #
-# DESTDIR, where it is set, stands before PREFIX, as packages want it. LIBRARY_ONLY=1 leaves the program out. CC is the C compiler,
-# AR and OBJCOPY binutils' ar and objcopy.
+# DESTDIR, where it is set, stands before PREFIX, as packages want it. LIBDIR is the library's folder below PREFIX, lib unless named.
+# LIBRARY_ONLY=1 leaves the program out. CC is the C compiler, AR and OBJCOPY binutils' ar and objcopy.
 #
 # TARGET=aarch64-unknown-linux-gnu proves and builds the library for ARM64, over what is proved already; CC, AR and OBJCOPY are then the
 # cross compiler's (aarch64-linux-gnu-gcc, -ar and -objcopy unless named). There is no program for it: the toolchain has the C code that its
@@ -15,19 +16,25 @@ if [ $# -ne 1 ]; then
     exit 2
 fi
 top=$(cd "$(dirname "$0")/.." && pwd)
+# shellcheck source=scripts/say.sh
+. "$top/scripts/say.sh"
 prefix=$1
 to=${DESTDIR:-}$prefix
+libdir=${LIBDIR:-lib}
 target=${TARGET:-x86_64-unknown-linux-gnu}
 case $target in
 x86_64-unknown-linux-gnu)
     cc=${CC:-cc}
     ar=${AR:-ar}
     objcopy=${OBJCOPY:-objcopy}
+    # the level that the proved code is built for; where a processor has less, the loader says so and starts nothing
+    level=-Wl,-z,x86-64-v2
     ;;
 aarch64-unknown-linux-gnu)
     cc=${CC:-aarch64-linux-gnu-gcc}
     ar=${AR:-aarch64-linux-gnu-ar}
     objcopy=${OBJCOPY:-aarch64-linux-gnu-objcopy}
+    level=
     LIBRARY_ONLY=1
     ;;
 *)
@@ -36,7 +43,7 @@ aarch64-unknown-linux-gnu)
     ;;
 esac
 work=$(mktemp -d)
-trap 'put_back; rm -rf "$work"' EXIT
+trap 'hush; put_back; rm -rf "$work"' EXIT
 trap 'exit 130' INT TERM
 
 # the version that the header tells
@@ -57,58 +64,56 @@ put_back() {
     if [ -e "$work/aside.a" ]; then mv -f "$work/aside.a" "$built"; fi
 }
 
+# proves and builds the library for this machine
 build() {
-    (cd "$top/crates/avc_c" && rt lib "$@" >&2 </dev/null)
+    "$top/scripts/prove.py" avc_c >&2
     touch "$built"
 }
 
 build_for_target() {
     if [ -e "$built" ]; then mv "$built" "$work/aside.a"; fi
-    build --target "$target"
-    mkdir -p "$(dirname "$library")"
-    mv -f "$built" "$library"
+    (cd "$top/crates/avc_c" && rt lib --target "$target") && mkdir -p "$(dirname "$library")" && mv -f "$built" "$library" && touch "$library" || return 1
     put_back
 }
 
 program=$top/crates/avc_cli/out/avc_cli
 library=$built
 [ "$target" = x86_64-unknown-linux-gnu ] || library=$top/crates/avc_c/out/$target/libavc_c.a
+say "to $to"
 if [ -z "${LIBRARY_ONLY:-}" ]; then
     "$top/avcdec" --help >/dev/null
 fi
 if is_old "$library"; then
-    if [ "$library" = "$built" ]; then build; else build_for_target; fi
+    if is_old "$built"; then build; fi
+    if [ "$library" != "$built" ]; then during "the library is proved and built for $target" build_for_target; fi
 fi
 "$cc" -O2 -fPIC -Wall -Wextra -I "$top/include" -c "$top/bindings/c/heap.c" -o "$work/heap.o"
 
 # the static library: the proved code and the heap, as one object of which only the names of the header are seen, so that two such
 # libraries stand in one program
-"$cc" -r -nostdlib -o "$work/avcdec.o" -Wl,--whole-archive "$library" -Wl,--no-whole-archive "$work/heap.o"
+"$cc" -r -nostdlib -o "$work/avcdec.o" ${level:+"$level"} -Wl,--whole-archive "$library" -Wl,--no-whole-archive "$work/heap.o"
 "$objcopy" --wildcard --keep-global-symbol='avcdec_*' "$work/avcdec.o"
-"$ar" rcs "$work/libavcdec.a" "$work/avcdec.o"
+"$ar" rcsD "$work/libavcdec.a" "$work/avcdec.o"
 
 # the shared library: of all names only those of the header are seen
 "$cc" -shared -o "$work/libavcdec.so" -Wl,-soname,"libavcdec.so.$major" -Wl,--version-script="$top/bindings/c/avcdec.map" -Wl,-z,relro,-z,now \
     -Wl,--whole-archive "$work/libavcdec.a" -Wl,--no-whole-archive -Wl,--no-undefined
 
-sed "s|@PREFIX@|$prefix|; s|@VERSION@|$version|" "$top/bindings/c/avcdec.pc.in" >"$work/avcdec.pc"
+sed "s|@PREFIX@|$prefix|; s|@LIBDIR@|$libdir|; s|@VERSION@|$version|" "$top/bindings/c/avcdec.pc.in" >"$work/avcdec.pc"
+"$top/scripts/faults.sh" >"$work/faults.tsv"
 
-mkdir -p "$to/include" "$to/lib/pkgconfig"
+mkdir -p "$to/include" "$to/$libdir/pkgconfig" "$to/share/man/man3" "$to/share/doc/avcdec"
 install -m 644 "$top/include/avcdec.h" "$to/include/avcdec.h"
-install -m 644 "$work/libavcdec.a" "$to/lib/libavcdec.a"
-install -m 644 "$work/libavcdec.so" "$to/lib/libavcdec.so.$version"
-ln -sf "libavcdec.so.$version" "$to/lib/libavcdec.so.$major"
-ln -sf "libavcdec.so.$major" "$to/lib/libavcdec.so"
-install -m 644 "$work/avcdec.pc" "$to/lib/pkgconfig/avcdec.pc"
-mkdir -p "$to/share/man/man3"
+install -m 644 "$work/libavcdec.a" "$to/$libdir/libavcdec.a"
+install -m 644 "$work/libavcdec.so" "$to/$libdir/libavcdec.so.$version"
+ln -sf "libavcdec.so.$version" "$to/$libdir/libavcdec.so.$major"
+ln -sf "libavcdec.so.$major" "$to/$libdir/libavcdec.so"
+install -m 644 "$work/avcdec.pc" "$to/$libdir/pkgconfig/avcdec.pc"
 install -m 644 "$top/docs/libavcdec.3" "$to/share/man/man3/libavcdec.3"
+install -m 644 "$top/README.md" "$top/CHANGELOG.md" "$top/docs/behaviour.md" "$work/faults.tsv" "$to/share/doc/avcdec"
 if [ -z "${LIBRARY_ONLY:-}" ]; then
-    mkdir -p "$to/bin"
+    mkdir -p "$to/bin" "$to/share/man/man1" "$to/share/bash-completion/completions"
     install -m 755 "$program" "$to/bin/avcdec"
-    if [ -e "$top/docs/avcdec.1" ]; then
-        mkdir -p "$to/share/man/man1"
-        install -m 644 "$top/docs/avcdec.1" "$to/share/man/man1/avcdec.1"
-    fi
-    mkdir -p "$to/share/bash-completion/completions"
+    install -m 644 "$top/docs/avcdec.1" "$to/share/man/man1/avcdec.1"
     install -m 644 "$top/docs/avcdec.bash" "$to/share/bash-completion/completions/avcdec"
 fi

@@ -1,6 +1,6 @@
 #!/bin/sh
 # Writes docs/libavcdec.3 to standard output: the manual of the library, made of include/avcdec.h, with its comments and declarations in
-# their order.
+# their order, and of the list of faults.
 set -eu
 export LC_ALL=C
 cd "$(dirname "$0")/.."
@@ -89,5 +89,10 @@ awk '
         if (/^}/) { in_body = 0; print ".fi"; say() }
         next
     }
-    END { print ".SH SEE ALSO\n.BR avcdec (1)" }
 ' include/avcdec.h
+echo .SH FAULTS
+scripts/faults.sh | awk -F '\t' '
+    function shown(text) { gsub(/\\/, "\\e", text); gsub(/-/, "\\-", text); return text }
+    { print ".TP\n.B " $1 " " $2 "\n" toupper(substr($3, 1, 1)) shown(substr($3, 2)) ($4 == "" ? "." : " (" shown($4) ").") }
+'
+printf '.SH SEE ALSO\n.BR avcdec (1)\n'

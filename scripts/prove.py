@@ -1,5 +1,6 @@
 #!/usr/bin/env python3
-"""prove.py CRATE..: proves the crates named and all that they stand on, and builds them: a program, or a library.
+"""prove.py [--tests] CRATE..: proves the crates named and all that they stand on, and builds them: a program, or a library, or with --tests
+the program of their tests, which is run.
 
 Crates that don't stand on each other are proved side by side, one a processor (a proof uses little more than one), as many as memory
 holds, and first those with the longest way of others behind them. A second proof can't go on in the folders of one repository, so each
@@ -212,18 +213,26 @@ class Proofs:
             say(f"{name} could not be proved; see above")
 
 
-def build(names, jobs):
-    """Proves and builds what was named in the repository itself, which takes what the copies have proved. One command does both: a check
-    before it would prove the crate twice."""
+def verb_of(name, jobs, tests):
+    """One command proves and builds: a check before it would prove the crate twice."""
+    if tests:
+        return ["rt", "test"]
+    if os.path.isfile(f"{TOP}/crates/{name}/src/main.rt"):
+        return ["rt", "run", "--jobs", str(jobs), "--", "--help"]
+    return ["rt", "lib", "--jobs", str(jobs)]
+
+
+def build(names, jobs, tests, times):
+    """Proves and builds what was named in the repository itself, which takes what the copies have proved."""
     for name in names:
-        is_program = os.path.isfile(f"{TOP}/crates/{name}/src/main.rt")
-        verb = ["rt", "run", "--jobs", str(jobs), "--", "--help"] if is_program else ["rt", "lib", "--jobs", str(jobs)]
+        verb = verb_of(name, jobs, tests)
         started = time.time()
         ends = threading.Event()
 
         def tell(name=name, started=started, ends=ends):
+            whole = f" of about {times[name] / 60:.0f} min" if name in times else ""
             while not ends.wait(EVERY):
-                say(f"{name} is proved and built, for {(time.time() - started) / 60:.0f} min")
+                say(f"{name}{', its tests,' if tests else ''} is proved and built, for {(time.time() - started) / 60:.1f}{whole}")
 
         threading.Thread(target=tell, daemon=True).start()
         run = subprocess.run(verb, cwd=f"{TOP}/crates/{name}", stdin=subprocess.DEVNULL, capture_output=True, text=True, check=False)
@@ -235,8 +244,8 @@ def build(names, jobs):
 
 
 def main(names):
-    plan = "--plan" in names
-    names = [it for it in names if it != "--plan"]
+    plan, tests = "--plan" in names, "--tests" in names
+    names = [it for it in names if it not in ("--plan", "--tests")]
     below = crates()
     if not names or any(it not in below for it in names):
         print(__doc__, file=sys.stderr)
@@ -265,10 +274,10 @@ def main(names):
         proofs.run(room)
         if proofs.failed:
             sys.exit(70)
-        build(names, jobs)
+        build(names, jobs, tests, times)
         shutil.rmtree(room, ignore_errors=True)
     else:
-        build(names, 1)
+        build(names, 1, tests, times)
 
 
 if __name__ == "__main__":

@@ -87,9 +87,13 @@ by_shared_library() {
 }
 
 is_packaged() {
-    TARGET=aarch64-unknown-linux-gnu CC=$cc AR=$ar OBJCOPY=$objcopy "$top/scripts/package.sh" "$work/avcdec.deb" &&
-        [ "$(dpkg-deb --field "$work/avcdec.deb" Architecture)" = arm64 ] &&
-        dpkg-deb --contents "$work/avcdec.deb" >"$work/contents" && grep -q './usr/lib/libavcdec.a' "$work/contents" && ! grep -q './usr/bin' "$work/contents"
+    TARGET=aarch64-unknown-linux-gnu CC=$cc AR=$ar OBJCOPY=$objcopy "$top/scripts/debian.sh" "$work/debian" || return 1
+    for package in "$work"/debian/*.deb; do
+        [ "$(dpkg-deb --field "$package" Architecture)" = arm64 ] || return 1
+    done
+    dpkg-deb --contents "$work"/debian/libavcdec0_*.deb | grep -q './usr/lib/aarch64-linux-gnu/libavcdec.so.0' &&
+        dpkg-deb --contents "$work"/debian/libavcdec-dev_*.deb | grep -q './usr/lib/aarch64-linux-gnu/libavcdec.a' &&
+        [ "$(find "$work/debian" -name '*.deb' | wc -l)" = 2 ]
 }
 
 holds 'the shared library' by_shared_library

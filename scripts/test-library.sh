@@ -82,7 +82,7 @@ for file in decode call; do
     holds "$file" compile "$top/examples/c/$file.c" "$file" "$sanitizer"
     holds "$file for C++" "$cxx" -x c++ -std=c++11 -Wall -Wextra -Wpedantic -Werror -I"$work/usr/include" -c "$top/examples/c/$file.c" -o "$work/$file.o"
 done
-for file in pieces growths packets; do
+for file in pieces growths packets faults; do
     holds "$file" compile "$top/bindings/c/tests/$file.c" "$file" "$sanitizer"
 done
 told
@@ -103,6 +103,35 @@ else
     left_out 'names of the static library' 'there is no nm'
 fi
 
+# whether a program with this library tells a processor below x86-64-v2 that it is, and ends
+tells_level() {
+    for words in "$1" "-L$work/usr/lib -lavcdec"; do
+        # shellcheck disable=SC2086 # they are words
+        "$cc" -O2 -I"$work/usr/include" "$top/examples/c/decode.c" -o "$work/leveled" $words || return 1
+        LD_LIBRARY_PATH=$work/usr/lib qemu-x86_64 -cpu core2duo "$work/leveled" "$vectors/cases/gap.264" "$work/out" >"$work/told" 2>&1
+        [ $? = 127 ] && grep -q 'CPU ISA level is lower than required' "$work/told" || return 1
+        LD_LIBRARY_PATH=$work/usr/lib qemu-x86_64 -cpu Nehalem "$work/leveled" "$vectors/cases/gap.264" "$work/out" 2>"$work/told"
+        is_decoded "$vectors/cases/gap" $? "$vectors/cases/gap.md5" || return 1
+    done
+}
+
+if [ "$(uname -m)" = x86_64 ] && has qemu-x86_64; then
+    part 'a processor below x86-64-v2'
+    holds 'told' tells_level "$library"
+    told
+else
+    left_out 'a processor below x86-64-v2' 'there is no qemu-x86_64'
+fi
+
+# whether the list of faults that is installed has the numbers and names of the library
+has_all_faults() {
+    "$work/faults" >"$work/named" && cut -f 1,2 "$work/usr/share/doc/avcdec/faults.tsv" | cmp -s - "$work/named"
+}
+
+part 'list of faults'
+holds 'that of the library' has_all_faults
+told
+
 part 'examples/c/decode.c'
 for stream in "$vectors"/*/*.264; do
     base=${stream%.264}
@@ -121,8 +150,13 @@ of_example() {
     awk -v wanted="$1" '/^ \*\// { exit } /^ \*$/ { part++ } /^ \*     / && part == wanted { print substr($0, 8) }' "$work/usr/include/avcdec.h"
 }
 
-# a program of the example, which writes what it shows and tells what is refused
-{
+# the lines of an example in README.md: from the one that begins by these words to the one that begins by those
+of_readme() {
+    awk -v first="$1" -v last="$2" 'index($0, first) == 5 { on = 1 } on { print } on && index($0, last) == 5 { exit }' "$top/README.md"
+}
+
+# a program of the example's calls, which writes what it shows and tells what is refused
+program_of() {
     cat <<'C'
 #include <avcdec.h>
 #include <stdio.h>
@@ -150,14 +184,18 @@ int main(int count, char **words) {
     size_t length = fread(bytes, 1, sizeof bytes, in);
     fclose(in);
 C
-    of_example 2
+    "$@"
     echo '    return fclose(out) ? 3 : status; }'
-} >"$work/example.c"
-part 'the example in the header'
-holds 'compiled' compile "$work/example.c" example "$sanitizer"
-for stream in cases/gap cases/held_before_refusal corners/five_g121 encoder/pub_x_crop_18x34; do
-    "$work/example" "$vectors/$stream.264" "$work/out" 2>"$work/told"
-    holds "$stream" is_decoded "$vectors/$stream" $? "$vectors/$stream.md5"
+}
+program_of of_example 2 >"$work/header.c"
+program_of of_readme 'avcdec_decoder decoder' avcdec_close >"$work/readme.c"
+part 'the examples in the header and in README.md'
+for example in header readme; do
+    holds "$example, compiled" compile "$work/$example.c" "$example" "$sanitizer"
+    for stream in cases/gap cases/held_before_refusal corners/five_g121 encoder/pub_x_crop_18x34; do
+        "$work/$example" "$vectors/$stream.264" "$work/out" 2>"$work/told"
+        holds "$example, $stream" is_decoded "$vectors/$stream" $? "$vectors/$stream.md5"
+    done
 done
 told
 
@@ -211,29 +249,7 @@ else
     left_out 'pkg-config' 'it is not there'
 fi
 
-# whether the package is installed whole, and removed without a rest
-is_installed_and_removed() {
-    "$top/scripts/package.sh" "$work/avcdec.deb" || return 1
-    root=$work/root
-    mkdir -p "$root/var/lib/dpkg/info" "$root/var/lib/dpkg/updates" "$root/var/lib/dpkg/triggers"
-    : >"$root/var/lib/dpkg/status"
-    dpkg --root="$root" --log=/dev/null --force-not-root --force-depends --install "$work/avcdec.deb" >"$work/dpkg" 2>&1 || { cat "$work/dpkg"; return 1; }
-    for file in bin/avcdec lib/libavcdec.so lib/libavcdec.a include/avcdec.h lib/pkgconfig/avcdec.pc; do
-        [ -e "$root/usr/$file" ] || return 1
-    done
-    "$root/usr/bin/avcdec" decode <"$vectors/cases/gap.264" >"$work/out" 2>"$work/told"
-    is_decoded "$vectors/cases/gap" $? "$vectors/cases/gap.md5" || return 1
-    dpkg --root="$root" --log=/dev/null --force-not-root --purge avcdec >"$work/dpkg" 2>&1 || { cat "$work/dpkg"; return 1; }
-    [ -z "$(find "$root" -path "$root/var" -prune -o ! -type d -print)" ]
-}
-
-if has dpkg-deb; then
-    part 'Debian package'
-    holds 'installed and removed' is_installed_and_removed
-    told
-else
-    left_out 'Debian package' 'there is no dpkg-deb'
-fi
+"$top/scripts/test-package.sh" || all_well=false
 
 # whether a program takes at most 60 MB of memory on a small stream of many pictures, and decodes it
 is_small() {
@@ -263,12 +279,65 @@ decodes() {
     [ -z "$memory" ] || is_small "$@"
 }
 
+# the tests of the crate in a folder, which are counted
+cargo_tests() {
+    AVCDEC_LIB_DIR=$work/usr/lib CARGO_TARGET_DIR=$work/cargo cargo test --offline --release --manifest-path "$1/Cargo.toml" >"$work/cargo.log" 2>&1 ||
+        { cat "$work/cargo.log"; failed=1; }
+    passed=$((passed + $(awk '/^test result:/ { count += $4 } END { print count + 0 }' "$work/cargo.log")))
+}
+
+# whether the build says what to set where the library is not
+says_what_to_set() {
+    ! AVCDEC_LIB_DIR=$work CARGO_TARGET_DIR=$work/lacking cargo build --offline --manifest-path "$top/bindings/rust/Cargo.toml" 2>"$work/told" &&
+        grep -q "AVCDEC_LIB_DIR names the folder '$work', where it is not" "$work/told" && grep -q 'AVCDEC_LIB_DIR=PREFIX/lib' "$work/told"
+}
+
+# whether the crate is packed whole: its tests pass where it is unpacked
+is_packed() {
+    AVCDEC_LIB_DIR=$work/usr/lib CARGO_TARGET_DIR=$work/cargo cargo package --offline --allow-dirty --quiet --manifest-path "$top/bindings/rust/Cargo.toml" \
+        >"$work/told" 2>&1 || { cat "$work/told"; return 1; }
+    mkdir "$work/crate" && tar -C "$work/crate" --strip-components 1 -xzf "$work"/cargo/package/avcdec-*.crate
+}
+
+# An example of README.md decodes in.264, in a folder of its own, and tells a line for each picture and each refusal.
+tells_events() {
+    mkdir -p "$work/reading"
+    for stream in cases/gap cases/held_before_refusal; do
+        cp "$vectors/$stream.264" "$work/reading/in.264"
+        (cd "$work/reading" && "$@") >"$work/lines" 2>"$work/told" || { cat "$work/told"; return 1; }
+        pictures=$("$work/decode" "$vectors/$stream.264" - 2>/dev/null | wc -c)
+        [ "$(grep -c '^[0-9P]' "$work/lines")" = $((pictures / 384)) ] || return 1
+        cat "$work/told" "$work/lines" | grep '^refused' | cmp -s - "$vectors/$stream.refused" || return 1
+    done
+}
+
+# the example of README.md in Rust, in a crate of its own
+is_read_by_rust() {
+    mkdir -p "$work/readme_crate/src"
+    printf '[package]\nname = "readme"\nversion = "0.1.0"\nedition = "2021"\n[dependencies]\navcdec = { path = "%s" }\n' "$top/bindings/rust" \
+        >"$work/readme_crate/Cargo.toml"
+    {
+        echo 'use std::fs::File;'
+        echo "fn show<'a>(rows: impl Iterator<Item = &'a [u8]>) -> std::io::Result<()> { Ok(println!(\"{} rows\", rows.count())) }"
+        echo 'fn main() -> std::io::Result<()> {'
+        of_readme 'avcdec::decode(' '})?;'
+        echo 'Ok(()) }'
+    } >"$work/readme_crate/src/main.rs"
+    AVCDEC_LIB_DIR=$work/usr/lib CARGO_TARGET_DIR=$work/cargo cargo build --offline --release --quiet --manifest-path "$work/readme_crate/Cargo.toml" \
+        >"$work/told" 2>&1 || { cat "$work/told"; return 1; }
+    tells_events "$work/cargo/release/readme"
+}
+
 if has cargo; then
     part 'bindings/rust'
-    AVCDEC_LIB_DIR=$work/usr/lib AVCDEC_VECTORS=$vectors CARGO_TARGET_DIR=$work/cargo \
-        cargo test --offline --release --manifest-path "$top/bindings/rust/Cargo.toml" >"$work/cargo.log" 2>&1 || { cat "$work/cargo.log"; failed=1; }
-    passed=$(awk '/^test result:/ { count += $4 } END { print count + 0 }' "$work/cargo.log")
+    cargo_tests "$top/bindings/rust"
     [ "$passed" -gt 0 ] || failed=1
+    holds 'a missing library' says_what_to_set
+    holds 'cargo package' is_packed
+    before=$passed
+    cargo_tests "$work/crate"
+    [ "$passed" -gt "$before" ] || failed=1
+    holds 'the example in README.md' is_read_by_rust
     holds 'bindings/rust/examples/decode.rs' decodes "$work/cargo/release/examples/decode"
     told
 else
@@ -285,6 +354,27 @@ for each in python3 /usr/bin/python3; do
         break
     fi
 done
+# whether pip installs the package without a network, with the library in it, and its tests pass there
+is_installed_by_pip() {
+    if AVCDEC_LIBRARY='' "$python" -m pip install --quiet --disable-pip-version-check --no-index --target "$work/site" "$top/bindings/python" >"$work/told" 2>&1 &&
+        [ -e "$work/site/avcdec/libavcdec.so.0" ] &&
+        (cd "$work" && AVCDEC_LIBRARY='' AVCDEC_VECTORS=$vectors PYTHONPATH=$work/site "$python" -m unittest discover -s "$top/bindings/python/tests" >"$work/told" 2>&1); then
+        return 0
+    fi
+    cat "$work/told"
+    return 1
+}
+
+# the example of README.md in Python
+is_read_by_python() {
+    { echo 'import avcdec' && of_readme 'for event in avcdec.decode(' 'for event in avcdec.decode(' | sed 's/^    //'; } >"$work/readme.py"
+    tells_events env AVCDEC_LIBRARY="$work/usr/lib/libavcdec.so" PYTHONPATH="$top/bindings/python" PYTHONDONTWRITEBYTECODE=1 "$python" "$work/readme.py"
+}
+
+is_typed() {
+    (cd "$top/bindings/python" && "$1" -m mypy --strict --cache-dir "$work/mypy" avcdec make_wheel.py >"$work/told" 2>&1) || { cat "$work/told"; return 1; }
+}
+
 if [ -n "$python" ]; then
     part 'bindings/python'
     AVCDEC_LIBRARY=$work/usr/lib/libavcdec.so AVCDEC_VECTORS=$vectors PYTHONPATH=$top/bindings/python PYTHONDONTWRITEBYTECODE=1 \
@@ -292,6 +382,19 @@ if [ -n "$python" ]; then
     passed=$(sed -n 's/^Ran \([0-9]*\) test.*/\1/p' "$work/python.log")
     passed=${passed:-0}
     [ "$passed" -gt 0 ] || failed=1
+    if "$python" -m pip --version >/dev/null 2>&1; then
+        holds 'pip install' is_installed_by_pip
+    else
+        left_out 'pip install' 'there is no pip'
+    fi
+    if "$python" -m mypy --version >/dev/null 2>&1; then
+        holds 'mypy --strict' is_typed "$python"
+    elif has mypy; then
+        holds 'mypy --strict' is_typed /usr/bin/python3
+    else
+        left_out 'mypy --strict' 'it is not there'
+    fi
+    holds 'the example in README.md' is_read_by_python
     holds 'examples/python/decode.py' decodes env AVCDEC_LIBRARY="$work/usr/lib/libavcdec.so" PYTHONPATH="$top/bindings/python" PYTHONDONTWRITEBYTECODE=1 \
         "$python" "$top/examples/python/decode.py"
     told
@@ -300,4 +403,10 @@ else
     left_out 'bindings/python' 'there is no python3'
 fi
 "$top/scripts/test-arm64.sh" || all_well=false
+if "$top/scripts/first-steps.sh" check; then
+    echo 'library, docs/first-steps.md: 1 passed, 0 failed'
+else
+    echo 'library, docs/first-steps.md: 0 passed, 1 failed'
+    all_well=false
+fi
 "$all_well"

@@ -3,12 +3,16 @@
 # by unit with its planes lent, and of the tests about want of memory. The program must end with status 4 and one line, having written a first part of what it writes with ample memory, or do all
 # as with ample memory, where it can do without that growth; the tests say themselves what must stand. Then each read of the program
 # fails once, though those after it would not: it must end with status 3 and one line, having written a first part. Wants a C compiler,
-# and the built program and tests. The last line is 'N passed, M failed', where N counts growths and reads.
+# and the program, the library and the tests: what is not proved and built yet is so first. The last line is 'N passed, M failed', where N
+# counts growths and reads; how far it is stands on standard error.
 set -u
 here=$(cd "$(dirname "$0")" && pwd)
 top=$(dirname "$here")
+# shellcheck source=scripts/say.sh
+. "$top/scripts/say.sh"
 room=$(mktemp -d)
-trap 'rm -rf "$room"' EXIT
+trap 'hush; rm -rf "$room"' EXIT
+trap 'exit 130' INT TERM
 
 cat >"$room/refuse.c" <<'C'
 #define _GNU_SOURCE
@@ -72,6 +76,7 @@ fi
 
 # Does these words beside all others, in a folder of their own, which holds afterwards what they told and how many passed and failed.
 jobs=0
+started=
 beside() {
     jobs=$((jobs + 1))
     work=$room/$jobs
@@ -82,6 +87,12 @@ beside() {
         "$@"
         echo "$passed $failed" >"$work/counts"
     ) >"$work/log" 2>&1 &
+    started="$started $!"
+}
+
+# how many of them have ended
+how_far() {
+    echo "$(find "$room" -name counts | wc -l) of $jobs parts have ended"
 }
 
 # counts one growth, or one read
@@ -168,19 +179,20 @@ growing_at_most() {
     judge $? "growths in $3"
 }
 
+say 'refuses each growth of memory once: of the program, of the library, of tests'
 "$top/avcdec" --help >/dev/null || exit 1
 program=$top/crates/avc_cli/out/avc_cli
-# The tests' programs are those that the gate has built, or are built now.
-for crate in avc_tests avc_stream_tests; do
-    if [ ! -x "$top/crates/$crate/out/${crate}_tests" ] && ! (cd "$top/crates/$crate" && rt test) >"$room/built" 2>&1; then
-        cat "$room/built"
-        exit 1
-    fi
-done
 library=$top/crates/avc_c/out/libavc_c.a
-if [ ! -e "$library" ] && ! (cd "$top/crates/avc_c" && rt lib) >"$room/built" 2>&1; then
-    cat "$room/built"
-    exit 1
+[ -e "$library" ] || "$top/scripts/prove.py" avc_c || exit 1
+# The tests' programs are those that the gate has built, or are built now.
+wanted=
+for crate in avc_tests avc_stream_tests; do
+    [ -x "$top/crates/$crate/out/${crate}_tests" ] || wanted="$wanted $crate"
+done
+if [ -n "$wanted" ]; then
+    say "the tests of$wanted are proved and built first, which takes up to 40 minutes"
+    # shellcheck disable=SC2086 # they are words
+    "$top/scripts/prove.py" --tests $wanted || exit 1
 fi
 "$cc" -O2 -I "$top/include" -o "$room/growths" "$top/bindings/c/tests/growths.c" "$top/bindings/c/heap.c" "$library" || exit 1
 for name in cases/gap encoder/pub_x_crop_18x34; do
@@ -206,7 +218,11 @@ beside refused_in_test avc_stream_tests stream_texts::texts_and_pieces
 beside refused_in_test avc_stream_tests decoder_calls::decodes_again_after_want_of_memory
 beside refused_in_test avc_stream_tests worked_streams::the_first_again_after_want_of_memory
 beside growing_at_most 20000 avc_stream_tests decoder_calls::two_hundred_pictures_byte_by_byte
-wait
+say "$jobs parts side by side"
+tell_while how_far
+# shellcheck disable=SC2086 # they are words
+wait $started
+hush
 
 passed=0
 failed=0

@@ -4,17 +4,28 @@
 # where there is one, the standard error with status 1 (else nothing is written there, and the status is 0), NAME.units,
 # NAME.headers, NAME.info and NAME.json, where there are such, what these commands (and `info --json`) write, NAME.y4m the md5 of
 # ffmpeg's YUV4MPEG2 and NAME.framemd5 its framemd5 (formats.sh), and NAME.piece_0 and so on all pieces that `cut` writes. Words and
-# faults of reading and writing are tried after that. The last line is 'N passed, M failed'.
+# faults of reading and writing are tried after that. The last line is 'N passed, M failed'; how far it is stands on standard error.
 set -u
 here=$(cd "$(dirname "$0")" && pwd)
+# shellcheck source=scripts/say.sh
+. "$here/../scripts/say.sh"
 program=$here/../avcdec
 work=$(mktemp -d)
-trap 'rm -rf "$work"' EXIT
+trap 'hush; rm -rf "$work"' EXIT
+trap 'exit 130' INT TERM
 passed=0
 failed=0
+say "decodes $(find "$here" -name '*.264' | wc -l) streams and tries the words of the command line, for some minutes"
 
 # builds the program, where that has not been done
 "$program" --help >"$work/help" || exit 1
+
+# how far it is, which stands in a file for whoever tells it
+reached() {
+    echo "$passed passed and $failed failed so far, at '$1'" >"$work/reached"
+}
+reached 'the start'
+tell_while cat "$work/reached"
 
 # judges the last run: its name, its status, the status that is wanted, and the standard error that is wanted
 judge() {
@@ -25,6 +36,7 @@ judge() {
         echo "failed: $1: status $2"
         cat "$work/told"
     fi
+    reached "$1"
 }
 
 # counts a test by its name, where the command after it says so
@@ -37,6 +49,7 @@ holds() {
         failed=$((failed + 1))
         echo "failed: $name"
     fi
+    reached "$name"
 }
 
 # whether the pictures have this md5, the status is the wanted one, and this was told

@@ -21,14 +21,43 @@ left_out() {
     echo "left out: $1: $2"
 }
 
-for command in gst-launch-1.0 pkg-config "${CC:-cc}"; do
-    if ! command -v "$command" >/dev/null; then
-        left_out 'the GStreamer element' "$command is not there"
-        exit 0
-    fi
-done
-if ! pkg-config --exists --print-errors gstreamer-video-1.0 gstreamer-check-1.0 gstreamer-app-1.0; then
-    left_out 'the GStreamer element' 'its development files are not there, as pkg-config says'
+GST_REGISTRY=$work/registry
+export GST_REGISTRY
+
+# What is missing is named, with Debian's package that has it.
+lacking=
+lacks() {
+    lacking="$lacking${lacking:+, }$1 (Debian: $2)"
+}
+
+# what of these elements GStreamer does not know
+package_of() {
+    case $1 in
+    x264enc) echo gstreamer1.0-plugins-ugly ;;
+    qtmux | qtdemux | rtp* | udp*) echo gstreamer1.0-plugins-good ;;
+    *) echo gstreamer1.0-plugins-bad ;;
+    esac
+}
+
+has() {
+    lacking=
+    for element in "$@"; do
+        gst-inspect-1.0 "$element" >/dev/null 2>&1 || lacks "the element $element" "$(package_of "$element")"
+    done
+    [ -z "$lacking" ]
+}
+
+command -v gst-launch-1.0 >/dev/null || lacks gst-launch-1.0 gstreamer1.0-tools
+command -v pkg-config >/dev/null || lacks pkg-config pkgconf
+command -v "${CC:-cc}" >/dev/null || lacks "${CC:-cc}" gcc
+if command -v pkg-config >/dev/null; then
+    for module in gstreamer-1.0:libgstreamer1.0-dev gstreamer-check-1.0:libgstreamer1.0-dev gstreamer-video-1.0:libgstreamer-plugins-base1.0-dev \
+        gstreamer-app-1.0:libgstreamer-plugins-base1.0-dev; do
+        pkg-config --exists "${module%:*}" || lacks "the development files ${module%:*}" "${module#*:}"
+    done
+fi
+if [ -n "$lacking" ] || ! has h264parse; then
+    left_out 'the GStreamer element' "not there: $lacking"
     exit 0
 fi
 "$top/avcdec" --help >/dev/null || exit 1
@@ -40,14 +69,8 @@ export PKG_CONFIG_PATH
 # shellcheck disable=SC2046
 ${CC:-cc} -O1 -Wall -Wextra -o "$work/element" "$here/tests/element.c" \
     $(pkg-config --cflags --libs gstreamer-1.0 gstreamer-video-1.0 gstreamer-check-1.0 gstreamer-app-1.0) || exit 1
-GST_PLUGIN_PATH=$work GST_REGISTRY=$work/registry
-export GST_PLUGIN_PATH GST_REGISTRY
-
-has() {
-    for element in "$@"; do
-        gst-inspect-1.0 "$element" >/dev/null 2>&1 || return 1
-    done
-}
+GST_PLUGIN_PATH=$work
+export GST_PLUGIN_PATH
 
 holds() {
     name=$1
@@ -87,11 +110,6 @@ agrees() {
     grep '^pictures' "$work/told" | cut -d ' ' -f 1-4 | cmp -s - "$work/of_program"
 }
 
-if ! has h264parse; then
-    left_out 'the GStreamer element' 'h264parse (plugins-bad) is not there'
-    exit 0
-fi
-
 # files: the same pictures as the program
 for stream in encoder/pub_x_aud encoder/pub_x_keyint3 encoder/pub_x_allintra encoder/pub_o_idr_listing speed/cif speed/720p speed/call; do
     holds "pictures of $stream" is_decoded "$top/vectors/$stream"
@@ -117,7 +135,7 @@ if has x264enc; then
         holds "x264enc, lost and damaged: $words: as the program" agrees
     done
 else
-    left_out 'live by x264enc' 'no such element'
+    left_out 'live by x264enc' "not there: $lacking"
 fi
 if has openh264enc; then
     for words in '0 0' '0.1 0' '0.05 9'; do
@@ -126,7 +144,7 @@ if has openh264enc; then
         holds "openh264enc, lost and damaged: $words: as the program" agrees
     done
 else
-    left_out 'live by openh264enc' 'no such element'
+    left_out 'live by openh264enc' "not there: $lacking"
 fi
 
 # a file, by seeking
@@ -135,14 +153,14 @@ if has x264enc qtmux qtdemux; then
         x264enc key-int-max=25 ! video/x-h264,profile=constrained-baseline ! h264parse ! qtmux ! filesink location="$work/file.mp4" >/dev/null 2>&1
     counted seek "$work/file.mp4"
 else
-    left_out 'seeking' 'no x264enc, qtmux or qtdemux'
+    left_out 'seeking' "not there: $lacking"
 fi
 
 # a call, with losses
 if has x264enc rtph264pay rtph264depay rtpjitterbuffer udpsrc udpsink; then
     counted rtp
 else
-    left_out 'RTP' 'no elements for it'
+    left_out 'RTP' "not there: $lacking"
 fi
 
 # no error and no leak
@@ -160,10 +178,10 @@ if command -v valgrind >/dev/null; then
         holds 'valgrind: live, lost and damaged' checked "$work/element" live "$x264" 0.05 9 "$work/live.264"
     fi
 else
-    left_out 'valgrind' 'not there'
+    left_out 'valgrind' 'not there: valgrind (Debian: valgrind)'
 fi
 
-# a page in WebKit
+# a page in WebKit; page.sh says itself what is missing
 if [ -x "$here/tests/page.sh" ]; then
     "$here/tests/page.sh" "$work" >"$work/told" 2>&1
     case $? in
