@@ -89,7 +89,8 @@ Format: https://www.debian.org/doc/packaging-manuals/copyright-format/1.0/
 Upstream-Name: avcdec
 Upstream-Contact: $maintainer
 Comment: No licence is given yet. The owner of avcdec chooses one; until then
- whoever has this package may use it as far as the owner has allowed.
+ whoever has this package may use it as far as the owner has allowed. Program
+ and library also hold compiled code of the library of the toolchain Rattle.
 
 Files: *
 Copyright: $(date -u -d "@$SOURCE_DATE_EPOCH" +%Y) the authors of avcdec

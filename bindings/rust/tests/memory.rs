@@ -205,6 +205,14 @@ fn each_growth_refused() {
         assert!(growths >= 5, "{growths}");
     }
 
+    // an error takes no memory itself
+    for error in [Error::OutOfMemory, Error::Ended] {
+        GRANTED.with(|granted| granted.set(0));
+        let told = io::Error::from(error);
+        let left = GRANTED.with(|granted| granted.replace(ALL));
+        assert_eq!((left, told.get_ref().is_none()), (0, true), "{error}");
+    }
+
     // a decoder that wants memory answers so until it is reset
     let mut decoder = Decoder::new(Output::Full).unwrap();
     LIBRARY_GRANTED.store(0, Ordering::SeqCst);
