@@ -17,7 +17,7 @@ _avcdec_files() {
 
 _avcdec_options() {
     case $1 in
-    decode) echo '--early --format --verify --skip --limit --progress --quiet --output -o --help -h' ;;
+    decode) echo '--early --format -f --verify --skip -s --limit -l --progress --quiet -q --strict --explain --output -o --help -h' ;;
     info) echo '--json --help -h' ;;
     cut) echo '--output -o --help -h' ;;
     units | headers) echo '--help -h' ;;
@@ -33,8 +33,8 @@ _avcdec() {
     fi
     case ${COMP_WORDS[COMP_CWORD - 1]} in
     help) _avcdec_words "$commands" ;;
-    --format) _avcdec_words 'i420 y4m null md5 framemd5' ;;
-    --verify | --skip | --limit) ;;
+    --format | -f) _avcdec_words 'i420 y4m null md5 framemd5' ;;
+    --verify | --skip | -s | --limit | -l) ;;
     -o | --output) _avcdec_files ;;
     *)
         case ${COMP_WORDS[COMP_CWORD]} in

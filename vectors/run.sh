@@ -443,9 +443,11 @@ for command in units headers 'cut 0'; do
 done
 "$program" decode "$work/none" >"$work/written" 2>"$work/told"
 judge 'a file that is not there' $? 3 "avcdec: read fault: $work/none
+avcdec: $work/none: there is no such file
 "
 "$program" decode "$picture" -o "$work" >"$work/written" 2>"$work/told"
 judge 'a directory to be written' $? 3 "avcdec: write fault: $work
+avcdec: $work: it is a folder
 "
 
 # an output is made where there is something to write; else an old one stays as it was
@@ -477,26 +479,42 @@ judge 'decode into its standard input' $? 2 "avcdec: $work/same.264 is the file 
 "
 holds 'the input is whole' cmp -s "$work/same.264" "$picture"
 
-# the line of a fault has the name of the file, also where that could be opened
+# the line of a fault has the name of the file, also where that could be opened, and one more says why
 for command in decode 'decode --format md5' 'decode --format framemd5' 'decode --limit 1' "decode --verify $some_md5" units headers info 'info --json' 'cut 0'; do
     # shellcheck disable=SC2086
     "$program" $command "$here" >"$work/written" 2>"$work/told"
     judge "$command of a directory" $? 3 "avcdec: read fault: $here
+avcdec: $here: it is a folder
 "
     # shellcheck disable=SC2086
     "$program" $command "$work/none" >"$work/written" 2>"$work/told"
     judge "$command of a file that is not there" $? 3 "avcdec: read fault: $work/none
+avcdec: $work/none: there is no such file
 "
 done
 for command in decode 'decode --format md5' 'decode --format framemd5' 'decode --limit 1' 'cut 0'; do
     # shellcheck disable=SC2086
     "$program" $command "$picture" -o /dev/full >"$work/written" 2>"$work/told"
     judge "$command to a full device by name" $? 3 'avcdec: write fault: /dev/full
+avcdec: /dev/full: there is no space left
 '
 done
 "$program" decode "$here" -o "$work/out" 2>"$work/told"
 judge 'decode of a directory to a file' $? 3 "avcdec: read fault: $here
+avcdec: $here: it is a folder
 "
+"$program" decode "$picture/in" 2>"$work/told"
+judge 'a file in what is no folder' $? 3 "avcdec: read fault: $picture/in
+avcdec: $picture/in: a part of its name is no folder
+"
+if [ "$(id -u)" != 0 ]; then
+    : >"$work/locked"
+    chmod 0 "$work/locked"
+    "$program" decode "$work/locked" 2>"$work/told"
+    judge 'a file that may not be read' $? 3 "avcdec: read fault: $work/locked
+avcdec: $work/locked: there is no permission
+"
+fi
 
 # words that do not go together: the text says which
 while IFS=: read -r wrong words; do
@@ -513,6 +531,9 @@ done <<END
 --format:decode --format framemd5 --format y4m
 --output:decode --verify $some_md5 --output $work/out
 --quiet:decode --progress --quiet
+.y4m:decode -o $work/out.mp4
+.y4m:decode --format i420 -o $work/out.MKV
+.y4m:cut 0 -o $work/out.ts
 --skip:units --skip 1
 --limit:info --limit 1
 --early:headers --early
@@ -520,7 +541,137 @@ done <<END
 --progress:info --json --progress
 --output:units --output $work/out
 --quiet:cut 0 --quiet
+--strict:info --strict
+--explain:units --explain
 END
+holds 'no container is made' [ ! -e "$work/out.mp4" ]
+"$program" decode "$picture" "$(printf -- '-oa\377b')" >"$work/written" 2>"$work/told"
+holds 'status of a word that is no text' [ $? = 2 ]
+holds 'it says which word' grep -q 'word 3 is not UTF-8' "$work/told"
+
+# what is no H.264, by its first bytes: nothing is told of it and the status is 0, unless more is wanted
+pipe='; a byte stream of its H.264: ffmpeg -i FILE -c:v copy -bsf:v h264_mp4toannexb -f h264 - | avcdec decode -'
+while IFS='|' read -r bytes what; do
+    # shellcheck disable=SC2059
+    printf "$bytes" >"$work/other"
+    "$program" decode "$work/other" >"$work/written" 2>"$work/told"
+    judge "decode of what begins with $bytes" $? 0 ''
+    for format in i420 y4m framemd5 null; do
+        "$program" decode --explain --format "$format" "$work/other" >"$work/written" 2>"$work/told"
+        judge "decode --explain --format $format of what begins with $bytes" $? 0 "0 pictures, 0 refusals
+avcdec: no picture was found; $what
+"
+        holds 'nothing is written' [ ! -s "$work/written" ]
+    done
+    "$program" decode --strict - <"$work/other" >"$work/written" 2>"$work/told"
+    judge "decode --strict of what begins with $bytes" $? 1 ''
+    "$program" info "$work/other" >"$work/written" 2>"$work/told"
+    case $what in
+    'the first bytes are those of a byte stream' | 'the first bytes are of no '* | 'there is nothing '*) wanted='' ;;
+    *)
+        wanted="avcdec: $what
+"
+        ;;
+    esac
+    judge "info of what begins with $bytes" $? 0 "$wanted"
+done <<END
+\\000\\000\\000\\034ftypisom|the first bytes are those of an MP4 file$pipe
+\\032\\105\\337\\243|the first bytes are those of a Matroska or WebM file$pipe
+G%187sG|the first bytes are those of an MPEG transport stream$pipe
+FLV\\001|the first bytes are those of an FLV file$pipe
+RIFF\\000\\001\\000\\000AVI LIST|the first bytes are those of an AVI file$pipe
+DKIF\\000|the first bytes are those of an IVF file$pipe
+YUV4MPEG2 W16 H16|the first bytes are those of a YUV4MPEG2 file, which holds no H.264
+\\377\\330\\377\\340|the first bytes are those of a JPEG picture, which holds no H.264
+\\211PNG\\r\\n\\032\\n|the first bytes are those of a PNG picture, which holds no H.264
+\\000\\000\\001\\011\\020|the first bytes are those of a byte stream
+\\000\\000\\000\\001\\011|the first bytes are those of a byte stream
+|there is nothing to read
+RIFF\\000\\001\\000\\000WAVEfmt|the first bytes are of no known file; a byte stream begins with 00 00 01 or 00 00 00 01
+G%188sG|the first bytes are of no known file; a byte stream begins with 00 00 01 or 00 00 00 01
+#!/bin/sh|the first bytes are of no known file; a byte stream begins with 00 00 01 or 00 00 00 01
+END
+"$program" decode --strict "$picture" >"$work/written" 2>"$work/told"
+judge 'decode --strict of a picture' $? 0 ''
+
+# no pictures are equal to nothing: some_md5 is the MD5 of no bytes
+"$program" decode --verify "$some_md5" </dev/null >"$work/written" 2>"$work/told"
+judge 'decode --verify of nothing' $? 1 ''
+"$program" decode --verify "$some_md5" --skip 1000 "$moving" >"$work/written" 2>"$work/told"
+judge 'decode --verify of no picture' $? 1 ''
+"$program" decode --verify "$some_md5" --limit 0 "$moving" >"$work/written" 2>"$work/told"
+judge 'decode --verify --limit 0' $? 1 ''
+
+# what refusals mean is told in the words of docs/behaviour.md, behind their lines, and then how many pictures and refusals there are
+explained_as() {
+    cat "$1"
+    awk -F '|' '
+        FNR == NR {
+            if ($2 ~ /^ [0-9]+ [A-Za-z]+ $/) {
+                split($2, head, " ")
+                text = substr($3, 2, length($3) - 2)
+                clause = $4
+                gsub(/^ +| +$/, "", clause)
+                meaning[head[1]] = text (clause == "" ? "" : " (" clause ")")
+            }
+            next
+        }
+        {
+            sub(/^refused /, "")
+            split($0, part, /[: ]+/)
+            print $0 ": " meaning[part[3]]
+        }
+    ' "$here/../docs/behaviour.md" "$1"
+    pictures=$("$program" decode --format framemd5 "${1%.refused}.264" 2>"$work/others" | grep -vc '^#')
+    echo "$pictures pictures, $(wc -l <"$1" | tr -d ' ') refusals"
+    if [ "$pictures" = 0 ]; then
+        echo 'avcdec: no picture was found; the first bytes are those of a byte stream'
+    fi
+}
+for refused in "$here"/cases/*.refused; do
+    explained_as "$refused" >"$work/wanted"
+    "$program" decode --explain "${refused%.refused}.264" >"$work/written" 2>"$work/told"
+    judge "decode --explain of ${refused#"$here"/}" $? 1 "$(cat "$work/wanted")
+"
+done
+"$program" decode --explain "$moving" >"$work/written" 2>"$work/told"
+judge 'decode --explain of ten pictures' $? 0 '10 pictures, 0 refusals
+'
+
+# letters stand for words
+"$program" decode --skip 2 --limit 3 --format md5 "$moving" >"$work/lines"
+"$program" decode -q -s 2 -l 3 -f md5 "$moving" >"$work/written" 2>"$work/told"
+judge 'decode -q -s 2 -l 3 -f md5' $? 0 ''
+holds 'the same as by words' cmp -s "$work/written" "$work/lines"
+"$program" decode "$moving" -o "$work/out.Y4M" 2>"$work/told"
+judge 'decode -o out.Y4M' $? 0 ''
+holds 'Y4M' cmp -s "$work/out.Y4M" "$work/whole"
+for options in '--limit 2' '--skip 2'; do
+    # shellcheck disable=SC2086
+    "$program" decode --format null $options "$moving" >"$work/written" 2>"$work/told"
+    judge "decode --format null $options" $? 0 ''
+    holds 'nothing is written' [ ! -s "$work/written" ]
+done
+for early in "$here"/*/*.early; do
+    if [ ! -f "${early%.early}.refused" ]; then
+        "$program" decode --early --format md5 --skip 0 "${early%.early}.264" >"$work/written" 2>"$work/told"
+        judge "decode --early --format md5 of ${early#"$here"/}" $? 0 ''
+        holds 'the MD5 of early output' [ "$(cut -d ' ' -f 1 <"$work/written")" = "$(cut -d ' ' -f 1 <"$early")" ]
+    fi
+done
+
+# that whoever reads has left is a write fault; told, unless the program is to be quiet
+for quiet in '' --quiet; do
+    # shellcheck disable=SC2086
+    { "$program" decode $quiet "$moving" 2>"$work/told"; echo $? >"$work/status"; } | head -c 100 >"$work/written"
+    wanted='avcdec: write fault
+'
+    [ -z "$quiet" ] || wanted=''
+    judge "decode $quiet for a reader that leaves" "$(cat "$work/status")" 3 "$wanted"
+done
+"$program" decode --quiet "$moving" >/dev/full 2>"$work/told"
+judge 'decode --quiet to a full device' $? 3 'avcdec: write fault
+'
 
 # how far decoding is: the last line stays, and nothing else changes
 rate_known=$here/encoder/pub_x_keyint3
@@ -529,14 +680,28 @@ slowly() {
     cat "$1"
     sleep 0.1
 }
+before=$(date +%s)
 slowly "$rate_known.264" | "$program" decode --progress >"$work/pictures" 2>"$work/told"
 holds 'decode --progress' is_decoded "$rate_known.md5" $? 0 "$work/told"
+after=$(date +%s)
 tr '\r' '\n' <"$work/told" | tail -n 1 >"$work/last"
+cp "$work/last" "$work/first_speed"
 holds 'the last line of progress' grep -q '^pictures 13, refused 0, [0-9]*\.[0-9] a second, [0-9]*\.[0-9] times the frame rate.\[K$' "$work/last"
 holds 'it is ended' [ "$(tail -c 1 "$work/told" | od -An -tx1 | tr -d ' ')" = 0a ]
 slowly "$moving" | "$program" decode --progress >"$work/written" 2>"$work/told"
 tr '\r' '\n' <"$work/told" | tail -n 1 >"$work/last"
 holds 'progress without a frame rate' grep -q '^pictures 10, refused 0, [0-9]*\.[0-9] a second.\[K$' "$work/last"
+# a tenth of a second at least for 13 pictures, and no more than was measured
+speed=$(sed -n 's/^pictures 13, refused 0, \([0-9]*\)\..*/\1/p' "$work/first_speed")
+holds 'the speed is not above what was measured' [ "$speed" -le 200 ]
+holds 'the speed is not below what was measured' [ "$speed" -ge $((13 / (after - before + 1))) ]
+# of a file also how much of it was read, and how long the rest takes
+"$program" decode --progress "$moving" >"$work/written" 2>"$work/told"
+tr '\r' '\n' <"$work/told" | tail -n 1 >"$work/last"
+holds 'all of a file was read' grep -q '^pictures 10, refused 0.*, 100%.\[K$' "$work/last"
+"$program" decode --progress --limit 1 "$work/long" >"$work/written" 2>"$work/told"
+tr '\r' '\n' <"$work/told" | tail -n 1 >"$work/last"
+holds 'a part of a file was read' grep -q "^pictures [0-9]*, .*, $((100 * 65536 / $(wc -c <"$work/long")))%, [0-9]*:[0-9][0-9] left.\\[K\$" "$work/last"
 refusing=$here/foreign/for_cabac_main
 "$program" decode --progress "$refusing.264" >"$work/pictures" 2>"$work/all"
 status=$?
@@ -559,6 +724,21 @@ if command -v script >/dev/null; then
     holds 'the same pictures' [ "$(md5sum <"$work/pictures" | cut -d ' ' -f 1)" = "$(cut -d ' ' -f 1 <"$rate_known.md5")" ]
     on_terminal --quiet
     holds 'none with --quiet' [ ! -s "$work/told" ]
+    script -qec "'$program' decode -f null </dev/null" /dev/null </dev/null >"$work/told" 2>&1
+    holds 'on a terminal it is told where no picture was found' grep -q 'avcdec: no picture was found; there is nothing to read' "$work/told"
+    script -qec "'$program' decode --quiet -f null </dev/null" /dev/null </dev/null >"$work/told" 2>&1
+    holds 'not with --quiet' [ ! -s "$work/told" ]
+    # standard output is a terminal
+    for command in decode 'decode -f y4m' 'decode -l 1' 'cut 0'; do
+        script -qec "'$program' $command '$picture' 2>'$work/told'" /dev/null </dev/null >"$work/written"
+        judge "$command to a terminal" $? 2 'avcdec: what is no text is written to a terminal by -o - alone
+'
+        script -qec "'$program' $command '$picture' -o - 2>'$work/told'" /dev/null </dev/null >"$work/written"
+        judge "$command -o - to a terminal" $? 0 ''
+        holds 'it is written' [ -s "$work/written" ]
+    done
+    script -qec "'$program' decode -f md5 '$picture' 2>'$work/told'" /dev/null </dev/null >"$work/written"
+    judge 'a text to a terminal' $? 0 ''
 fi
 
 # each option in the help of a command, and each form, stands in the completion for bash

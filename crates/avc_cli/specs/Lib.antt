@@ -1,1 +1,4 @@
+pub mod Ending
 pub mod Progress
+pub mod Rates
+pub mod Reasons

@@ -1,9 +1,16 @@
 //! `avcdec`: decodes a byte stream of H.264 (Annex B), shows what is in it, and cuts it, on the command line.
 #![tactic(auto)]
 
+mod ending;
+mod errors;
+mod input;
+mod misuse;
+mod observer;
 mod output;
 mod progress;
 mod rate;
+mod reason;
+mod told;
 
 use avc_console::{
     Answer, Console, Ending, Names, RunFault, Watch, answer_status, cut, fail, headers, units,
@@ -13,18 +20,25 @@ use avc_info::{ForPeople, ForPrograms, info};
 use avc_request::{Form, Request, Showing, Task, Telling, requested, words_of};
 use avc_run::{decode, decode_as, decode_headed, decode_md5, verify};
 use clap::error::ErrorKind;
-use output::{OutputFile, is_input};
+use ending::ended_status;
+use errors::Errors;
+use input::Input;
+use misuse::is_output_refused;
+use observer::Observer;
+use output::{Output, OutputFile};
 use progress::Progress;
 use std::alloc::Global;
-use std::fs::File;
+use std::cell::Cell;
+use std::fs::{File, metadata};
 use std::io;
 use std::io::{IsTerminal, Read, Write};
 use std::process::ExitCode;
+use told::{tell_container, tell_outcome, tell_reason};
 
 fn main(rt: HostRuntime) -> ExitCode {
     let ended = match words_of(&rt) {
         Ok(words) => match requested(rt.alloc(), &words) {
-            Ok(request) => carry_out(&rt, request),
+            Ok(request) => carry_out(&rt, &request),
             Err(error) => refuse(&rt, &error),
         },
         Err(error) => refuse(&rt, &error),
@@ -33,27 +47,56 @@ fn main(rt: HostRuntime) -> ExitCode {
 }
 
 // Does what was asked for, and answers the exit status.
-fn carry_out(rt: &HostRuntime, request: Request<'_>) -> u8 {
-    let names = Names {
+fn carry_out(rt: &HostRuntime, request: &Request<'_>) -> u8 {
+    if is_output_refused(rt, request) {
+        return answer_status(Ok(Answer::Misuse));
+    }
+    match request.input {
+        Some(name) => match File::open(rt, name) {
+            Ok(file) => carry_out_on(rt, request, Input::new(file)),
+            Err(error) => {
+                let ending = fail(RunFault::Read, &names_of(request), &mut rt.stderr());
+                tell_reason(rt, request.input, Some(error.kind()));
+                ending.status
+            }
+        },
+        None => carry_out_on(rt, request, Input::new(rt.stdin())),
+    }
+}
+
+fn names_of<'a>(request: &Request<'a>) -> Names<'a> {
+    Names {
         input: request.input,
         output: request.output,
-    };
-    if let Some(output) = names.output {
-        if is_input(rt, names.input, output) {
-            return refuse_output(rt, output);
-        }
     }
+}
+
+// The same on this input.
+fn carry_out_on<R: Read + Drop>(
+    rt: &HostRuntime,
+    request: &Request<'_>,
+    mut input: Input<R>,
+) -> u8 {
+    let has_left = Cell::new(false);
+    let manner = &request.manner;
+    let progress = Progress::new(rt, is_progress_told(rt, manner.progress), size_of(rt, request));
     let mut console = Console {
-        names,
-        errors: rt.stderr(),
-        watch: Progress::new(rt, is_progress_told(rt, request.progress)),
+        names: names_of(request),
+        errors: Errors::new(rt, manner.is_quiet, &has_left),
+        watch: Observer::new(rt.alloc(), manner.is_explained, progress),
     };
-    match names.input {
-        Some(name) => match File::open(rt, name) {
-            Ok(mut file) => carry_out_on(rt, request.task, &mut file, &mut console),
-            Err(_) => fail(RunFault::Read, &names, &mut console.errors).status,
-        },
-        None => carry_out_on(rt, request.task, &mut rt.stdin(), &mut console),
+    let (status, unwritten) = write_out(rt, request, &mut input, &has_left, &mut console);
+    tell_reason(rt, request.input, input.fault());
+    tell_reason(rt, request.output, unwritten);
+    if status == 0 {
+        tell_container(rt, &request.task, input.first());
+    }
+    match console.watch.outcome() {
+        Some(outcome) => {
+            tell_outcome(rt, manner, outcome, input.first());
+            ended_status(manner.is_strict, &request.task, outcome.pictures, status)
+        }
+        None => status,
     }
 }
 
@@ -66,20 +109,36 @@ fn is_progress_told(rt: &HostRuntime, progress: Telling) -> bool {
     }
 }
 
-// The same on this input.
-fn carry_out_on<R: Read, E: Write, V: Watch>(
+// How many bytes the input has, where it is a file with a name.
+fn size_of(rt: &HostRuntime, request: &Request<'_>) -> Option<u64> {
+    let about = metadata(rt, request.input?).ok()?;
+    if about.is_file() {
+        Some(about.len())
+    } else {
+        None
+    }
+}
+
+// Writes the output. Answers the exit status, and why a write failed, where one did.
+fn write_out<R: Read, E: Write, V: Watch>(
     rt: &HostRuntime,
-    task: Task,
+    request: &Request<'_>,
     reader: &mut R,
+    has_left: &Cell<bool>,
     console: &mut Console<'_, E, V>,
-) -> u8 {
+) -> (u8, Option<io::ErrorKind>) {
     let alloc = rt.alloc();
-    match console.names.output {
+    match request.output {
         Some(name) => {
-            let mut file = OutputFile::new(rt, name);
-            carry_out_between(alloc, task, reader, &mut file, console)
+            let mut output = Output::new(OutputFile::new(rt, name), has_left);
+            let status = carry_out_between(alloc, request.task, reader, &mut output, console);
+            (status, output.fault())
         }
-        None => carry_out_between(alloc, task, reader, &mut io::writer(rt), console),
+        None => {
+            let mut output = Output::new(io::writer(rt), has_left);
+            let status = carry_out_between(alloc, request.task, reader, &mut output, console);
+            (status, output.fault())
+        }
     }
 }
 
@@ -169,12 +228,6 @@ fn refuse(rt: &HostRuntime, error: &clap::Error) -> u8 {
         let _ = fail(fault, &names, &mut rt.stderr());
     }
     answer_status(answer)
-}
-
-// The exit status where the file that is to be written is the one that is read, of which nothing would be left.
-fn refuse_output(rt: &HostRuntime, output: &str) -> u8 {
-    let _ = eprintln!(rt; "avcdec: {output} is the file that is read");
-    answer_status(Ok(Answer::Misuse))
 }
 
 // Prints the text that answers the words.

@@ -1,8 +1,9 @@
-//! The file that is written.
+//! What is written.
 
+use std::cell::Cell;
 use std::fs::{File, metadata};
 use std::io;
-use std::io::Write;
+use std::io::{ErrorKind, Write};
 use std::os::unix::fs::MetadataExt;
 
 /// What leads to the standard input, by name.
@@ -48,6 +49,52 @@ impl Write for OutputFile<'_> {
 
     fn flush(&mut self) -> io::Result<()> {
         Ok(())
+    }
+}
+
+/// A writer of which it is remembered why a write failed, and noted that whoever reads has left.
+#[derive(Drop)]
+pub struct Output<'a, W> {
+    writer: W,
+    fault: Option<ErrorKind>,
+    has_left: &'a Cell<bool>,
+}
+
+impl<'a, W> Output<'a, W> {
+    /// To which nothing has been written, and where it is noted that whoever reads has left.
+    pub fn new(writer: W, has_left: &'a Cell<bool>) -> Output<'a, W> {
+        Output {
+            writer,
+            fault: None,
+            has_left,
+        }
+    }
+
+    /// Why a write failed, where one did.
+    pub fn fault(&self) -> Option<ErrorKind> {
+        self.fault
+    }
+}
+
+impl<W: Write> Write for Output<'_, W> {
+    ghost contents = { λ o. W.contents o.writer };
+
+    fn write(&mut self, buf: &[u8]) -> io::Result<usize> {
+        match self.writer.write(buf) {
+            Ok(len) => Ok(len),
+            Err(error) => {
+                let kind = error.kind();
+                self.fault = Some(kind);
+                if let ErrorKind::BrokenPipe = kind {
+                    self.has_left.set(true);
+                }
+                Err(error)
+            }
+        }
+    }
+
+    fn flush(&mut self) -> io::Result<()> {
+        self.writer.flush()
     }
 }
 

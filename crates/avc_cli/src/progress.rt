@@ -1,5 +1,6 @@
-ghost use Rattle.std.specs.Prelude.{◌≡◌, ◌++◌, IfOk, OnOk, string_bytes};
-ghost use Rattle.avc_cli.specs.Progress.{counts_text, progress_line, speed_text, tenths_text, times_by, times_text};
+ghost use Rattle.std.specs.Prelude.{◌≡◌, ◌++◌, IfOk, OnOk, length, string_bytes};
+ghost use Rattle.avc_cli.specs.Progress.{clock_text, counts_text, left_text, place_by, place_text, progress_line, speed_text};
+ghost use Rattle.avc_cli.specs.Progress.{tenths_text, times_by, times_text};
 
 use crate::rate::RateSearch;
 use avc_console::{Report, RunFault, Watch};
@@ -19,6 +20,16 @@ pub struct Counts {
     pub refused: usize,
 }
 
+/// How far reading is.
+#[derive(Clone, Copy, Debug, PartialEq, Eq)]
+pub struct Place {
+    /// How many bytes were read.
+    pub read: u64,
+
+    /// How many there are, where that is known.
+    pub size: Option<u64>,
+}
+
 /// A line on the standard error that says how far decoding is, rewritten as that goes on, where it is wanted.
 #[derive(Drop)]
 pub struct Progress<'a> {
@@ -26,9 +37,13 @@ pub struct Progress<'a> {
 }
 
 impl Progress<'_> {
-    /// No line where it is not wanted, nor where the system has no clock.
-    pub fn new(rt: &HostRuntime, is_wanted: bool) -> Progress<'_> {
-        let meter = if is_wanted { Meter::new(rt) } else { None };
+    /// No line where it is not wanted, nor where the system has no clock. The input has so many bytes, where that is known.
+    pub fn new(rt: &HostRuntime, is_wanted: bool, size: Option<u64>) -> Progress<'_> {
+        let meter = if is_wanted {
+            Meter::new(rt, size)
+        } else {
+            None
+        };
         Progress { meter }
     }
 }
@@ -50,7 +65,10 @@ impl Watch for Progress<'_> {
     }
 }
 
-fn counts_of(report: &Report) -> Counts {
+fn counts_of(report: &Report) -> Counts
+    ensures pictures { result.pictures ≡ report.now.pictures }
+    ensures refused { result.refused ≡ length report.now.refused }
+{
     Counts {
         pictures: report.pictures,
         refused: report.refused.as_slice().len(),
@@ -68,10 +86,11 @@ struct Meter<'a> {
 
     rate: RateSearch,
     counts: Counts,
+    place: Place,
 }
 
 impl Meter<'_> {
-    fn new(rt: &HostRuntime) -> Option<Meter<'_>> {
+    fn new(rt: &HostRuntime, size: Option<u64>) -> Option<Meter<'_>> {
         let start = Instant::now(rt).ok()?;
         Some(Meter {
             rt,
@@ -82,12 +101,14 @@ impl Meter<'_> {
                 pictures: 0,
                 refused: 0,
             },
+            place: Place { read: 0, size },
         })
     }
 
     fn look(&mut self, piece: &[u8], counts: Counts) {
         self.rate.look(piece);
         self.counts = counts;
+        self.place.read = self.place.read.saturating_add(piece.len() as u64);
         if let Ok(elapsed) = self.start.elapsed(self.rt) {
             if elapsed.saturating_sub(self.written) >= Duration::from_millis(INTERVAL) {
                 self.write(elapsed);
@@ -107,7 +128,8 @@ impl Meter<'_> {
     fn write(&mut self, elapsed: Duration) {
         self.written = elapsed;
         let millis = u64::try_from(elapsed.as_millis()).unwrap_or(u64::MAX);
-        if let Ok(line) = progress_line(self.rt.alloc(), self.counts, millis, self.rate.found()) {
+        let rate = self.rate.found();
+        if let Ok(line) = progress_line(self.rt.alloc(), self.counts, self.place, millis, rate) {
             let _ = self.rt.stderr().write(line.as_bytes());
         }
     }
@@ -117,15 +139,17 @@ impl Meter<'_> {
 pub fn progress_line(
     alloc: Global,
     counts: Counts,
+    place: Place,
     millis: u64,
     rate: Option<u64>,
 ) -> Result<String, AllocError>
-    ensures { IfOk result (λ line. string_bytes line ≡ progress_line counts millis rate) }
+    ensures { IfOk result (λ line. string_bytes line ≡ progress_line counts place millis rate) }
 {
     let mut line = String::from_str(alloc, "\r")?;
     add_counts(&mut line, counts)?;
     add_speed(&mut line, counts.pictures, millis)?;
     add_times(&mut line, counts.pictures, millis, rate)?;
+    add_place(&mut line, place, millis)?;
     line.push_str("\x1b[K")?;
     Ok(line)
 }
@@ -184,5 +208,51 @@ fn add_tenths(line: &mut String, tenths: u128) -> Result<(), AllocError>
     let whole = tenths / 10;
     let tenth = tenths % 10;
     write!(line, "{whole}.{tenth}")?;
+    Ok(())
+}
+
+fn add_place(line: &mut String, place: Place, millis: u64) -> Result<(), AllocError>
+    ensures { OnOk result (string_bytes line.new ≡ string_bytes line.old ++ place_text place millis) }
+{
+    match place.size {
+        Some(size) => add_place_of(line, place.read, size, millis),
+        None => Ok(()),
+    }
+}
+
+// Where so many bytes of a file were read in that time.
+fn add_place_of(line: &mut String, read: u64, size: u64, millis: u64) -> Result<(), AllocError>
+    ensures { OnOk result (string_bytes line.new ≡ string_bytes line.old ++ place_by read size millis) }
+{
+    if read == 0 || size == 0 {
+        return Ok(());
+    }
+    let hundredths = 100 * u128::from(read.min(size)) / u128::from(size);
+    write!(line, ", {hundredths}%")?;
+    add_left(line, read, size - read.min(size), millis)
+}
+
+// Where so many bytes are left.
+fn add_left(line: &mut String, read: u64, rest: u64, millis: u64) -> Result<(), AllocError>
+    requires { 0 < read }
+    ensures { OnOk result (string_bytes line.new ≡ string_bytes line.old ++ left_text read rest millis) }
+{
+    if rest == 0 {
+        return Ok(());
+    }
+    line.push_str(", ")?;
+    add_clock(line, u128::from(millis) * u128::from(rest) / (1000 * u128::from(read)))?;
+    line.push_str(" left")?;
+    Ok(())
+}
+
+// Minutes and seconds.
+fn add_clock(line: &mut String, seconds: u128) -> Result<(), AllocError>
+    ensures { OnOk result (string_bytes line.new ≡ string_bytes line.old ++ clock_text seconds) }
+{
+    let minutes = seconds / 60;
+    let tens = seconds % 60 / 10;
+    let ones = seconds % 10;
+    write!(line, "{minutes}:{tens}{ones}")?;
     Ok(())
 }

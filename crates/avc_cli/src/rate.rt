@@ -1,11 +1,16 @@
-use avc_info::{ForPeople, InfoLines, frame_rate};
+ghost use Rattle.std.specs.Prelude.{◌≡◌, ◌⊎◌, ◌++◌, [], length, None, Some, false};
+ghost use Rattle.avc_cli.specs.Rates.{looked, rate_of, IsGoingOn, Looks};
+
+use avc_info::{ForPeople, InfoLines, SequenceFacts, frame_rate};
 use avc_tools::StreamText;
 use std::alloc::Global;
+use std::marker::Model;
 
 /// How many bytes of a stream are looked at: what has no slice in so many is looked at no further.
 const MOST: usize = 1_048_576;
 
-/// Finds a stream's frame rate at its beginning: that of the sequence parameter set of its first slice, where it says one.
+/// Finds a stream's frame rate at its beginning: that of the sequence parameter set of its first slice, where it says one. A contract
+/// sees the bytes that have come, as long as it searches, and what was found.
 #[derive(Drop)]
 pub struct RateSearch {
     // until the search is over
@@ -14,9 +19,21 @@ pub struct RateSearch {
     found: Option<u64>,
 }
 
+impl Model for RateSearch {
+    ghost use Rattle.avc_cli.specs.Rates.{bytes_of, IsSearching, Search};
+
+    ghost Value = { Search };
+
+    ghost view = { λ r. record { searched = bytes_of r.lines; found = r.found } };
+
+    ghost invariant = { λ r. IsSearching r.lines r.seen };
+}
+
 impl RateSearch {
     /// At the start of a stream.
-    pub fn new(alloc: Global) -> RateSearch {
+    pub fn new(alloc: Global) -> RateSearch
+        ensures { result ≡ record { searched = Some []; found = None } }
+    {
         RateSearch {
             lines: Some(InfoLines::new(alloc, ForPeople)),
             seen: 0,
@@ -24,26 +41,73 @@ impl RateSearch {
         }
     }
 
-    /// Takes the next bytes of the stream.
-    pub fn look(&mut self, piece: &[u8]) {
-        let is_over = match &mut self.lines {
-            Some(lines) => {
-                let fed = lines.feed(piece);
-                if let Some(sequence) = lines.sequence() {
-                    self.found = frame_rate(sequence.timing);
-                }
-                fed.is_err() || lines.sequence().is_some()
-            }
-            None => return,
-        };
-        self.seen = self.seen.saturating_add(piece.len());
-        if is_over || self.seen >= MOST {
-            self.lines = None;
+    /// Takes the next bytes of the stream. Where memory is wanting the search is over.
+    pub fn look(&mut self, piece: &[u8])
+        ensures { Looks self.old.searched piece.now self.old self.new }
+    {
+        if let Some(lines) = self.lines.take() {
+            *self = searched(lines, self.seen, piece, self.found);
         }
     }
 
     /// Frames in a thousand seconds, once they are known.
-    pub fn found(&self) -> Option<u64> {
+    pub fn found(&self) -> Option<u64>
+        ensures { result ≡ self.now.found }
+    {
         self.found
+    }
+}
+
+// The search after further bytes.
+fn searched(
+    lines: InfoLines<ForPeople>,
+    seen: usize,
+    piece: &[u8],
+    found: Option<u64>,
+) -> RateSearch
+    requires { IsGoingOn lines seen }
+    ensures { (result ≡ looked (lines.bytes ++ piece.now)) ⊎ (result ≡ record { searched = None; found = found }) }
+{
+    let seen = seen + piece.len();
+    let mut lines = lines;
+    match lines.feed(piece) {
+        Ok(_) => after(lines, seen),
+        Err(_) => RateSearch {
+            lines: None,
+            seen,
+            found,
+        },
+    }
+}
+
+// The search after these bytes, of which there are so many.
+fn after(lines: InfoLines<ForPeople>, seen: usize) -> RateSearch
+    requires going { lines.failed ≡ false }
+    requires open_end { lines.ended ≡ false }
+    requires seen_is { seen ≡ length lines.bytes }
+    ensures { result ≡ looked lines.bytes }
+{
+    let found = rate_of(lines.sequence());
+    if lines.sequence().is_some() || seen >= MOST {
+        return RateSearch {
+            lines: None,
+            seen,
+            found,
+        };
+    }
+    RateSearch {
+        lines: Some(lines),
+        seen,
+        found,
+    }
+}
+
+// The frame rate that a set says.
+fn rate_of(sequence: &Option<SequenceFacts>) -> Option<u64>
+    ensures { result ≡ rate_of sequence.now }
+{
+    match sequence {
+        Some(sequence) => frame_rate(sequence.timing),
+        None => None,
     }
 }

@@ -44,10 +44,15 @@ pub(crate) const PROGRESS: &str = "progress";
 
 pub(crate) const QUIET: &str = "quiet";
 
+pub(crate) const STRICT: &str = "strict";
+
+pub(crate) const EXPLAIN: &str = "explain";
+
 pub(crate) const JSON: &str = "json";
 
 const STATUSES: &str = concat!(
-    "Exit status: 0 all well, 1 decode refused something or found another MD5 or cut has no such piece, 2 wrong words, ",
+    "Exit status: 0 all well, 1 decode refused something, found another MD5 or, with --strict, no picture, ",
+    "or cut has no such piece, 2 wrong words, ",
     "3 reading or writing failed, 4 out of memory"
 );
 
@@ -66,7 +71,7 @@ enum Kind {
     /// An option with one of the formats.
     Format,
 
-    /// An option with the file to write, which has a short name too.
+    /// An option with the file to write.
     Output,
 
     /// The file to read, which may be left out.
@@ -79,6 +84,7 @@ enum Kind {
 /// A word that a command takes.
 struct Word {
     name: &'static str,
+    short: Option<char>,
     kind: Kind,
     help: &'static str,
 
@@ -96,6 +102,7 @@ struct CommandWords {
 
 const INPUT_WORD: Word = Word {
     name: INPUT,
+    short: None,
     kind: Kind::Input,
     help: "The file to read; standard input where none is named, and for -",
     conflicts: &[],
@@ -103,8 +110,9 @@ const INPUT_WORD: Word = Word {
 
 const OUTPUT_WORD: Word = Word {
     name: OUTPUT,
+    short: Some('o'),
     kind: Kind::Output,
-    help: "The file to write, which is emptied first; standard output where none is named, and for -",
+    help: "The file to write, which is emptied first; standard output where none is named, and for -, which may be a terminal",
     conflicts: &[],
 };
 
@@ -119,44 +127,65 @@ const COMMANDS: &[CommandWords] = &[
         words: &[
             Word {
                 name: EARLY,
+                short: None,
                 kind: Kind::Flag,
                 help: "Writes a picture as soon as the stream's reorder number lets it go out",
                 conflicts: &[],
             },
             Word {
                 name: FORMAT,
+                short: Some('f'),
                 kind: Kind::Format,
                 help: "How the pictures are written: i420 unless FILE ends in .y4m, md5 writes their MD5 alone, framemd5 that of each, null nothing",
                 conflicts: &[],
             },
             Word {
                 name: VERIFY,
+                short: None,
                 kind: Kind::Digest,
-                help: "Writes nothing; the status is 1 where the pictures have another MD5, in hex digits",
+                help: "Writes nothing; the status is 1 where the pictures have another MD5, in hex digits, or there are none",
                 conflicts: &[FORMAT, OUTPUT],
             },
             Word {
                 name: SKIP,
+                short: Some('s'),
                 kind: Kind::Pictures,
                 help: "Leaves out the first N pictures",
                 conflicts: &[],
             },
             Word {
                 name: LIMIT,
+                short: Some('l'),
                 kind: Kind::Pictures,
                 help: "Decodes until N pictures are out, those left out not counted",
                 conflicts: &[],
             },
             Word {
                 name: PROGRESS,
+                short: None,
                 kind: Kind::Flag,
                 help: "Shows on standard error how far decoding is, also where that is no terminal",
                 conflicts: &[QUIET],
             },
             Word {
                 name: QUIET,
+                short: Some('q'),
                 kind: Kind::Flag,
-                help: "Shows no progress; refusals and faults are told",
+                help: "Shows no progress, and does not tell that whoever reads the output has left; refusals and other faults are told",
+                conflicts: &[],
+            },
+            Word {
+                name: STRICT,
+                short: None,
+                kind: Kind::Flag,
+                help: "The status is 1 also where no picture was found",
+                conflicts: &[],
+            },
+            Word {
+                name: EXPLAIN,
+                short: None,
+                kind: Kind::Flag,
+                help: "Tells on standard error what each refusal means, how many pictures and refusals there are, and what a stream without a picture is",
                 conflicts: &[],
             },
             OUTPUT_WORD,
@@ -182,6 +211,7 @@ const COMMANDS: &[CommandWords] = &[
         words: &[
             Word {
                 name: JSON,
+                short: None,
                 kind: Kind::Flag,
                 help: "Prints one line of JSON, for programs",
                 conflicts: &[],
@@ -196,6 +226,7 @@ const COMMANDS: &[CommandWords] = &[
         words: &[
             Word {
                 name: NUMBER,
+                short: None,
                 kind: Kind::Piece,
                 help: "The number of the piece, from 0",
                 conflicts: &[],
@@ -232,11 +263,19 @@ fn command_of<'a>(alloc: Global, command: &CommandWords) -> Result<Grammar<'a>, 
 
 fn arg_of<'a>(alloc: Global, word: &Word) -> Result<Arg<'a>, Error> {
     let plain = Arg::new(alloc, word.name).help(word.help);
-    let mut arg = taking(plain, word.name, word.kind);
+    let mut arg = taking(shortened(plain, word.short), word.name, word.kind);
     for other in word.conflicts {
         arg = arg.conflicts_with(*other)?;
     }
     Ok(arg)
+}
+
+// The word, with a letter that stands for it.
+fn shortened<'a>(arg: Arg<'a>, short: Option<char>) -> Arg<'a> {
+    match short {
+        Some(letter) => arg.short(letter),
+        None => arg,
+    }
 }
 
 // The word, with what stands for it and what it takes.
@@ -246,7 +285,7 @@ fn taking<'a>(arg: Arg<'a>, name: &'static str, kind: Kind) -> Arg<'a> {
         Kind::Pictures => option(arg, name, NUMBER).value_parser(clap::value_parser!(u64)),
         Kind::Digest => option(arg, name, "MD5"),
         Kind::Format => option(arg, name, "format").value_parser(FORMATS),
-        Kind::Output => option(arg, name, "FILE").short('o'),
+        Kind::Output => option(arg, name, "FILE"),
         Kind::Input => arg.action(ArgAction::Set),
         Kind::Piece => arg
             .required(true)

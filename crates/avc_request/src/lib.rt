@@ -1,9 +1,12 @@
 //! What the words of the command line ask for.
 #![tactic(auto)]
 
+mod file_kind;
 mod grammar;
+mod reading;
 mod request;
 mod words;
 
-pub use request::{Form, Request, Showing, Task, Telling};
-pub use words::{requested, words_of};
+pub use reading::words_of;
+pub use request::{Form, Manner, Request, Showing, Task, Telling};
+pub use words::requested;

@@ -1,3 +1,6 @@
+ghost use Rattle.std.specs.Prelude.{◌≡◌};
+ghost use Rattle.avc_request.specs.Commands.{is_raw, is_raw_form};
+
 use avc_dpb::Output;
 
 /// What the words of the command line ask for.
@@ -11,7 +14,25 @@ pub struct Request<'a> {
     /// The file that is written, where it is not the standard output.
     pub output: Option<&'a str>,
 
+    /// Whether the standard output was named as the output: then it may be a terminal, whatever is written.
+    pub is_standard_output_named: bool,
+
+    pub manner: Manner,
+}
+
+/// How it is done, and what is told beside it.
+#[derive(Clone, Copy, Debug, PartialEq, Eq)]
+pub struct Manner {
     pub progress: Telling,
+
+    /// Whether it is not told that whoever reads the output has left.
+    pub is_quiet: bool,
+
+    /// Whether a stream without a picture ends as one of which something is refused.
+    pub is_strict: bool,
+
+    /// Whether it is told what refusals mean, and what a stream without a picture is.
+    pub is_explained: bool,
 }
 
 /// When a line says how far decoding is.
@@ -53,6 +74,19 @@ pub enum Task {
     Cut(u32),
 }
 
+impl Task {
+    /// Whether what it writes is no text.
+    pub fn is_raw(&self) -> bool
+        ensures { result ≡ is_raw self.now }
+    {
+        match self {
+            Task::Decode(_) | Task::Cut(_) => true,
+            Task::Show(showing) => is_raw_form(&showing.form),
+            Task::Check(_) | Task::Units | Task::Headers | Task::Info | Task::InfoJson => false,
+        }
+    }
+}
+
 /// Which pictures, and what becomes of them.
 #[derive(Clone, Copy, Debug, PartialEq, Eq)]
 pub struct Showing {
@@ -87,4 +121,14 @@ pub enum Form {
 
     /// Their MD5 is compared with this one.
     Verify([u8; 16]),
+}
+
+// Whether what is written in this form is no text.
+fn is_raw_form(form: &Form) -> bool
+    ensures { result ≡ is_raw_form form.now }
+{
+    match form {
+        Form::I420 | Form::Y4m => true,
+        Form::Null | Form::Md5 | Form::FrameMd5 | Form::Verify(_) => false,
+    }
 }

@@ -1,17 +1,17 @@
 ghost use Rattle.std.specs.Prelude.{◌≡◌};
-ghost use Rattle.avc_request.specs.Commands.{IsNamed, mode_of, progress_of};
+ghost use Rattle.avc_request.specs.Commands.{form_by_name, mode_of, progress_of, task_of_all, task_showing, IsForm, IsNamed};
 
+use crate::file_kind::{FileKind, file_kind};
 use crate::grammar::{
-    CUT, DECODE, EARLY, FORMAT, FRAME_MD5, HEADERS, I420, INFO, INPUT, JSON, LIMIT, MD5, NULL,
-    NUMBER, OUTPUT, PROGRESS, QUIET, SKIP, UNITS, VERIFY, Y4M, grammar,
+    CUT, DECODE, EARLY, EXPLAIN, FORMAT, FRAME_MD5, HEADERS, I420, INFO, INPUT, JSON, LIMIT, MD5,
+    NULL, NUMBER, OUTPUT, PROGRESS, QUIET, SKIP, STRICT, UNITS, VERIFY, Y4M, grammar,
 };
-use crate::request::{Form, Request, Showing, Task, Telling};
+use crate::request::{Form, Manner, Request, Showing, Task, Telling};
 use avc_dpb::Output;
 use clap::error::ErrorKind;
 use clap::{ArgMatches, Error};
 use hex::FromHex;
 use std::alloc::{AllocError, Global};
-use std::{env, io};
 
 /// The commands, which the first word names.
 #[derive(Clone, Copy, Debug, PartialEq, Eq)]
@@ -23,8 +23,15 @@ enum Command {
     Cut,
 }
 
-/// The end of an output's name that asks for Y4M.
-const Y4M_SUFFIX: &str = ".y4m";
+/// Why words that the grammar takes name nothing to do.
+#[derive(Clone, Copy, Debug, PartialEq, Eq)]
+enum Misuse {
+    /// What `--verify` has is no MD5.
+    Digest,
+
+    /// The output's name is that of a container, or of a picture, as no command writes.
+    Container,
+}
 
 /// The limit where all pictures are wanted.
 const NO_LIMIT: u64 = u64::MAX;
@@ -54,9 +61,9 @@ fn mode_of(early: bool) -> Output
 }
 
 // The task of a command, if its words are there.
-fn task_of(command: Command, matches: &ArgMatches<'_>) -> Option<Task> {
+fn task_of(command: Command, matches: &ArgMatches<'_>, kind: FileKind) -> Option<Task> {
     match command {
-        Command::Decode => showing_of(matches).map(task_of_showing),
+        Command::Decode => showing_of(matches, kind).map(task_of_showing),
         Command::Units => Some(Task::Units),
         Command::Headers => Some(Task::Headers),
         Command::Info => Some(if matches.get_flag(JSON) {
@@ -72,10 +79,10 @@ fn task_of(command: Command, matches: &ArgMatches<'_>) -> Option<Task> {
 }
 
 // What is shown, if the words are there.
-fn showing_of(matches: &ArgMatches<'_>) -> Option<Showing> {
+fn showing_of(matches: &ArgMatches<'_>, kind: FileKind) -> Option<Showing> {
     let form = match word(matches, VERIFY) {
         Some(digits) => Form::Verify(digest_of(digits)?),
-        None => form_named(word(matches, FORMAT), word(matches, OUTPUT)),
+        None => form_of(word(matches, FORMAT), kind),
     };
     Some(Showing {
         mode: mode_of(matches.get_flag(EARLY)),
@@ -85,11 +92,21 @@ fn showing_of(matches: &ArgMatches<'_>) -> Option<Showing> {
     })
 }
 
-// All pictures have tasks of their own.
-fn task_of_showing(showing: Showing) -> Task {
-    if showing.skip != 0 || showing.limit != NO_LIMIT {
-        return Task::Show(showing);
+// The task of showing pictures. All of them have tasks of their own.
+fn task_of_showing(showing: Showing) -> Task
+    ensures { result ≡ task_showing showing }
+{
+    if showing.skip == 0 && showing.limit == NO_LIMIT {
+        task_of_all(showing)
+    } else {
+        Task::Show(showing)
     }
+}
+
+// Where all are shown.
+fn task_of_all(showing: Showing) -> Task
+    ensures { result ≡ task_of_all showing showing.form }
+{
     match showing.form {
         Form::I420 => Task::Decode(showing.mode),
         Form::Null => Task::Check(showing.mode),
@@ -98,21 +115,33 @@ fn task_of_showing(showing: Showing) -> Task {
 }
 
 // The form of this name; where none is given, that which the name of the output asks for.
-fn form_named(name: Option<&str>, output: Option<&str>) -> Form {
+fn form_of(name: Option<&str>, kind: FileKind) -> Form {
     match name {
-        Some(NULL) => Form::Null,
-        Some(MD5) => Form::Md5,
-        Some(Y4M) => Form::Y4m,
-        Some(FRAME_MD5) => Form::FrameMd5,
-        Some(_) => Form::I420,
-        None => form_of_file(output),
+        Some(name) => form_named(name),
+        None => form_by_name(kind),
     }
 }
 
-fn form_of_file(name: Option<&str>) -> Form {
+// The grammar takes no other name.
+fn form_named(name: &str) -> Form
+    ensures { IsForm name.now result }
+{
     match name {
-        Some(name) if name.ends_with(Y4M_SUFFIX) => Form::Y4m,
+        NULL => Form::Null,
+        MD5 => Form::Md5,
+        Y4M => Form::Y4m,
+        FRAME_MD5 => Form::FrameMd5,
         _ => Form::I420,
+    }
+}
+
+// The form that the name of the output asks for.
+fn form_by_name(kind: FileKind) -> Form
+    ensures { result ≡ form_by_name kind }
+{
+    match kind {
+        FileKind::Y4m => Form::Y4m,
+        FileKind::Container | FileKind::Other => Form::I420,
     }
 }
 
@@ -135,24 +164,52 @@ fn file_named<'a>(word: Option<&'a str>) -> Option<&'a str> {
     }
 }
 
-// The request of a command, if its words are there.
-fn request_of<'a>(name: &str, matches: &ArgMatches<'a>) -> Option<Request<'a>> {
-    let command = command_named(name)?;
-    let task = task_of(command, matches)?;
-    let output = match command {
-        Command::Decode | Command::Cut => word(matches, OUTPUT),
-        Command::Units | Command::Headers | Command::Info => None,
+// The request of a command, or why its words name none.
+fn request_of<'a>(
+    command: Command,
+    matches: &ArgMatches<'a>,
+    kind: FileKind,
+) -> Result<Request<'a>, Misuse> {
+    if let FileKind::Container = kind {
+        return Err(Misuse::Container);
+    }
+    let task = match task_of(command, matches, kind) {
+        Some(task) => task,
+        None => return Err(Misuse::Digest),
     };
-    let progress = match command {
-        Command::Decode => progress_of(matches.get_flag(PROGRESS), matches.get_flag(QUIET)),
-        Command::Units | Command::Headers | Command::Info | Command::Cut => Telling::Never,
-    };
-    Some(Request {
+    let output = output_word(command, matches);
+    Ok(Request {
         task,
         input: file_named(word(matches, INPUT)),
         output: file_named(output),
-        progress,
+        is_standard_output_named: output == Some(STANDARD),
+        manner: manner_of(command, matches),
     })
+}
+
+// What stands for the output.
+fn output_word<'a>(command: Command, matches: &ArgMatches<'a>) -> Option<&'a str> {
+    match command {
+        Command::Decode | Command::Cut => word(matches, OUTPUT),
+        Command::Units | Command::Headers | Command::Info => None,
+    }
+}
+
+fn manner_of(command: Command, matches: &ArgMatches<'_>) -> Manner {
+    match command {
+        Command::Decode => Manner {
+            progress: progress_of(matches.get_flag(PROGRESS), matches.get_flag(QUIET)),
+            is_quiet: matches.get_flag(QUIET),
+            is_strict: matches.get_flag(STRICT),
+            is_explained: matches.get_flag(EXPLAIN),
+        },
+        Command::Units | Command::Headers | Command::Info | Command::Cut => Manner {
+            progress: Telling::Never,
+            is_quiet: false,
+            is_strict: false,
+            is_explained: false,
+        },
+    }
 }
 
 // When progress is told, by whether `--progress` or `--quiet` is among the words.
@@ -172,24 +229,34 @@ pub fn requested(alloc: Global, words: &[String]) -> Result<Request<'_>, Error> 
     let mut command_line = grammar(alloc)?;
     let matches = command_line.try_get_matches_from_mut(words)?;
     let (kind, message) = match matches.subcommand() {
-        Some((name, words)) => match request_of(name, words) {
-            Some(request) => return Ok(request),
-            None => (
-                ErrorKind::ValueValidation,
-                "--verify takes an MD5 of 32 hex digits",
-            ),
+        Some((name, words)) => match command_named(name) {
+            Some(command) => {
+                let kind = output_kind(alloc, output_word(command, words))?;
+                match request_of(command, words, kind) {
+                    Ok(request) => return Ok(request),
+                    Err(misuse) => (ErrorKind::ValueValidation, misuse_text(misuse)),
+                }
+            }
+            None => (ErrorKind::InvalidSubcommand, "there is no such command"),
         },
         None => (ErrorKind::MissingSubcommand, "a command is missing"),
     };
     Err(command_line.error(kind, message)?)
 }
 
-/// The words of the command line. Where one of them is no text that is an `Err` with the text to print.
-pub fn words_of(rt: &HostRuntime) -> Result<Vec<String>, Error> {
-    let alloc = rt.alloc();
-    match env::args(rt) {
-        Ok(words) => Ok(words.collect(alloc)?),
-        Err(error) if error.kind() == io::ErrorKind::OutOfMemory => Err(AllocError.into()),
-        Err(_) => Err(grammar(alloc)?.error(ErrorKind::InvalidValue, "a word is not UTF-8")?),
+// What the output is by its name, where it has one.
+fn output_kind(alloc: Global, output: Option<&str>) -> Result<FileKind, AllocError> {
+    match output {
+        Some(name) => file_kind(alloc, name),
+        None => Ok(FileKind::Other),
+    }
+}
+
+fn misuse_text(misuse: Misuse) -> &'static str {
+    match misuse {
+        Misuse::Digest => "--verify takes an MD5 of 32 hex digits",
+        Misuse::Container => {
+            "--output takes no container, nor a picture of another format: FILE.yuv or FILE.y4m is written, and FILE.264 by cut"
+        }
     }
 }

@@ -1,6 +1,6 @@
 // What no contract says: what the words of the command line mean. Where an allocation is refused
 // (`rt try --test --fail-alloc N`), a test ends in that error, and not at an assertion.
-use avc_request::{Form, Request, Showing, Task, Telling, requested};
+use avc_request::{Form, Manner, Request, Showing, Task, Telling, requested};
 use avc_run::Output;
 use clap::error::ErrorKind;
 use std::alloc::Global;
@@ -23,11 +23,16 @@ fn taken(
     }
 }
 
-// When progress is told where no word says so.
-fn usual_progress(task: Task) -> Telling {
-    match task {
-        Task::Decode(_) | Task::Check(_) | Task::Show(_) => Telling::ToTerminals,
-        _ => Telling::Never,
+// How things are done where no word says how.
+fn usual_manner(task: Task) -> Manner {
+    Manner {
+        progress: match task {
+            Task::Decode(_) | Task::Check(_) | Task::Show(_) => Telling::ToTerminals,
+            _ => Telling::Never,
+        },
+        is_quiet: false,
+        is_strict: false,
+        is_explained: false,
     }
 }
 
@@ -41,7 +46,8 @@ fn named(
         task,
         input,
         output,
-        progress: usual_progress(task),
+        is_standard_output_named: false,
+        manner: usual_manner(task),
     })
 }
 
@@ -50,14 +56,46 @@ fn plain(task: Task) -> Result<Request<'static>, (ErrorKind, i32)> {
     named(task, None, None)
 }
 
-// The same where progress is told so.
-fn telling(task: Task, progress: Telling) -> Result<Request<'static>, (ErrorKind, i32)> {
+// The same where the standard output is named.
+fn to_standard_output(task: Task) -> Result<Request<'static>, (ErrorKind, i32)> {
     Ok(Request {
         task,
         input: None,
         output: None,
-        progress,
+        is_standard_output_named: true,
+        manner: usual_manner(task),
     })
+}
+
+// The same in this manner.
+fn in_manner(task: Task, manner: Manner) -> Result<Request<'static>, (ErrorKind, i32)> {
+    Ok(Request {
+        task,
+        input: None,
+        output: None,
+        is_standard_output_named: false,
+        manner,
+    })
+}
+
+// The same where progress is told so.
+fn telling(
+    task: Task,
+    progress: Telling,
+    is_quiet: bool,
+) -> Result<Request<'static>, (ErrorKind, i32)> {
+    let mut manner = usual_manner(task);
+    manner.progress = progress;
+    manner.is_quiet = is_quiet;
+    in_manner(task, manner)
+}
+
+// The usual manner, and strict or explained.
+fn strict_or_explained(task: Task, is_strict: bool, is_explained: bool) -> Manner {
+    let mut manner = usual_manner(task);
+    manner.is_strict = is_strict;
+    manner.is_explained = is_explained;
+    manner
 }
 
 // So many pictures in this form.
@@ -75,7 +113,8 @@ fn takes_words(rt: HostRuntime) -> Result<(), Fail> {
     let full = Task::Decode(Output::Full);
     let cases = [
         ("avcdec decode", plain(full)),
-        ("avcdec decode - -o -", plain(full)),
+        ("avcdec decode - -o -", to_standard_output(full)),
+        ("avcdec cut 0 -o -", to_standard_output(Task::Cut(0))),
         (
             "avcdec decode in.264 -o out.yuv",
             named(full, Some("in.264"), Some("out.yuv")),
@@ -114,6 +153,26 @@ fn takes_words(rt: HostRuntime) -> Result<(), Fail> {
         (
             "avcdec decode -o out.y4m",
             named(shown(u64::MAX, Form::Y4m), None, Some("out.y4m")),
+        ),
+        (
+            "avcdec decode -o OUT.Y4M",
+            named(shown(u64::MAX, Form::Y4m), None, Some("OUT.Y4M")),
+        ),
+        (
+            "avcdec decode -o out.mp4",
+            Err((ErrorKind::ValueValidation, 2)),
+        ),
+        (
+            "avcdec decode --format y4m -o out.MKV",
+            Err((ErrorKind::ValueValidation, 2)),
+        ),
+        (
+            "avcdec cut 0 -o piece.ts",
+            Err((ErrorKind::ValueValidation, 2)),
+        ),
+        (
+            "avcdec decode in.mp4 -o out.mp4.yuv",
+            named(full, Some("in.mp4"), Some("out.mp4.yuv")),
         ),
         (
             "avcdec decode --format i420 -o out.y4m",
@@ -155,8 +214,43 @@ fn takes_words(rt: HostRuntime) -> Result<(), Fail> {
         ("avcdec info", plain(Task::Info)),
         ("avcdec info --json", plain(Task::InfoJson)),
         ("avcdec decode --json", Err((ErrorKind::UnknownArgument, 2))),
-        ("avcdec decode --progress", telling(full, Telling::Always)),
-        ("avcdec decode --quiet", telling(full, Telling::Never)),
+        (
+            "avcdec decode --progress",
+            telling(full, Telling::Always, false),
+        ),
+        (
+            "avcdec decode --quiet",
+            telling(full, Telling::Never, true),
+        ),
+        ("avcdec decode -q", telling(full, Telling::Never, true)),
+        (
+            "avcdec decode --strict",
+            in_manner(full, strict_or_explained(full, true, false)),
+        ),
+        (
+            "avcdec decode --explain",
+            in_manner(full, strict_or_explained(full, false, true)),
+        ),
+        ("avcdec info --strict", Err((ErrorKind::UnknownArgument, 2))),
+        ("avcdec units --explain", Err((ErrorKind::UnknownArgument, 2))),
+        (
+            "avcdec decode -s 1 -l 2 -f null",
+            plain(Task::Show(Showing {
+                mode: Output::Full,
+                skip: 1,
+                limit: 2,
+                form: Form::Null,
+            })),
+        ),
+        (
+            "avcdec decode --early -f md5",
+            plain(Task::Show(Showing {
+                mode: Output::Early,
+                skip: 0,
+                limit: u64::MAX,
+                form: Form::Md5,
+            })),
+        ),
         (
             "avcdec decode --quiet --progress",
             Err((ErrorKind::ArgumentConflict, 2)),

@@ -1,0 +1,52 @@
+-- The search for a stream's frame rate.
+use Rattle.std.specs.Prelude.{◌≡◌, ◌⊎◌, ℕ, ◌^◌, ◌<◌, Bool, false, ◌||◌, if◌then◌else◌, List, ◌++◌, length, Option, Some, None, is_some, nat_le}
+use Rattle.avc_tools.specs.Streams.{StreamSoFar}
+use Rattle.avc_info.specs.Info.{facts_so_far}
+use Rattle.avc_info.specs.Text.{frame_rate}
+use Rattle.avc_info.specs.declared.sequence_facts.SequenceFacts.{SequenceFacts}
+
+-- What a search came to: the bytes that it has looked at, as long as it goes on, and the frames in a thousand seconds, once they are known.
+pub record Search : Type 0 where
+  pub searched : Option (List ℕ)
+  pub found : Option ℕ
+
+-- how many bytes are looked at
+abbrev pub most : ℕ
+most = 1048576
+
+-- the frame rate that a sequence parameter set says
+abbrev pub rate_of : Option SequenceFacts → Option ℕ
+rate_of None = None
+rate_of (Some s) = frame_rate s.timing
+
+-- the sequence parameter set of the first slice whose end has been seen
+abbrev pub first_sequence : (bytes : List ℕ) → Option SequenceFacts
+first_sequence bytes = (facts_so_far bytes false).sequence
+
+-- The search after these bytes: it is over once there is a slice, and after so many bytes.
+abbrev pub looked : (bytes : List ℕ) → Search
+looked bytes = record {
+  searched = if is_some (first_sequence bytes) || nat_le most (length bytes) then None else Some bytes;
+  found = rate_of (first_sequence bytes);
+}
+
+-- One that is over stays as it is. One that goes on takes the next bytes, or is over for want of memory.
+abbrev pub Looks : (searched : Option (List ℕ)) → (piece : List ℕ) → (old new : Search) → Type 0
+Looks None piece old new = new ≡ old
+Looks (Some bytes) piece old new = (new ≡ looked (bytes ++ piece)) ⊎ (new ≡ record { searched = None; found = old.found })
+
+-- ---- for the invariant
+
+abbrev pub bytes_of : Option StreamSoFar → Option (List ℕ)
+bytes_of None = None
+bytes_of (Some s) = Some s.bytes
+
+pub record IsGoingOn (s : StreamSoFar) (seen : ℕ) : Type 0 where
+  pub going : s.failed ≡ false
+  pub open_end : s.ended ≡ false
+  pub seen_is : seen ≡ length s.bytes
+  pub few : seen < most
+
+abbrev pub IsSearching : Option StreamSoFar → (seen : ℕ) → Type 0
+IsSearching None seen = Unit {0}
+IsSearching (Some s) seen = IsGoingOn s seen

@@ -1,0 +1,59 @@
+ghost use Rattle.std.specs.Prelude.{◌≡◌};
+ghost use Rattle.avc_cli.specs.Ending.{ended_status, is_verified, shown_by, status_wanting};
+
+use avc_request::{Form, Task};
+
+/// The exit status after a run of so many pictures that ended with this one: 1 in place of 0 where there had to be pictures and there are
+/// none, since the program was to be strict, or pictures were to be compared.
+pub fn ended_status(is_strict: bool, task: &Task, pictures: u64, status: u8) -> u8
+    ensures { result ≡ ended_status is_strict task.now pictures status }
+{
+    let strict = status_wanting(is_strict, pictures, status);
+    status_wanting(is_verified(task), shown_by(task, pictures), strict)
+}
+
+// Where there had to be pictures, or not.
+fn status_wanting(is_wanted: bool, pictures: u64, status: u8) -> u8
+    ensures { result ≡ status_wanting is_wanted pictures status }
+{
+    if is_wanted && pictures == 0 && status == 0 {
+        1
+    } else {
+        status
+    }
+}
+
+// Whether pictures are compared.
+fn is_verified(task: &Task) -> bool
+    ensures { result ≡ is_verified task.now }
+{
+    match task {
+        Task::Show(showing) => match showing.form {
+            Form::Verify(_) => true,
+            Form::I420 | Form::Null | Form::Md5 | Form::Y4m | Form::FrameMd5 => false,
+        },
+        Task::Decode(_)
+        | Task::Check(_)
+        | Task::Units
+        | Task::Headers
+        | Task::Info
+        | Task::InfoJson
+        | Task::Cut(_) => false,
+    }
+}
+
+// How many of so many pictures are shown.
+fn shown_by(task: &Task, pictures: u64) -> u64
+    ensures { result ≡ shown_by task.now pictures }
+{
+    match task {
+        Task::Show(showing) => pictures.saturating_sub(showing.skip).min(showing.limit),
+        Task::Decode(_)
+        | Task::Check(_)
+        | Task::Units
+        | Task::Headers
+        | Task::Info
+        | Task::InfoJson
+        | Task::Cut(_) => pictures,
+    }
+}

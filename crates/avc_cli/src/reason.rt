@@ -1,0 +1,36 @@
+ghost use Rattle.std.specs.Prelude.{◌≡◌, IfOk, string_bytes};
+ghost use Rattle.avc_cli.specs.Reasons.{reason_line, reason_of};
+
+use std::alloc::{AllocError, Global};
+use std::io::ErrorKind;
+
+/// The line that says why the file of this name could not be read or written.
+pub fn reason_line(alloc: Global, name: &str, kind: ErrorKind) -> Result<String, AllocError>
+    ensures { IfOk result (λ line. string_bytes line ≡ reason_line name.now (reason_of kind)) }
+{
+    let mut line = String::from_str(alloc, "avcdec: ")?;
+    line.push_str(name)?;
+    line.push_str(": ")?;
+    line.push_str(reason_of(kind))?;
+    line.push_str("\n")?;
+    Ok(line)
+}
+
+// In words, by what the system answered.
+fn reason_of(kind: ErrorKind) -> &'static str
+    ensures { result.now ≡ reason_of kind }
+{
+    match kind {
+        ErrorKind::NotFound => "there is no such file",
+        ErrorKind::PermissionDenied => "there is no permission",
+        ErrorKind::IsADirectory => "it is a folder",
+        ErrorKind::NotADirectory => "a part of its name is no folder",
+        ErrorKind::StorageFull => "there is no space left",
+        ErrorKind::QuotaExceeded => "no more space is allowed",
+        ErrorKind::FileTooLarge => "it is too large",
+        ErrorKind::ReadOnlyFilesystem => "nothing can be written there",
+        ErrorKind::InvalidFilename => "its name is too long",
+        ErrorKind::FilesystemLoop => "its links lead in a circle",
+        _ => "the system refuses it",
+    }
+}

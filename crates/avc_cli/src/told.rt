@@ -1,0 +1,50 @@
+//! What is told behind what a command tells itself.
+
+use crate::observer::Outcome;
+use crate::reason::reason_line;
+use avc_container::{container_line, container_of, no_picture_line};
+use avc_request::{Manner, Task};
+use std::io::{ErrorKind, IsTerminal, Write};
+
+/// Tells why a file could not be read or written, where it has a name and that is known.
+pub fn tell_reason(rt: &HostRuntime, name: Option<&str>, kind: Option<ErrorKind>) {
+    if let (Some(name), Some(kind)) = (name, kind) {
+        if let Ok(line) = reason_line(rt.alloc(), name, kind) {
+            tell(rt, &line);
+        }
+    }
+}
+
+/// Tells what refusals mean, where that is wanted, and what a stream is in which no picture was found, by its first bytes, where that is
+/// wanted or somebody looks.
+pub fn tell_outcome(rt: &HostRuntime, manner: &Manner, outcome: &Outcome, first: &[u8]) {
+    if let Some(text) = &outcome.explanation {
+        tell(rt, text);
+    }
+    if outcome.pictures == 0 && is_told_more(rt, manner) {
+        if let Ok(line) = no_picture_line(rt.alloc(), first) {
+            tell(rt, &line);
+        }
+    }
+}
+
+// Whether more than the lines that scripts read may be told.
+fn is_told_more(rt: &HostRuntime, manner: &Manner) -> bool {
+    manner.is_explained || (!manner.is_quiet && rt.stderr().is_terminal())
+}
+
+/// Tells of a stream of which facts were wanted that it is a container or a picture, by its first bytes.
+pub fn tell_container(rt: &HostRuntime, task: &Task, first: &[u8]) {
+    if let Task::Info | Task::InfoJson = task {
+        if let Some(container) = container_of(first) {
+            if let Ok(line) = container_line(rt.alloc(), container) {
+                tell(rt, &line);
+            }
+        }
+    }
+}
+
+// Where the standard error takes no more, nothing is told.
+fn tell(rt: &HostRuntime, text: &str) {
+    let _ = rt.stderr().write_all(text.as_bytes());
+}
