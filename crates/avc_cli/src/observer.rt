@@ -4,8 +4,8 @@ ghost use Rattle.std.specs.Prelude.{◌≡◌, IfSome, string_bytes};
 ghost use Rattle.avc_explain.specs.Explanations.{explanation};
 
 use crate::progress::Progress;
+use avc_console::{Report, RunFault, Watch};
 use avc_explain::explanation;
-use avc_run::{Report, RunFault, Watch};
 use std::alloc::Global;
 
 /// What a run came to that ended without a fault.

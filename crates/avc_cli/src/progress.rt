@@ -1,4 +1,4 @@
-ghost use Rattle.std.specs.Prelude.{◌≡◌, ◌++◌, IfOk, OnOk, length, string_bytes};
+ghost use Rattle.std.specs.Prelude.{◌≡◌, ◌<◌, ◌++◌, IfOk, OnOk, length, string_bytes};
 ghost use Rattle.avc_cli.specs.Progress.{clock_text, counts_text, left_text, place_by, place_text, progress_line, speed_text};
 ghost use Rattle.avc_cli.specs.Progress.{tenths_text, times_by, times_text};
 
