@@ -79,7 +79,11 @@ fn carry_out_on<R: Read + Drop>(
 ) -> u8 {
     let has_left = Cell::new(false);
     let manner = &request.manner;
-    let progress = Progress::new(rt, is_progress_told(rt, manner.progress), size_of(rt, request));
+    let progress = Progress::new(
+        rt,
+        is_progress_told(rt, manner.progress),
+        size_of(rt, request),
+    );
     let mut console = Console {
         names: names_of(request),
         errors: Errors::new(rt, manner.is_quiet, &has_left),

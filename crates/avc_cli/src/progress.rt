@@ -241,7 +241,10 @@ fn add_left(line: &mut String, read: u64, rest: u64, millis: u64) -> Result<(), 
         return Ok(());
     }
     line.push_str(", ")?;
-    add_clock(line, u128::from(millis) * u128::from(rest) / (1000 * u128::from(read)))?;
+    add_clock(
+        line,
+        u128::from(millis) * u128::from(rest) / (1000 * u128::from(read)),
+    )?;
     line.push_str(" left")?;
     Ok(())
 }

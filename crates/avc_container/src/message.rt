@@ -5,7 +5,8 @@ ghost use Rattle.avc_container.specs.Messages.{advice_of, beginning_text, contai
 use crate::container::{Container, container_of, has_at};
 use std::alloc::{AllocError, Global};
 
-const PIPE: &str = "; a byte stream of its H.264: ffmpeg -i FILE -c:v copy -bsf:v h264_mp4toannexb -f h264 - | avcdec decode -";
+const PIPE: &str =
+    "; a byte stream of its H.264: ffmpeg -i FILE -c:v copy -bsf:v h264_mp4toannexb -f h264 - | avcdec decode -";
 
 const NONE_INSIDE: &str = ", which holds no H.264";
 

@@ -29,7 +29,17 @@ fn kind_named(extension: &str) -> FileKind
 {
     match extension {
         "y4m" => FileKind::Y4m,
-        "mp4" | "m4v" | "mov" | "mkv" | "webm" | "ts" | "flv" | "avi" | "ivf" | "jpg" | "jpeg"
+        "mp4"
+        | "m4v"
+        | "mov"
+        | "mkv"
+        | "webm"
+        | "ts"
+        | "flv"
+        | "avi"
+        | "ivf"
+        | "jpg"
+        | "jpeg"
         | "png" => FileKind::Container,
         _ => FileKind::Other,
     }
