@@ -1,5 +1,8 @@
 #!/bin/sh
-# link.sh IN.ll OUT.wasm wasm32|wasm64: takes the LLVM module of the library to WebAssembly, compiles it and links it with its heap.
+# link.sh IN.ll OUT.wasm wasm32|wasm64: takes the LLVM module of the library to WebAssembly, optimizes it, compiles it and links it with its heap.
+#
+# LLVM's optimizer asks the target what vectors cost. WebAssembly's answers leave much arithmetic of samples in single bytes, which is a fifth
+# slower; so while it optimizes, the target is ARM64 with addresses of as many bits, whose vectors have 16 bytes too.
 set -eu
 here=$(cd "$(dirname "$0")" && pwd)
 clang=$(dirname "$(rt doc)")/toolchain/bin/clang
@@ -9,13 +12,29 @@ kind=$3
 work=$(mktemp -d)
 trap 'rm -rf "$work"' EXIT
 python3 "$here/port.py" "$in" "$work/library.ll" "$kind"
+case $kind in
+wasm64) costs=arm64-apple-ios ;;
+*) costs=arm64_32-apple-watchos ;;
+esac
+# makes the target of a module the one that another names: MODULE OTHER OUT
+aim() {
+    awk 'NR == FNR { if (/^target /) line[$2] = $0; next } /^target / { $0 = line[$2] } { print }' "$2" "$1" >"$3"
+}
+echo | "$clang" "--target=$costs" -x c -S -emit-llvm -o "$work/costs.ll" -
+aim "$work/library.ll" "$work/costs.ll" "$work/plain.ll"
+"$clang" "--target=$costs" -O3 --no-default-config -mllvm -sink-common-insts=false -Wno-override-module -x ir "$work/plain.ll" -S -emit-llvm -o "$work/optimized.ll"
+aim "$work/optimized.ll" "$work/library.ll" "$work/ready.ll"
+if grep -E -n '@llvm\.aarch64|target-(cpu|features)' "$work/ready.ll"; then
+    echo 'link.sh: the optimized module has something of ARM64' >&2
+    exit 1
+fi
 compile() {
     "$clang" "--target=$kind-unknown-unknown" -mcpu=lime1 -msimd128 -O3 -ffunction-sections -fdata-sections --no-default-config "$@"
 }
 # the flags beside these are those that the toolchain itself gives its clang for WebAssembly
 compile -mllvm -expand-div-rem-bits=64 -mllvm -expand-fp-convert-bits=64 -mllvm -trap-unreachable -mllvm -no-x86-call-frame-opt \
-    -mllvm -disable-machine-licm -mllvm -disable-postra-machine-licm -mllvm -sink-common-insts=false \
-    -Wno-override-module -c -x ir "$work/library.ll" -o "$work/library.o"
+    -mllvm -disable-machine-licm -mllvm -disable-postra-machine-licm \
+    -Wno-override-module -Xclang -disable-llvm-passes -c -x ir "$work/ready.ll" -o "$work/library.o"
 for name in heap multi3; do
     compile -ffreestanding -fno-builtin -nostdinc -Wall -Wextra -Werror -c "$here/$name.c" -o "$work/$name.o"
 done
