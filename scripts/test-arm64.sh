@@ -91,8 +91,9 @@ is_packaged() {
     for package in "$work"/debian/*.deb; do
         [ "$(dpkg-deb --field "$package" Architecture)" = arm64 ] || return 1
     done
-    dpkg-deb --contents "$work"/debian/libavcdec0_*.deb | grep -q './usr/lib/aarch64-linux-gnu/libavcdec.so.0' &&
-        dpkg-deb --contents "$work"/debian/libavcdec-dev_*.deb | grep -q './usr/lib/aarch64-linux-gnu/libavcdec.a' &&
+    # grep reads on to the end, so that dpkg-deb does not speak of a broken pipe
+    dpkg-deb --contents "$work"/debian/libavcdec0_*.deb | grep './usr/lib/aarch64-linux-gnu/libavcdec.so.0' >/dev/null &&
+        dpkg-deb --contents "$work"/debian/libavcdec-dev_*.deb | grep './usr/lib/aarch64-linux-gnu/libavcdec.a' >/dev/null &&
         [ "$(find "$work/debian" -name '*.deb' | wc -l)" = 2 ]
 }
 
