@@ -53,7 +53,8 @@ command -v "${CC:-cc}" >/dev/null || lacks "${CC:-cc}" gcc
 if command -v pkg-config >/dev/null; then
     for module in gstreamer-1.0:libgstreamer1.0-dev gstreamer-check-1.0:libgstreamer1.0-dev gstreamer-video-1.0:libgstreamer-plugins-base1.0-dev \
         gstreamer-app-1.0:libgstreamer-plugins-base1.0-dev; do
-        pkg-config --exists "${module%:*}" || lacks "the development files ${module%:*}" "${module#*:}"
+        why=$(pkg-config --print-errors --exists "${module%:*}" 2>&1) ||
+            lacks "the development files ${module%:*}: $(echo "$why" | tail -n 1)" "${module#*:}"
     done
 fi
 if [ -n "$lacking" ] || ! has h264parse; then
