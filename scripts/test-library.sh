@@ -372,7 +372,7 @@ is_read_by_python() {
 }
 
 is_typed() {
-    (cd "$top/bindings/python" && "$1" -m mypy --strict --cache-dir "$work/mypy" avcdec make_wheel.py >"$work/told" 2>&1) || { cat "$work/told"; return 1; }
+    (cd "$top/bindings/python" && "$@" --strict --cache-dir "$work/mypy" avcdec make_wheel.py >"$work/told" 2>&1) || { cat "$work/told"; return 1; }
 }
 
 if [ -n "$python" ]; then
@@ -388,9 +388,9 @@ if [ -n "$python" ]; then
         left_out 'pip install' 'there is no pip'
     fi
     if "$python" -m mypy --version >/dev/null 2>&1; then
-        holds 'mypy --strict' is_typed "$python"
+        holds 'mypy --strict' is_typed "$python" -m mypy
     elif has mypy; then
-        holds 'mypy --strict' is_typed /usr/bin/python3
+        holds 'mypy --strict' is_typed mypy
     else
         left_out 'mypy --strict' 'it is not there'
     fi

@@ -75,7 +75,8 @@ is_the_same() {
 
 # whether no path of this machine stands in a file; those where one does are named
 has_no_path() {
-    for path in "$work" "$top" "$other" "$HOME/" /tmp/ /opt/rattle; do
+    for path in "$work" "$top" "$other" "${HOME:-/root}/" /tmp/ /opt/rattle; do
+        [ "$path" != // ] || continue
         if grep -r -a -l -F -e "$path" "$first/$release/bin" "$first/$release/lib" "$first/$release/include" "$first/$release/PROVED-BY.txt"; then return 1; fi
     done
 }
