@@ -119,11 +119,19 @@ MD
     step 'cp avcdec/vectors/cases/gap_and_resumed.264 broken.264'
     # shellcheck disable=SC2016
     step 'avcdec decode broken.264 -o broken.yuv; echo "status $?"; wc -c broken.yuv'
+    step 'avcdec decode --explain --format null broken.264'
     step 'grep FrameNumGap prefix/share/doc/avcdec/faults.tsv'
     console_ends
     text <<'MD'
 
-Have no byte stream, but a file of a camera or a player? `ffmpeg -i in.mp4 -c copy -bsf:v h264_mp4toannexb -f h264 -` makes one of it.
+What is no byte stream is named, with the words that make one of it:
+MD
+    console
+    step "printf '\\000\\000\\000\\040ftypisom\\000\\000\\002\\000' >film.mp4"
+    # shellcheck disable=SC2016
+    step 'avcdec decode --explain film.mp4 -o nothing.yuv; echo "status $?"'
+    console_ends
+    text <<'MD'
 
 MD
 }
