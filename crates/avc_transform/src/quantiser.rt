@@ -7,6 +7,7 @@ const CHROMA_QP: [u8; 22] = [
 ];
 
 /// The quantiser of chroma, 0 to 39, of a luma quantiser and chroma_qp_index_offset (8.5.8).
+#[inline(always)]
 pub fn chroma_qp(offset: i8, qp: u8) -> u8
     ensures value { result ≡ chroma_qp offset qp }
     ensures range { result ≤ 39 }
