@@ -10,8 +10,8 @@ use avc_plane::Plane;
 
 /// Filters the sixteen lines of luma across a horizontal edge at strengths of 0 to 3. The edge has `top + 4` rows above it, and `left`
 /// columns left of its first line.
-#[inline(never)]
-pub(crate) fn weak_horizontal<const PAD: usize>(
+#[inline(always)]
+fn weak_horizontal<const PAD: usize>(
     plane: &mut Plane<PAD>,
     left: usize,
     top: usize,
@@ -22,7 +22,9 @@ pub(crate) fn weak_horizontal<const PAD: usize>(
     requires rows { top + 8 ≤ plane.old.height }
     requires strengths { (k : ℕ) → k < 4 → slice_index strengths.now k < 4 }
     requires index { limits.now.index_a < 52 }
-    ensures { (setting : ℕ → Setting) → ((i : ℕ) → i < 16 → FitsWeak true limits.now (slice_index strengths.now (i / 4)) (setting i)) →
+    ensures width { plane.new.width ≡ plane.old.width }
+    ensures height { plane.new.height ≡ plane.old.height }
+    ensures lines { (setting : ℕ → Setting) → ((i : ℕ) → i < 16 → FitsWeak true limits.now (slice_index strengths.now (i / 4)) (setting i)) →
         plane.new ≡ edge_filtered setting false left (top + 4) 16 plane.old }
 {
     let _rows = plane.height();
@@ -34,8 +36,8 @@ pub(crate) fn weak_horizontal<const PAD: usize>(
 }
 
 /// The same across a vertical edge, with `left + 4` columns left of it and `top` rows above its first line.
-#[inline(never)]
-pub(crate) fn weak_vertical<const PAD: usize>(
+#[inline(always)]
+fn weak_vertical<const PAD: usize>(
     plane: &mut Plane<PAD>,
     left: usize,
     top: usize,
@@ -46,7 +48,9 @@ pub(crate) fn weak_vertical<const PAD: usize>(
     requires rows { top + 16 ≤ plane.old.height }
     requires strengths { (k : ℕ) → k < 4 → slice_index strengths.now k < 4 }
     requires index { limits.now.index_a < 52 }
-    ensures { (setting : ℕ → Setting) → ((i : ℕ) → i < 16 → FitsWeak true limits.now (slice_index strengths.now (i / 4)) (setting i)) →
+    ensures width { plane.new.width ≡ plane.old.width }
+    ensures height { plane.new.height ≡ plane.old.height }
+    ensures lines { (setting : ℕ → Setting) → ((i : ℕ) → i < 16 → FitsWeak true limits.now (slice_index strengths.now (i / 4)) (setting i)) →
         plane.new ≡ edge_filtered setting true (left + 4) top 16 plane.old }
 {
     let _columns = plane.width();
@@ -94,4 +98,88 @@ pub(crate) fn strong_vertical<const PAD: usize>(
     strong_luma(&mut lines, &limits.strong());
     let after = rows_of(&lines);
     plane.set_rectangle::<8, 16, 128>(left, top, &after);
+}
+
+/// The lines across one horizontal edge at strengths of 0 to 3, apart from its callers.
+#[inline(never)]
+pub(crate) fn one_horizontal<const PAD: usize>(
+    plane: &mut Plane<PAD>,
+    left: usize,
+    top: usize,
+    limits: &QpLimits,
+    strengths: &[u8; 4],
+)
+    requires columns { left + 16 ≤ plane.old.width }
+    requires rows { top + 8 ≤ plane.old.height }
+    requires strengths { (k : ℕ) → k < 4 → slice_index strengths.now k < 4 }
+    requires index { limits.now.index_a < 52 }
+    ensures { (setting : ℕ → Setting) → ((i : ℕ) → i < 16 → FitsWeak true limits.now (slice_index strengths.now (i / 4)) (setting i)) →
+        plane.new ≡ edge_filtered setting false left (top + 4) 16 plane.old }
+{
+    weak_horizontal(plane, left, top, limits, strengths);
+}
+
+/// The same across a vertical edge.
+#[inline(never)]
+pub(crate) fn one_vertical<const PAD: usize>(
+    plane: &mut Plane<PAD>,
+    left: usize,
+    top: usize,
+    limits: &QpLimits,
+    strengths: &[u8; 4],
+)
+    requires columns { left + 8 ≤ plane.old.width }
+    requires rows { top + 16 ≤ plane.old.height }
+    requires strengths { (k : ℕ) → k < 4 → slice_index strengths.now k < 4 }
+    requires index { limits.now.index_a < 52 }
+    ensures { (setting : ℕ → Setting) → ((i : ℕ) → i < 16 → FitsWeak true limits.now (slice_index strengths.now (i / 4)) (setting i)) →
+        plane.new ≡ edge_filtered setting true (left + 4) top 16 plane.old }
+{
+    weak_vertical(plane, left, top, limits, strengths);
+}
+
+/// Those across three horizontal edges with the same strengths, each four rows below the one before, which is filtered first.
+#[inline(never)]
+pub(crate) fn three_horizontal<const PAD: usize>(
+    plane: &mut Plane<PAD>,
+    left: usize,
+    top: usize,
+    limits: &QpLimits,
+    strengths: &[u8; 4],
+)
+    requires columns { left + 16 ≤ plane.old.width }
+    requires rows { top + 16 ≤ plane.old.height }
+    requires strengths { (k : ℕ) → k < 4 → slice_index strengths.now k < 4 }
+    requires index { limits.now.index_a < 52 }
+    ensures { (setting : ℕ → Setting) → ((i : ℕ) → i < 16 → FitsWeak true limits.now (slice_index strengths.now (i / 4)) (setting i)) →
+        plane.new ≡ edge_filtered setting false left (top + 12) 16
+        (edge_filtered setting false left (top + 8) 16 (edge_filtered setting false left (top + 4) 16 plane.old)) }
+{
+    let _rows = plane.height();
+    weak_horizontal(plane, left, top, limits, strengths);
+    weak_horizontal(plane, left, top + 4, limits, strengths);
+    weak_horizontal(plane, left, top + 8, limits, strengths);
+}
+
+/// Those across three vertical edges, each four columns right of the one before.
+#[inline(never)]
+pub(crate) fn three_vertical<const PAD: usize>(
+    plane: &mut Plane<PAD>,
+    left: usize,
+    top: usize,
+    limits: &QpLimits,
+    strengths: &[u8; 4],
+)
+    requires columns { left + 16 ≤ plane.old.width }
+    requires rows { top + 16 ≤ plane.old.height }
+    requires strengths { (k : ℕ) → k < 4 → slice_index strengths.now k < 4 }
+    requires index { limits.now.index_a < 52 }
+    ensures { (setting : ℕ → Setting) → ((i : ℕ) → i < 16 → FitsWeak true limits.now (slice_index strengths.now (i / 4)) (setting i)) →
+        plane.new ≡ edge_filtered setting true (left + 12) top 16
+        (edge_filtered setting true (left + 8) top 16 (edge_filtered setting true (left + 4) top 16 plane.old)) }
+{
+    let _columns = plane.width();
+    weak_vertical(plane, left, top, limits, strengths);
+    weak_vertical(plane, left + 4, top, limits, strengths);
+    weak_vertical(plane, left + 8, top, limits, strengths);
 }

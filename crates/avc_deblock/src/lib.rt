@@ -7,6 +7,7 @@ mod bytes;
 mod chroma_edge;
 mod edge_strengths;
 mod filter;
+mod horizontal_edges;
 mod kernels;
 pub mod laws;
 mod line;

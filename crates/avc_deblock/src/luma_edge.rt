@@ -1,9 +1,13 @@
-ghost use Rattle.std.specs.Prelude.{◌≡◌, ◌+◌, ◌<◌, ◌≤◌, true, false};
+ghost use Rattle.std.specs.Prelude.{◌≡◌, ℕ, ◌+◌, ◌<◌, ◌≤◌, true, false, slice_index};
 ghost use Rattle.avc_deblock.specs.OneEdge.{edge_filtered, luma_setting, strength_along, AreStrengths, AreLimits};
+ghost use Rattle.avc_deblock.specs.declared.edge_strengths.Strengths.TheVariants.{BelowFour};
 ghost use Rattle.avc_deblock.specs.declared.thresholds.EdgeQp.{EdgeQp as Qps};
 
 use crate::edge_strengths::Strengths;
-use crate::kernels::{strong_horizontal, strong_vertical, weak_horizontal, weak_vertical};
+use crate::kernels::{
+    one_horizontal, one_vertical, strong_horizontal, strong_vertical, three_horizontal,
+    three_vertical,
+};
 use crate::thresholds::QpLimits;
 use avc_plane::Plane;
 
@@ -30,7 +34,7 @@ pub(crate) fn vertical_luma<const PAD: usize>(
     }
     match strengths {
         Strengths::Four => strong_vertical(plane, left, top, limits),
-        Strengths::BelowFour(s) => weak_vertical(plane, left, top, limits, s),
+        Strengths::BelowFour(s) => one_vertical(plane, left, top, limits, s),
     }
 }
 
@@ -57,6 +61,57 @@ pub(crate) fn horizontal_luma<const PAD: usize>(
     }
     match strengths {
         Strengths::Four => strong_horizontal(plane, left, top, limits),
-        Strengths::BelowFour(s) => weak_horizontal(plane, left, top, limits, s),
+        Strengths::BelowFour(s) => one_horizontal(plane, left, top, limits, s),
     }
+}
+
+/// Filters those across three vertical edges with the same strengths, each four columns right of the one before. The first has
+/// `left + 4` columns left of it.
+#[inline(always)]
+#[tactic(auto, using(crate::proofs::FilteredPictures::edge_off))]
+pub(crate) fn three_vertical_luma<const PAD: usize>(
+    plane: &mut Plane<PAD>,
+    left: usize,
+    top: usize,
+    strengths: &[u8; 4],
+    limits: &QpLimits,
+)
+    requires columns { left + 16 ≤ plane.old.width }
+    requires rows { top + 16 ≤ plane.old.height }
+    requires index { limits.now.index_a < 52 }
+    requires strengths { (k : ℕ) → k < 4 → slice_index strengths.now k < 4 }
+    ensures { (qp : Qps) → AreLimits limits.now qp → plane.new
+        ≡ edge_filtered (luma_setting (strength_along (BelowFour strengths.now)) qp) true (left + 12) top 16
+        (edge_filtered (luma_setting (strength_along (BelowFour strengths.now)) qp) true (left + 8) top 16
+        (edge_filtered (luma_setting (strength_along (BelowFour strengths.now)) qp) true (left + 4) top 16 plane.old)) }
+{
+    if !limits.is_on {
+        return;
+    }
+    three_vertical(plane, left, top, limits, strengths);
+}
+
+/// The same across three horizontal edges, each four rows below the one before. The first has `top + 4` rows above it.
+#[inline(always)]
+#[tactic(auto, using(crate::proofs::FilteredPictures::edge_off))]
+pub(crate) fn three_horizontal_luma<const PAD: usize>(
+    plane: &mut Plane<PAD>,
+    left: usize,
+    top: usize,
+    strengths: &[u8; 4],
+    limits: &QpLimits,
+)
+    requires columns { left + 16 ≤ plane.old.width }
+    requires rows { top + 16 ≤ plane.old.height }
+    requires index { limits.now.index_a < 52 }
+    requires strengths { (k : ℕ) → k < 4 → slice_index strengths.now k < 4 }
+    ensures { (qp : Qps) → AreLimits limits.now qp → plane.new
+        ≡ edge_filtered (luma_setting (strength_along (BelowFour strengths.now)) qp) false left (top + 12) 16
+        (edge_filtered (luma_setting (strength_along (BelowFour strengths.now)) qp) false left (top + 8) 16
+        (edge_filtered (luma_setting (strength_along (BelowFour strengths.now)) qp) false left (top + 4) 16 plane.old)) }
+{
+    if !limits.is_on {
+        return;
+    }
+    three_horizontal(plane, left, top, limits, strengths);
 }

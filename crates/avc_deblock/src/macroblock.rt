@@ -5,6 +5,7 @@ ghost use Rattle.avc_deblock.specs.FilterInfo.{filters_between};
 ghost use Rattle.avc_deblock.specs.MbLimits.{ArePairLimits};
 ghost use Rattle.avc_deblock.specs.ByInfo.{edges_by_info, mb_by_info, strength_of};
 
+use crate::horizontal_edges::inner_intra_edges;
 use crate::line::{all_three, both};
 use crate::mb_info::MbInfo;
 use crate::planes_edge::{PairLimits, Place, edge_between, inner_limits, limits_beside};
@@ -122,6 +123,30 @@ fn all_vertical<const PAD: usize>(
     }
 }
 
+/// Filters the horizontal edges inside macroblock `q`.
+#[inline(always)]
+fn inner_horizontal<const PAD: usize>(
+    planes: &mut Planes<PAD>,
+    q: &MbInfo,
+    filters: bool,
+    limits: &PairLimits,
+    place: Place,
+)
+    requires columns_fit { 16 * place.column + 16 < 2 ^ 64 }
+    requires rows_fit { 16 * place.row + 16 < 2 ^ 64 }
+    requires room { HasRoom place.column place.row (planes_of planes.old) }
+    requires limits { ArePairLimits limits.now place.chroma_qp_index_offset q.now q.now }
+    ensures room { (column row : ℕ) → HasRoom column row (planes_of planes.old) → HasRoom column row (planes_of planes.new) }
+    ensures lines { planes_of planes.new
+        ≡ edges_by_info false place.column place.row place.chroma_qp_index_offset false filters q.now q.now (planes_of planes.old) }
+{
+    if both(filters, q.is_intra) {
+        inner_intra_edges(planes, q, limits, place);
+    } else {
+        inner_edges(planes, q, false, filters, limits, place);
+    }
+}
+
 /// Filters all edges of macroblock `mb`. `left` and `above` are the macroblocks there, and any where there is none.
 pub(crate) fn macroblock<const PAD: usize>(
     planes: &mut Planes<PAD>,
@@ -158,5 +183,5 @@ pub(crate) fn macroblock<const PAD: usize>(
         place,
     );
     outer_edge(planes, above, mb, false, from_above, &above_limits, place);
-    inner_edges(planes, mb, false, inner, &own, place);
+    inner_horizontal(planes, mb, inner, &own, place);
 }

@@ -10,7 +10,7 @@ ghost use Rattle.avc_deblock.specs.ByInfo.{edges_by_info, luma_qp_of, chroma_qp_
 use crate::chroma_edge::two_vertical_chroma;
 use crate::edge_strengths::{Strengths, edge_strengths};
 use crate::line::both;
-use crate::luma_edge::vertical_luma;
+use crate::luma_edge::{three_vertical_luma, vertical_luma};
 use crate::mb_info::MbInfo;
 use crate::planes_edge::{PairLimits, Place, vertical_chroma_of};
 use crate::thresholds::QpLimits;
@@ -47,6 +47,39 @@ fn luma_between<const PAD: usize>(
     }
     let left = 16 * place.column + 4 * n - 4;
     vertical_luma(luma, left, 16 * place.row, strengths, limits);
+}
+
+/// The same across the three edges inside macroblock `q`, which has these strengths in its middle. Those of an intra macroblock are
+/// equal everywhere.
+#[inline(always)]
+fn inner_luma<const PAD: usize>(
+    luma: &mut Plane<PAD>,
+    q: &MbInfo,
+    middle: &Strengths,
+    limits: &QpLimits,
+    place: Place,
+)
+    requires columns_fit { 16 * place.column + 16 < 2 ^ 64 }
+    requires rows_fit { 16 * place.row + 16 < 2 ^ 64 }
+    requires columns { 16 * place.column + 16 ≤ luma.old.width }
+    requires rows { 16 * place.row + 16 ≤ luma.old.height }
+    requires low { AreStrengths middle.now }
+    requires value { (k : ℕ) → k < 4 → strength_along middle.now k ≡ strength_of q.now q.now true 2 k }
+    requires limits { AreLimits limits.now (luma_qp_of q.now q.now) }
+    ensures { luma.new ≡ edge_filtered (luma_setting (strength_of q.now q.now true 3) (luma_qp_of q.now q.now)) true (16 * place.column + 12) (16 * place.row) 16
+        (edge_filtered (luma_setting (strength_of q.now q.now true 2) (luma_qp_of q.now q.now)) true (16 * place.column + 8) (16 * place.row) 16
+        (edge_filtered (luma_setting (strength_of q.now q.now true 1) (luma_qp_of q.now q.now)) true (16 * place.column + 4) (16 * place.row) 16 luma.old)) }
+{
+    if q.is_intra {
+        let left = 16 * place.column;
+        three_vertical_luma(luma, left, 16 * place.row, &[3; 4], limits);
+        return;
+    }
+    let second = edge_strengths(q, q, true, 1);
+    luma_between(luma, q, q, 1, &second, limits, place);
+    luma_between(luma, q, q, 2, middle, limits, place);
+    let last = edge_strengths(q, q, true, 3);
+    luma_between(luma, q, q, 3, &last, limits, place);
 }
 
 /// The same of both components of chroma, where `n` is 0 or 2.
@@ -154,27 +187,7 @@ pub(crate) fn vertical_edges<const PAD: usize>(
     let outer = edge_strengths(p, q, true, 0);
     let middle = edge_strengths(q, q, true, 2);
     luma_between(&mut planes.luma, p, q, 0, &outer, &outer_limits.luma, place);
-    let second = edge_strengths(q, q, true, 1);
-    luma_between(
-        &mut planes.luma,
-        q,
-        q,
-        1,
-        &second,
-        &inner_limits.luma,
-        place,
-    );
-    luma_between(
-        &mut planes.luma,
-        q,
-        q,
-        2,
-        &middle,
-        &inner_limits.luma,
-        place,
-    );
-    let last = edge_strengths(q, q, true, 3);
-    luma_between(&mut planes.luma, q, q, 3, &last, &inner_limits.luma, place);
+    inner_luma(&mut planes.luma, q, &middle, &inner_limits.luma, place);
     chroma_edges(
         &mut planes.cb,
         &mut planes.cr,

@@ -422,6 +422,37 @@ edges_room column row offset p q s t is a b h =
     λ n m r. room_kept true column row n (strength_of m q true n) (luma_qp_of m q) (chroma_qp_of offset m q) r _ refl a b in
     rw is (kept 3 q _ (kept 2 q _ (kept 1 q _ (kept 0 p s h))))
 
+-- ---- the edges inside an intra macroblock: all strengths are 3
+
+pub threes : (k : ℕ) → k < 4 → slice_index (3 ∷ 3 ∷ 3 ∷ 3 ∷ []) k ≡ 3
+threes = same_below 4 (slice_index (3 ∷ 3 ∷ 3 ∷ 3 ∷ [])) (λ (k : ℕ). 3) refl
+
+pub inside_intra : (q : MbInfo) (v : Bool) (st : List ℕ) → q.is_intra ≡ true → ((k : ℕ) → k < 4 → slice_index st k ≡ 3) → (n : ℕ) → 1 ≤ n → (k : ℕ) → k < 4 →
+    strength_along (BelowFour st) k ≡ strength_of q q v n k
+inside_intra q v st intra same n some k low = grind (arith, nat_tests)
+
+pub intra_lines : (column row : ℕ) (q : MbInfo) (v : Bool) (st : List ℕ) (s t : Plane) → q.is_intra ≡ true → ((k : ℕ) → k < 4 → slice_index st k ≡ 3) →
+    (let f : ℕ → Setting = luma_setting (strength_along (BelowFour st)) (luma_qp_of q q) in
+    t ≡ edge_behind 16 f v column row 12 (edge_behind 16 f v column row 8 (edge_behind 16 f v column row 4 s))) →
+    t ≡ luma_of_edge v column row 3 (strength_of q q v 3) (luma_qp_of q q)
+    (luma_of_edge v column row 2 (strength_of q q v 2) (luma_qp_of q q) (luma_of_edge v column row 1 (strength_of q q v 1) (luma_qp_of q q) s))
+intra_lines column row q v st s t intra same is =
+    let qp = luma_qp_of q q in
+    let f : ℕ → ℕ = strength_along (BelowFour st) in
+    let alike : (n : ℕ) → 1 ≤ n → (r : Plane) → luma_of_edge v column row n f qp r ≡ luma_of_edge v column row n (strength_of q q v n) qp r =
+    λ n some r. luma_same column row n f (strength_of q q v n) qp (inside_intra q v st intra same n some) v r in
+    is
+    ∙ alike 3 (omega arith) _
+    ∙ ap (luma_of_edge v column row 3 (strength_of q q v 3) qp)
+    (alike 2 (omega arith) _ ∙ ap (luma_of_edge v column row 2 (strength_of q q v 2) qp) (alike 1 (omega arith) s))
+
+pub inner_room : (column row : ℕ) (offset : ℤ) (q : MbInfo) (s t : Planes) →
+    t ≡ edges_by_info false column row offset false true q q s → (a b : ℕ) → HasRoom a b s → HasRoom a b t
+inner_room column row offset q s t is a b h =
+    let kept : (n : ℕ) (r : Planes) → HasRoom a b r → HasRoom a b (edge_by_info false column row n offset q q r) =
+    λ n r. room_kept false column row n (strength_of q q false n) (luma_qp_of q q) (chroma_qp_of offset q q) r _ refl a b in
+    rw is (kept 3 _ (kept 2 _ (kept 1 s h)))
+
 -- ---- the strength of info is that of the picture
 
 -- entries are equal where the numbers are

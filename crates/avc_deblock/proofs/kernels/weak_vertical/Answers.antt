@@ -2,8 +2,8 @@ use Rattle.avc_deblock.proofs.FilteredPictures.{ℕ, true, ◌+◌, ◌*◌, ◌
 use Rattle.avc_deblock.proofs.FilteredPictures.{edge_as_block, same_samples, weak_reach, kept_by, within_block, weak_row}
 use Rattle.avc_deblock.proofs.kernels.weak_vertical.Goals as goal
 
-pub returns : goal.returns
-returns g c setting fits =
+pub returns-clause-lines : goal.returns-clause-lines
+returns-clause-lines g c setting fits =
     let s = c.args.plane.now in
     let left = c.args.left in
     let top = c.args.top in

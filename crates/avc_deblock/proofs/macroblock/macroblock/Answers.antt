@@ -20,15 +20,15 @@ outer_edge-requires g c =
     let some_row : c.reaches-from_above.result ≡ true → 1 ≤ c.args.place.row = λ e. some_coded (filters_between c.args.mb.now c.args.above.now) c.args.place.row (c.reaches-from_above.ensures.on e) in
     (omega arith, ((λ e f. absurd (cc)), ((λ e f. some_row e), (c.requires.columns_fit, (c.requires.rows_fit, (room, c.limits_beside-above_limits.ensures))))))
 
-pub inner_edges-requires : goal.inner_edges-requires
-inner_edges-requires g c =
+pub inner_horizontal-requires : goal.inner_horizontal-requires
+inner_horizontal-requires g c =
     let before = c.all_vertical.ensures.room c.args.place.column c.args.place.row c.requires.room in
     let room = c.outer_edge.ensures.room c.args.place.column c.args.place.row before in
     (omega arith, (c.requires.columns_fit, (c.requires.rows_fit, (room, c.inner_limits-own.ensures))))
 
 pub returns-clause-room : goal.returns-clause-room
 returns-clause-room g c column row h =
-    c.inner_edges.ensures.room column row (c.outer_edge.ensures.room column row (c.all_vertical.ensures.room column row h))
+    c.inner_horizontal.ensures.room column row (c.outer_edge.ensures.room column row (c.all_vertical.ensures.room column row h))
 
 pub returns-clause-lines : goal.returns-clause-lines
 returns-clause-lines g c =
@@ -42,7 +42,7 @@ returns-clause-lines g c =
     let i = c.both-inner.result in
     let l = c.reaches-from_left.result in
     let u = c.reaches-from_above.result in
-    c.inner_edges.ensures.lines
+    c.inner_horizontal.ensures.lines
     ∙ ap (edges_by_info false column row e false i mb mb)
     (c.outer_edge.ensures.lines ∙ ap (edges_by_info false column row e u false above mb) c.all_vertical.ensures.lines)
     ∙ mb_kept column row e left above mb c.is_still.result i l u

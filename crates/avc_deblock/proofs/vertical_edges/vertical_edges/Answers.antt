@@ -8,10 +8,10 @@ returns-clause-lines g c =
     let next : ℕ → Plane → Plane =
     λ (n : ℕ) (s : Plane). edge_filtered (luma_setting (strength_of q q true n) (luma_qp_of q q)) true (16 * c.args.place.column + 4 * n) (16 * c.args.place.row) 16 s in
     three _ _ _ _ _ _
-    (c.luma_between-4.ensures.lines ∙ ap (next 3) (c.luma_between-3.ensures.lines ∙ ap (next 2) (c.luma_between-2.ensures.lines ∙ ap (next 1) c.luma_between.ensures.lines)))
+    (c.inner_luma.ensures ∙ ap (λ (s : Plane). next 3 (next 2 (next 1 s))) c.luma_between.ensures.lines)
     c.chroma_edges.ensures.cb c.chroma_edges.ensures.cr
 
 pub returns-clause-room : goal.returns-clause-room
 returns-clause-room g c =
-    let new : Planes = record { luma = c.luma_between-4.new.luma; cb = c.chroma_edges.new.cb; cr = c.chroma_edges.new.cr } in
+    let new : Planes = record { luma = c.inner_luma.new.luma; cb = c.chroma_edges.new.cb; cr = c.chroma_edges.new.cr } in
     edges_room c.args.place.column c.args.place.row c.args.place.chroma_qp_index_offset c.args.p.now c.args.q.now (planes_of c.args.planes.now) new (returns-clause-lines g c)

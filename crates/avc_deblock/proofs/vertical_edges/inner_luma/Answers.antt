@@ -1,0 +1,15 @@
+use Rattle.avc_deblock.proofs.FilteredPictures.{◌∙◌, ◌∷◌, [], ℕ, ◌+◌, ◌*◌, true, ap, Plane, edge_filtered, luma_setting, strength_of}
+use Rattle.avc_deblock.proofs.FilteredPictures.{luma_qp_of, intra_lines, threes}
+use Rattle.avc_deblock.proofs.vertical_edges.inner_luma.Goals as goal
+
+pub returns-then-q : goal.returns-then-q
+returns-then-q g c =
+    intra_lines c.args.place.column c.args.place.row c.args.q.now true (3 ∷ 3 ∷ 3 ∷ 3 ∷ []) c.args.luma.now c.three_vertical_luma.new.plane c.if-q.true threes
+    (c.three_vertical_luma.ensures (luma_qp_of c.args.q.now c.args.q.now) c.requires.limits)
+
+pub returns : goal.returns
+returns g c =
+    let q = c.args.q.now in
+    let next : ℕ → Plane → Plane =
+    λ (n : ℕ) (s : Plane). edge_filtered (luma_setting (strength_of q q true n) (luma_qp_of q q)) true (16 * c.args.place.column + 4 * n) (16 * c.args.place.row) 16 s in
+    c.luma_between-3.ensures.lines ∙ ap (next 3) (c.luma_between-2.ensures.lines ∙ ap (next 2) c.luma_between.ensures.lines)
