@@ -9,8 +9,9 @@ use crate::chroma_edge::{horizontal_chroma, vertical_chroma};
 use crate::edge_strengths::{Strengths, edge_strengths};
 use crate::luma_edge::{horizontal_luma, vertical_luma};
 use crate::mb_info::MbInfo;
-use crate::thresholds::{EdgeQp, QpLimits, chroma_qp};
+use crate::thresholds::{EdgeQp, QpLimits};
 use avc_plane::{Plane, Planes};
+use avc_transform::chroma_qp;
 
 /// A macroblock of a picture by its column and its row of macroblocks, with what all chroma QPs of the picture depend on.
 #[derive(Clone, Copy)]

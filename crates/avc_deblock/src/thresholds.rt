@@ -1,5 +1,4 @@
 ghost use Rattle.std.specs.Prelude.{◌≡◌, ℕ, ◌+◌, ◌*◌, ◌/◌, ◌%◌, ◌<◌, ◌≤◌, slice_index};
-ghost use Rattle.avc_transform.specs.Residual.{chroma_qp};
 ghost use Rattle.avc_deblock.specs.Line.{threshold_index, alpha_of, beta_of};
 ghost use Rattle.avc_deblock.specs.OneEdge.{tc1_of, AreLimits};
 
@@ -19,13 +18,6 @@ const ALPHA: [u8; 52] = [
 const BETA: [u8; 52] = [
     0, 0, 0, 0, 0, 0, 0, 0, 0, 0, 0, 0, 0, 0, 0, 0, 2, 2, 2, 3, 3, 3, 3, 4, 4, 4, 6, 6, 7, 7, 8, 8,
     9, 9, 10, 10, 11, 11, 12, 12, 13, 13, 14, 14, 15, 15, 16, 16, 17, 17, 18, 18,
-];
-
-// QPc by qPI (Table 8-15).
-const CHROMA_QP: [u8; 52] = [
-    0, 1, 2, 3, 4, 5, 6, 7, 8, 9, 10, 11, 12, 13, 14, 15, 16, 17, 18, 19, 20, 21, 22, 23, 24, 25,
-    26, 27, 28, 29, 29, 30, 31, 32, 32, 33, 34, 34, 35, 35, 36, 36, 37, 37, 37, 38, 38, 38, 39, 39,
-    39, 39,
 ];
 
 // Table 8-17: for each index one more than tC0 at the strengths 1 to 3; at strength 0, where nothing is filtered, 0. Twelve zeros let each
@@ -64,13 +56,13 @@ pub(crate) struct Thresholds {
     pub(crate) beta: u8,
 }
 
-/// A QP and an offset to it, held between 0 and 51.
 #[inline(always)]
-fn held(qp: u8, offset: i8) -> u8
-    ensures value { result ≡ threshold_index qp offset }
+fn index_of(p: u8, q: u8, offset: i8) -> u8
+    ensures value { result ≡ threshold_index ((p + q + 1) / 2) offset }
     ensures small { result < 52 }
 {
-    let sum = i16::from(qp) + i16::from(offset);
+    let qp = (u16::from(p) + u16::from(q) + 1) / 2;
+    let sum = qp as i16 + i16::from(offset);
     if sum < 0 {
         0
     } else if sum > 51 {
@@ -78,24 +70,6 @@ fn held(qp: u8, offset: i8) -> u8
     } else {
         sum as u8
     }
-}
-
-#[inline(always)]
-fn index_of(p: u8, q: u8, offset: i8) -> u8
-    ensures value { result ≡ threshold_index ((p + q + 1) / 2) offset }
-    ensures small { result < 52 }
-{
-    let qp = (u16::from(p) + u16::from(q) + 1) / 2;
-    held(qp as u8, offset)
-}
-
-/// The quantiser of chroma (8.5.8).
-#[inline(always)]
-#[tactic(auto, using(crate::proofs::FilteredPictures::chroma_at))]
-pub(crate) fn chroma_qp(offset: i8, qp: u8) -> u8
-    ensures { result ≡ chroma_qp offset qp }
-{
-    CHROMA_QP[usize::from(held(qp, offset))]
 }
 
 #[inline(always)]

@@ -320,12 +320,6 @@ alpha_at j i e h = ap (slice_index alphas) e ∙ same_below 52 (slice_index alph
 pub beta_at : (j i : ℕ) → j ≡ i → i < 52 → slice_index betas j ≡ beta_of i
 beta_at j i e h = ap (slice_index betas) e ∙ same_below 52 (slice_index betas) beta_of refl i h
 
-abbrev chromas : List ℕ
-chromas = 0 ∷ 1 ∷ 2 ∷ 3 ∷ 4 ∷ 5 ∷ 6 ∷ 7 ∷ 8 ∷ 9 ∷ 10 ∷ 11 ∷ 12 ∷ 13 ∷ 14 ∷ 15 ∷ 16 ∷ 17 ∷ 18 ∷ 19 ∷ 20 ∷ 21 ∷ 22 ∷ 23 ∷ 24 ∷ 25 ∷ 26 ∷ 27 ∷ 28 ∷ 29 ∷ 29 ∷ 30 ∷ 31 ∷ 32 ∷ 32 ∷ 33 ∷ 34 ∷ 34 ∷ 35 ∷ 35 ∷ 36 ∷ 36 ∷ 37 ∷ 37 ∷ 37 ∷ 38 ∷ 38 ∷ 38 ∷ 39 ∷ 39 ∷ 39 ∷ 39 ∷ []
-
-pub chroma_at : (j i : ℕ) → j ≡ i → i < 52 → slice_index chromas j ≡ chroma_qp_at i
-chroma_at j i e h = ap (slice_index chromas) e ∙ same_below 52 (slice_index chromas) chroma_qp_at refl i h
-
 pub tc1_at : (k i s : ℕ) → k ≡ 4 * i + s → i < 52 → s < 4 → slice_index tc1s k ≡ tc1_of s i
 tc1_at k i s e h g =
     let two : (4 * i + s) % 4 ≡ s = omega arith in

@@ -23,8 +23,7 @@ pub use Rattle.avc_plane.proofs.PlaneMaps.{plane_of_same, inside, sample-with_bl
 pub use Rattle.avc_plane.specs.Frames.{planes_of}
 pub use Rattle.avc_plane.specs.Plane.{Plane, sample, with_block, is_inside, with_sample}
 pub use Rattle.avc_plane.specs.Planes.{Planes}
-pub use Rattle.avc_transform.specs.Residual.{chroma_qp_at}
-pub use Rattle.avc_types.specs.Arithmetic.{clip1, clip3, distance}
+pub use Rattle.avc_types.specs.Arithmetic.{clip1, distance}
 pub use Rattle.avc_types.specs.Pictures.{Coded, PicMb, SliceInfo}
 pub use Rattle.avc_types.specs.declared.edges.FilteredEdges.{FilteredEdges}
 pub use Rattle.avc_types.specs.declared.edges.FilteredEdges.TheVariants.{All, NoEdges, WithinSlice}
