@@ -218,10 +218,7 @@ fn takes_words(rt: HostRuntime) -> Result<(), Fail> {
             "avcdec decode --progress",
             telling(full, Telling::Always, false),
         ),
-        (
-            "avcdec decode --quiet",
-            telling(full, Telling::Never, true),
-        ),
+        ("avcdec decode --quiet", telling(full, Telling::Never, true)),
         ("avcdec decode -q", telling(full, Telling::Never, true)),
         (
             "avcdec decode --strict",
@@ -232,7 +229,10 @@ fn takes_words(rt: HostRuntime) -> Result<(), Fail> {
             in_manner(full, strict_or_explained(full, false, true)),
         ),
         ("avcdec info --strict", Err((ErrorKind::UnknownArgument, 2))),
-        ("avcdec units --explain", Err((ErrorKind::UnknownArgument, 2))),
+        (
+            "avcdec units --explain",
+            Err((ErrorKind::UnknownArgument, 2)),
+        ),
         (
             "avcdec decode -s 1 -l 2 -f null",
             plain(Task::Show(Showing {
