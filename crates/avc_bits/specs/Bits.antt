@@ -14,7 +14,7 @@ number_of [] = 0
 number_of (true ∷ bits) = 2 ^ length bits + number_of bits
 number_of (false ∷ bits) = number_of bits
 
--- one more bit in front, of which only a 1 is a last 1 by itself
+-- one more bit in front, of which only a 1 is a last 1 by itself (7.2)
 abbrev pub one_before : Bool → Option (List Bool) → Option (List Bool)
 one_before b (Some front) = Some (b ∷ front)
 one_before true None = Some []
@@ -25,7 +25,7 @@ abbrev pub before_last_one : List Bool → Option (List Bool)
 before_last_one [] = None
 before_last_one (b ∷ bits) = one_before b (before_last_one bits)
 
--- the bits, and no bits where there are none
+-- the bits, and no bits where there are none (this decoder's rule)
 abbrev pub or_none : Option (List Bool) → List Bool
 or_none (Some bits) = bits
 or_none None = []

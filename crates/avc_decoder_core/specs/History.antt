@@ -36,7 +36,7 @@ abbrev past_of : Entry → Past
 past_of (decoded_picture sps h planes) = picture sps h
 past_of (missing_frame sps frame_num) = missing sps frame_num
 
--- that of all entries
+-- that of all entries (8.2.1)
 abbrev pub pasts : History → List Past
 pasts h = map past_of h
 
@@ -67,7 +67,7 @@ abbrev pub marking_entry : Entry → MarkingEntry
 marking_entry (decoded_picture sps h planes) = picture_entry sps h
 marking_entry (missing_frame sps frame_num) = missing_frame_entry sps frame_num
 
--- that of all entries
+-- that of all entries (8.2.5)
 abbrev pub marking_entries : History → List MarkingEntry
 marking_entries h = map marking_entry h
 
@@ -75,7 +75,7 @@ marking_entries h = map marking_entry h
 abbrev pub marks_of : History → Result Marks Fault
 marks_of h = marks (marking_entries h)
 
--- the reference frames; none at a fault
+-- the reference frames; none at a fault (this decoder's rule)
 abbrev pub or_no_references : Result Marks Fault → List Reference
 or_no_references (Ok m) = m.references
 or_no_references (Err f) = []
@@ -119,7 +119,7 @@ arrival (missing_frame sps frame_num) older = record {
   references = map (λ r. r.decoding_index) (references_of (missing_frame sps frame_num ∷ older));
 }
 
--- that of all entries
+-- that of all entries (C.4)
 abbrev pub arrivals : History → List Arrival
 arrivals [] = []
 arrivals (e ∷ older) = arrival e older ∷ arrivals older
@@ -142,7 +142,7 @@ all_held output h = map (λ s. s.decoding_index) (needed_in_output_order (buffer
 abbrev pub entry_at : History → (index : ℕ) → Option Entry
 entry_at h index = elim (length h - index) [ zero ↦ None | suc n ↦ slice_get h n ]
 
--- the planes of an entry; a missing frame number has none
+-- the planes of an entry; a missing frame number has none (8.2.5.2)
 abbrev pub planes_in : Option Entry → Option Planes
 planes_in (Some (decoded_picture sps h planes)) = Some planes
 planes_in (Some (missing_frame sps frame_num)) = None

@@ -28,7 +28,7 @@ crop_of (Some c) = record {
 abbrev pub picture_of : Sps → Planes → Picture
 picture_of sps planes = cropped_picture planes (crop_of sps.frame_cropping)
 
--- the entry's picture; none where a number is missing
+-- the entry's picture; none where a number is missing (C.4.2)
 abbrev pub entry_pictures : Option Entry → List Picture
 entry_pictures (Some (decoded_picture sps h planes)) = picture_of sps planes ∷ []
 entry_pictures (Some (missing_frame sps frame_num)) = []

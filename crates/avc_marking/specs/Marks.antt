@@ -29,7 +29,7 @@ pub record Marks : Type 0 where
   pub references : List Reference
   pub max_long_term_frame_idx : Option ℕ
 
--- no reference frames, and no long-term indices
+-- no reference frames, and no long-term indices (8.2.5.1)
 abbrev pub no_marks : Marks
 no_marks = record { references = []; max_long_term_frame_idx = None }
 
@@ -53,7 +53,7 @@ refuse_unless false x = Err faults.BadMarking
 abbrev pub without_frame : Reference → List Reference → List Reference
 without_frame r references = filter (λ s. not (s.decoding_index == r.decoding_index)) references
 
--- the frame with this mark
+-- the frame with this mark (8.2.5.4.3)
 abbrev pub with_other_mark : Reference → Mark → Reference
 with_other_mark r mark = record r { mark = mark }
 
@@ -61,7 +61,7 @@ with_other_mark r mark = record r { mark = mark }
 abbrev pub without_long_term_frame_idx : ℕ → List Reference → List Reference
 without_long_term_frame_idx index references = filter (λ s. not (has_long_term_frame_idx index s)) references
 
--- the frames, one of them with this mark
+-- the frames, one of them with this mark (8.2.5.4.3)
 abbrev pub with_mark : Reference → Mark → List Reference → List Reference
 with_mark r mark references = map (λ s. if s.decoding_index == r.decoding_index then with_other_mark s mark else s) references
 
@@ -134,7 +134,7 @@ abbrev pub max_long_term_frame_idx_below : (plus1 : ℕ) → Option ℕ
 max_long_term_frame_idx_below zero = None
 max_long_term_frame_idx_below (suc max_long_term_frame_idx) = Some max_long_term_frame_idx
 
--- the state with the frames as an operation has changed them
+-- the state with the frames as an operation has changed them (8.2.5.4)
 abbrev pub with_references : OperationState → Result (List Reference) Fault → Result OperationState Fault
 with_references t changed = changed >>= λ references. Ok (record t { references = references })
 
@@ -152,7 +152,7 @@ abbrev pub with_long_term_current : MarkingEntry → (index decoding_index : ℕ
 with_long_term_current s index decoding_index references =
     without_long_term_frame_idx index references ++ long_term_current s decoding_index index ∷ []
 
--- One memory_management_control_operation (8.2.5.4, Table 7-9): s is the picture's own entry, `entry` its
+-- One memory_management_control_operation (8.2.5.4, Table 7-9): s is the picture's own entry, of this
 -- decoding index. 5 (UnmarkAll) leaves no frame and no long-term indices (8.2.5.4.5).
 abbrev pub after_operation : MarkingEntry → (decoding_index : ℕ) → OperationState → Operation → Result OperationState Fault
 after_operation s decoding_index t (UnmarkShortTerm d) = with_references t (without_short_term s d t.references)
@@ -217,7 +217,7 @@ with_current_frame s decoding_index t =
 abbrev pub within_limit : MarkingEntry → Marks → Result Marks Fault
 within_limit s m = if nat_le (length m.references) (limit_of s) then Ok m else Err faults.TooManyReferences
 
--- the marks as the operations find them
+-- the marks as the operations find them (8.2.5.4)
 abbrev pub before_operations : Marks → OperationState
 before_operations m = record {
   references = m.references;

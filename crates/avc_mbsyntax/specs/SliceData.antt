@@ -42,7 +42,7 @@ stopped f = record { mbs = []; fault = Some f }
 abbrev pub after : List Mb → SliceMbs → SliceMbs
 after front rest = record { mbs = front ++ rest.mbs; fault = rest.fault }
 
--- a macroblock in the picture: with the number of its slice
+-- a macroblock in the picture: with the number of its slice (7.3.4)
 abbrev pub placed : SliceStart → Mb → PicMb
 placed s mb = record { slice = s.slice; mb = mb }
 

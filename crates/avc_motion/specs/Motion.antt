@@ -148,7 +148,7 @@ motion_of_parts near shape ref_idx mine (part ∷ parts) (mvd ∷ mvds) =
     let filled = with_part mine part (motion_of_part near shape (slice_index ref_idx part.partition) mine part mvd) in
     motion_of_parts near shape ref_idx filled parts mvds
 
--- no block of the macroblock is decoded yet
+-- no block of the macroblock is decoded yet, so none is available (6.4.11.7)
 abbrev pub no_motion : List Motion
 no_motion = replicate 16 absent
 
@@ -164,7 +164,7 @@ motion_by near (p_inter shape ref_idx mvd residual) = motion_of_parts near shape
 abbrev pub motion_of : Coded → List (List Motion) → ℕ → MbSyntax → List Motion
 motion_of p known a syntax = motion_by (near_in p known a) syntax
 
--- those of the macroblock that stands there, if there is one
+-- those of the macroblock that stands there, if there is one (8.4.1)
 abbrev motion_of_place : Coded → List (List Motion) → ℕ → Option PicMb → List Motion
 motion_of_place p known a (Some m) = motion_of p known a m.mb.syntax
 motion_of_place p known a None = []
@@ -241,7 +241,7 @@ AreOfOneMotion motion = motion ≡ replicate 16 (slice_index_or motion 0 absent)
 abbrev pub no_slice : SliceInfo
 no_slice = record { is_p = false; references = []; weights = []; disable_deblocking_filter_idc = NoEdges; filter_offset_a = pos 0; filter_offset_b = pos 0 }
 
--- the info of the slice with this number
+-- the info of the slice with this number (7.4.3)
 abbrev pub slice_info : Coded → ℕ → SliceInfo
 slice_info p slice = slice_index_or p.slices slice no_slice
 

@@ -197,7 +197,7 @@ final_counts h c = if has_operation_5 h then lowered_by_operation_5 c else c
 abbrev pub in_range : Header → Counts → Result Counts Fault
 in_range h c = if both_in_32_bits c && both_in_32_bits (final_counts h c) then Ok (final_counts h c) else Err faults.PocRange
 
--- the counts from what stands before the picture, or PocRange
+-- the counts from what stands before the picture (8.2.1), or PocRange (this decoder's rule)
 abbrev pub counts_from : Sps → Header → Previous → (number : ℕ) → Result Counts Fault
 counts_from sps h previous number =
     if number_in_range sps.order_count number then in_range h (counts_by sps.order_count sps h previous number) else Err faults.PocRange

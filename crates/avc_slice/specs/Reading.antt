@@ -71,7 +71,7 @@ active_override pps = do
 
 -- ---- lists that a code ends (7.3.3.1, 7.3.3.3)
 
--- no item where the list ends here
+-- no item where the list ends here (7.3.3.1, 7.3.3.3)
 abbrev pub unless_ended : {A : Type 0} → Bool → Read (List A) → Read (List A)
 unless_ended true others = give []
 unless_ended false others = others
@@ -109,7 +109,7 @@ modification_list max_frame_num room = flag >>= λ present. where_set present (m
 
 -- ---- marking (7.3.3.3)
 
--- an operation with two numbers
+-- an operation with two numbers (7.3.3.3)
 abbrev pub two : (ℕ → ℕ → Operation) → Read Operation
 two make = ue >>= λ a. ue >>= λ b. give (make a b)
 

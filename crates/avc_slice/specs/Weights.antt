@@ -21,7 +21,7 @@ weights_of t e = record {
   cr = weight_of t.chroma_log2_weight_denom (option_map (λ c. c.cr) e.chroma);
 }
 
--- those of a table, by reference index
+-- those of a table, by reference index (7.4.3.2)
 abbrev weights_in : Option PredWeightTable → List Weights
 weights_in None = []
 weights_in (Some t) = map (weights_of t) t.entries

@@ -12,7 +12,7 @@ use Rattle.avc_vlc.specs.Tables.{coeff_token_0, coeff_token_2, coeff_token_4, co
 abbrev pub Table : Type 0 → Type 0
 Table A = List (List Bool × A)
 
--- what is left of the bits after the codeword, if they begin with it
+-- what is left of the bits after the codeword, if they begin with it (9.2)
 abbrev pub after_word : List Bool → List Bool → Option (List Bool)
 after_word [] bits = Some bits
 after_word (w ∷ word) [] = None
@@ -56,7 +56,7 @@ is_prefix_free (entry ∷ table) =
 abbrev pub row_table : List (ℕ × ℕ) → Table ℕ
 row_table row = map (λ e. (bits_of e.1.0 e.1.1, e.0)) (enumerate_from 0 row)
 
--- row k of a table; no codewords where there is no such row
+-- row k of a table; no codewords where there is no such row (Tables 9-5, 9-7 to 9-10)
 abbrev pub row_at : List (List (ℕ × ℕ)) → ℕ → List (ℕ × ℕ)
 row_at rows k = elim (slice_get rows k) [ Some row ↦ row | None ↦ [] ]
 
