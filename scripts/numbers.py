@@ -41,7 +41,7 @@ def constant(name):
 
 def size_of_program():
     program = f"{TOP}/crates/avc_cli/out/avc_cli"
-    return f"{1000 * round(os.path.getsize(program) / 1000):,}" if os.path.exists(program) else None
+    return f"{10_000 * round(os.path.getsize(program) / 10_000):,}" if os.path.exists(program) else None
 
 
 def facts():
