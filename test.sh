@@ -2,7 +2,7 @@
 # Sees that the documents that scripts make are up to date; proves every crate from nothing, tries the edits that must fail, and runs the
 # tests; then decodes the streams of vectors/ with the built program, refuses each growth of memory once, and tests the library with its
 # bindings, for ARM64 too, the GStreamer element and the module for pages, where their tools are there. Each part that counts ends in a line
-# 'N passed, 0 failed'.
+# 'N passed, 0 failed'. Not in it: the benchmarks, which bench/build.sh proves.
 set -eu
 cd "$(dirname "$0")"
 scripts/documents.sh check

@@ -9,7 +9,8 @@ if [ $# = 0 ]; then
     # shellcheck disable=SC2046
     set -- $(cd "$top/bench" && ls -d */uses | cut -d / -f 1)
 fi
-cp -a "$top/crates" "$top/crates.txt" "$copy"
+# the sources alone: what is proved of them is found by itself
+(cd "$top" && tar cf - --exclude=out crates crates.txt) | tar xf - -C "$copy"
 passed=0
 failed=0
 for name; do
