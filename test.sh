@@ -1,8 +1,8 @@
 #!/bin/sh
 # Sees that the documents that scripts make are up to date; proves every crate from nothing, tries the edits that must fail, and runs the
 # tests; then decodes the streams of vectors/ with the built program, refuses each growth of memory once, and tests the library with its
-# bindings, for ARM64 too, the GStreamer element and the module for pages, where their tools are there. Each part that counts ends in a line
-# 'N passed, 0 failed'. Not in it: the benchmarks, which bench/build.sh proves.
+# bindings, for ARM64 too, the GStreamer element and the module for pages, where their tools are there, and builds the benchmarks. Each part
+# that counts ends in a line 'N passed, 0 failed'.
 set -eu
 cd "$(dirname "$0")"
 scripts/documents.sh check
@@ -12,3 +12,4 @@ vectors/growths.sh
 scripts/test-library.sh
 bindings/gstreamer/test.sh --short
 bindings/web/test.sh
+bench/build.sh

@@ -1,10 +1,24 @@
 #!/bin/sh
-# bench/build.sh [NAME..]: sees that the benchmarks, or those named, are still programs of this repository: each is proved as `rt check` proves
-# any crate, in a copy of the repository, and not run. The last line is 'N passed, M failed'.
+# bench/build.sh [--prove] [NAME..]: sees that the benchmarks, or those named, are still programs of this repository: each is built in a copy
+# of it and begins to run, as `rt try` does, which proves nothing; with --prove each is proved, as `rt check` proves any crate, and not run.
+# The last line is 'N passed, M failed'.
 set -eu
 top=$(cd "$(dirname "$0")/.." && pwd)
 copy=$(mktemp -d)
 trap 'rm -rf "$copy"' EXIT
+verb=try
+if [ "${1:-}" = --prove ]; then
+    verb=check
+    shift
+fi
+# one that is built has run, to its end or up to the word or file that it misses
+builds() {
+    if [ "$verb" = check ]; then
+        rt check
+    else
+        rt try -- 1 | tee /dev/stderr | grep -q '^run=ended'
+    fi
+}
 if [ $# = 0 ]; then
     # shellcheck disable=SC2046
     set -- $(cd "$top/bench" && ls -d */uses | cut -d / -f 1)
@@ -15,7 +29,7 @@ passed=0
 failed=0
 for name; do
     "$top/bench/place.sh" "$name" "$copy"
-    if (cd "$copy/crates/bench_$name" && rt check) >"$copy/log" 2>&1 </dev/null; then
+    if (cd "$copy/crates/bench_$name" && builds) >"$copy/log" 2>&1 </dev/null; then
         passed=$((passed + 1))
     else
         failed=$((failed + 1))
