@@ -292,9 +292,10 @@ says_what_to_set() {
         grep -q "AVCDEC_LIB_DIR names the folder '$work', where it is not" "$work/told" && grep -q 'AVCDEC_LIB_DIR=PREFIX/lib' "$work/told"
 }
 
-# whether the crate is packed whole: its tests pass where it is unpacked
+# whether the crate is packed whole, with the streams of its tests: they pass where it is unpacked
 is_packed() {
-    AVCDEC_LIB_DIR=$work/usr/lib CARGO_TARGET_DIR=$work/cargo cargo package --offline --allow-dirty --quiet --manifest-path "$top/bindings/rust/Cargo.toml" \
+    mkdir "$work/packing" && tar -C "$top/bindings/rust" -c --exclude=target . | tar -C "$work/packing" -x && cp -R "$vectors/cases" "$work/packing/tests/cases"
+    AVCDEC_LIB_DIR=$work/usr/lib CARGO_TARGET_DIR=$work/cargo cargo package --offline --allow-dirty --quiet --manifest-path "$work/packing/Cargo.toml" \
         >"$work/told" 2>&1 || { cat "$work/told"; return 1; }
     mkdir "$work/crate" && tar -C "$work/crate" --strip-components 1 -xzf "$work"/cargo/package/avcdec-*.crate
 }

@@ -1,4 +1,5 @@
-//! Streams with what must come out: those of tests/cases, or of the folder `cases` of AVCDEC_VECTORS.
+//! Streams with what must come out: those of the repository's vectors/cases, of tests/cases where the crate was packed with them, or of the
+//! folder `cases` of AVCDEC_VECTORS.
 
 use avcdec::{Decoder, Error, Event, Output, OwnedEvent, OwnedPicture, Refusal, Taken};
 use std::fs;
@@ -83,11 +84,21 @@ fn decode_into(bytes: &[u8]) -> Given {
     given
 }
 
+fn cases() -> PathBuf {
+    if let Ok(vectors) = std::env::var("AVCDEC_VECTORS") {
+        return Path::new(&vectors).join("cases");
+    }
+    let here = Path::new(env!("CARGO_MANIFEST_DIR"));
+    let packed = here.join("tests/cases");
+    if packed.is_dir() {
+        packed
+    } else {
+        here.join("../../vectors/cases")
+    }
+}
+
 fn streams() -> Vec<PathBuf> {
-    let vectors = std::env::var("AVCDEC_VECTORS")
-        .unwrap_or_else(|_| concat!(env!("CARGO_MANIFEST_DIR"), "/tests").into());
-    let folder = Path::new(&vectors).join("cases");
-    let mut streams: Vec<PathBuf> = fs::read_dir(folder)
+    let mut streams: Vec<PathBuf> = fs::read_dir(cases())
         .unwrap()
         .map(|entry| entry.unwrap().path())
         .filter(|path| path.extension().map_or(false, |kind| kind == "264"))
