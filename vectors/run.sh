@@ -678,7 +678,7 @@ rate_known=$here/encoder/pub_x_keyint3
 # by a reader that takes some time
 slowly() {
     cat "$1"
-    sleep 0.1
+    sleep 1
 }
 before=$(date +%s)
 slowly "$rate_known.264" | "$program" decode --progress >"$work/pictures" 2>"$work/told"
@@ -691,9 +691,9 @@ holds 'it is ended' [ "$(tail -c 1 "$work/told" | od -An -tx1 | tr -d ' ')" = 0a
 slowly "$moving" | "$program" decode --progress >"$work/written" 2>"$work/told"
 tr '\r' '\n' <"$work/told" | tail -n 1 >"$work/last"
 holds 'progress without a frame rate' grep -q '^pictures 10, refused 0, [0-9]*\.[0-9] a second.\[K$' "$work/last"
-# a tenth of a second at least for 13 pictures, and no more than was measured
+# most of a second at least for 13 pictures, and no more than was measured
 speed=$(sed -n 's/^pictures 13, refused 0, \([0-9]*\)\..*/\1/p' "$work/first_speed")
-holds 'the speed is not above what was measured' [ "$speed" -le 200 ]
+holds 'the speed is not above what was measured' [ "$speed" -le 50 ]
 holds 'the speed is not below what was measured' [ "$speed" -ge $((13 / (after - before + 1))) ]
 # of a file also how much of it was read, and how long the rest takes
 "$program" decode --progress "$moving" >"$work/written" 2>"$work/told"
