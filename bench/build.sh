@@ -16,7 +16,9 @@ builds() {
     if [ "$verb" = check ]; then
         rt check
     else
-        rt try -- 1 | tee /dev/stderr | grep -q '^run=ended'
+        rt try -- 1 >"$copy/told" 2>&1
+        cat "$copy/told"
+        grep -q '^run=ended' "$copy/told"
     fi
 }
 if [ $# = 0 ]; then
