@@ -73,10 +73,10 @@ is_the_same() {
     diff -r "$first" "$second"
 }
 
-# whether no path of this machine stands in a file; those where one does are named
+# whether no path of this machine stands in a file, that of its toolchain neither; those where one does are named
 has_no_path() {
-    for path in "$work" "$top" "$other" "${HOME:-/root}/" /tmp/ /opt/rattle; do
-        [ "$path" != // ] || continue
+    for path in "$work" "$top" "$other" "${HOME:-}/" "${TMPDIR:-/tmp}/" "$(dirname "$(rt doc)")"; do
+        case $path in / | // | .) continue ;; esac
         if grep -r -a -l -F -e "$path" "$first/$release/bin" "$first/$release/lib" "$first/$release/include" "$first/$release/PROVED-BY.txt"; then return 1; fi
     done
 }
