@@ -65,6 +65,12 @@ fn set_moving(neighbours: &Neighbours<'_>, blocks: &mut [Motion; 16])
     set_all(blocks, Motion::Inter { ref_idx: 0, mv });
 }
 
+/// The blocks of a skipped macroblock that does not move. In memory, whose bytes are copied sixteen at a time.
+static STILL: [Motion; 16] = [Motion::Inter {
+    ref_idx: 0,
+    mv: Mv { x: 0, y: 0 },
+}; 16];
+
 /// The blocks of a skipped macroblock (8.4.1.1).
 fn set_skipped(neighbours: &Neighbours<'_>, blocks: &mut [Motion; 16])
     ensures motion { blocks.new ≡ motion_by (motion_near (info_of neighbours.now)) p_skip }
@@ -72,8 +78,7 @@ fn set_skipped(neighbours: &Neighbours<'_>, blocks: &mut [Motion; 16])
     ensures alike { AreOfOneMotion blocks.new }
 {
     if is_held(neighbours) {
-        let mv = Mv { x: 0, y: 0 };
-        set_all(blocks, Motion::Inter { ref_idx: 0, mv });
+        *blocks = STILL;
     } else {
         set_moving(neighbours, blocks);
     }
