@@ -7,6 +7,9 @@
 # DESTDIR, where it is set, stands before PREFIX, as packages want it. LIBDIR is the library's folder below PREFIX, lib unless named.
 # LIBRARY_ONLY=1 leaves the program out. CC is the C compiler, AR and OBJCOPY binutils' ar and objcopy.
 #
+# X86_64_V3=1 builds both for x86-64-v3 too, whose processors have AVX2. The loader takes the shared library for it by itself, from
+# glibc-hwcaps/x86-64-v3 in the library's folder; bin/avcdec then is a program that runs the one of libexec/avcdec that fits the processor.
+#
 # TARGET=aarch64-unknown-linux-gnu proves and builds the library for ARM64, over what is proved already; CC, AR and OBJCOPY are then the
 # cross compiler's (aarch64-linux-gnu-gcc, -ar and -objcopy unless named). There is no program for it: the toolchain has the C code that its
 # programs are linked with for x86-64 alone.
@@ -36,6 +39,7 @@ aarch64-unknown-linux-gnu)
     objcopy=${OBJCOPY:-aarch64-linux-gnu-objcopy}
     level=
     LIBRARY_ONLY=1
+    X86_64_V3=
     ;;
 *)
     echo "install.sh: no such target: $target" >&2
@@ -58,10 +62,25 @@ is_old() {
     [ ! -e "$1" ] || [ -n "$(find "$top/crates.txt" "$top"/crates/*/src "$top"/crates/*/specs "$top"/crates/*/proofs -newer "$1" -print | head -n 1)" ]
 }
 
-# rt writes the library of each target to one file: that of x86-64 is put aside while another is built, which has a file of its own
+# rt writes what it builds for each target and level to one file: that of x86-64-v2 is put aside while another is built, which has a file of
+# its own
 built=$top/crates/avc_c/out/libavc_c.a
+program=$top/crates/avc_cli/out/avc_cli
 put_back() {
-    if [ -e "$work/aside.a" ]; then mv -f "$work/aside.a" "$built"; fi
+    for file in "$built" "$program"; do
+        if [ -e "$work/aside/${file##*/}" ]; then mv -f "$work/aside/${file##*/}" "$file"; fi
+    done
+}
+
+# built_beside FILE OTHER COMMAND..: what the command builds in place of FILE is moved to OTHER
+built_beside() {
+    own=$1
+    other=$2
+    shift 2
+    mkdir -p "$work/aside" "$(dirname "$other")"
+    if [ -e "$own" ]; then mv "$own" "$work/aside"; fi
+    (cd "$(dirname "$own")/.." && "$@") && mv -f "$own" "$other" && touch "$other" || return 1
+    put_back
 }
 
 # proves and builds the library for this machine
@@ -70,13 +89,6 @@ build() {
     touch "$built"
 }
 
-build_for_target() {
-    if [ -e "$built" ]; then mv "$built" "$work/aside.a"; fi
-    (cd "$top/crates/avc_c" && rt lib --target "$target") && mkdir -p "$(dirname "$library")" && mv -f "$built" "$library" && touch "$library" || return 1
-    put_back
-}
-
-program=$top/crates/avc_cli/out/avc_cli
 library=$built
 [ "$target" = x86_64-unknown-linux-gnu ] || library=$top/crates/avc_c/out/$target/libavc_c.a
 say "to $to"
@@ -85,7 +97,19 @@ if [ -z "${LIBRARY_ONLY:-}" ]; then
 fi
 if is_old "$library"; then
     if is_old "$built"; then build; fi
-    if [ "$library" != "$built" ]; then during "the library is proved and built for $target" build_for_target; fi
+    if [ "$library" != "$built" ]; then
+        during "the library is proved and built for $target" built_beside "$built" "$library" rt lib --target "$target"
+    fi
+fi
+library_v3=$top/crates/avc_c/out/x86-64-v3/libavc_c.a
+program_v3=$top/crates/avc_cli/out/x86-64-v3/avc_cli
+if [ -n "${X86_64_V3:-}" ]; then
+    if is_old "$library_v3"; then
+        during 'the library is built for x86-64-v3' built_beside "$built" "$library_v3" rt lib --cpu x86-64-v3
+    fi
+    if [ -z "${LIBRARY_ONLY:-}" ] && is_old "$program_v3"; then
+        during 'the program is built for x86-64-v3' built_beside "$program" "$program_v3" rt run --cpu x86-64-v3 -- --help
+    fi
 fi
 "$cc" -O2 -fPIC -Wall -Wextra -I "$top/include" -c "$top/bindings/c/heap.c" -o "$work/heap.o"
 
@@ -95,9 +119,16 @@ fi
 "$objcopy" --wildcard --keep-global-symbol='avcdec_*' "$work/avcdec.o"
 "$ar" rcsD "$work/libavcdec.a" "$work/avcdec.o"
 
-# the shared library: of all names only those of the header are seen
-"$cc" -shared -o "$work/libavcdec.so" -Wl,-soname,"libavcdec.so.$major" -Wl,--version-script="$top/bindings/c/avcdec.map" -Wl,-z,relro,-z,now \
-    -Wl,--whole-archive "$work/libavcdec.a" -Wl,--no-whole-archive -Wl,--no-undefined
+# the shared library of these objects: of all names only those of the header are seen
+share() {
+    out=$1
+    shift
+    "$cc" -shared -o "$out" -Wl,-soname,"libavcdec.so.$major" -Wl,--version-script="$top/bindings/c/avcdec.map" -Wl,-z,relro,-z,now \
+        -Wl,--whole-archive "$@" -Wl,--no-whole-archive -Wl,--no-undefined
+}
+
+share "$work/libavcdec.so" "$work/libavcdec.a"
+if [ -n "${X86_64_V3:-}" ]; then share "$work/libavcdec.v3.so" "$library_v3" "$work/heap.o" -Wl,-z,x86-64-v3; fi
 
 sed "s|@PREFIX@|$prefix|; s|@LIBDIR@|$libdir|; s|@VERSION@|$version|" "$top/bindings/c/avcdec.pc.in" >"$work/avcdec.pc"
 "$top/scripts/faults.sh" >"$work/faults.tsv"
@@ -108,12 +139,25 @@ install -m 644 "$work/libavcdec.a" "$to/$libdir/libavcdec.a"
 install -m 644 "$work/libavcdec.so" "$to/$libdir/libavcdec.so.$version"
 ln -sf "libavcdec.so.$version" "$to/$libdir/libavcdec.so.$major"
 ln -sf "libavcdec.so.$major" "$to/$libdir/libavcdec.so"
+if [ -n "${X86_64_V3:-}" ]; then
+    mkdir -p "$to/$libdir/glibc-hwcaps/x86-64-v3"
+    install -m 644 "$work/libavcdec.v3.so" "$to/$libdir/glibc-hwcaps/x86-64-v3/libavcdec.so.$version"
+    ln -sf "libavcdec.so.$version" "$to/$libdir/glibc-hwcaps/x86-64-v3/libavcdec.so.$major"
+fi
 install -m 644 "$work/avcdec.pc" "$to/$libdir/pkgconfig/avcdec.pc"
 install -m 644 "$top/docs/libavcdec.3" "$to/share/man/man3/libavcdec.3"
 install -m 644 "$top/README.md" "$top/CHANGELOG.md" "$top/docs/behaviour.md" "$work/faults.tsv" "$to/share/doc/avcdec"
 if [ -z "${LIBRARY_ONLY:-}" ]; then
     mkdir -p "$to/bin" "$to/share/man/man1" "$to/share/bash-completion/completions"
-    install -m 755 "$program" "$to/bin/avcdec"
+    if [ -n "${X86_64_V3:-}" ]; then
+        mkdir -p "$to/libexec/avcdec/x86-64-v2" "$to/libexec/avcdec/x86-64-v3"
+        install -m 755 "$program" "$to/libexec/avcdec/x86-64-v2/avcdec"
+        install -m 755 "$program_v3" "$to/libexec/avcdec/x86-64-v3/avcdec"
+        "$cc" -O2 -Wall -Wextra "$top/bindings/c/by_level.c" -o "$work/by_level"
+        install -m 755 "$work/by_level" "$to/bin/avcdec"
+    else
+        install -m 755 "$program" "$to/bin/avcdec"
+    fi
     install -m 644 "$top/docs/avcdec.1" "$to/share/man/man1/avcdec.1"
     install -m 644 "$top/docs/avcdec.bash" "$to/share/bash-completion/completions/avcdec"
 fi

@@ -145,6 +145,43 @@ for stream in "$vectors"/*/*.264; do
 done
 told
 
+# whether the loader takes the library for x86-64-v3 where it finds that of this prefix
+is_library_of_level() {
+    LD_DEBUG=libs LD_LIBRARY_PATH=$work/v3/lib "$work/shared" "$vectors/cases/gap.264" "$work/out" 2>&1 | grep -q 'calling init: .*/glibc-hwcaps/x86-64-v3/libavcdec.so'
+}
+
+# whether bin/avcdec of this prefix runs the program for x86-64-v3
+is_program_of_level() {
+    rm -f "$work/pipe" && mkfifo "$work/pipe" || return 1
+    "$work/v3/bin/avcdec" units <"$work/pipe" >/dev/null &
+    exec 3>"$work/pipe"
+    sleep 1
+    ran=$(readlink "/proc/$!/exe")
+    exec 3>&-
+    wait
+    [ "$ran" = "$work/v3/libexec/avcdec/x86-64-v3/avcdec" ]
+}
+
+if /lib64/ld-linux-x86-64.so.2 --help 2>/dev/null | grep -q 'x86-64-v3 (supported'; then
+    X86_64_V3=1 "$top/scripts/install.sh" "$work/v3" || exit 1
+    # shellcheck disable=SC2086 # flags are words
+    "$cc" $flags "$top/examples/c/decode.c" -o "$work/shared" -L"$work/v3/lib" -lavcdec
+    part 'x86-64-v3'
+    holds 'the library' is_library_of_level
+    holds 'the program' is_program_of_level
+    for stream in "$vectors"/*/*.264; do
+        base=${stream%.264}
+        [ -e "$base.md5" ] || continue
+        LD_LIBRARY_PATH=$work/v3/lib "$work/shared" "$stream" "$work/out" 2>"$work/told"
+        holds "$base, by the library" is_decoded "$base" $? "$base.md5"
+        "$work/v3/bin/avcdec" decode "$stream" -o "$work/out" 2>"$work/told"
+        holds "$base, by the program" is_decoded "$base" $? "$base.md5"
+    done
+    told
+else
+    left_out 'x86-64-v3' 'this processor, or its loader, is of no such level'
+fi
+
 # the lines of the example in the header: its function (1) and the calls (2)
 of_example() {
     awk -v wanted="$1" '/^ \*\// { exit } /^ \*$/ { part++ } /^ \*     / && part == wanted { print substr($0, 8) }' "$work/usr/include/avcdec.h"
