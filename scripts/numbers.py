@@ -100,7 +100,8 @@ def corrected(document, text):
         text = re.sub(words, lambda found, value=value: found[1] + value + found[2], text)
     if document == "README.md" and os.path.exists(f"{TOP}/docs/times.txt"):
         for title, row in rows():
-            text = re.sub(rf"^\| {re.escape(title)} \|.*$", lambda _, row=row: row, text, flags=re.MULTILINE)
+            # the row of numbers: another table may have a row of this title
+            text = re.sub(rf"^\| {re.escape(title)} \| \d.*$", lambda _, row=row: row, text, flags=re.MULTILINE)
     return text
 
 
