@@ -11,4 +11,4 @@ pub use avc_plane::Component;
 pub use bytes::write_bytes;
 pub use copy::{copy_i420, copy_plane, i420_len, plane_columns, plane_len};
 pub use shown::Window;
-pub use write::{WriteFault, write_i420};
+pub use write::{ROOM, WriteFault, write_i420, write_i420_through};

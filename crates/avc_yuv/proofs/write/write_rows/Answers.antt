@@ -1,5 +1,5 @@
 use Rattle.avc_yuv.proofs.Windows.{◌++◌, arith, rules, length-take-le, shown_of, Luma, Cb, Cr, cb_failed, cr_failed, end_failed, both_gathered, all_gathered, gathered_count, picture_counted, length-append}
-use Rattle.avc_yuv.proofs.write.write_gathered.Goals as goal
+use Rattle.avc_yuv.proofs.write.write_rows.Goals as goal
 
 pub gather_component-requires-clause-counted : goal.gather_component-requires-clause-counted
 gather_component-requires-clause-counted g c =
