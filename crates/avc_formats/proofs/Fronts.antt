@@ -48,7 +48,7 @@ first_next before old u done h =
 pub passed_more : (before old new : List SetUnit) (u : Unit) (said : Option Presentation) → IsSaid (starting_sps (sets_after old) u) said → (is_some said ≡ true → ⊥)
     → new ≡ old ++ set_units (u ∷ []) → (done : List Unit) → ArePassed before old done → ArePassed before new (done ++ u ∷ [])
 passed_more before old new u said is none put done h = record {
-  sets = put ∙ ap (λ l. l ++ set_units (u ∷ [])) h.sets ∙ append_assoc before (set_units done) (set_units (u ∷ [])) ∙ ap (λ l. before ++ l) (sym (set_units-append done (u ∷ [])));
+  sets = set_units_more before old new u done put h.sets;
   none = first_next before old u done h ∙ ap (λ o. first_of o None) (by said is none);
 }
   where
@@ -65,10 +65,10 @@ found_at before old u p is done h =
     subst (λ o. IsSaid o (Some p)) (sym (first_next before old u done h ∙ first_alone (starting_sps (sets_after old) u))) is
 
 -- which is the first of all
-pub found_first : (old s new : SplitterState) (next : Option Unit) (u : Unit) (before now : List SetUnit) (said : Option Presentation) → IsDraining max_unit old s (ArePassed before now) → old.failed ≡ false
-    → next ≡ next_unit_of max_unit s → new ≡ after_next_unit s next → next ≡ Some u → IsSaid (starting_sps (sets_after now) u) said → is_some said ≡ true → IsFound old new before now said
-found_first old s new next u before now None i going gives takes is told some = cc
-found_first old s new next u before now (Some p) i going gives takes is told some =
+pub found_first : (old s new : SplitterState) (next : Option Unit) (u : Unit) (before now later : List SetUnit) (said : Option Presentation) → IsDraining max_unit old s (ArePassed before now) → old.failed ≡ false
+    → next ≡ next_unit_of max_unit s → new ≡ after_next_unit s next → next ≡ Some u → IsSaid (starting_sps (sets_after now) u) said → is_some said ≡ true → IsFound old new before later said
+found_first old s new next u before now later None i going gives takes is told some = cc
+found_first old s new next u before now later (Some p) i going gives takes is told some =
     let d = one_more max_unit old s new next u (ArePassed before now) (λ done. IsSaid (first_sps before done) (Some p)) i going gives takes is (found_at before now u p told) in
     subst (λ us. IsSaid (first_sps before us) (Some p)) (sym d.rest) (said_still before d.done (units_left max_unit new) p d.so_far)
 

@@ -1,16 +1,16 @@
 -- The sequence parameter set of the first slice that is decoded, which is looked for in the front of a stream.
-use Rattle.std.specs.Prelude.{◌≡◌, ℕ, ◌≤◌, Bool, false, if◌then◌else◌, List, [], ◌∷◌, ◌++◌, length, Option, Some, None, option_and_then, Result, Ok, Err}
+use Rattle.std.specs.Prelude.{◌≡◌, ℕ, ◌≤◌, Bool, false, if◌then◌else◌, List, [], ◌∷◌, ◌++◌, length, Option, Some, None}
 use Rattle.std.specs.Io.KnownBytes.{Consumes}
-use Rattle.avc_types.specs.declared.fault.Fault.{Fault}
 use Rattle.avc_annexb.specs.SplitterState.{SplitterState}
 use Rattle.avc_annexb.specs.Units.{units}
 use Rattle.avc_annexb.specs.declared.unit.Unit.{Unit}
 use Rattle.avc_params.specs.Tables.{Sets, sets_after}
 use Rattle.avc_params.specs.declared.set_unit.SetUnit.{SetUnit}
 use Rattle.avc_params.specs.declared.sps.Sps.{Sps}
-use Rattle.avc_slice.specs.declared.header.Header.{Header}
-use Rattle.avc_slice.specs.declared.slice.Slice.{Slice}
-use Rattle.avc_units.specs.Grouping.{is_start, set_units, slice_in}
+use Rattle.avc_units.specs.Bringing.{brought, sps_under}
+use Rattle.avc_units.specs.Grouping.{is_start, set_units}
+use Rattle.avc_units.specs.declared.header_reader.Brought.{Brought}
+use Rattle.avc_units.specs.declared.header_reader.Brought.TheVariants.{Slice}
 use Rattle.avc_tools.specs.Streams.{IsDrained, after_units_left, units_left}
 use Rattle.avc_console.specs.Reading.{max_unit, HasRead}
 use Rattle.avc_console.specs.declared.fault.RunFault.{RunFault}
@@ -18,18 +18,14 @@ use Rattle.avc_console.specs.declared.fault.RunFault.TheVariants.{Read, Memory}
 use Rattle.avc_formats.specs.Presenting.{IsPresented, Says}
 use Rattle.avc_formats.specs.declared.presentation.Presentation.{Presentation}
 
--- the set that a header refers to (7.4.1.2.1)
-abbrev pub sps_under : Sets → Header → Option Sps
-sps_under sets h = option_and_then (λ p. sets.sps p.seq_parameter_set_id) (sets.pps h.pic_parameter_set_id)
-
--- of a slice, where its header can be read
-abbrev pub sps_named : Sets → Result Slice Fault → Option Sps
-sps_named sets (Ok s) = sps_under sets s.header
-sps_named sets (Err f) = None
+-- the set of a slice that is brought
+abbrev pub sps_named : Sets → Brought → Option Sps
+sps_named sets (Slice header) = sps_under sets header
+sps_named sets _ = None
 
 -- the set of this unit, where decoding can start with it (this decoder's rule)
 abbrev pub starting_sps : Sets → Unit → Option Sps
-starting_sps sets u = if is_start u then sps_named sets (slice_in sets u) else None
+starting_sps sets u = if is_start u then sps_named sets (brought sets u) else None
 
 -- the first of two that is there
 abbrev pub first_of : {A : Type 0} → Option A → Option A → Option A

@@ -6,7 +6,7 @@ use crate::presentation::Presentation;
 use avc_annexb::Splitter;
 use avc_annexb::laws::units_stay;
 use avc_console::{PIECE, RunFault, read_once};
-use avc_params::ParamTable;
+use avc_units::HeaderReader;
 use std::alloc::Global;
 use std::io::Read;
 
@@ -30,19 +30,21 @@ pub fn read_front<R: Read>(alloc: Global, reader: &mut R) -> Result<Front, RunFa
 {
     units_stay();
     let mut splitter = Splitter::<MAX_UNIT>::new(alloc);
-    let mut table = ParamTable::new(alloc);
+    let mut headers = HeaderReader::new(alloc);
     let mut bytes = Vec::new(alloc);
     let mut piece = [0; PIECE];
     'reads: while bytes.len() < FRONT {
         let len = read_once(reader, &mut piece)?;
         if len == 0 {
             splitter.finish()?;
-            let said = find_set(alloc, &mut splitter, &mut table)?.unwrap_or(Presentation::none());
+            let said = find_set(alloc, &mut splitter, &mut headers)?.unwrap_or(
+                Presentation::none(),
+            );
             return Ok(Front { bytes, said });
         }
         bytes.extend_from_slice(&piece[..len])?;
         splitter.feed(&piece[..len])?;
-        if let Some(said) = find_set(alloc, &mut splitter, &mut table)? {
+        if let Some(said) = find_set(alloc, &mut splitter, &mut headers)? {
             return Ok(Front { bytes, said });
         }
     }

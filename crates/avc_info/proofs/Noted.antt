@@ -10,12 +10,6 @@ with_one k d d' old old' new is value before = is ∙ ap (λ x. put k x old) val
 
 -- ---- units are taken one after the other
 
--- one unit's sets in front
-sets_then : (sets : List SetUnit) (u : Unit) (us : List Unit) → (sets ++ set_units (u ∷ [])) ++ set_units us ≡ sets ++ set_units (u ∷ us)
-sets_then sets u us =
-    append_assoc sets (set_units (u ∷ [])) (set_units us)
-    ∙ ap (λ l. sets ++ (l ++ set_units us)) (append-nil (list_of (set_unit u)))
-
 facts-append : (sets : List SetUnit) (us vs : List Unit) (f : StreamFacts) → facts_after sets (us ++ vs) f ≡ facts_after (sets ++ set_units us) vs (facts_after sets us f)
 facts-append sets [] vs f = ap (λ l. facts_after l vs f) (sym (append-nil sets))
 facts-append sets (u ∷ us) vs f =
@@ -35,7 +29,7 @@ noted_none before first = record { sets = sym (append-nil before); facts_are = r
 pub noted_more : (before old new : List SetUnit) (first f more : StreamFacts) (u : Unit) → new ≡ old ++ set_units (u ∷ []) → more ≡ after_unit (sets_after old) u f
     → (done : List Unit) → IsNoted before old first f done → IsNoted before new first more (done ++ u ∷ [])
 noted_more before old new first f more u put added done h = record {
-  sets = put ∙ ap (λ l. l ++ set_units (u ∷ [])) h.sets ∙ append_assoc before (set_units done) (set_units (u ∷ [])) ∙ ap (λ l. before ++ l) (sym (set_units-append done (u ∷ [])));
+  sets = set_units_more before old new u done put h.sets;
   facts_are =
       added ∙ ap (λ x. after_unit (sets_after old) u x) h.facts_are
       ∙ ap (λ ss. after_unit (sets_after ss) u (facts_after before done first)) h.sets
@@ -49,11 +43,7 @@ pub noted_again : (max : ℕ) (old mid new : SplitterState) (ended ended' : Bool
 noted_again max old mid new ended ended' sets now f more h left is put added e = record {
   drained = drained max old mid new left is;
   end_is = e ∙ ap (λ (s : SplitterState). s.ended) (sym is);
-  sets_are =
-      put ∙ ap (λ l. l ++ set_units (units_left max mid)) h.sets_are
-      ∙ sym (set_units-append (units max old.bytes old.ended) (units_left max mid))
-      ∙ ap set_units (sym left.all)
-      ∙ ap (λ (s : SplitterState). set_units (units max s.bytes s.ended)) (sym is);
+  sets_are = sets_again max old mid new sets now h.sets_are left is put;
   facts_are =
       added ∙ ap (λ x. facts_after sets (units_left max mid) x) h.facts_are
       ∙ ap (λ ss. facts_after ss (units_left max mid) (facts_after [] (units max old.bytes old.ended) no_facts)) h.sets_are
@@ -85,21 +75,5 @@ nothing_yet form s before added now_open open_before none =
 
 -- ---- the end of what came
 
-kept_end : (s : SplitterState) (piece : List ℕ) → s.ended ≡ (after_feed s piece).ended
-kept_end s piece = by s.ended
-  where
-    by : (e : Bool) → s.ended ≡ (if e then s else record s { bytes = s.bytes ++ piece }).ended
-    by true = refl
-    by false = refl
-
-pub feed_keeps_end : (old new : SplitterState) (piece : List ℕ) → new ≡ after_feed old piece → old.ended ≡ new.ended
-feed_keeps_end old new piece is = kept_end old piece ∙ ap (λ (s : SplitterState). s.ended) (sym is)
-
 pub open_still : (max : ℕ) (old mid new : SplitterState) (piece : List ℕ) → old.ended ≡ false → mid ≡ after_feed old piece → new ≡ after_units_left max mid → new.ended ≡ false
 open_still max old mid new piece open_before fed is = ap (λ (s : SplitterState). s.ended) is ∙ sym (feed_keeps_end old mid piece fed) ∙ open_before
-
-pub stays_by_piece : (s : StreamSoFar) (piece : List ℕ) → s.ended ≡ true → s ≡ after_piece s piece
-stays_by_piece s piece e = ap (λ x. if x then s else record s { bytes = s.bytes ++ piece }) (sym e)
-
-pub stays_by_end : (s : StreamSoFar) → s.ended ≡ true → s ≡ after_end s
-stays_by_end s e = ap (λ x. record s { ended = x }) e

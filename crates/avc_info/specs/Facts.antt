@@ -1,5 +1,5 @@
 -- What parameter sets and slice headers say of a stream.
-use Rattle.std.specs.Prelude.{ℕ, ◌+◌, max, Bool, true, ◌&&◌, if◌then◌else◌, Option, Some, None, option_and_then}
+use Rattle.std.specs.Prelude.{ℕ, ◌+◌, max, Bool, true, ◌&&◌, if◌then◌else◌, Option, Some, None}
 use Rattle.std.specs.Option.{option_map}
 use Rattle.avc_types.specs.declared.fault.Fault.{Fault}
 use Rattle.avc_annexb.specs.Units.{saturated}
@@ -11,6 +11,7 @@ use Rattle.avc_slice.specs.Begins.{begins}
 use Rattle.avc_slice.specs.Header.{is_idr}
 use Rattle.avc_slice.specs.declared.header.Header.{Header}
 use Rattle.avc_tools.specs.Lines.{shown_height, shown_width}
+use Rattle.avc_units.specs.Bringing.{sps_under}
 use Rattle.avc_info.specs.declared.sequence_facts.SequenceFacts.{SequenceFacts}
 use Rattle.avc_info.specs.declared.slice_counts.SliceCounts.{SliceCounts}
 use Rattle.avc_info.specs.declared.stream_facts.StreamFacts.{StreamFacts}
@@ -76,10 +77,6 @@ no_facts = record { sequence = None; counts = no_slices; refused = 0; first_refu
 abbrev pub first_of : {A : Type 0} → Option A → Option A → Option A
 first_of (Some a) b = Some a
 first_of None b = b
-
--- the sequence parameter set that a slice refers to (7.4.3)
-abbrev pub sps_under : Sets → Header → Option Sps
-sps_under sets h = option_and_then (λ p. sets.sps p.seq_parameter_set_id) (sets.pps h.pic_parameter_set_id)
 
 -- with a slice whose header was read under these sets: what is said of the sequence is what the first slice's set says
 abbrev pub after_slice : Sets → Header → StreamFacts → StreamFacts

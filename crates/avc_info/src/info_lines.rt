@@ -9,9 +9,9 @@ use crate::sequence_facts::SequenceFacts;
 use crate::stream_facts::StreamFacts;
 use avc_annexb::Splitter;
 use avc_annexb::laws::units_stay;
-use avc_params::ParamTable;
 use avc_tools::StreamText;
 use avc_types::OutOfMemory;
+use avc_units::HeaderReader;
 use std::alloc::Global;
 use std::marker::Model;
 
@@ -25,7 +25,7 @@ pub struct InfoLines<F> {
     alloc: Global,
     form: F,
     splitter: Splitter<MAX_UNIT>,
-    table: ParamTable,
+    reader: HeaderReader,
     facts: StreamFacts,
     ended: bool,
     failed: bool,
@@ -40,7 +40,7 @@ impl<F> Model for InfoLines<F> {
 
     ghost view = { λ l. record { bytes = l.splitter.bytes; ended = l.splitter.ended; failed = l.failed } };
 
-    ghost invariant = { λ l. l.failed ≡ false → AreNoted max_unit l.splitter l.ended l.table l.facts };
+    ghost invariant = { λ l. l.failed ≡ false → AreNoted max_unit l.splitter l.ended l.reader l.facts };
 }
 
 impl<F> InfoLines<F> {
@@ -55,7 +55,7 @@ impl<F> InfoLines<F> {
             alloc,
             form,
             splitter: Splitter::new(alloc),
-            table: ParamTable::new(alloc),
+            reader: HeaderReader::new(alloc),
             facts: StreamFacts::new(),
             ended: false,
             failed: false,
@@ -93,12 +93,7 @@ impl<F: InfoForm> StreamText for InfoLines<F> {
         // until all of it is done
         self.failed = true;
         self.splitter.feed(piece)?;
-        note_units_left(
-            self.alloc,
-            &mut self.splitter,
-            &mut self.table,
-            &mut self.facts,
-        )?;
+        note_units_left(&mut self.splitter, &mut self.reader, &mut self.facts)?;
         self.failed = false;
         Ok(Vec::new(self.alloc))
     }
@@ -113,12 +108,7 @@ impl<F: InfoForm> StreamText for InfoLines<F> {
         }
         self.failed = true;
         self.splitter.finish()?;
-        note_units_left(
-            self.alloc,
-            &mut self.splitter,
-            &mut self.table,
-            &mut self.facts,
-        )?;
+        note_units_left(&mut self.splitter, &mut self.reader, &mut self.facts)?;
         let text = self.form.tell(self.alloc, &self.facts)?;
         self.ended = true;
         self.failed = false;
@@ -132,20 +122,19 @@ impl<F: InfoForm> StreamText for InfoLines<F> {
     fn text_only_grows(&self) {}
 }
 
-// Takes all units whose end has been seen, what they say, and the parameter sets that they bring.
+// Takes all units whose end has been seen, and what they say.
 fn note_units_left(
-    alloc: Global,
     splitter: &mut Splitter<MAX_UNIT>,
-    table: &mut ParamTable,
+    reader: &mut HeaderReader,
     facts: &mut StreamFacts,
 ) -> Result<(), OutOfMemory>
     requires { splitter.old.failed ≡ false }
-    ensures sets { OnOk result (table.new ≡ table.old ++ set_units (units_left max_unit splitter.old)) }
-    ensures facts { OnOk result (facts.new ≡ facts_after table.old (units_left max_unit splitter.old) facts.old) }
+    ensures sets { OnOk result (reader.new ≡ reader.old ++ set_units (units_left max_unit splitter.old)) }
+    ensures facts { OnOk result (facts.new ≡ facts_after reader.old (units_left max_unit splitter.old) facts.old) }
     ensures taken { OnOk result (splitter.new ≡ after_units_left max_unit splitter.old) }
 {
     while let Some(unit) = splitter.next_unit() {
-        note_unit(alloc, facts, table, &unit)?;
+        note_unit(facts, reader, &unit)?;
     }
     Ok(())
 }

@@ -1,86 +1,37 @@
-ghost use Rattle.std.specs.Prelude.{◌≡◌, ◌++◌, ◌∷◌, [], OnOk, Some};
+ghost use Rattle.std.specs.Prelude.{◌≡◌, ◌++◌, ◌∷◌, [], OnOk};
 ghost use Rattle.avc_params.specs.Tables.{sets_after};
-ghost use Rattle.avc_units.specs.Grouping.{list_of, rbsp_of, set_of, set_units, slice_in};
-ghost use Rattle.avc_units.specs.Kinds.{meant};
-ghost use Rattle.avc_info.specs.Noting.{after_header, after_kind, after_set, after_unit};
+ghost use Rattle.avc_units.specs.Grouping.{set_units};
+ghost use Rattle.avc_info.specs.Noting.{after_set, after_unit};
 
 use crate::stream_facts::StreamFacts;
 use avc_annexb::Unit;
-use avc_params::{ParamTable, SetFault};
-use avc_slice::read_header;
-use avc_types::{Fault, OutOfMemory};
-use avc_units::{UnitKind, kind_of, rbsp_of};
-use std::alloc::Global;
+use avc_types::OutOfMemory;
+use avc_units::{Brought, HeaderReader, ParameterSet};
 
-/// Takes what a unit says, and the parameter set that it brings.
+/// Takes what a unit says.
 pub(crate) fn note_unit(
-    alloc: Global,
     facts: &mut StreamFacts,
-    table: &mut ParamTable,
+    reader: &mut HeaderReader,
     unit: &Unit,
 ) -> Result<(), OutOfMemory>
-    ensures facts { OnOk result (facts.new ≡ after_unit (sets_after table.old) unit.now facts.old) }
-    ensures sets { OnOk result (table.new ≡ table.old ++ set_units (unit.now ∷ [])) }
+    ensures facts { OnOk result (facts.new ≡ after_unit (sets_after reader.old) unit.now facts.old) }
+    ensures sets { OnOk result (reader.new ≡ reader.old ++ set_units (unit.now ∷ [])) }
 {
-    if unit.header >= 128 {
-        facts.add_refusal(unit.index, Fault::ForbiddenBit);
-        return Ok(());
+    match reader.read(unit)? {
+        Brought::Nothing => {}
+        Brought::Set(set) => note_set(facts, unit.index, &set),
+        Brought::Slice(header) => facts.add_slice(reader, header),
+        Brought::Refused(fault) => facts.add_refusal(unit.index, fault),
     }
-    match rbsp_of(alloc, unit)? {
-        Some(rbsp) => note_read(facts, table, unit, kind_of(unit.header), rbsp.as_slice()),
-        None => Ok(()),
-    }
+    Ok(())
 }
 
-// of a unit of this kind, with this RBSP
-fn note_read(
-    facts: &mut StreamFacts,
-    table: &mut ParamTable,
-    unit: &Unit,
-    kind: UnitKind,
-    rbsp: &[u8],
-) -> Result<(), OutOfMemory>
-    requires { rbsp_of unit.now ≡ Some rbsp.now }
-    ensures facts { OnOk result (facts.new ≡ after_kind (sets_after table.old) unit.now (meant kind) (Some rbsp.now) facts.old) }
-    ensures sets { OnOk result (table.new ≡ table.old ++ list_of (set_of (meant kind) (Some rbsp.now))) }
+fn note_set(facts: &mut StreamFacts, unit: u64, set: &ParameterSet)
+    ensures { facts.new ≡ after_set unit set.now facts.old }
 {
-    match kind {
-        UnitKind::Slice { .. } => {
-            note_slice(facts, table, unit, rbsp);
-            Ok(())
-        }
-        UnitKind::Partition => {
-            facts.add_refusal(unit.index, Fault::DataPartition);
-            Ok(())
-        }
-        UnitKind::Sps => {
-            let refused = table.put_sps(rbsp)?;
-            note_set(facts, unit.index, refused);
-            Ok(())
-        }
-        UnitKind::Pps => {
-            let refused = table.put_pps(rbsp)?;
-            note_set(facts, unit.index, refused);
-            Ok(())
-        }
-        UnitKind::Boundary | UnitKind::Other => Ok(()),
-    }
-}
-
-fn note_set(facts: &mut StreamFacts, unit: u64, refused: Option<SetFault>)
-    ensures { facts.new ≡ after_set unit refused facts.old }
-{
-    if let Some(refused) = refused {
-        facts.add_refusal(unit, refused.fault);
-    }
-}
-
-fn note_slice(facts: &mut StreamFacts, table: &ParamTable, unit: &Unit, rbsp: &[u8])
-    requires { rbsp_of unit.now ≡ Some rbsp.now }
-    ensures { facts.new ≡ after_header (sets_after table.now) unit.now.index (slice_in (sets_after table.now) unit.now) facts.old }
-{
-    match read_header(unit.header, rbsp, table) {
-        Ok(header) => facts.add_slice(table, header),
-        Err(fault) => facts.add_refusal(unit.index, fault),
+    match set {
+        ParameterSet::OfSequence(Err(refused)) | ParameterSet::OfPicture(Err(refused)) =>
+            facts.add_refusal(unit, refused.fault),
+        _ => {}
     }
 }

@@ -1,8 +1,8 @@
-ghost use Rattle.std.specs.Prelude.{◌≡◌, ◌-◌, ◌*◌, ◌+◌};
-ghost use Rattle.avc_tools.specs.Lines.{shown_height, shown_width};
+ghost use Rattle.std.specs.Prelude.{◌≡◌};
 ghost use Rattle.avc_info.specs.Facts.{reorder_number, said_by, timing_of};
 
 use avc_params::{Sps, Timing};
+use avc_tools::{shown_height, shown_width};
 
 /// What a sequence parameter set says (7.3.2.1.1, E.1.1).
 #[derive(Clone, Copy, PartialEq)]
@@ -49,35 +49,6 @@ impl SequenceFacts {
             max_num_reorder_frames: reorder_number(sps),
         }
     }
-}
-
-/// The width of what is shown, in luma samples.
-fn shown_width(sps: &Sps) -> u64
-    ensures { result ≡ shown_width sps.now }
-{
-    let width = 16 * u64::from(sps.width_in_mbs());
-    match &sps.frame_cropping {
-        Some(c) => without(width, c.frame_crop_left_offset, c.frame_crop_right_offset),
-        None => width,
-    }
-}
-
-/// The height of what is shown, in luma samples.
-fn shown_height(sps: &Sps) -> u64
-    ensures { result ≡ shown_height sps.now }
-{
-    let height = 16 * u64::from(sps.height_in_mbs());
-    match &sps.frame_cropping {
-        Some(c) => without(height, c.frame_crop_top_offset, c.frame_crop_bottom_offset),
-        None => height,
-    }
-}
-
-// The cropping offsets are in units of two luma samples.
-fn without(size: u64, before: u16, behind: u16) -> u64
-    ensures { result ≡ size - 2 * (before + behind) }
-{
-    size.saturating_sub(2 * (u64::from(before) + u64::from(behind)))
 }
 
 fn timing_of(sps: &Sps) -> Option<Timing>

@@ -1,13 +1,14 @@
 ghost use Rattle.std.specs.Prelude.{◌≡◌};
 ghost use Rattle.std.specs.Option.{option_map};
 ghost use Rattle.avc_params.specs.Tables.{sets_after};
-ghost use Rattle.avc_info.specs.Facts.{after_refusal, after_slice, no_facts, said_by, sps_under};
+ghost use Rattle.avc_units.specs.Bringing.{sps_under};
+ghost use Rattle.avc_info.specs.Facts.{after_refusal, after_slice, no_facts, said_by};
 
 use crate::sequence_facts::SequenceFacts;
 use crate::slice_counts::SliceCounts;
-use avc_params::ParamTable;
 use avc_slice::Header;
 use avc_types::Fault;
+use avc_units::HeaderReader;
 
 /// A unit that is refused.
 #[derive(Clone, Copy, Debug, PartialEq, Eq)]
@@ -46,12 +47,12 @@ impl StreamFacts {
         }
     }
 
-    /// Takes a slice header that was read under these sets.
-    pub(crate) fn add_slice(&mut self, table: &ParamTable, header: Header)
-        ensures { self.new ≡ after_slice (sets_after table.now) header self.old }
+    /// Takes the slice header that was read last.
+    pub(crate) fn add_slice(&mut self, reader: &HeaderReader, header: Header)
+        ensures { self.new ≡ after_slice (sets_after reader.now) header self.old }
     {
         if self.sequence.is_none() {
-            self.sequence = said_under(table, &header);
+            self.sequence = said_under(reader, &header);
         }
         self.counts.count(header);
     }
@@ -68,14 +69,11 @@ impl StreamFacts {
 }
 
 /// What the slice's sequence parameter set says.
-fn said_under(table: &ParamTable, header: &Header) -> Option<SequenceFacts>
-    ensures { result ≡ option_map said_by (sps_under (sets_after table.now) header.now) }
+fn said_under(reader: &HeaderReader, header: &Header) -> Option<SequenceFacts>
+    ensures { result ≡ option_map said_by (sps_under (sets_after reader.now) header.now) }
 {
-    match table.pps(header.pic_parameter_set_id) {
-        Some(pps) => match table.sps(pps.seq_parameter_set_id) {
-            Some(sps) => Some(SequenceFacts::of(sps)),
-            None => None,
-        },
+    match reader.sps_under(header) {
+        Some(sps) => Some(SequenceFacts::of(sps)),
         None => None,
     }
 }

@@ -325,7 +325,7 @@ shown_more before old new text more u put added done h =
     let here : header_line (sets_after old) u ≡ header_lines_under (before ++ set_units done) (u ∷ []) =
     ap (λ ss. header_line (sets_after ss) u) h.sets ∙ sym (append-nil (header_line (sets_after (before ++ set_units done)) u)) in
     record {
-      sets = put ∙ ap (λ l. l ++ set_units (u ∷ [])) h.sets ∙ append_assoc before (set_units done) (set_units (u ∷ [])) ∙ ap (λ l. before ++ l) (sym (set_units-append done (u ∷ [])));
+      sets = set_units_more before old new u done put h.sets;
       lines = added ∙ ap (λ l. l ++ header_line (sets_after old) u) h.lines ∙ ap (λ l. header_lines_under before done ++ l) here ∙ sym (under-append before done (u ∷ []));
     }
 
@@ -333,15 +333,19 @@ pub header_lines_are : (max : ℕ) (bytes : List ℕ) (ended : Bool) → length 
 header_lines_are max bytes ended short = ap (λ us. header_lines_under [] us) (whole_units max bytes ended short) ∙ from_under [] (units (length bytes) bytes ended)
 
 -- once more has come
+pub sets_again : (max : ℕ) (old mid new : SplitterState) (sets now : List SetUnit) → sets ≡ set_units (units max old.bytes old.ended) → AreLeft max old mid
+    → new ≡ after_units_left max mid → now ≡ sets ++ set_units (units_left max mid) → now ≡ set_units (units max new.bytes new.ended)
+sets_again max old mid new sets now are left is put =
+    put ∙ ap (λ l. l ++ set_units (units_left max mid)) are
+    ∙ sym (set_units-append (units max old.bytes old.ended) (units_left max mid))
+    ∙ ap set_units (sym left.all)
+    ∙ ap (λ s. set_units (units max s.bytes s.ended)) (sym is)
+
 pub shown_again : (max : ℕ) (old mid new : SplitterState) (sets now : List SetUnit) → AreShown max old sets → AreLeft max old mid → new ≡ after_units_left max mid
     → now ≡ sets ++ set_units (units_left max mid) → AreShown max new now
 shown_again max old mid new sets now h left is put = record {
   drained = drained max old mid new left is;
-  sets_are =
-      put ∙ ap (λ l. l ++ set_units (units_left max mid)) h.sets_are
-      ∙ sym (set_units-append (units max old.bytes old.ended) (units_left max mid))
-      ∙ ap set_units (sym left.all)
-      ∙ ap (λ s. set_units (units max s.bytes s.ended)) (sym is);
+  sets_are = sets_again max old mid new sets now h.sets_are left is put;
 }
 
 -- The lines of units that come to others come behind theirs.

@@ -1,11 +1,10 @@
 -- The texts of a stream's units and headers, one line each.
-use Rattle.std.specs.Prelude.{ℕ, ◌+◌, ◌-◌, ◌*◌, ℤ, pos, nat_abs, Bool, true, false, List, [], ◌∷◌, ◌++◌, length, Option, Some, None, Result, Ok, Err, if◌then◌else◌, codes}
+use Rattle.std.specs.Prelude.{ℕ, ◌+◌, ◌-◌, ◌*◌, ℤ, pos, nat_abs, Bool, true, List, [], ◌∷◌, ◌++◌, length, Option, Some, None, Result, Ok, Err, if◌then◌else◌, codes}
 use Rattle.std.specs.List.{flat_map}
 use Rattle.std.specs.Fmt.{decimal}
 use Rattle.avc_types.specs.declared.fault.Fault.{Fault}
-use Rattle.avc_types.specs.declared.fault.Fault.TheVariants as faults
 use Rattle.avc_types.specs.Faults.{number_of, name_of}
-use Rattle.avc_annexb.specs.Units.{nal_ref_idc, nal_unit_type, forbidden_zero_bit, units}
+use Rattle.avc_annexb.specs.Units.{nal_ref_idc, nal_unit_type, units}
 use Rattle.avc_annexb.specs.declared.unit.Unit.{Unit}
 use Rattle.avc_params.specs.declared.sps.Sps.{Sps}
 use Rattle.avc_params.specs.declared.pps.Pps.{Pps}
@@ -13,13 +12,16 @@ use Rattle.avc_params.specs.declared.sps.OrderCount.{OrderCount}
 use Rattle.avc_params.specs.declared.sps.Cropping.{Cropping}
 use Rattle.avc_params.specs.declared.sps.OrderCount.TheVariants as orders
 use Rattle.avc_params.specs.Limits.{width_in_mbs, height_in_mbs, dpb_size}
-use Rattle.avc_params.specs.Reading.{sps_of, pps_of}
 use Rattle.avc_params.specs.declared.set_unit.SetFault.{SetFault}
 use Rattle.avc_params.specs.Tables.{Sets}
 use Rattle.avc_slice.specs.declared.header.Header.{Header}
-use Rattle.avc_slice.specs.declared.slice.Slice.{Slice}
 use Rattle.avc_slice.specs.Header.{is_p, is_idr, slice_qp}
-use Rattle.avc_units.specs.Grouping.{Kind, slice, partition, sps, pps, kind, rbsp_of, slice_in, tables}
+use Rattle.avc_units.specs.Bringing.{brought}
+use Rattle.avc_units.specs.Grouping.{tables}
+use Rattle.avc_units.specs.declared.header_reader.Brought.{Brought}
+use Rattle.avc_units.specs.declared.header_reader.Brought.TheVariants.{Nothing, Set, Slice, Refused}
+use Rattle.avc_units.specs.declared.set_reading.ParameterSet.{ParameterSet}
+use Rattle.avc_units.specs.declared.set_reading.ParameterSet.TheVariants.{OfSequence, OfPicture}
 
 -- the end of a line
 abbrev pub newline : List ℕ
@@ -153,23 +155,22 @@ slice_text sets h = slice_place h ++ slice_picture h ++ slice_fields sets h
 abbrev pub refused_text : Fault → List ℕ
 refused_text f = codes " refused" ++ and_number (number_of f) ++ codes " " ++ name_of f
 
--- a parameter set that was read, or why it was refused
-abbrev pub set_text : {A : Type 0} → (A → List ℕ) → Result A SetFault → List ℕ
-set_text text (Ok a) = text a
-set_text text (Err f) = refused_text f.fault
+-- what was read, or why it was refused
+abbrev pub read_text : {A : Type 0} → (A → List ℕ) → Result A SetFault → List ℕ
+read_text text (Ok a) = text a
+read_text text (Err f) = refused_text f.fault
 
--- a slice whose header was read, or why it was refused
-abbrev pub header_text : Sets → Result Slice Fault → List ℕ
-header_text sets (Ok s) = slice_text sets s.header
-header_text sets (Err f) = refused_text f
+-- a parameter set
+abbrev pub set_text : ParameterSet → List ℕ
+set_text (OfSequence read) = read_text sps_text read
+set_text (OfPicture read) = read_text pps_text read
 
--- What is said of a unit, if anything is. No unit is too long here.
-abbrev pub text_of : Sets → Unit → Kind → Option (List ℕ) → Option (List ℕ)
-text_of sets u sps (Some bytes) = Some (set_text sps_text (sps_of bytes))
-text_of sets u pps (Some bytes) = Some (set_text pps_text (pps_of bytes))
-text_of sets u (slice idr) (Some bytes) = Some (header_text sets (slice_in sets u))
-text_of sets u partition (Some bytes) = Some (refused_text faults.DataPartition)
-text_of sets u _ _ = None
+-- What is said of a unit that brings this, if anything is.
+abbrev pub text_of : Sets → Brought → Option (List ℕ)
+text_of sets Nothing = None
+text_of sets (Set set) = Some (set_text set)
+text_of sets (Slice header) = Some (slice_text sets header)
+text_of sets (Refused fault) = Some (refused_text fault)
 
 -- a line with the unit's number, where there is something to tell of it
 abbrev pub line_of : ℕ → Option (List ℕ) → List ℕ
@@ -178,11 +179,7 @@ line_of index (Some text) = decimal index ++ text ++ newline
 
 -- under the parameter sets in force before the unit
 abbrev pub header_line : Sets → Unit → List ℕ
-header_line sets u =
-    line_of u.index (elim (forbidden_zero_bit u.header) [
-      | true ↦ Some (refused_text faults.ForbiddenBit)
-      | false ↦ text_of sets u (kind u) (rbsp_of u)
-    ])
+header_line sets u = line_of u.index (text_of sets (brought sets u))
 
 -- the lines of these units, after those before them
 abbrev pub header_lines_from : (before after : List Unit) → List ℕ

@@ -1,14 +1,12 @@
 ghost use Rattle.std.specs.Prelude.{◌≡◌, [], ◌∷◌, ◌++◌, ◌+◌, ◌-◌, ◌*◌, false, IfOk, OnOk, Some, string_bytes};
 ghost use Rattle.std.specs.Fmt.{decimal};
 ghost use Rattle.std.specs.Option.{option_copied};
-ghost use Rattle.avc_params.specs.Reading.{pps_of, sps_of};
 ghost use Rattle.avc_params.specs.Tables.{sets_after};
 ghost use Rattle.avc_slice.specs.Header.{slice_qp};
-ghost use Rattle.avc_units.specs.Grouping.{rbsp_of, set_units, slice_in};
-ghost use Rattle.avc_units.specs.Kinds.{meant};
+ghost use Rattle.avc_units.specs.Grouping.{set_units};
 ghost use Rattle.avc_tools.specs.Showing.{header_lines_under};
 ghost use Rattle.avc_tools.specs.Streams.{after_units_left, max_unit, units_left};
-ghost use Rattle.avc_tools.specs.Lines.{flag_number, header_line, header_lines, header_text, line_of};
+ghost use Rattle.avc_tools.specs.Lines.{flag_number, header_line, header_lines, line_of};
 ghost use Rattle.avc_tools.specs.Lines.{newline, order_type, pps_constrained, pps_control, pps_fields};
 ghost use Rattle.avc_tools.specs.Lines.{pps_flags, pps_identity, pps_text, qp_number, refused_text, set_text};
 ghost use Rattle.avc_tools.specs.Lines.{shown_height, shown_width, slice_fields, slice_picture, slice_place};
@@ -19,10 +17,10 @@ use crate::stream_text::StreamText;
 use crate::units::MAX_UNIT;
 use avc_annexb::laws::units_stay;
 use avc_annexb::{Splitter, Unit};
-use avc_params::{OrderCount, ParamTable, Pps, Sps, read_pps, read_sps};
-use avc_slice::{Header, read_header};
+use avc_params::{OrderCount, Pps, Sps};
+use avc_slice::Header;
 use avc_types::{Fault, OutOfMemory};
-use avc_units::{UnitKind, kind_of, rbsp_of};
+use avc_units::{Brought, HeaderReader, ParameterSet};
 use std::alloc::Global;
 use std::marker::Model;
 
@@ -35,8 +33,8 @@ pub fn show_headers(alloc: Global, bytes: &[u8]) -> Result<String, OutOfMemory>
     let mut splitter = Splitter::<MAX_UNIT>::new(alloc);
     splitter.feed(bytes)?;
     splitter.finish()?;
-    let mut table = ParamTable::new(alloc);
-    let text = lines_of_headers_left(alloc, &mut splitter, &mut table)?;
+    let mut reader = HeaderReader::new(alloc);
+    let text = lines_of_headers_left(alloc, &mut splitter, &mut reader)?;
     Ok(text)
 }
 
@@ -45,8 +43,7 @@ pub fn show_headers(alloc: Global, bytes: &[u8]) -> Result<String, OutOfMemory>
 pub struct HeaderLines {
     alloc: Global,
     splitter: Splitter<MAX_UNIT>,
-    // those that came with the units so far
-    table: ParamTable,
+    reader: HeaderReader,
     failed: bool,
 }
 
@@ -59,7 +56,7 @@ impl Model for HeaderLines {
 
     ghost view = { λ l. record { bytes = l.splitter.bytes; ended = l.splitter.ended; failed = l.failed } };
 
-    ghost invariant = { λ l. l.failed ≡ false → AreShown max_unit l.splitter l.table };
+    ghost invariant = { λ l. l.failed ≡ false → AreShown max_unit l.splitter l.reader };
 }
 
 impl HeaderLines {
@@ -72,7 +69,7 @@ impl HeaderLines {
         HeaderLines {
             alloc,
             splitter: Splitter::new(alloc),
-            table: ParamTable::new(alloc),
+            reader: HeaderReader::new(alloc),
             failed: false,
         }
     }
@@ -98,7 +95,7 @@ impl StreamText for HeaderLines {
         // until all of it is done
         self.failed = true;
         self.splitter.feed(piece)?;
-        let lines = lines_of_headers_left(self.alloc, &mut self.splitter, &mut self.table)?;
+        let lines = lines_of_headers_left(self.alloc, &mut self.splitter, &mut self.reader)?;
         self.failed = false;
         Ok(lines.into_bytes())
     }
@@ -110,7 +107,7 @@ impl StreamText for HeaderLines {
         }
         self.failed = true;
         self.splitter.finish()?;
-        let lines = lines_of_headers_left(self.alloc, &mut self.splitter, &mut self.table)?;
+        let lines = lines_of_headers_left(self.alloc, &mut self.splitter, &mut self.reader)?;
         self.failed = false;
         Ok(lines.into_bytes())
     }
@@ -128,118 +125,54 @@ impl StreamText for HeaderLines {
 fn lines_of_headers_left(
     alloc: Global,
     splitter: &mut Splitter<MAX_UNIT>,
-    table: &mut ParamTable,
+    reader: &mut HeaderReader,
 ) -> Result<String, OutOfMemory>
     requires { splitter.old.failed ≡ false }
-    ensures text { IfOk result (λ text. string_bytes text ≡ header_lines_under table.old (units_left max_unit splitter.old)) }
-    ensures table { OnOk result (table.new ≡ table.old ++ set_units (units_left max_unit splitter.old)) }
+    ensures text { IfOk result (λ text. string_bytes text ≡ header_lines_under reader.old (units_left max_unit splitter.old)) }
+    ensures sets { OnOk result (reader.new ≡ reader.old ++ set_units (units_left max_unit splitter.old)) }
     ensures taken { OnOk result (splitter.new ≡ after_units_left max_unit splitter.old) }
 {
     let mut text = String::new(alloc);
     while let Some(unit) = splitter.next_unit() {
-        add_unit(alloc, &mut text, table, &unit)?;
-        put_set(alloc, table, &unit)?;
+        add_unit(&mut text, reader, &unit)?;
     }
     Ok(text)
 }
 
-// The parameter set that a unit brings.
-fn put_set(alloc: Global, table: &mut ParamTable, unit: &Unit) -> Result<(), OutOfMemory>
-    ensures { OnOk result (table.new ≡ table.old ++ set_units (unit.now ∷ [])) }
+// Takes the next unit, and makes its line.
+fn add_unit(text: &mut String, reader: &mut HeaderReader, unit: &Unit) -> Result<(), OutOfMemory>
+    ensures text { OnOk result (string_bytes text.new ≡ string_bytes text.old ++ header_line (sets_after reader.old) unit.now) }
+    ensures sets { OnOk result (reader.new ≡ reader.old ++ set_units (unit.now ∷ [])) }
 {
-    if unit.header >= 128 {
-        return Ok(());
-    }
-    match kind_of(unit.header) {
-        UnitKind::Sps => match rbsp_of(alloc, unit)? {
-            Some(rbsp) => {
-                table.put_sps(rbsp.as_slice())?;
-                Ok(())
-            }
-            None => Ok(()),
-        },
-        UnitKind::Pps => match rbsp_of(alloc, unit)? {
-            Some(rbsp) => {
-                table.put_pps(rbsp.as_slice())?;
-                Ok(())
-            }
-            None => Ok(()),
-        },
-        UnitKind::Slice { .. } | UnitKind::Partition | UnitKind::Boundary | UnitKind::Other => Ok(
-            (),
-        ),
-    }
+    let brought = reader.read(unit)?;
+    add_brought(text, reader, unit.index, &brought)
 }
 
-fn add_unit(
-    alloc: Global,
+// of a unit that brings this
+fn add_brought(
     text: &mut String,
-    table: &ParamTable,
-    unit: &Unit,
+    reader: &HeaderReader,
+    index: u64,
+    brought: &Brought,
 ) -> Result<(), OutOfMemory>
-    ensures { OnOk result (string_bytes text.new ≡ string_bytes text.old ++ header_line (sets_after table.now) unit.now) }
+    ensures { OnOk result (string_bytes text.new ≡ string_bytes text.old ++ line_of index (text_of (sets_after reader.now) brought.now)) }
 {
-    if unit.header >= 128 {
-        return add_refusal(text, unit.index, Fault::ForbiddenBit);
-    }
-    match rbsp_of(alloc, unit)? {
-        Some(rbsp) => add_read(text, table, unit, kind_of(unit.header), rbsp.as_slice()),
-        None => Ok(()),
-    }
-}
-
-// of a unit of this kind, with this RBSP
-fn add_read(
-    text: &mut String,
-    table: &ParamTable,
-    unit: &Unit,
-    kind: UnitKind,
-    rbsp: &[u8],
-) -> Result<(), OutOfMemory>
-    requires { rbsp_of unit.now ≡ Some rbsp.now }
-    ensures { OnOk result (string_bytes text.new ≡ string_bytes text.old
-        ++ line_of unit.now.index (text_of (sets_after table.now) unit.now (meant kind) (Some rbsp.now))) }
-{
-    match kind {
-        UnitKind::Slice { .. } => add_slice(text, table, unit, rbsp),
-        UnitKind::Partition => add_refusal(text, unit.index, Fault::DataPartition),
-        UnitKind::Sps => add_sps(text, unit.index, rbsp),
-        UnitKind::Pps => add_pps(text, unit.index, rbsp),
-        UnitKind::Boundary | UnitKind::Other => Ok(()),
+    match brought {
+        Brought::Nothing => Ok(()),
+        Brought::Set(set) => add_set(text, index, set),
+        Brought::Slice(header) => add_slice_line(text, index, reader, header),
+        Brought::Refused(fault) => add_refusal(text, index, *fault),
     }
 }
 
-fn add_sps(text: &mut String, index: u64, rbsp: &[u8]) -> Result<(), OutOfMemory>
-    ensures { OnOk result (string_bytes text.new ≡ string_bytes text.old ++ line_of index (Some (set_text sps_text (sps_of rbsp.now)))) }
+fn add_set(text: &mut String, index: u64, set: &ParameterSet) -> Result<(), OutOfMemory>
+    ensures { OnOk result (string_bytes text.new ≡ string_bytes text.old ++ line_of index (Some (set_text set.now))) }
 {
-    match read_sps(rbsp) {
-        Ok(sps) => add_sps_line(text, index, &sps),
-        Err(refused) => add_refusal(text, index, refused.fault),
-    }
-}
-
-fn add_pps(text: &mut String, index: u64, rbsp: &[u8]) -> Result<(), OutOfMemory>
-    ensures { OnOk result (string_bytes text.new ≡ string_bytes text.old ++ line_of index (Some (set_text pps_text (pps_of rbsp.now)))) }
-{
-    match read_pps(rbsp) {
-        Ok(pps) => add_pps_line(text, index, &pps),
-        Err(refused) => add_refusal(text, index, refused.fault),
-    }
-}
-
-fn add_slice(
-    text: &mut String,
-    table: &ParamTable,
-    unit: &Unit,
-    rbsp: &[u8],
-) -> Result<(), OutOfMemory>
-    requires { rbsp_of unit.now ≡ Some rbsp.now }
-    ensures { OnOk result (string_bytes text.new ≡ string_bytes text.old
-        ++ line_of unit.now.index (Some (header_text (sets_after table.now) (slice_in (sets_after table.now) unit.now)))) }
-{
-    match read_header(unit.header, rbsp, table) {
-        Ok(header) => add_slice_line(text, unit.index, table, &header),
-        Err(fault) => add_refusal(text, unit.index, fault),
+    match set {
+        ParameterSet::OfSequence(Ok(sps)) => add_sps_line(text, index, sps),
+        ParameterSet::OfSequence(Err(refused)) => add_refusal(text, index, refused.fault),
+        ParameterSet::OfPicture(Ok(pps)) => add_pps_line(text, index, pps),
+        ParameterSet::OfPicture(Err(refused)) => add_refusal(text, index, refused.fault),
     }
 }
 
@@ -416,15 +349,15 @@ fn qp_of(pps: &Pps, slice_qp_delta: i32) -> u64
 fn add_slice_line(
     text: &mut String,
     index: u64,
-    table: &ParamTable,
+    reader: &HeaderReader,
     header: &Header,
 ) -> Result<(), OutOfMemory>
-    ensures { OnOk result (string_bytes text.new ≡ string_bytes text.old ++ line_of index (Some (slice_text (sets_after table.now) header.now))) }
+    ensures { OnOk result (string_bytes text.new ≡ string_bytes text.old ++ line_of index (Some (slice_text (sets_after reader.now) header.now))) }
 {
     begin_line(text, index)?;
     add_slice_place(text, header)?;
     add_slice_picture(text, header)?;
-    add_slice_fields(text, table, header)?;
+    add_slice_fields(text, reader, header)?;
     end_line(text)?;
     Ok(())
 }
@@ -449,12 +382,12 @@ fn add_slice_picture(text: &mut String, header: &Header) -> Result<(), OutOfMemo
 
 fn add_slice_fields(
     text: &mut String,
-    table: &ParamTable,
+    reader: &HeaderReader,
     header: &Header,
 ) -> Result<(), OutOfMemory>
-    ensures { OnOk result (string_bytes text.new ≡ string_bytes text.old ++ slice_fields (sets_after table.now) header.now) }
+    ensures { OnOk result (string_bytes text.new ≡ string_bytes text.old ++ slice_fields (sets_after reader.now) header.now) }
 {
-    let qp = slice_qp_under(table.pps(header.pic_parameter_set_id), header);
+    let qp = slice_qp_under(reader.pps(header.pic_parameter_set_id), header);
     let idr = flag_number(header.is_idr());
     write!(text, " qp {qp} idr {idr}")?;
     Ok(())

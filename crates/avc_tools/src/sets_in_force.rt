@@ -1,18 +1,20 @@
-ghost use Rattle.std.specs.Prelude.{◌≡◌, ℕ, false, ◌<◌, None, Some, OnOk, IfOk, if◌then◌else◌, length, replicate};
-ghost use Rattle.avc_annexb.specs.Units.{forbidden_zero_bit};
+ghost use Rattle.std.specs.Prelude.{◌≡◌, ℕ, ◌<◌, Option, None, Some, OnOk, IfOk, if◌then◌else◌, length, replicate};
+ghost use Rattle.std.specs.Option.{option_map};
 ghost use Rattle.avc_annexb.specs.Written.{written};
 ghost use Rattle.avc_params.specs.Stored.{stored};
 ghost use Rattle.avc_params.specs.Tables.{is_id, is_pps, is_sps, pps_record, sps_record};
-ghost use Rattle.avc_params.specs.declared.set_unit.SetUnit.TheVariants.{OfPps, OfSps};
-ghost use Rattle.avc_units.specs.Grouping.{kind, pps, set_unit, sps};
+ghost use Rattle.avc_params.specs.declared.set_unit.SetUnit.{SetUnit};
+ghost use Rattle.avc_units.specs.Bringing.{parameter_set};
+ghost use Rattle.avc_units.specs.Grouping.{set_unit};
+ghost use Rattle.avc_units.specs.declared.set_reading.ParameterSet.TheVariants.{OfPicture, OfSequence};
 ghost use Rattle.avc_tools.specs.Cutting.{AreReplaced};
 
 use crate::writing::written_unit;
 use avc_annexb::Unit;
 use avc_params::laws::{pps_in_force_keeps_limits, sps_in_force_keeps_limits};
-use avc_params::{read_pps, read_sps};
+use avc_params::{Pps, SetFault, Sps};
 use avc_types::{Bytes, OutOfMemory};
-use avc_units::{UnitKind, kind_of, rbsp_of};
+use avc_units::{ParameterSet, read_set};
 use std::alloc::Global;
 
 /// By id, the units whose parameter sets are in force, each written behind a start code.
@@ -39,13 +41,16 @@ impl SetsInForce {
         ensures sps { OnOk result (AreReplaced is_sps sps_record (set_unit unit.now) (written unit.now) self.old.sps.items self.new.sps.items) }
         ensures pps { OnOk result (AreReplaced is_pps pps_record (set_unit unit.now) (written unit.now) self.old.pps.items self.new.pps.items) }
     {
-        if unit.header >= 128 {
-            return Ok(());
-        }
-        match kind_of(unit.header) {
-            UnitKind::Sps => put_sps(alloc, &mut self.sps, unit),
-            UnitKind::Pps => put_pps(alloc, &mut self.pps, unit),
-            _ => Ok(()),
+        match read_set(alloc, unit)? {
+            Some(ParameterSet::OfSequence(set)) => {
+                put_sps(&mut self.sps, &set, written_unit(alloc, unit)?);
+                Ok(())
+            }
+            Some(ParameterSet::OfPicture(set)) => {
+                put_pps(&mut self.pps, &set, written_unit(alloc, unit)?);
+                Ok(())
+            }
+            None => Ok(()),
         }
     }
 }
@@ -74,54 +79,26 @@ fn put(units: &mut Vec<Option<Bytes>>, id: Option<u8>, unit: Option<Bytes>)
     }
 }
 
-// A sequence parameter set's unit.
-fn put_sps(alloc: Global, units: &mut Vec<Option<Bytes>>, unit: &Unit) -> Result<(), OutOfMemory>
-    requires allowed { forbidden_zero_bit unit.now.header ≡ false }
-    requires kind { kind unit.now ≡ sps }
-    ensures { OnOk result (AreReplaced is_sps sps_record (set_unit unit.now) (written unit.now) units.old.items units.new.items) }
-{
-    match rbsp_of(alloc, unit)? {
-        Some(rbsp) => {
-            put_read_sps(units, rbsp.as_slice(), written_unit(alloc, unit)?);
-            Ok(())
-        }
-        None => Ok(()),
-    }
-}
-
-// of this RBSP
-fn put_read_sps(units: &mut Vec<Option<Bytes>>, rbsp: &[u8], unit: Bytes)
-    ensures { AreReplaced is_sps sps_record (Some (OfSps rbsp.now)) unit units.old.items units.new.items }
+// A sequence parameter set, which this unit brings.
+fn put_sps(units: &mut Vec<Option<Bytes>>, set: &Result<Sps, SetFault>, unit: Bytes)
+    ensures { (o : Option SetUnit) → option_map parameter_set o ≡ Some (OfSequence set.now)
+        → AreReplaced is_sps sps_record o unit units.old.items units.new.items }
 {
     sps_in_force_keeps_limits();
-    match read_sps(rbsp) {
+    match set {
         Ok(set) => put(units, Some(set.seq_parameter_set_id), Some(unit)),
         Err(refused) => put(units, refused.id, None),
     }
 }
 
-// A picture parameter set's unit.
-fn put_pps(alloc: Global, units: &mut Vec<Option<Bytes>>, unit: &Unit) -> Result<(), OutOfMemory>
-    requires allowed { forbidden_zero_bit unit.now.header ≡ false }
-    requires kind { kind unit.now ≡ pps }
-    ensures { OnOk result (AreReplaced is_pps pps_record (set_unit unit.now) (written unit.now) units.old.items units.new.items) }
-{
-    match rbsp_of(alloc, unit)? {
-        Some(rbsp) => {
-            put_read_pps(units, rbsp.as_slice(), written_unit(alloc, unit)?);
-            Ok(())
-        }
-        None => Ok(()),
-    }
-}
-
-// of this RBSP
-fn put_read_pps(units: &mut Vec<Option<Bytes>>, rbsp: &[u8], unit: Bytes)
-    ensures { AreReplaced is_pps pps_record (Some (OfPps rbsp.now)) unit units.old.items units.new.items }
+// A picture parameter set, which this unit brings.
+fn put_pps(units: &mut Vec<Option<Bytes>>, set: &Result<Pps, SetFault>, unit: Bytes)
+    ensures { (o : Option SetUnit) → option_map parameter_set o ≡ Some (OfPicture set.now)
+        → AreReplaced is_pps pps_record o unit units.old.items units.new.items }
 {
     pps_in_force_keeps_limits();
-    match read_pps(rbsp) {
+    match set {
         Ok(set) => put(units, Some(set.pic_parameter_set_id), Some(unit)),
-        Err(fault) => put(units, fault.id, None),
+        Err(refused) => put(units, refused.id, None),
     }
 }

@@ -80,6 +80,12 @@ set_units-append (u ∷ us) vs =
 pub sets_then : (sets : List SetUnit) (u : Unit) (us : List Unit) → (sets ++ set_units (u ∷ [])) ++ set_units us ≡ sets ++ set_units (u ∷ us)
 sets_then sets u us = append_assoc sets (set_units (u ∷ [])) (set_units us) ∙ ap (λ l. sets ++ l) (sym (set_units-append (u ∷ []) us))
 
+-- the sets of one unit more
+pub set_units_more : (before old new : List SetUnit) (u : Unit) (done : List Unit) → new ≡ old ++ set_units (u ∷ []) → old ≡ before ++ set_units done
+    → new ≡ before ++ set_units (done ++ u ∷ [])
+set_units_more before old new u done put is =
+    put ∙ ap (λ l. l ++ set_units (u ∷ [])) is ∙ append_assoc before (set_units done) (set_units (u ∷ [])) ∙ ap (λ l. before ++ l) (sym (set_units-append done (u ∷ [])))
+
 first_set : (test : SetUnit → Bool) (u : Unit) (o : Option SetUnit) (sets : List SetUnit) (us : List Unit) → set_unit u ≡ o → map Some (filter test sets) ≡ map set_unit us
     → map Some (filter test (list_of o ++ sets)) ≡ map set_unit (cond (satisfies test o) (u ∷ us) us)
 first_set test u o sets us is others = grind arith

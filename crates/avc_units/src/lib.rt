@@ -1,11 +1,13 @@
-//! What each unit does to the open picture (7.4.1.2).
+//! What each unit brings, and what it does to the open picture (7.4.1.2).
 #![tactic(auto)]
 
 mod grouper;
+mod header_reader;
 mod heap_slice;
 mod kinds;
 mod last_header;
 pub mod laws;
+mod set_reading;
 mod sets;
 mod slices;
 mod starts;
@@ -14,9 +16,11 @@ mod step_cases;
 mod units;
 
 pub use grouper::Grouper;
+pub use header_reader::{Brought, HeaderReader};
 pub use heap_slice::HeapSlice;
 pub use kinds::{UnitKind, kind_of};
 pub use last_header::LastHeader;
+pub use set_reading::{ParameterSet, read_set};
 pub use sets::rbsp_of;
 pub use starts::is_start;
 pub use step::{Next, Step};

@@ -24,7 +24,7 @@ pub use Rattle.avc_console.specs.declared.fault.RunFault.{RunFault}
 pub use Rattle.avc_console.specs.declared.fault.RunFault.TheVariants.{Read, Memory, Write}
 pub use Rattle.avc_tools.proofs.Taking.{IsDraining, one_more, all_taken}
 pub use Rattle.avc_tools.proofs.Taking.Stages.{AreLeft, drained, left_by_feed, left_by_finish}
-pub use Rattle.avc_units.proofs.SetUnits.{set_units-append, sets_then}
+pub use Rattle.avc_units.proofs.SetUnits.{set_units-append, set_units_more, sets_then}
 pub use Rattle.avc_tools.specs.Streams.{units_left}
 pub use Rattle.avc_units.specs.Grouping.{set_units}
 pub use Rattle.avc_yuv.specs.I420.{i420}

@@ -413,14 +413,14 @@ sps_alone rbsp id e = ap sps_record (alone (is_sps id) (OfSps rbsp) (ap (is_id i
 pps_alone : (rbsp : List ℕ) (id : ℕ) → pps_id rbsp ≡ Some id → pps_in_force (OfPps rbsp ∷ []) id ≡ accepted (pps_of rbsp)
 pps_alone rbsp id e = ap pps_record (alone (is_pps id) (OfPps rbsp) (ap (is_id id) e ∙ is_id-self id))
 
-pub sps_id_is : SpsInForceKeepsLimits → (rbsp : List ℕ) (set : Sps) → sps_of rbsp ≡ Ok set → sps_id rbsp ≡ Some set.seq_parameter_set_id
+sps_id_is : SpsInForceKeepsLimits → (rbsp : List ℕ) (set : Sps) → sps_of rbsp ≡ Ok set → sps_id rbsp ≡ Some set.seq_parameter_set_id
 sps_id_is law rbsp set is =
     let head = first_by identity sps_after (sps_id rbsp) (start rbsp) set _ refl is in
     let id : sps_id rbsp ≡ Some head.0.seq_parameter_set_id = ap (option_map (λ h. h.seq_parameter_set_id)) head.1 in
     let kept = law (OfSps rbsp ∷ []) head.0.seq_parameter_set_id set (sps_alone rbsp head.0.seq_parameter_set_id id ∙ ap accepted is) in
     id ∙ ap Some (sym kept.id_is)
 
-pub pps_id_is : PpsInForceKeepsLimits → (rbsp : List ℕ) (set : Pps) → pps_of rbsp ≡ Ok set → pps_id rbsp ≡ Some set.pic_parameter_set_id
+pps_id_is : PpsInForceKeepsLimits → (rbsp : List ℕ) (set : Pps) → pps_of rbsp ≡ Ok set → pps_id rbsp ≡ Some set.pic_parameter_set_id
 pps_id_is law rbsp set is = search (rules, first_by, pps_id, start, OfPps, pps_alone, accepted)
 
 abbrev id_in : {A : Type 0} → SetFault → Result A SetFault → Option ℕ
@@ -431,17 +431,42 @@ refused_by : {A : Type 0} (part : Read A) (id : Option ℕ) (b : Bits) (why : Se
 refused_by part id b why (Ok r) e f = let wrong = rw (whole, e) at f in cc
 refused_by part id b why (Err fault) e f = let g = rw (whole, e) at f in ap (id_in why) g
 
-pub refused_id : {A : Type 0} (part : Read A) (id : Option ℕ) (b : Bits) (why : SetFault) → whole part id b ≡ Err why → id ≡ why.id
+refused_id : {A : Type 0} (part : Read A) (id : Option ℕ) (b : Bits) (why : SetFault) → whole part id b ≡ Err why → id ≡ why.id
 refused_id part id b why f = refused_by part id b why (part b) refl f
 
 -- ---- one set is put
 
 -- by one of either kind, which has this id and was accepted or not
-pub put_by : {A : Type 0} (has_id : ℕ → SetUnit → Bool) (record_of : Option SetUnit → Option A) (s : SetUnit) (id : Option ℕ) (accepted_so : Bool) (unit : List ℕ) (old new : List (Option (List ℕ)))
-    → ((k : ℕ) → has_id k s ≡ is_id k id) → is_some (record_of (Some s)) ≡ accepted_so → length new ≡ length old
+pub put_by : {A : Type 0} (has_id : ℕ → SetUnit → Bool) (record_of : Option SetUnit → Option A) (o : Option SetUnit) (id : Option ℕ) (accepted_so : Bool) (unit : List ℕ) (old new : List (Option (List ℕ)))
+    → ((k : ℕ) → satisfies (has_id k) o ≡ is_id k id) → is_some (record_of o) ≡ accepted_so → length new ≡ length old
     → ((k : ℕ) → k < length old → stored new k ≡ (if is_id k id then (if accepted_so then Some unit else None) else stored old k))
-    → AreReplaced has_id record_of (Some s) unit old new
-put_by has_id record_of s id accepted_so unit old new same is long put = search (rules)
+    → AreReplaced has_id record_of o unit old new
+put_by has_id record_of o id accepted_so unit old new same is long put = search (rules)
+
+-- the id that a set was read with
+abbrev pub read_id : {A : Type 0} → (A → ℕ) → Result A SetFault → Option ℕ
+read_id id (Ok set) = Some (id set)
+read_id id (Err why) = why.id
+
+-- A set that was read so has this id, and is accepted or not.
+abbrev pub IsReadSo : {A : Type 0} → (ℕ → SetUnit → Bool) → (Option SetUnit → Option A) → Option SetUnit → (id : Option ℕ) → Result A SetFault → Type 0
+IsReadSo has_id record_of o id read = ((k : ℕ) → satisfies (has_id k) o ≡ is_id k id) × (record_of o ≡ accepted read)
+
+pub sps_read : SpsInForceKeepsLimits → (o : Option SetUnit) (read : Result Sps SetFault) → option_map parameter_set o ≡ Some (OfSequence read)
+    → IsReadSo is_sps sps_record o (read_id (λ set. set.seq_parameter_set_id) read) read
+sps_read law (Some (OfSps rbsp)) (Ok set) e =
+    let is : sps_of rbsp ≡ Ok set = cc in (λ k. ap (is_id k) (sps_id_is law rbsp set is), ap accepted is)
+sps_read law (Some (OfSps rbsp)) (Err why) e =
+    let is : sps_of rbsp ≡ Err why = cc in (λ k. ap (is_id k) (refused_id sps_part (sps_id rbsp) (start rbsp) why is), ap accepted is)
+sps_read law _ read e = cc
+
+pub pps_read : PpsInForceKeepsLimits → (o : Option SetUnit) (read : Result Pps SetFault) → option_map parameter_set o ≡ Some (OfPicture read)
+    → IsReadSo is_pps pps_record o (read_id (λ set. set.pic_parameter_set_id) read) read
+pps_read law (Some (OfPps rbsp)) (Ok set) e =
+    let is : pps_of rbsp ≡ Ok set = cc in (λ k. ap (is_id k) (pps_id_is law rbsp set is), ap accepted is)
+pps_read law (Some (OfPps rbsp)) (Err why) e =
+    let is : pps_of rbsp ≡ Err why = cc in (λ k. ap (is_id k) (refused_id pps_part (pps_id rbsp) (start rbsp) why is), ap accepted is)
+pps_read law _ read e = cc
 
 -- ---- one unit more
 

@@ -3,21 +3,21 @@ use Rattle.avc_formats.proofs.first_set.find_set.Goals as goal
 
 pub returns-then-is_some : goal.returns-then-is_some
 returns-then-is_some c =
-    found_first _ _ _ _ c.in-Some.unit c.args.table.now c.loop-unit.table c.in_ok-said.said c.loop-unit.invariant.draining c.requires c.next_unit.ensures.unit
-    c.next_unit.ensures.taken c.in-Some.is c.in_ok-said.ensures (search rules)
+    found_first _ _ _ _ c.in-Some.unit c.args.reader.now c.loop-unit.reader _ c.in_ok-said.said c.loop-unit.invariant.draining c.requires c.next_unit.ensures.unit
+    c.next_unit.ensures.taken c.in-Some.is c.in_ok-said.ensures.said (search rules)
 
-pub loop-unit-preserved-in_ok-put_set : goal.loop-unit-preserved-in_ok-put_set
-loop-unit-preserved-in_ok-put_set c = record {
+pub loop-unit-preserved-else-is_some : goal.loop-unit-preserved-else-is_some
+loop-unit-preserved-else-is_some c = record {
   draining =
       one_more max_unit _ _ _ _ c.in-Some.unit _ _ c.loop-unit.invariant.draining c.requires c.next_unit.ensures.unit c.next_unit.ensures.taken c.in-Some.is
-      (passed_more c.args.table.now _ _ c.in-Some.unit c.in_ok-said.said c.in_ok-said.ensures (search rules) c.in_ok-put_set.ensures);
+      (passed_more c.args.reader.now _ _ c.in-Some.unit c.in_ok-said.said c.in_ok-said.ensures.said (search rules) c.in_ok-said.ensures.sets);
 }
 
 pub loop-unit-preserved : goal.loop-unit-preserved
 loop-unit-preserved c = record {
   draining =
       one_more max_unit _ _ _ _ c.in-Some.unit _ _ c.loop-unit.invariant.draining c.requires c.next_unit.ensures.unit c.next_unit.ensures.taken c.in-Some.is
-      (passed_more c.args.table.now _ _ c.in-Some.unit c.in_ok-said.said c.in_ok-said.ensures (search rules) c.in_ok-put_set.ensures);
+      (passed_more c.args.reader.now _ _ c.in-Some.unit c.in_ok-said.said c.in_ok-said.ensures.said (search rules) c.in_ok-said.ensures.sets);
 }
 
 pub returns : goal.returns

@@ -9,7 +9,7 @@ returns-in_err-find_set-clause-err g c =
 
 pub returns-then-len-eq0-clause-ok : goal.returns-then-len-eq0-clause-ok
 returns-then-len-eq0-clause-ok g c =
-    front_ended c.units_stay.ensures _ _ _ _ _ c.in_ok-len.len c.reads.splitter _ _ c.reads.table _ c.in_ok-find_set.field-0 c.unwrap_or-said.result c.reads.invariant
+    front_ended c.units_stay.ensures _ _ _ _ _ c.in_ok-len.len c.reads.splitter _ _ c.reads.headers _ c.in_ok-find_set.field-0 c.unwrap_or-said.result c.reads.invariant
     (search rules) c.in_ok-len.ensures.bytes (search rules) c.in_ok-finish.ensures.ok c.in_ok-find_set.ensures
     (c.unwrap_or-said.ensures ∙ ap (λ p. unwrap_or c.in_ok-find_set.field-0 p) c.none.ensures)
 
@@ -30,10 +30,10 @@ returns-in_err-said-clause-err g c =
 
 pub returns-in-Some-clause-ok : goal.returns-in-Some-clause-ok
 returns-in-Some-clause-ok g c =
-    front_found c.units_stay.ensures _ _ _ _ _ _ c.reads.splitter _ _ c.reads.table _ c.in_ok-said.field-0 c.in-Some.said c.reads.invariant
+    front_found c.units_stay.ensures _ _ _ _ _ _ c.reads.splitter _ _ c.reads.headers _ c.in_ok-said.field-0 c.in-Some.said c.reads.invariant
     c.in_ok-len.ensures.bytes c.in_ok-extend_from_slice.ensures.items c.in_ok-feed.ensures.ok c.in_ok-said.ensures c.in-Some.is
 
 pub reads-preserved : goal.reads-preserved
 reads-preserved g c =
-    looking_more c.units_stay.ensures _ _ _ _ _ _ c.reads.splitter _ _ c.reads.table _ c.in_ok-said.field-0 c.reads.invariant
+    looking_more c.units_stay.ensures _ _ _ _ _ _ c.reads.splitter _ _ c.reads.headers _ c.in_ok-said.field-0 c.reads.invariant
     c.in_ok-len.ensures.bytes c.in_ok-extend_from_slice.ensures.items c.in_ok-feed.ensures.ok c.in_ok-said.ensures c.in_default.is

@@ -8,14 +8,14 @@ pub loop-unit-preserved-in_ok-note_unit : goal.loop-unit-preserved-in_ok-note_un
 loop-unit-preserved-in_ok-note_unit c = record {
   draining =
       one_more max_unit _ _ _ _ c.in-Some.unit _ _ c.loop-unit.invariant.draining c.requires c.next_unit.ensures.unit c.next_unit.ensures.taken c.in-Some.is
-      (noted_more c.args.table.now _ _ c.args.facts.now _ _ c.in-Some.unit c.in_ok-note_unit.ensures.sets c.in_ok-note_unit.ensures.facts);
+      (noted_more c.args.reader.now _ _ c.args.facts.now _ _ c.in-Some.unit c.in_ok-note_unit.ensures.sets c.in_ok-note_unit.ensures.facts);
 }
 
 pub loop-unit-preserved : goal.loop-unit-preserved
 loop-unit-preserved c = record {
   draining =
       one_more max_unit _ _ _ _ c.in-Some.unit _ _ c.loop-unit.invariant.draining c.requires c.next_unit.ensures.unit c.next_unit.ensures.taken c.in-Some.is
-      (noted_more c.args.table.now _ _ c.args.facts.now _ _ c.in-Some.unit c.in_ok-note_unit.ensures.sets c.in_ok-note_unit.ensures.facts);
+      (noted_more c.args.reader.now _ _ c.args.facts.now _ _ c.in-Some.unit c.in_ok-note_unit.ensures.sets c.in_ok-note_unit.ensures.facts);
 }
 
 pub returns-clause-sets : goal.returns-clause-sets

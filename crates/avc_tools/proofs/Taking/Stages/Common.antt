@@ -41,10 +41,14 @@ pub use Rattle.avc_params.specs.declared.set_unit.SetUnit.TheVariants.{OfPps, Of
 pub use Rattle.avc_params.specs.declared.sps.Sps.{Sps}
 pub use Rattle.avc_slice.specs.declared.slice.Slice.{Slice}
 pub use Rattle.avc_types.specs.declared.fault.Fault.{Fault}
-pub use Rattle.avc_units.proofs.SetUnits.{set_units-append, sets_then}
+pub use Rattle.avc_units.proofs.SetUnits.{set_units-append, set_units_more, sets_then}
 pub use Rattle.avc_units.specs.Grouping.{is_start, list_of, set_unit, set_units, Kind, kind, rbsp_of, reads_zero, set_fault, set_of, OpenPictureFacts}
 pub use Rattle.avc_units.specs.Grouping.{ends_picture, kind_of, no_effect, refusal_of, running_step, slice_in, slice_step, step, unreadable, waiting_step}
 pub use Rattle.avc_units.specs.Grouping.{boundary, partition, tables}
+pub use Rattle.avc_units.specs.Bringing.{parameter_set, brought, IfHeader}
+pub use Rattle.avc_units.specs.declared.set_reading.ParameterSet.TheVariants.{OfPicture, OfSequence}
+pub use Rattle.avc_units.specs.declared.header_reader.Brought.{Brought}
+pub use Rattle.avc_units.specs.declared.header_reader.Brought.TheVariants as brings
 pub use Rattle.avc_units.specs.Laws.{IsSetOf, SetsAreInForceAgain, SetsInForceAreUnits}
 pub use Rattle.avc_units.specs.Resuming.{sets_in_force, deciding_unit, satisfies, unit_list}
 pub use Rattle.avc_units.specs.declared.step.Next.{Next}

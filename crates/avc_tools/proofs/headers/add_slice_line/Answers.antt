@@ -3,5 +3,5 @@ use Rattle.avc_tools.proofs.headers.add_slice_line.Goals as goal
 
 pub returns : goal.returns
 returns c =
-    line_put _ (decimal c.args.index) (slice_place c.args.header.now) (slice_picture c.args.header.now) (slice_fields (sets_after c.args.table.now) c.args.header.now) newline _ _ _ _ _
+    line_put _ (decimal c.args.index) (slice_place c.args.header.now) (slice_picture c.args.header.now) (slice_fields (sets_after c.args.reader.now) c.args.header.now) newline _ _ _ _ _
     c.in_ok-begin_line.ensures c.in_ok-add_slice_place.ensures c.in_ok-add_slice_picture.ensures c.in_ok-add_slice_fields.ensures c.in_ok-end_line.ensures

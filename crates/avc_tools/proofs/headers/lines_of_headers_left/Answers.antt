@@ -1,25 +1,25 @@
 use Rattle.avc_tools.proofs.Taking.{max_unit, all_taken, one_more, shown_more}
 use Rattle.avc_tools.proofs.headers.lines_of_headers_left.Goals as goal
 
-pub loop-unit-preserved-in_ok-put_set : goal.loop-unit-preserved-in_ok-put_set
-loop-unit-preserved-in_ok-put_set c = record {
+pub loop-unit-preserved-in_ok-add_unit : goal.loop-unit-preserved-in_ok-add_unit
+loop-unit-preserved-in_ok-add_unit c = record {
   draining =
       one_more max_unit _ _ _ _ c.in-Some.unit _ _ c.loop-unit.invariant.draining c.requires c.next_unit.ensures.unit c.next_unit.ensures.taken c.in-Some.is
-      (shown_more c.args.table.now _ _ _ _ c.in-Some.unit c.in_ok-put_set.ensures c.in_ok-add_unit.ensures);
+      (shown_more c.args.reader.now _ _ _ _ c.in-Some.unit c.in_ok-add_unit.ensures.sets c.in_ok-add_unit.ensures.text);
 }
 
 pub loop-unit-preserved : goal.loop-unit-preserved
 loop-unit-preserved c = record {
   draining =
       one_more max_unit _ _ _ _ c.in-Some.unit _ _ c.loop-unit.invariant.draining c.requires c.next_unit.ensures.unit c.next_unit.ensures.taken c.in-Some.is
-      (shown_more c.args.table.now _ _ _ _ c.in-Some.unit c.in_ok-put_set.ensures c.in_ok-add_unit.ensures);
+      (shown_more c.args.reader.now _ _ _ _ c.in-Some.unit c.in_ok-add_unit.ensures.sets c.in_ok-add_unit.ensures.text);
 }
 
 pub returns-clause-text : goal.returns-clause-text
 returns-clause-text c = (all_taken max_unit _ _ _ _ _ c.loop-unit.invariant.draining c.requires c.next_unit.ensures.unit c.next_unit.ensures.taken c.in_default.is).0.lines
 
-pub returns-clause-table : goal.returns-clause-table
-returns-clause-table c = (all_taken max_unit _ _ _ _ _ c.loop-unit.invariant.draining c.requires c.next_unit.ensures.unit c.next_unit.ensures.taken c.in_default.is).0.sets
+pub returns-clause-sets : goal.returns-clause-sets
+returns-clause-sets c = (all_taken max_unit _ _ _ _ _ c.loop-unit.invariant.draining c.requires c.next_unit.ensures.unit c.next_unit.ensures.taken c.in_default.is).0.sets
 
 pub returns-clause-taken : goal.returns-clause-taken
 returns-clause-taken c = (all_taken max_unit _ _ _ _ _ c.loop-unit.invariant.draining c.requires c.next_unit.ensures.unit c.next_unit.ensures.taken c.in_default.is).1

@@ -1,4 +1,4 @@
-use Rattle.avc_tools.proofs.Taking.{[], true, ap, ◌∙◌, arith, after_feed, after_finish, header_lines_under, max_unit, units_left, header_lines_are}
+use Rattle.avc_tools.proofs.Taking.{arith, after_feed, after_finish, header_lines_are}
 use Rattle.avc_tools.proofs.headers.show_headers.Goals as goal
 
 pub returns : goal.returns

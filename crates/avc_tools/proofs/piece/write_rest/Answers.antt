@@ -1,4 +1,4 @@
-use Rattle.avc_tools.proofs.Taking.{◌++◌, ap, sym, ◌∙◌, arith, length, not, flat_map, take_while, written, rest_all, rest_written}
+use Rattle.avc_tools.proofs.Taking.{arith, take_while, written, rest_all, rest_written}
 use Rattle.avc_tools.proofs.piece.write_rest.Goals as goal
 
 pub returns-then-end-after : goal.returns-then-end-after

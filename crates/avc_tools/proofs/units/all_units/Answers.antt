@@ -1,4 +1,4 @@
-use Rattle.avc_tools.proofs.Taking.{◌≡◌, true, ◌++◌, ◌∷◌, [], ap, sym, subst, arith, refl, ◌∙◌, after_feed, after_finish, max_unit, IsDraining}
+use Rattle.avc_tools.proofs.Taking.{true, ◌++◌, ◌∷◌, [], ap, arith, refl, ◌∙◌, after_feed, after_finish, max_unit, IsDraining}
 use Rattle.avc_tools.proofs.Taking.{all_taken, draining_begun, one_more, whole_stream, whole_units}
 use Rattle.avc_tools.proofs.units.all_units.Goals as goal
 

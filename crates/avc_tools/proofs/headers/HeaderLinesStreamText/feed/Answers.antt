@@ -1,11 +1,11 @@
-use Rattle.avc_tools.proofs.Taking.{ap, ◌∙◌, arith, max_unit, left_by_feed, header_lines_added, shown_again}
+use Rattle.avc_tools.proofs.Taking.{arith, max_unit, left_by_feed, header_lines_added, shown_again}
 use Rattle.avc_tools.proofs.headers.HeaderLinesStreamText.feed.Goals as goal
 
 pub invariant_of-self-2 : goal.invariant_of-self-2
 invariant_of-self-2 c =
     let shown = c.self.invariant c.if-self.false in
     let left = left_by_feed c.units_stay.ensures max_unit _ _ c.args.piece.now shown.drained c.in_ok-feed.ensures.ok in
-    λ _. shown_again max_unit _ _ _ _ _ shown left c.in_ok-lines.ensures.taken c.in_ok-lines.ensures.table
+    λ _. shown_again max_unit _ _ _ _ _ shown left c.in_ok-lines.ensures.taken c.in_ok-lines.ensures.sets
 
 pub returns-clause-added : goal.returns-clause-added
 returns-clause-added c = grind (arith, left_by_feed, header_lines_added)

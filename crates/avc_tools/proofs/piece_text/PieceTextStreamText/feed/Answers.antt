@@ -1,4 +1,4 @@
-use Rattle.avc_tools.proofs.Taking.{◌++◌, ap, sym, ◌∙◌, arith, append-nil, max_unit, piece_text, left_by_feed, cutting_again, feed_keeps_end}
+use Rattle.avc_tools.proofs.Taking.{sym, ◌∙◌, arith, append-nil, max_unit, left_by_feed, cutting_again, feed_keeps_end}
 use Rattle.avc_tools.proofs.Taking.{stays_by_piece, text_fed}
 use Rattle.avc_tools.proofs.piece_text.PieceTextStreamText.feed.Goals as goal
 

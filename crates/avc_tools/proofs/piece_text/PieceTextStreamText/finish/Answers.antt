@@ -1,4 +1,4 @@
-use Rattle.avc_tools.proofs.Taking.{◌++◌, true, ap, sym, ◌∙◌, arith, append-nil, max_unit, piece_text, left_by_finish, cutting_again, stays_by_end, text_ended}
+use Rattle.avc_tools.proofs.Taking.{true, ap, sym, arith, append-nil, max_unit, left_by_finish, cutting_again, stays_by_end, text_ended}
 use Rattle.avc_tools.proofs.piece_text.PieceTextStreamText.finish.Goals as goal
 
 pub invariant_of-self-2 : goal.invariant_of-self-2

@@ -1,0 +1,12 @@
+use Rattle.avc_tools.proofs.Taking.{true, false, Some, Ok, Err, is_some, ap, ◌∙◌, is_sps, sps_record, OfSequence, put_by, sps_read}
+use Rattle.avc_tools.proofs.sets_in_force.put_sps.Goals as goal
+
+pub returns-in-Ok : goal.returns-in-Ok
+returns-in-Ok c = λ o brings.
+    let is = sps_read c.sps_in_force_keeps_limits.ensures o (Ok c.in-Ok.set) (brings ∙ ap (λ r. Some (OfSequence r)) c.in-Ok.is) in
+    put_by is_sps sps_record o (Some c.in-Ok.set.seq_parameter_set_id) true c.args.unit _ _ is.0 (ap is_some is.1) c.put.ensures.long c.put.ensures.units
+
+pub returns-in-Err : goal.returns-in-Err
+returns-in-Err c = λ o brings.
+    let is = sps_read c.sps_in_force_keeps_limits.ensures o (Err c.in-Err.refused) (brings ∙ ap (λ r. Some (OfSequence r)) c.in-Err.is) in
+    put_by is_sps sps_record o c.in-Err.refused.id false c.args.unit _ _ is.0 (ap is_some is.1) c.put-in-Err.ensures.long c.put-in-Err.ensures.units
