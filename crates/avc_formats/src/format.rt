@@ -5,7 +5,7 @@ ghost use Rattle.avc_formats.specs.Formats.{plain, Format, StopsPicture};
 
 use avc_console::RunFault;
 use avc_plane::SharedPicture;
-use avc_yuv::write_i420;
+use avc_yuv::write_i420_through;
 use std::io::Write;
 
 /// How pictures are written, one after another.
@@ -13,12 +13,13 @@ pub trait PictureFormat {
     /// What is written of each picture.
     ghost format: { Self → Format };
 
-    /// Writes the picture of a number, from 0. Want of memory, and a picture of another size than the format can have, are told
-    /// before anything is written.
+    /// Writes the picture of a number, from 0. Its rows are gathered in a room, which may hold anything before and after. Want of
+    /// memory, and a picture of another size than the format can have, are told before anything is written.
     fn write<W: Write>(
         &self,
         number: u64,
         picture: &SharedPicture,
+        room: &mut [u8],
         writer: &mut W,
     ) -> Result<(), RunFault>
         requires { IsWhole picture.now }
@@ -43,9 +44,10 @@ impl PictureFormat for I420 {
         &self,
         number: u64,
         picture: &SharedPicture,
+        room: &mut [u8],
         writer: &mut W,
     ) -> Result<(), RunFault> {
-        write_i420(picture, writer)?;
+        write_i420_through(picture, room, writer)?;
         Ok(())
     }
 

@@ -15,7 +15,7 @@ use crate::ratio::Ratio;
 use avc_console::{RunFault, write_text};
 use avc_plane::SharedPicture;
 use avc_types::OutOfMemory;
-use avc_yuv::{i420_len, write_i420};
+use avc_yuv::{i420_len, write_i420_through};
 use std::alloc::Global;
 use std::io::Write;
 
@@ -68,6 +68,7 @@ pub(crate) fn write_line<W: Write>(
     front: String,
     number: u64,
     picture: &SharedPicture,
+    room: &mut [u8],
     writer: &mut W,
 ) -> Result<(), RunFault>
     requires { IsWhole picture.now }
@@ -75,20 +76,20 @@ pub(crate) fn write_line<W: Write>(
     ensures err { IfErr result (λ fault. StopsPicture fault true (W.contents writer.old) (W.contents writer.new)
         (string_bytes front ++ framemd5_line number picture.now)) }
 {
-    let digest = picture_digest(picture)?;
+    let digest = picture_digest(picture, room)?;
     let mut text = front;
     add_line(alloc, &mut text, number, i420_len(picture), digest)?;
     write_text(&text, writer)
 }
 
 // The MD5 of a picture as I420.
-fn picture_digest(picture: &SharedPicture) -> Result<[u8; 16], RunFault>
+fn picture_digest(picture: &SharedPicture, room: &mut [u8]) -> Result<[u8; 16], RunFault>
     requires { IsWhole picture.now }
     ensures ok { IfOk result (λ digest. digest ≡ md5 (i420 picture.now)) }
     ensures err { IfErr result (λ fault. fault ≡ faults.Write) }
 {
     let mut writer = Md5Writer::new();
-    write_i420(picture, &mut writer)?;
+    write_i420_through(picture, room, &mut writer)?;
     Ok(writer.digest())
 }
 

@@ -42,13 +42,22 @@ impl PictureFormat for Headed {
         &self,
         number: u64,
         picture: &SharedPicture,
+        room: &mut [u8],
         writer: &mut W,
     ) -> Result<(), RunFault> {
         if !has_size(&self.said, picture) {
             return Err(RunFault::Size);
         }
         let front = front(self.alloc, self.format, &self.said, number)?;
-        write_behind(self.alloc, front, self.format, number, picture, writer)
+        write_behind(
+            self.alloc,
+            front,
+            self.format,
+            number,
+            picture,
+            room,
+            writer,
+        )
     }
 
     fn is_enough(&self, _pictures: u64) -> bool {
@@ -99,6 +108,7 @@ fn write_behind<W: Write>(
     format: HeadedFormat,
     number: u64,
     picture: &SharedPicture,
+    room: &mut [u8],
     writer: &mut W,
 ) -> Result<(), RunFault>
     requires { IsWhole picture.now }
@@ -107,7 +117,7 @@ fn write_behind<W: Write>(
         (string_bytes front ++ picture_text format number picture.now)) }
 {
     match format {
-        HeadedFormat::Y4m => write_frame(front, picture, writer),
-        HeadedFormat::FrameMd5 => write_line(alloc, front, number, picture, writer),
+        HeadedFormat::Y4m => write_frame(front, picture, room, writer),
+        HeadedFormat::FrameMd5 => write_line(alloc, front, number, picture, room, writer),
     }
 }

@@ -34,12 +34,13 @@ impl<F: PictureFormat> PictureFormat for Selected<F> {
         &self,
         number: u64,
         picture: &SharedPicture,
+        room: &mut [u8],
         writer: &mut W,
     ) -> Result<(), RunFault> {
         if !self.is_wanted(number) {
             return Ok(());
         }
-        self.format.write(number - self.skip, picture, writer)
+        self.format.write(number - self.skip, picture, room, writer)
     }
 
     fn is_enough(&self, pictures: u64) -> bool {

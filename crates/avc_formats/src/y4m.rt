@@ -12,13 +12,14 @@ use crate::ratio::Ratio;
 use avc_console::{RunFault, write_text};
 use avc_plane::SharedPicture;
 use avc_types::OutOfMemory;
-use avc_yuv::write_i420;
+use avc_yuv::write_i420_through;
 use std::io::Write;
 
 /// Writes a picture behind this text and a line of its own.
 pub(crate) fn write_frame<W: Write>(
     front: String,
     picture: &SharedPicture,
+    room: &mut [u8],
     writer: &mut W,
 ) -> Result<(), RunFault>
     requires { IsWhole picture.now }
@@ -28,13 +29,14 @@ pub(crate) fn write_frame<W: Write>(
 {
     let mut lines = front;
     lines.push_str("FRAME\n")?;
-    write_behind(&lines, picture, writer)
+    write_behind(&lines, picture, room, writer)
 }
 
 // Writes a picture behind these lines.
 fn write_behind<W: Write>(
     lines: &str,
     picture: &SharedPicture,
+    room: &mut [u8],
     writer: &mut W,
 ) -> Result<(), RunFault>
     requires { IsWhole picture.now }
@@ -43,7 +45,7 @@ fn write_behind<W: Write>(
         (lines.now ++ i420 picture.now)) }
 {
     write_text(lines, writer)?;
-    write_i420(picture, writer)?;
+    write_i420_through(picture, room, writer)?;
     Ok(())
 }
 
