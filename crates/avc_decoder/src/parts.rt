@@ -14,11 +14,21 @@ use std::alloc::Global;
 
 /// What a decoder works with: the units of its bytes, their events, and those of them that the caller has not taken. After want of
 /// memory it may be anything.
-#[derive(Drop)]
 pub struct Parts<const MAX: usize, P: OutputPicture> {
     pub splitter: Splitter<MAX>,
     pub stream: Stream,
     pub outgoing: Outgoing<P>,
+}
+
+// Written out, so that a proof takes the parts apart here alone, and not wherever a decoder is let go.
+impl<const MAX: usize, P: OutputPicture> Drop for Parts<MAX, P> {
+    fn drop(self) {
+        let Parts {
+            splitter: _,
+            stream: _,
+            outgoing: _,
+        } = self;
+    }
 }
 
 /// How many bytes were taken, and how many macroblocks of slices have been read.
