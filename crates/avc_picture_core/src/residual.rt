@@ -13,7 +13,7 @@ use crate::corner::{first_column, first_row};
 use crate::places::MbPlace;
 use avc_plane::Plane;
 use avc_transform::{
-    add_clip, chroma_dc, clipped_sum, luma_dc, residual_of_dc, residual4x4, residual4x4_with_dc,
+    Moves, add_clip, chroma_dc, luma_dc, moved, moves_of_four, residual_of_dc, residual4x4, residual4x4_with_dc,
 };
 use avc_types::{BlockLevels, Levels};
 
@@ -52,11 +52,9 @@ fn add_level4x4<const PAD: usize>(plane: &mut Plane<PAD>, left: usize, top: usiz
     requires small { IsBelow (2 ^ 25) value }
     ensures { plane.new ≡ with_residual plane.old left top 4 4 (λ x y. value) }
 {
-    let mut samples = plane.rectangle::<4, 4, 16>(left, top);
-    for i in 0..16 {
-        samples[i] = clipped_sum(samples[i], value);
-    }
-    plane.set_rectangle::<4, 4, 16>(left, top, &samples);
+    let samples = plane.rectangle::<4, 4, 16>(left, top);
+    let sums = moved(&samples, &moves_of_four(value, value, value, value));
+    plane.set_rectangle::<4, 4, 16>(left, top, &sums);
 }
 
 /// Adds the residual of sixteen levels to a 4x4 block (8.5.1). Nothing is done where they are all 0.
@@ -131,6 +129,65 @@ pub(crate) fn add_luma_residual<const PAD: usize>(
     }
 }
 
+/// A row of samples by itself.
+#[inline(always)]
+fn sixteen(samples: &[u8; 64], first: usize) -> [u8; 16]
+{
+    let mut row = [0; 16];
+    for x in 0..16 {
+        row[x] = samples[first + x];
+    }
+    row
+}
+
+/// All four.
+#[inline(always)]
+fn joined(a: &[u8; 16], b: &[u8; 16], c: &[u8; 16], d: &[u8; 16]) -> [u8; 64]
+{
+    let mut samples = [0; 64];
+    for x in 0..16 {
+        samples[x] = a[x];
+        samples[16 + x] = b[x];
+        samples[32 + x] = c[x];
+        samples[48 + x] = d[x];
+    }
+    samples
+}
+
+/// Adds to each of four blocks beside one another a residual that is one value.
+#[inline(always)]
+fn add_four_levels<const PAD: usize>(plane: &mut Plane<PAD>, left: usize, top: usize, a: i32, b: i32, c: i32, d: i32)
+{
+    let moves = moves_of_four(a, b, c, d);
+    let samples = plane.rectangle::<16, 4, 64>(left, top);
+    let sums = joined(
+        &moved(&sixteen(&samples, 0), &moves),
+        &moved(&sixteen(&samples, 16), &moves),
+        &moved(&sixteen(&samples, 32), &moves),
+        &moved(&sixteen(&samples, 48), &moves),
+    );
+    plane.set_rectangle::<16, 4, 64>(left, top, &sums);
+}
+
+fn add_luma_levels<const PAD: usize>(plane: &mut Plane<PAD>, place: MbPlace, values: &[i32; 16])
+{
+    let column = first_column(plane, 16, place.column);
+    let row = first_row(plane, 16, place.row);
+    for r in 0..4 {
+        add_four_levels(plane, column, row + 4 * r, residual_of_dc(values[4 * r]), residual_of_dc(values[4 * r + 1]), residual_of_dc(values[4 * r + 2]), residual_of_dc(values[4 * r + 3]));
+    }
+}
+
+fn has_levels(levels: &[Levels<15>; 16]) -> bool
+{
+    for k in 0..16 {
+        if levels[k].total_coeff() != 0 {
+            return true;
+        }
+    }
+    false
+}
+
 /// Adds the luma residual to an Intra 16x16 macroblock (8.5.2).
 pub(crate) fn add_luma_residual_16x16<const PAD: usize>(
     plane: &mut Plane<PAD>,
@@ -147,6 +204,10 @@ pub(crate) fn add_luma_residual_16x16<const PAD: usize>(
 {
     plane.holds_bytes();
     let values = luma_dc(dc.as_array(), qp);
+    if !has_levels(&levels.luma) {
+        add_luma_levels(plane, place, &values);
+        return;
+    }
     let column = first_column(plane, 16, place.column);
     let row = first_row(plane, 16, place.row);
     for k in 0..16 {
@@ -155,6 +216,21 @@ pub(crate) fn add_luma_residual_16x16<const PAD: usize>(
         let dc = values[top + left / 4];
         add_block4x4_with_dc(plane, column + left, row + top, dc, &levels.luma[k], qp);
     }
+}
+
+/// Adds to each of four blocks of a square a residual that is one value.
+fn add_chroma_levels<const PAD: usize>(plane: &mut Plane<PAD>, left: usize, top: usize, a: i32, b: i32, c: i32, d: i32)
+{
+    let upper = moves_of_four(a, b, a, b);
+    let lower = moves_of_four(c, d, c, d);
+    let samples = plane.rectangle::<8, 8, 64>(left, top);
+    let sums = joined(
+        &moved(&sixteen(&samples, 0), &upper),
+        &moved(&sixteen(&samples, 16), &upper),
+        &moved(&sixteen(&samples, 32), &lower),
+        &moved(&sixteen(&samples, 48), &lower),
+    );
+    plane.set_rectangle::<8, 8, 64>(left, top, &sums);
 }
 
 /// Adds the residual of a chroma component block by block.
@@ -176,6 +252,10 @@ fn add_chroma_blocks4x4<const PAD: usize>(
     let values = chroma_dc(dc.as_array(), qp);
     let column = first_column(plane, 8, place.column);
     let row = first_row(plane, 8, place.row);
+    if ac[0].total_coeff() == 0 && ac[1].total_coeff() == 0 && ac[2].total_coeff() == 0 && ac[3].total_coeff() == 0 {
+        add_chroma_levels(plane, column, row, residual_of_dc(values[0]), residual_of_dc(values[1]), residual_of_dc(values[2]), residual_of_dc(values[3]));
+        return;
+    }
     for k in 0..4 {
         let left = column + 4 * (k % 2);
         let top = row + 4 * (k / 2);
