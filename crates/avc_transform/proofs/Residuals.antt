@@ -297,3 +297,23 @@ chroma_dc_values =
 
 pub chroma_dc_values_are : map (block chroma_dc 2) chroma_dc_values ≡ map (λ (w : Worked). w.values) chroma_dc_values
 chroma_dc_values_are = refl
+
+-- ---- sixty-four samples, sixteen by sixteen
+
+pub in_four : (P : ℕ → Type 0) → ((i : ℕ) → i < 16 → P (0 + i)) → ((i : ℕ) → i < 16 → P (16 + i)) → ((i : ℕ) → i < 16 → P (32 + i)) → ((i : ℕ) → i < 16 → P (48 + i))
+    → (i : ℕ) → i < 64 → P i
+in_four P a b d e i low =
+    let r : i % 16 < 16 = omega arith in
+    below_four (λ q. q ≡ i / 16 → P i)
+    (λ is. subst P (omega (arith, is)) (a (i % 16) r))
+    (λ is. subst P (omega (arith, is)) (b (i % 16) r))
+    (λ is. subst P (omega (arith, is)) (d (i % 16) r))
+    (λ is. subst P (omega (arith, is)) (e (i % 16) r))
+    (i / 16) (omega (arith, low)) refl
+
+-- the same moves by other words
+pub moves_same : (m : Moves) (f g : ℕ → ℤ) → AreMovesOf f m → ((i : ℕ) → i < 16 → f i ≡ g i) → AreMovesOf g m
+moves_same m f g all same = record {
+  rises = λ i low. all.rises i low ∙ ap clip1 (same i low);
+  falls = λ i low. all.falls i low ∙ ap (λ (z : ℤ). clip1 (pos 0 -ℤ z)) (same i low);
+}

@@ -20,6 +20,8 @@ pub use Rattle.avc_transform.specs.Lines.{AreBelow, AreLines}
 pub use Rattle.avc_transform.specs.Residual.{level, level_scale, scaled, even_scale, hadamard, hadamard_row, luma_dc_scaled, chroma_dc_product}
 pub use Rattle.avc_transform.specs.Residual.{chroma_dc_scaled, zigzag, scaled_block, scaled_block_with_dc, inverse4, transformed_row, transformed}
 pub use Rattle.avc_transform.specs.Residual.{residual4x4, residual4x4_with_dc, chroma_qp_at, luma_dc, chroma_dc}
+pub use Rattle.avc_transform.specs.Moves.{AreMovesOf}
+pub use Rattle.avc_transform.specs.declared.construction.Moves.{Moves}
 pub use Rattle.avc_transform.specs.declared.lines.Lines.{Lines}
 pub use Rattle.avc_transform.specs.declared.quantiser.TheConstants.{CHROMA_QP}
 pub use Rattle.avc_transform.specs.declared.scaling.TheConstants.{ZIGZAG}

@@ -1,0 +1,16 @@
+use Rattle.avc_transform.proofs.Residuals.{ℕ, ◌+◌, ◌*◌, ◌/◌, ◌%◌, arith, rules, pos, slice_index_or, ap, moves_same}
+use Rattle.avc_transform.proofs.construction.add_to_square.Goals as goal
+
+pub returns : goal.returns
+returns c =
+    let four = λ (k : ℕ). slice_index_or c.args.residuals k (pos 0) in
+    let f = λ (i : ℕ). four (2 * (i / 32) + i % 8 / 4) in
+    let upper = c.moves_of_four-upper.ensures (λ k. four (k % 2)) (search rules) (search rules) (search rules) (search rules) in
+    let lower = c.moves_of_four-lower.ensures (λ k. four (2 + k % 2)) (search rules) (search rules) (search rules) (search rules) in
+    let u = c.moves_of_four-upper.result in
+    let l = c.moves_of_four-lower.result in
+    c.moved_halves.ensures f
+    (moves_same u (λ i. four (i / 4 % 2)) (λ i. f (0 + i)) upper (λ i low. ap four (omega arith)))
+    (moves_same u (λ i. four (i / 4 % 2)) (λ i. f (16 + i)) upper (λ i low. ap four (omega arith)))
+    (moves_same l (λ i. four (2 + i / 4 % 2)) (λ i. f (32 + i)) lower (λ i low. ap four (omega arith)))
+    (moves_same l (λ i. four (2 + i / 4 % 2)) (λ i. f (48 + i)) lower (λ i low. ap four (omega arith)))
