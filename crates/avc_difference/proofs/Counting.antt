@@ -1,0 +1,122 @@
+-- Counting places, and marking macroblocks.
+use Rattle.std.proofs.Common.{◌≡◌, ℕ, zero, suc, ◌+◌, ◌<◌, ◌≤◌, Bool, true, false, ◌&&◌, ◌||◌, not, refl, sym, ap, ◌∙◌, arith, add-one, List, length, get_or}
+use Rattle.std.specs.Prelude.{if◌then◌else◌, ◌==◌, replicate}
+use Rattle.avc_plane.specs.declared.component.Component.{Component}
+use Rattle.avc_plane.specs.declared.component.Component.TheVariants.{Luma, Cb, Cr}
+use Rattle.avc_difference.specs.Differences.{any_below, count_below, differs_at, differs_in_chroma, differs_in_luma, is_luma, mark_after, no_mark, with_component, AreMarks}
+use Rattle.avc_difference.specs.Places.{place_of}
+use Rattle.avc_difference.specs.declared.marks.Mark.{Mark}
+use Rattle.avc_difference.specs.declared.place.Place.{Place}
+use Rattle.avc_difference.specs.declared.place.Shape.{Shape}
+
+pub any_below_more : (n : ℕ) (is : ℕ → Bool) → any_below (n + 1) is ≡ (any_below n is || is n)
+unfolding any_below
+any_below_more n is = rw add-one refl
+
+pub count_below_more : (n : ℕ) (is : ℕ → Bool) → count_below (n + 1) is ≡ count_below n is + (if is n then 1 else 0)
+unfolding count_below
+count_below_more n is = rw add-one refl
+
+pub any_below_none : (is : ℕ → Bool) → any_below 0 is ≡ false
+unfolding any_below
+any_below_none is = refl
+
+pub count_below_none : (is : ℕ → Bool) → count_below 0 is ≡ 0
+unfolding count_below
+count_below_none is = refl
+
+few : (b : Bool) (c n : ℕ) → c ≤ n → c + (if b then 1 else 0) ≤ suc n
+few true c n h = omega arith
+few false c n h = omega arith
+
+pub count_below_few : (n : ℕ) (is : ℕ → Bool) → count_below n is ≤ n
+unfolding count_below
+count_below_few zero is = omega arith
+count_below_few (suc n) is = few (is n) (count_below n is) n (count_below_few n is)
+
+pub counted_few : (n count count' : ℕ) (b : Bool) → count ≤ n → count' ≡ count + (if b then 1 else 0) → count' ≤ n + 1
+counted_few n count count' true few is = omega (arith, few, is)
+counted_few n count count' false few is = omega (arith, few, is)
+
+pub counted_more : (n count count' : ℕ) (b : Bool) (test : ℕ → Bool) → count ≡ count_below n test → b ≡ test n → count' ≡ count + (if b then 1 else 0) → count' ≡ count_below (n + 1) test
+counted_more n count count' b test before here is =
+    is ∙ ap (λ k. k + (if b then 1 else 0)) before ∙ ap (λ t. count_below n test + (if t then 1 else 0)) here ∙ sym (count_below_more n test)
+
+-- ---- marks
+
+or_true : (b : Bool) → (b || true) ≡ true
+or_true true = refl
+or_true false = refl
+
+or_false : (b : Bool) → (b || false) ≡ b
+or_false true = refl
+or_false false = refl
+
+luma_after : (c : Component) (t : Bool) (m : Mark) → (if t then with_component c m else m).luma ≡ (m.luma || (is_luma c && t))
+luma_after Luma true m = sym (or_true m.luma)
+luma_after Luma false m = sym (or_false m.luma)
+luma_after Cb true m = sym (or_false m.luma)
+luma_after Cb false m = sym (or_false m.luma)
+luma_after Cr true m = sym (or_false m.luma)
+luma_after Cr false m = sym (or_false m.luma)
+
+chroma_after : (c : Component) (t : Bool) (m : Mark) → (if t then with_component c m else m).chroma ≡ (m.chroma || (not (is_luma c) && t))
+chroma_after Luma true m = sym (or_false m.chroma)
+chroma_after Luma false m = sym (or_false m.chroma)
+chroma_after Cb true m = sym (or_true m.chroma)
+chroma_after Cb false m = sym (or_false m.chroma)
+chroma_after Cr true m = sym (or_true m.chroma)
+chroma_after Cr false m = sym (or_false m.chroma)
+
+unmarked : (n k : ℕ) → get_or (replicate n no_mark) k no_mark ≡ no_mark
+unmarked zero k = refl
+unmarked (suc n) zero = refl
+unmarked (suc n) (suc k) = unmarked n k
+
+-- before the first sample
+pub marks_none : (s : Shape) (most : ℕ) (ours theirs : List ℕ) (marks : List Mark) → marks ≡ replicate (length marks) no_mark → AreMarks s most ours theirs 0 marks
+marks_none s most ours theirs marks fresh =
+    let none : (k : ℕ) → get_or marks k no_mark ≡ no_mark = λ k. ap (λ l. get_or l k no_mark) fresh ∙ unmarked (length marks) k in
+    record {
+      luma = λ address h. ap (λ (m : Mark). m.luma) (none address) ∙ sym (any_below_none (differs_in_luma s most ours theirs address));
+      chroma = λ address h. ap (λ (m : Mark). m.chroma) (none address) ∙ sym (any_below_none (differs_in_chroma s most ours theirs address));
+    }
+
+-- a sample that does not differ
+pub marks_same : (s : Shape) (most : ℕ) (ours theirs : List ℕ) (n : ℕ) (marks : List Mark) → AreMarks s most ours theirs n marks → differs_at most ours theirs n ≡ false
+    → AreMarks s most ours theirs (n + 1) marks
+marks_same s most ours theirs n marks m same =
+    record {
+      luma = λ address h.
+          m.luma address h ∙ sym (or_false (any_below n (differs_in_luma s most ours theirs address)))
+          ∙ ap (λ b. any_below n (differs_in_luma s most ours theirs address) || (b && (is_luma (place_of s n).component && (place_of s n).address == address))) (sym same)
+          ∙ sym (any_below_more n (differs_in_luma s most ours theirs address));
+      chroma = λ address h.
+          m.chroma address h ∙ sym (or_false (any_below n (differs_in_chroma s most ours theirs address)))
+          ∙ ap (λ b. any_below n (differs_in_chroma s most ours theirs address) || (b && (not (is_luma (place_of s n).component) && (place_of s n).address == address))) (sym same)
+          ∙ sym (any_below_more n (differs_in_chroma s most ours theirs address));
+    }
+
+-- one that differs
+pub marks_more : (s : Shape) (most : ℕ) (ours theirs : List ℕ) (n : ℕ) (marks marks' : List Mark) (place : Place) → AreMarks s most ours theirs n marks
+    → differs_at most ours theirs n ≡ true → place ≡ place_of s n → length marks' ≡ length marks
+    → ((address : ℕ) → address < length marks → get_or marks' address no_mark ≡ mark_after place address (get_or marks address no_mark)) → AreMarks s most ours theirs (n + 1) marks'
+marks_more s most ours theirs n marks marks' place m other is_at long after =
+    let here : (address : ℕ) → address < length marks → get_or marks' address no_mark ≡ mark_after (place_of s n) address (get_or marks address no_mark) =
+    λ address h. after address h ∙ ap (λ p. mark_after p address (get_or marks address no_mark)) is_at in
+    record {
+      luma = λ address h.
+          let inside : address < length marks = omega (arith, h, long) in
+          ap (λ (x : Mark). x.luma) (here address inside)
+          ∙ luma_after (place_of s n).component ((place_of s n).address == address) (get_or marks address no_mark)
+          ∙ ap (λ b. b || (is_luma (place_of s n).component && (place_of s n).address == address)) (m.luma address inside)
+          ∙ ap (λ b. any_below n (differs_in_luma s most ours theirs address) || (b && (is_luma (place_of s n).component && (place_of s n).address == address))) (sym other)
+          ∙ sym (any_below_more n (differs_in_luma s most ours theirs address));
+      chroma = λ address h.
+          let inside : address < length marks = omega (arith, h, long) in
+          ap (λ (x : Mark). x.chroma) (here address inside)
+          ∙ chroma_after (place_of s n).component ((place_of s n).address == address) (get_or marks address no_mark)
+          ∙ ap (λ b. b || (not (is_luma (place_of s n).component) && (place_of s n).address == address)) (m.chroma address inside)
+          ∙ ap (λ b. any_below n (differs_in_chroma s most ours theirs address) || (b && (not (is_luma (place_of s n).component) && (place_of s n).address == address))) (sym other)
+          ∙ sym (any_below_more n (differs_in_chroma s most ours theirs address));
+    }

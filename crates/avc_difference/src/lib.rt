@@ -1,0 +1,12 @@
+//! Where two pictures differ, and what is told of it.
+#![tactic(auto)]
+
+mod difference;
+mod marks;
+mod place;
+mod text;
+
+pub use difference::{Difference, find_difference};
+pub use marks::Mark;
+pub use place::{Place, Shape, macroblocks};
+pub use text::add_difference;
