@@ -366,6 +366,64 @@ header_lines_grow stay bytes more ended short =
     let later = stay (2 ^ 64) bytes more ended in
     (_, header_lines_behind (2 ^ 64) (bytes ++ more) bytes ended false later.0 (omega (arith, short)) (omega (arith, short, length-append bytes more)) later.1)
 
+-- ---- cut points, one line after the other
+
+cut_points-append : (number : ℕ) (us vs : List Unit) → cut_point_lines number (us ++ vs) ≡ cut_point_lines number us ++ cut_point_lines (number_behind_all number us) vs
+cut_points-append number [] vs = refl
+cut_points-append number (u ∷ us) vs = rw (cut_points-append (number_behind number u) us vs) (simp append_assoc)
+
+number_behind-append : (number : ℕ) (us vs : List Unit) → number_behind_all number (us ++ vs) ≡ number_behind_all (number_behind_all number us) vs
+number_behind-append number [] vs = refl
+number_behind-append number (u ∷ us) vs = number_behind-append (number_behind number u) us vs
+
+-- The lines of these units are there, and they are counted.
+pub record IsCounted (before now : ℕ) (text : List ℕ) (done : List Unit) : Type 0 where
+  pub number : now ≡ number_behind_all before done
+  pub lines : text ≡ cut_point_lines before done
+
+pub counted_more : (before old new : ℕ) (text more : List ℕ) (u : Unit) → new ≡ number_behind old u → more ≡ text ++ line_if_start old u
+    → (done : List Unit) → IsCounted before old text done → IsCounted before new more (done ++ u ∷ [])
+counted_more before old new text more u counted added done h =
+    let here : line_if_start old u ≡ cut_point_lines (number_behind_all before done) (u ∷ []) =
+    ap (λ n. line_if_start n u) h.number ∙ sym (append-nil (line_if_start (number_behind_all before done) u)) in
+    record {
+      number = counted ∙ ap (λ n. number_behind n u) h.number ∙ sym (number_behind-append before done (u ∷ []));
+      lines = added ∙ ap (λ l. l ++ line_if_start old u) h.lines ∙ ap (λ l. cut_point_lines before done ++ l) here ∙ sym (cut_points-append before done (u ∷ []));
+    }
+
+cut_point_lines_are : (max : ℕ) (bytes : List ℕ) (ended : Bool) → length bytes ≤ max → cut_point_lines 0 (units max bytes ended) ≡ cut_point_lines_so_far bytes ended
+cut_point_lines_are max bytes ended short = ap (cut_point_lines 0) (whole_units max bytes ended short)
+
+-- once more has come
+pub counted_again : (max : ℕ) (old mid new : SplitterState) (number now : ℕ) → AreCounted max old number → AreLeft max old mid → new ≡ after_units_left max mid
+    → now ≡ number_behind_all number (units_left max mid) → AreCounted max new now
+counted_again max old mid new number now h left is counted = record {
+  drained = drained max old mid new left is;
+  number_is =
+      counted ∙ ap (λ n. number_behind_all n (units_left max mid)) h.number_is
+      ∙ sym (number_behind-append 0 (units max old.bytes old.ended) (units_left max mid))
+      ∙ ap (number_behind_all 0) (sym left.all)
+      ∙ ap (λ s. number_behind_all 0 (units max s.bytes s.ended)) (sym is);
+}
+
+-- The lines of units that come to others come behind theirs.
+cut_point_lines_behind : (max : ℕ) (bytes front : List ℕ) (ended front_ended : Bool) (others : List Unit) → length bytes ≤ max → length front ≤ max
+    → units max bytes ended ≡ units max front front_ended ++ others
+    → cut_point_lines_so_far bytes ended ≡ cut_point_lines_so_far front front_ended ++ cut_point_lines (number_behind_all 0 (units max front front_ended)) others
+cut_point_lines_behind max bytes front ended front_ended others short front_short is =
+    sym (cut_point_lines_are max bytes ended short) ∙ ap (cut_point_lines 0) is ∙ cut_points-append 0 (units max front front_ended) others
+    ∙ ap (λ l. l ++ cut_point_lines (number_behind_all 0 (units max front front_ended)) others) (cut_point_lines_are max front front_ended front_short)
+
+pub cut_point_lines_added : (max : ℕ) (old mid new : SplitterState) (number : ℕ) (added : List ℕ) → AreCounted max old number → AreLeft max old mid
+    → new ≡ after_units_left max mid → added ≡ cut_point_lines number (units_left max mid) → length new.bytes ≤ max
+    → cut_point_lines_so_far new.bytes new.ended ≡ cut_point_lines_so_far old.bytes old.ended ++ added
+cut_point_lines_added max old mid new number added h left is lines short = search (rules, cut_point_lines_behind)
+
+pub cut_point_lines_grow : UnitsStay → OnlyGrows cut_point_lines_so_far
+cut_point_lines_grow stay bytes more ended short =
+    let later = stay (2 ^ 64) bytes more ended in
+    (_, cut_point_lines_behind (2 ^ 64) (bytes ++ more) bytes ended false later.0 (omega (arith, short)) (omega (arith, short, length-append bytes more)) later.1)
+
 -- a line of three parts, with a number in front and its end
 pub line_put : (old index a b c last s1 s2 s3 s4 s5 : List ℕ) → s1 ≡ old ++ index → s2 ≡ s1 ++ a → s3 ≡ s2 ++ b → s4 ≡ s3 ++ c → s5 ≡ s4 ++ last
     → s5 ≡ old ++ ((index ++ ((a ++ b) ++ c)) ++ last)
@@ -410,6 +468,10 @@ two_pieces = refl
 
 two_lengths : map length (pieces (stream ++ second_idr)) ≡ 27 ∷ 27 ∷ []
 two_lengths = refl
+
+two_cut_points : cut_point_lines_so_far (stream ++ second_idr) true ≡ codes "0 2 21\n1 3 29\n"
+unfolding digits
+two_cut_points = refl
 
 -- a supplemental unit goes with the picture behind it
 abbrev supplemental : List ℕ

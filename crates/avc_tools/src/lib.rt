@@ -1,6 +1,7 @@
 //! Texts of units and headers, and pieces of a stream.
 #![tactic(auto)]
 
+mod cut_points;
 mod cutter;
 mod cutting;
 mod headers;
@@ -12,6 +13,7 @@ mod stream_text;
 mod units;
 mod writing;
 
+pub use cut_points::CutPointLines;
 pub use cutting::cut;
 pub use headers::{HeaderLines, show_headers, shown_height, shown_width};
 pub use piece_text::PieceText;

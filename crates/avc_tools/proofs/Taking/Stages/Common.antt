@@ -54,6 +54,7 @@ pub use Rattle.avc_units.specs.Resuming.{sets_in_force, deciding_unit, satisfies
 pub use Rattle.avc_units.specs.declared.step.Next.{Next}
 pub use Rattle.avc_units.specs.declared.step.Next.TheVariants.{Nothing, Refusal, FaultOfOpen, FaultOfOwn}
 pub use Rattle.avc_units.specs.declared.step.Step.{Step}
+pub use Rattle.avc_tools.specs.CutPoints.{AreCounted, cut_point_lines, cut_point_lines_so_far, line_if_start, number_behind, number_behind_all}
 pub use Rattle.avc_tools.specs.Cutting.{AreKept, AreReplaced, HasSets, kept_bytes, pps_unit, replaced, sps_unit, piece_at, piece_in, pieces_at, pieces_in}
 pub use Rattle.avc_tools.specs.Cutting.{piece_units}
 pub use Rattle.avc_tools.specs.Lines.{unit_line, unit_lines_so_far, header_line, header_lines_from, header_lines_so_far, newline, pps_fields, pps_flags}

@@ -1,0 +1,11 @@
+use Rattle.avc_tools.proofs.Taking.{arith, max_unit, left_by_feed, cut_point_lines_added, counted_again}
+use Rattle.avc_tools.proofs.cut_points.CutPointLinesStreamText.feed.Goals as goal
+
+pub invariant_of-self-2 : goal.invariant_of-self-2
+invariant_of-self-2 c =
+    let counted = c.self.invariant c.if-self.false in
+    let left = left_by_feed c.units_stay.ensures max_unit _ _ c.args.piece.now counted.drained c.in_ok-feed.ensures.ok in
+    λ _. counted_again max_unit _ _ _ _ _ counted left c.in_ok-lines.ensures.taken c.in_ok-lines.ensures.number
+
+pub returns-clause-added : goal.returns-clause-added
+returns-clause-added c = grind (arith, left_by_feed, cut_point_lines_added)
