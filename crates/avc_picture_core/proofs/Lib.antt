@@ -1,1 +1,2 @@
 pub mod InterTiles
+mod LevelRows

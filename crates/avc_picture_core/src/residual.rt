@@ -1,5 +1,6 @@
 //! Predicted samples and their residual (8.5.14), 4x4 block by block.
-ghost use Rattle.std.specs.Prelude.{◌≡◌, ℕ, ◌+◌, ◌*◌, ◌^◌, ◌<◌, ◌≤◌, false, [], All, slice_index_or};
+ghost use Rattle.std.specs.Prelude.{◌≡◌, ℕ, ◌+◌, ◌*◌, ◌/◌, ◌^◌, ◌<◌, ◌≤◌, pos, ◌+ℤ◌, false, [], All, slice_index_or};
+ghost use Rattle.avc_types.specs.Arithmetic.{◌>>ℤ◌};
 ghost use Rattle.avc_types.specs.Macroblock.{total_coeff};
 ghost use Rattle.avc_types.specs.MacroblockFields.{residual_of};
 ghost use Rattle.avc_neigh.specs.Blocks.{block_x, block_y};
@@ -13,7 +14,8 @@ use crate::corner::{first_column, first_row};
 use crate::places::MbPlace;
 use avc_plane::Plane;
 use avc_transform::{
-    Moves, add_clip, chroma_dc, luma_dc, moved, moves_of_four, residual_of_dc, residual4x4, residual4x4_with_dc,
+    add_clip, add_to_block, add_to_row, add_to_square, chroma_dc, luma_dc, residual_of_dc,
+    residual4x4, residual4x4_with_dc,
 };
 use avc_types::{BlockLevels, Levels};
 
@@ -53,8 +55,59 @@ fn add_level4x4<const PAD: usize>(plane: &mut Plane<PAD>, left: usize, top: usiz
     ensures { plane.new ≡ with_residual plane.old left top 4 4 (λ x y. value) }
 {
     let samples = plane.rectangle::<4, 4, 16>(left, top);
-    let sums = moved(&samples, &moves_of_four(value, value, value, value));
+    let sums = add_to_block(&samples, value);
     plane.set_rectangle::<4, 4, 16>(left, top, &sums);
+}
+
+/// Adds to each of four 4x4 blocks beside one another a residual that is one value.
+#[inline(always)]
+fn add_levels_to_row<const PAD: usize>(
+    plane: &mut Plane<PAD>,
+    left: usize,
+    top: usize,
+    values: [i32; 4],
+)
+    requires columns { left + 16 ≤ plane.old.width }
+    requires rows { top + 4 ≤ plane.old.height }
+    requires small { AllBelow 4 (2 ^ 25) values }
+    ensures { plane.new ≡ with_residual plane.old left top 16 4 (λ x y. slice_index_or values (x / 4) (pos 0)) }
+{
+    let samples = plane.rectangle::<16, 4, 64>(left, top);
+    let sums = add_to_row(&samples, values);
+    plane.set_rectangle::<16, 4, 64>(left, top, &sums);
+}
+
+/// Adds to each of the four 4x4 blocks of a square a residual that is one value.
+fn add_levels_to_square<const PAD: usize>(
+    plane: &mut Plane<PAD>,
+    left: usize,
+    top: usize,
+    values: [i32; 4],
+)
+    requires columns { left + 8 ≤ plane.old.width }
+    requires rows { top + 8 ≤ plane.old.height }
+    requires small { AllBelow 4 (2 ^ 25) values }
+    ensures { plane.new ≡ with_residual plane.old left top 8 8 (λ x y. slice_index_or values (2 * (y / 4) + x / 4) (pos 0)) }
+{
+    let samples = plane.rectangle::<8, 8, 64>(left, top);
+    let sums = add_to_square(&samples, values);
+    plane.set_rectangle::<8, 8, 64>(left, top, &sums);
+}
+
+/// The residuals of four blocks without levels, from their DC values, which stand from this place on.
+#[inline(always)]
+fn residuals_of_dc<const N: usize>(values: &[i32; N], first: usize) -> [i32; 4]
+    requires within { first + 4 ≤ N }
+    requires small { AllBelow N (2 ^ 27) values.now }
+    ensures values { (k : ℕ) → k < 4 → slice_index_or result k (pos 0) ≡ (slice_index_or values.now (first + k) (pos 0) +ℤ pos 32 >>ℤ 6) }
+    ensures small { AllBelow 4 (2 ^ 25) result }
+{
+    [
+        residual_of_dc(values[first]),
+        residual_of_dc(values[first + 1]),
+        residual_of_dc(values[first + 2]),
+        residual_of_dc(values[first + 3]),
+    ]
 }
 
 /// Adds the residual of sixteen levels to a 4x4 block (8.5.1). Nothing is done where they are all 0.
@@ -129,56 +182,9 @@ pub(crate) fn add_luma_residual<const PAD: usize>(
     }
 }
 
-/// A row of samples by itself.
-#[inline(always)]
-fn sixteen(samples: &[u8; 64], first: usize) -> [u8; 16]
-{
-    let mut row = [0; 16];
-    for x in 0..16 {
-        row[x] = samples[first + x];
-    }
-    row
-}
-
-/// All four.
-#[inline(always)]
-fn joined(a: &[u8; 16], b: &[u8; 16], c: &[u8; 16], d: &[u8; 16]) -> [u8; 64]
-{
-    let mut samples = [0; 64];
-    for x in 0..16 {
-        samples[x] = a[x];
-        samples[16 + x] = b[x];
-        samples[32 + x] = c[x];
-        samples[48 + x] = d[x];
-    }
-    samples
-}
-
-/// Adds to each of four blocks beside one another a residual that is one value.
-#[inline(always)]
-fn add_four_levels<const PAD: usize>(plane: &mut Plane<PAD>, left: usize, top: usize, a: i32, b: i32, c: i32, d: i32)
-{
-    let moves = moves_of_four(a, b, c, d);
-    let samples = plane.rectangle::<16, 4, 64>(left, top);
-    let sums = joined(
-        &moved(&sixteen(&samples, 0), &moves),
-        &moved(&sixteen(&samples, 16), &moves),
-        &moved(&sixteen(&samples, 32), &moves),
-        &moved(&sixteen(&samples, 48), &moves),
-    );
-    plane.set_rectangle::<16, 4, 64>(left, top, &sums);
-}
-
-fn add_luma_levels<const PAD: usize>(plane: &mut Plane<PAD>, place: MbPlace, values: &[i32; 16])
-{
-    let column = first_column(plane, 16, place.column);
-    let row = first_row(plane, 16, place.row);
-    for r in 0..4 {
-        add_four_levels(plane, column, row + 4 * r, residual_of_dc(values[4 * r]), residual_of_dc(values[4 * r + 1]), residual_of_dc(values[4 * r + 2]), residual_of_dc(values[4 * r + 3]));
-    }
-}
-
-fn has_levels(levels: &[Levels<15>; 16]) -> bool
+/// Whether one of sixteen blocks has a level that is not 0.
+fn has_luma_levels(levels: &[Levels<15>; 16]) -> bool
+    ensures { result ≡ false → (k : ℕ) → k < 16 → total_coeff (slice_index_or levels.now k []) ≡ 0 }
 {
     for k in 0..16 {
         if levels[k].total_coeff() != 0 {
@@ -186,6 +192,26 @@ fn has_levels(levels: &[Levels<15>; 16]) -> bool
         }
     }
     false
+}
+
+/// Adds the luma residual to an Intra 16x16 macroblock that has DC values alone, four blocks beside one another at once.
+fn add_luma_levels<const PAD: usize>(
+    plane: &mut Plane<PAD>,
+    place: MbPlace,
+    values: &[i32; 16],
+)
+    requires columns { 16 * place.column + 16 ≤ plane.old.width }
+    requires rows { 16 * place.row + 16 ≤ plane.old.height }
+    requires small { AllBelow 16 (2 ^ 27) values.now }
+    ensures { plane.new ≡ with_residual plane.old (16 * place.column) (16 * place.row) 16 16
+        (λ x y. slice_index_or values.now (4 * (y / 4) + x / 4) (pos 0) +ℤ pos 32 >>ℤ 6) }
+{
+    let left = first_column(plane, 16, place.column);
+    let top = first_row(plane, 16, place.row);
+    add_levels_to_row(plane, left, top, residuals_of_dc(values, 0));
+    add_levels_to_row(plane, left, top + 4, residuals_of_dc(values, 4));
+    add_levels_to_row(plane, left, top + 8, residuals_of_dc(values, 8));
+    add_levels_to_row(plane, left, top + 12, residuals_of_dc(values, 12));
 }
 
 /// Adds the luma residual to an Intra 16x16 macroblock (8.5.2).
@@ -204,7 +230,7 @@ pub(crate) fn add_luma_residual_16x16<const PAD: usize>(
 {
     plane.holds_bytes();
     let values = luma_dc(dc.as_array(), qp);
-    if !has_levels(&levels.luma) {
+    if !has_luma_levels(&levels.luma) {
         add_luma_levels(plane, place, &values);
         return;
     }
@@ -218,22 +244,7 @@ pub(crate) fn add_luma_residual_16x16<const PAD: usize>(
     }
 }
 
-/// Adds to each of four blocks of a square a residual that is one value.
-fn add_chroma_levels<const PAD: usize>(plane: &mut Plane<PAD>, left: usize, top: usize, a: i32, b: i32, c: i32, d: i32)
-{
-    let upper = moves_of_four(a, b, a, b);
-    let lower = moves_of_four(c, d, c, d);
-    let samples = plane.rectangle::<8, 8, 64>(left, top);
-    let sums = joined(
-        &moved(&sixteen(&samples, 0), &upper),
-        &moved(&sixteen(&samples, 16), &upper),
-        &moved(&sixteen(&samples, 32), &lower),
-        &moved(&sixteen(&samples, 48), &lower),
-    );
-    plane.set_rectangle::<8, 8, 64>(left, top, &sums);
-}
-
-/// Adds the residual of a chroma component block by block.
+/// Adds the residual of a chroma component block by block, or of all four at once where they have DC values alone.
 fn add_chroma_blocks4x4<const PAD: usize>(
     plane: &mut Plane<PAD>,
     place: MbPlace,
@@ -252,8 +263,8 @@ fn add_chroma_blocks4x4<const PAD: usize>(
     let values = chroma_dc(dc.as_array(), qp);
     let column = first_column(plane, 8, place.column);
     let row = first_row(plane, 8, place.row);
-    if ac[0].total_coeff() == 0 && ac[1].total_coeff() == 0 && ac[2].total_coeff() == 0 && ac[3].total_coeff() == 0 {
-        add_chroma_levels(plane, column, row, residual_of_dc(values[0]), residual_of_dc(values[1]), residual_of_dc(values[2]), residual_of_dc(values[3]));
+    if !has_ac_levels(ac) {
+        add_levels_to_square(plane, column, row, residuals_of_dc(&values, 0));
         return;
     }
     for k in 0..4 {
@@ -304,14 +315,21 @@ pub(crate) fn top_of_block(k: usize) -> usize
     8 * (k / 8) + 4 * (k / 2 % 2)
 }
 
+/// Whether one of the four blocks of a chroma component has a level that is not 0.
+#[inline(always)]
+fn has_ac_levels(ac: &[Levels<15>; 4]) -> bool
+    ensures { result ≡ false → (k : ℕ) → k < 4 → total_coeff (slice_index_or ac.now k []) ≡ 0 }
+{
+    ac[0].total_coeff() != 0
+        || ac[1].total_coeff() != 0
+        || ac[2].total_coeff() != 0
+        || ac[3].total_coeff() != 0
+}
+
 /// Whether a chroma component has a level that is not 0.
 fn has_chroma_levels(dc: &Levels<4>, ac: &[Levels<15>; 4]) -> bool
     ensures dc { result ≡ false → total_coeff dc.now ≡ 0 }
     ensures ac { result ≡ false → (k : ℕ) → k < 4 → total_coeff (slice_index_or ac.now k []) ≡ 0 }
 {
-    dc.total_coeff() != 0
-        || ac[0].total_coeff() != 0
-        || ac[1].total_coeff() != 0
-        || ac[2].total_coeff() != 0
-        || ac[3].total_coeff() != 0
+    dc.total_coeff() != 0 || has_ac_levels(ac)
 }

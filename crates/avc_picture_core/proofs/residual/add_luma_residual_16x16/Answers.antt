@@ -1,3 +1,5 @@
+use Rattle.avc_picture_core.proofs.InterTiles.{ℤ, ◌*◌, ◌%◌, ◌+ℤ◌, ◌>>ℤ◌, sym, no_level, residual_of_dc, residual_same, luma_residual_16x16}
+use Rattle.avc_types.specs.MacroblockFields.{residual_of}
 use Rattle.avc_picture_core.proofs.InterTiles.{get_or_default, ints, to_z, of_z, w32, rules, ◌≡◌, ◌+◌, ◌/◌, pos, [], ap, ◌∙◌, refl, slice_index_or, arith}
 use Rattle.avc_picture_core.proofs.InterTiles.{block_at, residual4x4_with_dc, luma_dc, luma_tile, residual_by_dc, added_all, added_more, added_none}
 use Rattle.avc_picture_core.proofs.residual.add_luma_residual_16x16.Goals as goal
@@ -30,3 +32,16 @@ pub returns : goal.returns
 returns g c =
     added_all c.args.plane.now 16 c.args.place.column c.args.place.row _ _ block_at (residual_by_dc c.args.qp (luma_dc c.args.qp c.args.dc.now) c.args.levels.now.luma)
     c.loop-k.plane c.loop-k.k c.loop-k.invariant (λ x y column row. omega (arith, c.loop-k-test.false))
+
+pub returns-then-not-has_luma_levels : goal.returns-then-not-has_luma_levels
+returns-then-not-has_luma_levels g c =
+    let qp = c.args.qp in
+    let dc = c.args.dc.now in
+    let blocks = c.args.levels.now.luma in
+    let rounded = λ (z : ℤ). z +ℤ pos 32 >>ℤ 6 in
+    c.add_luma_levels.ensures
+    ∙ residual_same c.args.plane.now (16 * c.args.place.column) (16 * c.args.place.row) 16 16 _ (luma_residual_16x16 qp (residual_of dc c.args.levels.now))
+    (λ x y column row.
+    ap rounded (c.luma_dc-values.ensures.values (x / 4) (y / 4) (omega arith) (omega arith) ∙ ap (λ d. luma_dc qp d (x / 4) (y / 4)) c.as_array.ensures)
+    ∙ sym (residual_of_dc qp (luma_dc qp dc (x / 4) (y / 4)) (slice_index_or blocks (block_at x y) []) (x % 4) (y % 4)
+    (no_level (slice_index_or blocks (block_at x y) []) (c.has_luma_levels.ensures c.if-not-has_luma_levels.true (block_at x y) (omega (arith, column, row))))))
