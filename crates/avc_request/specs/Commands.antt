@@ -3,7 +3,7 @@ use Rattle.std.specs.Prelude.{◌≡◌, ℕ, ◌^◌, ◌-◌, Bool, ◌==◌, 
 use Rattle.avc_dpb.specs.declared.output.Output.{Output}
 use Rattle.avc_dpb.specs.declared.output.Output.TheVariants.{Early, Full}
 use Rattle.avc_request.specs.declared.words.Command.{Command}
-use Rattle.avc_request.specs.declared.words.Command.TheVariants.{Cut, Decode, Headers, Info, Units}
+use Rattle.avc_request.specs.declared.words.Command.TheVariants.{Cut, Decode, Headers, Info, Pieces, Units}
 use Rattle.avc_request.specs.declared.file_kind.FileKind.{FileKind}
 use Rattle.avc_request.specs.declared.file_kind.FileKind.TheVariants as kinds
 use Rattle.avc_request.specs.declared.request.Form.{Form}
@@ -19,6 +19,7 @@ abbrev pub word_of : Command → List ℕ
 word_of Decode = codes "decode"
 word_of Units = codes "units"
 word_of Headers = codes "headers"
+word_of Pieces = codes "pieces"
 word_of Info = codes "info"
 word_of Cut = codes "cut"
 
@@ -85,5 +86,6 @@ is_raw (tasks.Show showing) = is_raw_form showing.form
 is_raw (tasks.Check mode) = false
 is_raw tasks.Units = false
 is_raw tasks.Headers = false
+is_raw tasks.Pieces = false
 is_raw tasks.Info = false
 is_raw tasks.InfoJson = false

@@ -8,6 +8,8 @@ pub(crate) const UNITS: &str = "units";
 
 pub(crate) const HEADERS: &str = "headers";
 
+pub(crate) const PIECES: &str = "pieces";
+
 pub(crate) const INFO: &str = "info";
 
 pub(crate) const CUT: &str = "cut";
@@ -202,6 +204,12 @@ const COMMANDS: &[CommandWords] = &[
         name: HEADERS,
         about: "Prints a line for each parameter set and slice",
         example: "Example: avcdec headers in.264 | grep sps",
+        words: &[INPUT_WORD],
+    },
+    CommandWords {
+        name: PIECES,
+        about: "Prints a line for each piece that cut can write: N INDEX OFFSET, of the unit with which it begins",
+        example: "Example: avcdec pieces in.264 | tail -1",
         words: &[INPUT_WORD],
     },
     CommandWords {

@@ -64,6 +64,9 @@ pub enum Task {
     /// A line for each parameter set and slice.
     Headers,
 
+    /// A line for each piece.
+    Pieces,
+
     /// What the headers say of the stream.
     Info,
 
@@ -82,7 +85,12 @@ impl Task {
         match self {
             Task::Decode(_) | Task::Cut(_) => true,
             Task::Show(showing) => is_raw_form(&showing.form),
-            Task::Check(_) | Task::Units | Task::Headers | Task::Info | Task::InfoJson => false,
+            Task::Check(_)
+            | Task::Units
+            | Task::Headers
+            | Task::Pieces
+            | Task::Info
+            | Task::InfoJson => false,
         }
     }
 }

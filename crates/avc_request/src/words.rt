@@ -4,7 +4,7 @@ ghost use Rattle.avc_request.specs.Commands.{form_by_name, mode_of, progress_of,
 use crate::file_kind::{FileKind, file_kind};
 use crate::grammar::{
     CUT, DECODE, EARLY, EXPLAIN, FORMAT, FRAME_MD5, HEADERS, I420, INFO, INPUT, JSON, LIMIT, MD5,
-    NULL, NUMBER, OUTPUT, PROGRESS, QUIET, SKIP, STRICT, UNITS, VERIFY, Y4M, grammar,
+    NULL, NUMBER, OUTPUT, PIECES, PROGRESS, QUIET, SKIP, STRICT, UNITS, VERIFY, Y4M, grammar,
 };
 use crate::request::{Form, Manner, Request, Showing, Task, Telling};
 use avc_dpb::Output;
@@ -19,6 +19,7 @@ enum Command {
     Decode,
     Units,
     Headers,
+    Pieces,
     Info,
     Cut,
 }
@@ -47,6 +48,7 @@ fn command_named(name: &str) -> Option<Command>
         DECODE => Some(Command::Decode),
         UNITS => Some(Command::Units),
         HEADERS => Some(Command::Headers),
+        PIECES => Some(Command::Pieces),
         INFO => Some(Command::Info),
         CUT => Some(Command::Cut),
         _ => None,
@@ -66,6 +68,7 @@ fn task_of(command: Command, matches: &ArgMatches<'_>, kind: FileKind) -> Option
         Command::Decode => showing_of(matches, kind).map(task_of_showing),
         Command::Units => Some(Task::Units),
         Command::Headers => Some(Task::Headers),
+        Command::Pieces => Some(Task::Pieces),
         Command::Info => Some(if matches.get_flag(JSON) {
             Task::InfoJson
         } else {
@@ -191,7 +194,7 @@ fn request_of<'a>(
 fn output_word<'a>(command: Command, matches: &ArgMatches<'a>) -> Option<&'a str> {
     match command {
         Command::Decode | Command::Cut => word(matches, OUTPUT),
-        Command::Units | Command::Headers | Command::Info => None,
+        Command::Units | Command::Headers | Command::Pieces | Command::Info => None,
     }
 }
 
@@ -203,12 +206,13 @@ fn manner_of(command: Command, matches: &ArgMatches<'_>) -> Manner {
             is_strict: matches.get_flag(STRICT),
             is_explained: matches.get_flag(EXPLAIN),
         },
-        Command::Units | Command::Headers | Command::Info | Command::Cut => Manner {
-            progress: Telling::Never,
-            is_quiet: false,
-            is_strict: false,
-            is_explained: false,
-        },
+        Command::Units | Command::Headers | Command::Pieces | Command::Info | Command::Cut =>
+            Manner {
+                progress: Telling::Never,
+                is_quiet: false,
+                is_strict: false,
+                is_explained: false,
+            },
     }
 }
 
