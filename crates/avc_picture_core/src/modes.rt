@@ -10,7 +10,7 @@ use avc_intra::{Mode4x4, Mode16x16, ModeChroma};
 use avc_neigh::NearMode;
 
 /// By Intra4x4PredMode (Table 8-2).
-const MODES_4X4: [Mode4x4; 9] = [
+static MODES_4X4: [Mode4x4; 9] = [
     Mode4x4::Vertical,
     Mode4x4::Horizontal,
     Mode4x4::Dc,
@@ -23,7 +23,7 @@ const MODES_4X4: [Mode4x4; 9] = [
 ];
 
 /// By Intra16x16PredMode (Table 8-4).
-const MODES_16X16: [Mode16x16; 4] = [
+static MODES_16X16: [Mode16x16; 4] = [
     Mode16x16::Vertical,
     Mode16x16::Horizontal,
     Mode16x16::Dc,
@@ -31,7 +31,7 @@ const MODES_16X16: [Mode16x16; 4] = [
 ];
 
 /// By intra_chroma_pred_mode (Table 8-5).
-const MODES_CHROMA: [ModeChroma; 4] = [
+static MODES_CHROMA: [ModeChroma; 4] = [
     ModeChroma::Dc,
     ModeChroma::Horizontal,
     ModeChroma::Vertical,

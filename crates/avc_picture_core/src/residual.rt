@@ -14,7 +14,7 @@ use crate::corner::{first_column, first_row};
 use crate::places::MbPlace;
 use avc_plane::Plane;
 use avc_transform::{
-    add_clip, add_to_block, add_to_row, add_to_square, chroma_dc, luma_dc, residual_of_dc,
+    add_clip, add_to_row, add_to_square, chroma_dc, clipped_sum, luma_dc, residual_of_dc,
     residual4x4, residual4x4_with_dc,
 };
 use avc_types::{BlockLevels, Levels};
@@ -54,9 +54,11 @@ fn add_level4x4<const PAD: usize>(plane: &mut Plane<PAD>, left: usize, top: usiz
     requires small { IsBelow (2 ^ 25) value }
     ensures { plane.new ≡ with_residual plane.old left top 4 4 (λ x y. value) }
 {
-    let samples = plane.rectangle::<4, 4, 16>(left, top);
-    let sums = add_to_block(&samples, value);
-    plane.set_rectangle::<4, 4, 16>(left, top, &sums);
+    let mut samples = plane.rectangle::<4, 4, 16>(left, top);
+    for i in 0..16 {
+        samples[i] = clipped_sum(samples[i], value);
+    }
+    plane.set_rectangle::<4, 4, 16>(left, top, &samples);
 }
 
 /// Adds to each of four 4x4 blocks beside one another a residual that is one value.
@@ -110,7 +112,28 @@ fn residuals_of_dc<const N: usize>(values: &[i32; N], first: usize) -> [i32; 4]
     ]
 }
 
-/// Adds the residual of sixteen levels to a 4x4 block (8.5.1). Nothing is done where they are all 0.
+/// Adds the residual of sixteen levels to a 4x4 block (8.5.1).
+#[inline(never)]
+fn add_coded_block4x4<const PAD: usize>(
+    plane: &mut Plane<PAD>,
+    left: usize,
+    top: usize,
+    levels: &Levels<16>,
+    qp: u8,
+)
+    requires columns { left + 4 ≤ plane.old.width }
+    requires rows { top + 4 ≤ plane.old.height }
+    requires quantiser { qp ≤ 51 }
+    requires levels { AreSmall levels.now }
+    ensures { plane.new ≡ with_residual plane.old left top 4 4 (residual4x4 qp levels.now) }
+{
+    let values = residual4x4(levels.as_array(), qp);
+    add_residual4x4(plane, left, top, &values);
+}
+
+/// The same, by which nothing is done where the levels are all 0.
+// the test stands in the caller, since most blocks have no levels
+#[inline(always)]
 pub(crate) fn add_block4x4<const PAD: usize>(
     plane: &mut Plane<PAD>,
     left: usize,
@@ -127,8 +150,7 @@ pub(crate) fn add_block4x4<const PAD: usize>(
     if levels.total_coeff() == 0 {
         plane.holds_bytes();
     } else {
-        let values = residual4x4(levels.as_array(), qp);
-        add_residual4x4(plane, left, top, &values);
+        add_coded_block4x4(plane, left, top, levels, qp);
     }
 }
 
@@ -195,11 +217,7 @@ fn has_luma_levels(levels: &[Levels<15>; 16]) -> bool
 }
 
 /// Adds the luma residual to an Intra 16x16 macroblock that has DC values alone, four blocks beside one another at once.
-fn add_luma_levels<const PAD: usize>(
-    plane: &mut Plane<PAD>,
-    place: MbPlace,
-    values: &[i32; 16],
-)
+fn add_luma_levels<const PAD: usize>(plane: &mut Plane<PAD>, place: MbPlace, values: &[i32; 16])
     requires columns { 16 * place.column + 16 ≤ plane.old.width }
     requires rows { 16 * place.row + 16 ≤ plane.old.height }
     requires small { AllBelow 16 (2 ^ 27) values.now }

@@ -48,21 +48,6 @@ fn moved_sample(sample: u8, rise: u8, fall: u8) -> u8
     raised.max(fall) - fall
 }
 
-/// What sixteen residuals change samples by.
-#[inline(always)]
-fn moves_of_sixteen(residual: &[i32; 16]) -> Moves
-    requires { AllBelow 16 (2 ^ 25) residual.now }
-    ensures { AreMovesOf (λ i. slice_index_or residual.now i (pos 0)) result }
-{
-    let mut rises = [0; 16];
-    let mut falls = [0; 16];
-    for i in 0..16 {
-        rises[i] = rise(residual[i]);
-        falls[i] = fall(residual[i]);
-    }
-    Moves { rises, falls }
-}
-
 /// Four times each number.
 #[inline(always)]
 fn spread(a: u8, b: u8, c: u8, d: u8) -> [u8; 16]
@@ -175,19 +160,14 @@ pub fn add_to_square(samples: &[u8; 64], residuals: [i32; 4]) -> [u8; 64]
     moved_halves(samples, &upper, &lower)
 }
 
-/// The samples of a 4x4 block, with a residual that is one value.
-#[inline(always)]
-pub fn add_to_block(samples: &[u8; 16], residual: i32) -> [u8; 16]
-    requires { IsBelow (2 ^ 25) residual }
-    ensures { (i : ℕ) → i < 16 → slice_index result i ≡ clip1 (pos (slice_index samples.now i) +ℤ residual) }
-{
-    moved(samples, &moves_of_four(residual, residual, residual, residual))
-}
-
 /// The samples of a 4x4 block before deblocking, from its prediction and its residual (8.5.14): each sum held to 0 to 255.
 pub fn add_clip(prediction: &[u8; 16], residual: &[i32; 16]) -> [u8; 16]
     requires { AllBelow 16 (2 ^ 25) residual.now }
     ensures { (i : ℕ) → i < 16 → slice_index result i ≡ clip1 (pos (slice_index prediction.now i) +ℤ slice_index_or residual.now i (pos 0)) }
 {
-    moved(prediction, &moves_of_sixteen(residual))
+    let mut samples = [0; 16];
+    for i in 0..16 {
+        samples[i] = clipped_sum(prediction[i], residual[i]);
+    }
+    samples
 }

@@ -14,6 +14,6 @@ mod quantiser;
 mod scaling;
 
 pub use block::{residual_of_dc, residual4x4, residual4x4_with_dc};
-pub use construction::{add_clip, add_to_block, add_to_row, add_to_square, clipped_sum};
+pub use construction::{add_clip, add_to_row, add_to_square, clipped_sum};
 pub use dc::{chroma_dc, luma_dc};
 pub use quantiser::chroma_qp;

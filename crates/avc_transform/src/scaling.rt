@@ -9,7 +9,7 @@ use crate::lines::Lines;
 const ZIGZAG: [usize; 16] = [0, 1, 5, 6, 2, 4, 7, 12, 3, 8, 11, 13, 9, 10, 14, 15];
 
 /// normAdjust4x4 by QP modulo 6 (8.5.9), in an even column of a 4x4 block from above down.
-const EVEN_SCALES: [[u32; 4]; 6] = [
+static EVEN_SCALES: [[u32; 4]; 6] = [
     [10, 13, 10, 13],
     [11, 14, 11, 14],
     [13, 16, 13, 16],
@@ -19,7 +19,7 @@ const EVEN_SCALES: [[u32; 4]; 6] = [
 ];
 
 /// The same in an odd column.
-const ODD_SCALES: [[u32; 4]; 6] = [
+static ODD_SCALES: [[u32; 4]; 6] = [
     [13, 16, 13, 16],
     [14, 18, 14, 18],
     [16, 20, 16, 20],
