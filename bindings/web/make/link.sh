@@ -2,7 +2,8 @@
 # link.sh IN.ll OUT.wasm wasm32|wasm64: takes the LLVM module of the library to WebAssembly, optimizes it, compiles it and links it with its heap.
 #
 # LLVM's optimizer asks the target what vectors cost. WebAssembly's answers leave much arithmetic of samples in single bytes, which is a fifth
-# slower; so while it optimizes, the target is ARM64 with addresses of as many bits, whose vectors have 16 bytes too.
+# slower; so while it optimizes, the target is ARM64 with addresses of as many bits, whose vectors have 16 bytes too. Where a function often
+# has nothing to do, what it asks first is made part of its callers (partial inlining): a call costs more here than on a processor.
 set -eu
 here=$(cd "$(dirname "$0")" && pwd)
 clang=$(dirname "$(rt doc)")/toolchain/bin/clang
@@ -22,8 +23,10 @@ aim() {
 }
 echo | "$clang" "--target=$costs" -x c -S -emit-llvm -o "$work/costs.ll" -
 aim "$work/library.ll" "$work/costs.ll" "$work/plain.ll"
-"$clang" "--target=$costs" -O3 --no-default-config -mllvm -sink-common-insts=false -Wno-override-module -x ir "$work/plain.ll" -S -emit-llvm -o "$work/optimized.ll"
-aim "$work/optimized.ll" "$work/library.ll" "$work/ready.ll"
+"$clang" "--target=$costs" -O3 --no-default-config -mllvm -sink-common-insts=false -mllvm -enable-partial-inlining \
+    -Wno-override-module -x ir "$work/plain.ll" -S -emit-llvm -o "$work/optimized.ll"
+aim "$work/optimized.ll" "$work/library.ll" "$work/aimed.ll"
+python3 "$here/tune.py" "$work/aimed.ll" "$work/ready.ll" "$kind"
 if grep -E -n '@llvm\.aarch64|target-(cpu|features)' "$work/ready.ll"; then
     echo 'link.sh: the optimized module has something of ARM64' >&2
     exit 1
@@ -45,8 +48,9 @@ esac
 # wasm-ld is the toolchain's clang under that name
 ln -s "$clang" "$work/wasm-ld"
 stack=1048576
+unused=65536 # tune.py wants so many bytes at the stack's end that nothing comes to
 "$work/wasm-ld" "$memory" --no-entry --stack-first -z stack-size=$stack --export=avcdec_allocate --export=avcdec_release --gc-sections \
     --fatal-warnings --threads=1 --strip-all -o "$work/module.wasm" "$work/library.o" "$work/heap.o" "$work/multi3.o"
-python3 "$here/stack.py" "$work/module.wasm" $stack
+python3 "$here/stack.py" "$work/module.wasm" $((stack - unused))
 cp "$work/module.wasm" "$out"
 echo "$out: $(wc -c <"$out") bytes"
