@@ -1,8 +1,9 @@
 #!/bin/sh
 # bench.sh [SECONDS]: pictures a second of the library on this machine, of the module in Node and in Chromium (wasm32 and wasm64), and of Chromium's own
 # VideoDecoder in software, on the streams of vectors/speed, as a table: the best run in so many seconds (3), early output, whole access units. In each place
-# stands what comes where each picture's planes are looked at where they lie, and where each is copied as I420 (by copyTo, of VideoDecoder). Then the
-# module's size. Wants a machine without other work, and about six minutes beside building.
+# stands what comes where each picture's planes are looked at where they lie, and where each is copied as I420 (by copyTo, of VideoDecoder). The columns
+# before the last divide pictures in a second of the processor (of the thread that decodes, looked at, taken in turns) by the library's. Then the
+# module's size. Wants a machine without other work, and about ten minutes beside building.
 set -eu
 here=$(cd "$(dirname "$0")" && pwd)
 top=$(cd "$here/../.." && pwd)
@@ -30,14 +31,14 @@ awk '
 function both(way, name) { return (way, name, "read") in rate ? sprintf("%.0f / %.0f", rate[way, name, "read"], rate[way, name, "copied"]) : "-" }
 function part(way, of, name, how) { return (way, name, how) in rate && rate[of, name, how] > 0 ? sprintf("%.2f", rate[way, name, how] / rate[of, name, how]) : "-" }
 END {
-    print "| Stream | native | Node, wasm32 | Node, wasm64 | Chromium, wasm32 | Chromium, wasm64 | WebCodecs | wasm32 of native | wasm32 of WebCodecs, copied |"
-    print "|---|---|---|---|---|---|---|---|---|"
+    print "| Stream | native | Node, wasm32 | Node, wasm64 | Chromium, wasm32 | Chromium, wasm64 | WebCodecs | wasm32 of native | of native by the processor, Node | Chromium | wasm32 of WebCodecs, copied |"
+    print "|---|---|---|---|---|---|---|---|---|---|---|"
     count = split("call cif 720p 1080i still", names, " ")
     ways = split("native node-wasm32 node-wasm64 chromium-wasm32 chromium-wasm64 chromium-WebCodecs", way, " ")
     for (i = 1; i <= count; i++) {
         line = "| " names[i] " |"
         for (j = 1; j <= ways; j++) line = line " " both(way[j], names[i]) " |"
-        print line " " part("chromium-wasm32", "native", names[i], "read") " | " part("chromium-wasm32", "chromium-WebCodecs", names[i], "copied") " |"
+        print line " " part("chromium-wasm32", "native", names[i], "read") " | " part("node-wasm32", "native", names[i], "cpu") " | " part("chromium-wasm32", "native", names[i], "cpu") " | " part("chromium-wasm32", "chromium-WebCodecs", names[i], "copied") " |"
     }
 }' "$work/told"
 for kind in wasm32 wasm64; do

@@ -1,5 +1,5 @@
-/* bench IN SECONDS read|copied: pictures a second of the library, as page.mjs measures them: access units, early output; each picture's planes
- * are read where they lie, or it is copied as I420. */
+/* bench IN SECONDS read|copied|cpu: pictures a second of the library, as page.mjs measures them: access units, early output; each picture's planes
+ * are read where they lie, or it is copied as I420; or they are read and the time is that of the processor. */
 #include <avcdec.h>
 #include <stdio.h>
 #include <stdlib.h>
@@ -10,10 +10,11 @@ static uint8_t bytes[1 << 22], *samples;
 static size_t room, cuts[100000], count;
 static unsigned long pictures, sum;
 static bool copies;
+static clockid_t clock_used = CLOCK_MONOTONIC;
 
 static double now(void) {
     struct timespec time;
-    clock_gettime(CLOCK_MONOTONIC, &time);
+    clock_gettime(clock_used, &time);
     return (double)time.tv_sec + (double)time.tv_nsec * 1e-9;
 }
 
@@ -84,6 +85,8 @@ int main(int words, char **word) {
     cut(fread(bytes, 1, sizeof bytes, in));
     fclose(in);
     copies = strcmp(word[3], "copied") == 0;
+    if (strcmp(word[3], "cpu") == 0)
+        clock_used = CLOCK_THREAD_CPUTIME_ID;
     avcdec_decoder decoder = AVCDEC_DECODER_CLOSED;
     avcdec_open(&decoder, true);
     double best = 0, start = now(), seconds = atof(word[2]);

@@ -6,7 +6,7 @@ import { AvcVideoDecoder } from '../avcdec-video.mjs';
 import { check } from './check.mjs';
 import { Md5 } from './md5.mjs';
 
-export { speedOfOurs, speedOfTheirs } from './speed.mjs';
+export { ours, speedOfOurs, speedOfTheirs } from './speed.mjs';
 
 export const module = '/module.wasm';
 const bytesOf = async name => new Uint8Array(await (await fetch(`/vectors/${name}.264`)).arrayBuffer());

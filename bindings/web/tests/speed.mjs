@@ -18,9 +18,9 @@ async function bestOf(run, seconds, warm) {
     return told;
 }
 
-/** Pictures a second of the module at this address or of these bytes, { read, copied }: access units, early output, each picture's planes looked at
- * where they lie, or copied as I420. */
-export async function speedOfOurs(name, module, { seconds = 3, warm = 3 } = {}) {
+/** A decoder of the module at this address or of these bytes, and how it decodes the whole stream once: access units, early output, each picture's
+ * planes looked at where they lie, or copied as I420. Answers how many pictures there were. */
+export async function ours(name, module) {
     const decoder = new Decoder(await load(module), { early: true }), units = accessUnits(await bytesOf(name));
     let pictures = 0, sum = 0, room = new Uint8Array(0);
     const take = (event, copies) => {
@@ -30,16 +30,25 @@ export async function speedOfOurs(name, module, { seconds = 3, warm = 3 } = {}) 
         if (room.length !== event.size) room = new Uint8Array(event.size);
         sum += event.copy(room)[0];
     };
-    const told = await bestOf(async copies => {
+    const run = copies => {
         pictures = 0;
-        const start = performance.now();
         for (const unit of units) for (const event of decoder.decode(unit.bytes, { endsUnit: true })) take(event, copies);
         decoder.flush();
         for (const event of decoder.events()) take(event, copies);
         decoder.reset();
-        return pictures * 1000 / (performance.now() - start);
+        return pictures;
+    };
+    return { run, close: () => decoder.close() };
+}
+
+/** Pictures a second of it, { read, copied }. */
+export async function speedOfOurs(name, module, { seconds = 3, warm = 3 } = {}) {
+    const { run, close } = await ours(name, module);
+    const told = await bestOf(async copies => {
+        const start = performance.now();
+        return run(copies) * 1000 / (performance.now() - start);
     }, seconds, warm);
-    decoder.close();
+    close();
     return told;
 }
 
