@@ -157,8 +157,9 @@ header defines itself, the bindings for Rust and Python, the GStreamer element, 
 For ARM64 the same crates are proved anew; trusted beside are the toolchain's lowering for it, LLVM's back end for it, and the C compiler for
 bindings/c/heap.c. The module for pages (bindings/web) is made of the library proved for x86-64, and rests on what no proof covers:
 bindings/web/make/port.py, and that the module means on WebAssembly what it means on x86-64 (addresses of 64 bits; on wasm32 the lower
-half of them); LLVM's optimizer, which is told that the target is ARM64, its back end for WebAssembly, and wasm-ld; the heap (make/heap.c,
-tested) and make/multi3.c; make/stack.py and wasm-objdump, which bound the stack of the linked module; avcdec.mjs, and where they are used
+half of them); make/tune.py, which rewrites the optimized module before LLVM's back end (constants of addresses, short copies, the order of 8
+bytes), and that nothing lies in the first 65,536 bytes, on which that rests; LLVM's optimizer, which is told that the target is ARM64, its back
+end for WebAssembly, and wasm-ld; the heap (make/heap.c, tested) and make/multi3.c; make/stack.py and wasm-objdump, which bound the stack of the linked module; avcdec.mjs, and where they are used
 the worker, AvcVideoDecoder and its avcC; the engine; and that nobody else writes to the module's memory.
 
 ## Statements that are still open
