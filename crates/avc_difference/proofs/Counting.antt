@@ -1,10 +1,10 @@
 -- Counting places, and marking macroblocks.
-use Rattle.std.proofs.Common.{◌≡◌, ℕ, zero, suc, ◌+◌, ◌<◌, ◌≤◌, Bool, true, false, ◌&&◌, ◌||◌, not, refl, sym, ap, ◌∙◌, arith, add-one, List, length, get_or}
+use Rattle.std.proofs.Common.{◌≡◌, ℕ, zero, suc, ◌+◌, ◌<◌, ◌≤◌, Bool, true, false, ◌&&◌, ◌||◌, not, refl, sym, ap, ◌∙◌, arith, add-one, List, [], ◌∷◌, length, get_or}
 use Rattle.std.specs.Prelude.{if◌then◌else◌, ◌==◌, replicate}
 use Rattle.avc_plane.specs.declared.component.Component.{Component}
 use Rattle.avc_plane.specs.declared.component.Component.TheVariants.{Luma, Cb, Cr}
 use Rattle.avc_difference.specs.Differences.{any_below, count_below, differs_at, differs_in_chroma, differs_in_luma, is_luma, mark_after, no_mark, with_component, AreMarks}
-use Rattle.avc_difference.specs.Places.{place_of}
+use Rattle.avc_difference.specs.Places.{place_of, sample_count}
 use Rattle.avc_difference.specs.declared.marks.Mark.{Mark}
 use Rattle.avc_difference.specs.declared.place.Place.{Place}
 use Rattle.avc_difference.specs.declared.place.Shape.{Shape}
@@ -120,3 +120,32 @@ marks_more s most ours theirs n marks marks' place m other is_at long after =
           ∙ ap (λ b. any_below n (differs_in_chroma s most ours theirs address) || (b && (not (is_luma (place_of s n).component) && (place_of s n).address == address))) (sym other)
           ∙ sym (any_below_more n (differs_in_chroma s most ours theirs address));
     }
+
+-- ---- worked examples: where samples stand in a picture of 176x144 of which the first eight columns and the last 14 rows are not shown,
+-- and samples that differ
+
+abbrev cropped : Shape
+cropped = record { width = 176; height = 144; crop = record { left = 8; right = 0; top = 0; bottom = 14 } }
+
+-- 168x130 luma samples, and twice 84x65
+samples : sample_count cropped ≡ 32760
+samples = refl
+
+-- the luma sample in column 100 and row 70 is in the fifth row of macroblocks, the seventh of its row
+luma : place_of cropped 11860 ≡ record { component = Luma; column = 100; row = 70; coded_column = 108; coded_row = 70; macroblock_column = 6; macroblock_row = 4; address = 50 }
+luma = refl
+
+-- the first Cb sample
+cb : place_of cropped 21840 ≡ record { component = Cb; column = 0; row = 0; coded_column = 4; coded_row = 0; macroblock_column = 0; macroblock_row = 0; address = 0 }
+cb = refl
+
+-- the Cr sample in column 5 and row 64
+cr : place_of cropped 32681 ≡ record { component = Cr; column = 5; row = 64; coded_column = 9; coded_row = 64; macroblock_column = 1; macroblock_row = 8; address = 89 }
+cr = refl
+
+-- samples that are one apart differ where nothing is let pass, and not where one is
+apart : differs_at 0 (7 ∷ 9 ∷ []) (7 ∷ 8 ∷ []) 1 ≡ true
+apart = refl
+
+near : differs_at 1 (7 ∷ 9 ∷ []) (7 ∷ 8 ∷ []) 1 ≡ false
+near = refl

@@ -3,6 +3,9 @@ use Rattle.std.proofs.Common.{◌≡◌, ℕ, zero, suc, ◌+◌, ◌*◌, ◌<�
 use Rattle.std.proofs.lemmas.Grind.{flat_map-append}
 use Rattle.std.proofs.lemmas.List.{take_more}
 use Rattle.std.specs.List.{flat_map, range_with_len}
+use Rattle.std.specs.Prelude.{codes, true, false}
+use Rattle.avc_difference.specs.Text.{map_lines}
+use Rattle.avc_difference.specs.declared.marks.Mark.{Mark}
 
 -- one item more
 pub item_more : {A : Type 0} (line : A → List ℕ) (front old new : List ℕ) (d : A) (items : List A) (i : ℕ) → i < length items → old ≡ front ++ flat_map line (take i items)
@@ -44,3 +47,12 @@ joined_five all old one two three four five a b c d e p q r s t is =
 
 pub nine_parts : (a b c d e f g h i : List ℕ) → a ++ b ++ c ++ d ++ e ++ f ++ g ++ h ++ i ≡ a ++ (b ++ (c ++ (d ++ (e ++ (f ++ (g ++ (h ++ i)))))))
 nine_parts a b c d e f g h i = simp append_assoc
+
+-- ---- a worked example: a map of macroblocks
+
+abbrev nothing : Mark
+nothing = record { luma = false; chroma = false }
+
+-- two rows of three macroblocks
+map : map_lines 3 2 (nothing ∷ record { luma = true; chroma = false } ∷ nothing ∷ record { luma = false; chroma = true } ∷ nothing ∷ record { luma = true; chroma = true } ∷ []) ≡ codes ".L.\nC.B\n"
+map = refl
