@@ -1,3 +1,4 @@
 pub mod Places
 pub mod Differences
 pub mod Text
+pub mod Laws

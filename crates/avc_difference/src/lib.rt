@@ -2,6 +2,7 @@
 #![tactic(auto)]
 
 mod difference;
+pub mod laws;
 mod marks;
 mod place;
 mod text;
