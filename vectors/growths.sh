@@ -1,8 +1,9 @@
 #!/bin/sh
 # Refuses each growth of memory once, from the first to the last: of the program, on small streams, of the library, fed in pieces and unit
-# by unit with its planes lent, and of the tests about want of memory. The program must end with status 4 and one line, having written a first part of what it writes with ample memory, or do all
-# as with ample memory, where it can do without that growth; the tests say themselves what must stand. Then each read of the program
-# fails once, though those after it would not: it must end with status 3 and one line, having written a first part. Wants a C compiler,
+# by unit with its planes lent, and of the tests about want of memory. The program must end with status 4 and one line, behind the first of the refusals that it tells with ample memory, having written a first
+# part of what it writes then, or do all as with ample memory, where it can do without that growth; the tests say themselves what must
+# stand. Then each read of the program fails once, though those after it would not: it must end with status 3 and one line, behind the
+# first refusals, having written a first part. Wants a C compiler,
 # and the program, the library and the tests: what is not proved and built yet is so first. The last line is 'N passed, M failed', where N
 # counts growths and reads; how far it is stands on standard error.
 set -u
@@ -106,6 +107,11 @@ judge() {
     fi
 }
 
+# whether this line was told last, behind the first of the lines of a file
+ends_by() {
+    tail -n 1 "$work/told" | grep -qxF "$1" && head -n -1 "$work/told" >"$work/before" && cmp -s -n "$(wc -c <"$work/before")" "$work/before" "$2"
+}
+
 # the words of a command on a stream, each growth refused
 refused_in_program() {
     what="$*"
@@ -120,7 +126,7 @@ refused_in_program() {
         REFUSED=$number LD_PRELOAD=$room/refuse.so "$program" "$@" <"$stream" >"$work/part" 2>"$work/told"
         status=$?
         if [ "$status" = 4 ]; then
-            echo 'avcdec: out of memory' | cmp -s - "$work/told" && cmp -s -n "$(wc -c <"$work/part")" "$work/part" "$work/whole"
+            ends_by 'avcdec: out of memory' "$work/told_with_memory" && cmp -s -n "$(wc -c <"$work/part")" "$work/part" "$work/whole"
         else
             [ "$status" = "$ample" ] && cmp -s "$work/told" "$work/told_with_memory" && cmp -s "$work/part" "$work/whole"
         fi
@@ -145,7 +151,7 @@ failing_in_program() {
         number=$((number + 1))
         FAILING=$number LD_PRELOAD=$room/refuse.so "$program" "$@" <"$stream" >"$work/part" 2>"$work/told"
         status=$?
-        [ "$status" = 3 ] && echo 'avcdec: read fault' | cmp -s - "$work/told" && cmp -s -n "$(wc -c <"$work/part")" "$work/part" "$work/whole"
+        [ "$status" = 3 ] && ends_by 'avcdec: read fault' "$work/told_without" && cmp -s -n "$(wc -c <"$work/part")" "$work/part" "$work/whole"
         judge $? "a read in ${what#"$here"/}: status $status"
     done
 }

@@ -258,6 +258,44 @@ for command in units headers; do
     wait
 done
 
+# a refusal is told while the stream goes on, and stands before the fault that ends the run
+refusing=$here/cases/held_before_refusal
+: >"$work/told"
+"$program" decode <"$work/live" >"$work/pictures" 2>"$work/told" &
+exec 9>"$work/live"
+cat "$refusing.264" "$picture" >&9
+tries=0
+until [ -s "$work/told" ] || [ "$tries" = 100 ]; do
+    sleep 0.1
+    tries=$((tries + 1))
+done
+holds 'a refusal of a stream that goes on' cmp -s "$work/told" "$refusing.refused"
+exec 9>&-
+wait
+{
+    { printf '\000\000\001\346\102' && cat "$here/encoder/pub_o_crop_150x90.264"; } | "$program" decode 2>"$work/told"
+    echo $? >"$work/status"
+} | head -c 100 >"$work/written"
+judge 'a refusal before a reader leaves' "$(cat "$work/status")" 3 'refused unit 0: 4 ForbiddenBit
+avcdec: write fault
+'
+
+# refusals take no memory: that of 400,000 units of five bytes, forbidden_zero_bit of each 1, is that of 4,000
+if command -v python3 >/dev/null; then
+    cat >"$work/peak.py" <<'END'
+import resource, subprocess, sys
+
+program, count = sys.argv[1], int(sys.argv[2])
+run = subprocess.run([program, "decode"], input=b"\0\0\1\xe6\x42" * count, capture_output=True)
+told = run.stderr.decode().splitlines()
+whole = run.returncode == 1 and told == [f"refused unit {unit}: 4 ForbiddenBit" for unit in range(count)]
+print(resource.getrusage(resource.RUSAGE_CHILDREN).ru_maxrss if whole else "no")
+END
+    few=$(python3 "$work/peak.py" "$(readlink -f "$here/../crates/avc_cli/out/avc_cli")" 4000)
+    many=$(python3 "$work/peak.py" "$(readlink -f "$here/../crates/avc_cli/out/avc_cli")" 400000)
+    holds "refusals take no memory: $few and $many KiB" [ "$many" -le $((few + 1024)) ]
+fi
+
 # a piece ends where the next begins, though the stream goes on
 pieces=$here/encoder/pub_x_keyint3.264
 "$program" cut 0 "$pieces" >"$work/piece"
@@ -339,7 +377,8 @@ holds 'the same line as by md5sum' cmp -s "$work/written" "$work/sum"
 judge 'decode --verify' $? 0 ''
 holds 'nothing is written by --verify' [ ! -s "$work/written" ]
 "$program" decode --verify "$some_md5" "$moving" >"$work/written" 2>"$work/told"
-judge 'decode --verify of another MD5' $? 1 ''
+judge 'decode --verify of another MD5' $? 1 "avcdec: the MD5 is $(cut -d ' ' -f 1 <"$work/sum")
+"
 "$program" decode --format md5 "$moving" >/dev/full 2>"$work/told"
 judge 'decode --format md5 to a full device' $? 3 'avcdec: write fault
 '
@@ -602,9 +641,8 @@ judge 'decode --verify of no picture' $? 1 ''
 "$program" decode --verify "$some_md5" --limit 0 "$moving" >"$work/written" 2>"$work/told"
 judge 'decode --verify --limit 0' $? 1 ''
 
-# what refusals mean is told in the words of docs/behaviour.md, behind their lines, and then how many pictures and refusals there are
+# what each refusal means is told in the words of docs/behaviour.md, behind its line, and then how many pictures and refusals there are
 explained_as() {
-    cat "$1"
     awk -F '|' '
         FNR == NR {
             if ($2 ~ /^ [0-9]+ [A-Za-z]+ $/) {
@@ -617,6 +655,7 @@ explained_as() {
             next
         }
         {
+            print
             sub(/^refused /, "")
             split($0, part, /[: ]+/)
             print $0 ": " meaning[part[3]]
@@ -705,9 +744,10 @@ holds 'a part of a file was read' grep -q "^pictures [0-9]*, .*, $((100 * 65536 
 refusing=$here/foreign/for_cabac_main
 "$program" decode --progress "$refusing.264" >"$work/pictures" 2>"$work/all"
 status=$?
-tail -n +2 "$work/all" >"$work/told"
-holds 'refusals follow the line of progress' is_decoded "$refusing.md5" "$status" 1 "$refusing.refused"
-head -n 1 "$work/all" | tr '\r' '\n' | tail -n 1 >"$work/last"
+# without what the line of progress writes, erases and ends
+tr '\r' '\n' <"$work/all" | sed 's/.*\[K//' | grep '^refused unit' >"$work/told"
+holds 'refusals with the line of progress' is_decoded "$refusing.md5" "$status" 1 "$refusing.refused"
+tr '\r' '\n' <"$work/all" | tail -n 1 >"$work/last"
 holds 'they are counted' grep -q "^pictures [0-9]*, refused $(wc -l <"$refusing.refused" | tr -d ' ')[^0-9]" "$work/last"
 before=$(date +%s)
 dd bs=1 if="$moving" 2>/dev/null | "$program" decode --progress 2>"$work/told" >"$work/written"

@@ -1,7 +1,7 @@
 -- The line that says how far decoding is.
 use Rattle.std.specs.Prelude.{ℕ, ◌*◌, ◌/◌, ◌%◌, ◌-◌, min, ◌==◌, ◌||◌, if◌then◌else◌, List, [], ◌∷◌, ◌++◌, Option, Some, None, codes}
 use Rattle.std.specs.Fmt.{decimal}
-use Rattle.avc_cli.specs.declared.progress.Counts.{Counts}
+use Rattle.avc_console.specs.declared.reporter.Counts.{Counts}
 use Rattle.avc_cli.specs.declared.progress.Place.{Place}
 
 -- tenths, in decimal

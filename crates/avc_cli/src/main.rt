@@ -78,16 +78,19 @@ fn carry_out_on<R: Read + Drop>(
     mut input: Input<R>,
 ) -> u8 {
     let has_left = Cell::new(false);
+    let progress_stands = Cell::new(false);
     let manner = &request.manner;
     let progress = Progress::new(
         rt,
         is_progress_told(rt, manner.progress),
         size_of(rt, request),
+        &progress_stands,
     );
     let mut console = Console {
         names: names_of(request),
-        errors: Errors::new(rt, manner.is_quiet, &has_left),
-        watch: Observer::new(rt.alloc(), manner.is_explained, progress),
+        is_explained: manner.is_explained,
+        errors: Errors::new(rt, manner.is_quiet, &has_left, &progress_stands),
+        watch: Observer::new(progress),
     };
     let (status, unwritten) = write_out(rt, request, &mut input, &has_left, &mut console);
     tell_reason(rt, request.input, input.fault());

@@ -1,24 +1,16 @@
-ghost use Rattle.std.specs.Prelude.{◌≡◌, ◌<◌, ◌++◌, IfOk, OnOk, length, string_bytes};
+ghost use Rattle.std.specs.Prelude.{◌≡◌, ◌<◌, ◌++◌, IfOk, OnOk, string_bytes};
 ghost use Rattle.avc_cli.specs.Progress.{clock_text, counts_text, left_text, place_by, place_text, progress_line, speed_text};
 ghost use Rattle.avc_cli.specs.Progress.{tenths_text, times_by, times_text};
 
 use crate::rate::RateSearch;
-use avc_console::{Report, RunFault, Watch};
+use avc_console::{Counts, RunFault, Watch};
 use std::alloc::{AllocError, Global};
+use std::cell::Cell;
 use std::io::Write;
 use std::time::{Duration, Instant};
 
 /// The least time between two lines, in milliseconds: they come at most four times a second.
 const INTERVAL: u64 = 250;
-
-/// How far decoding is.
-#[derive(Clone, Copy, Debug, PartialEq, Eq)]
-pub struct Counts {
-    /// Pictures that went out.
-    pub pictures: u64,
-
-    pub refused: usize,
-}
 
 /// How far reading is.
 #[derive(Clone, Copy, Debug, PartialEq, Eq)]
@@ -37,10 +29,16 @@ pub struct Progress<'a> {
 }
 
 impl Progress<'_> {
-    /// No line where it is not wanted, nor where the system has no clock. The input has so many bytes, where that is known.
-    pub fn new(rt: &HostRuntime, is_wanted: bool, size: Option<u64>) -> Progress<'_> {
+    /// No line where it is not wanted, nor where the system has no clock. The input has so many bytes, where that is known, and it is
+    /// noted whether a line stands.
+    pub fn new<'a>(
+        rt: &'a HostRuntime,
+        is_wanted: bool,
+        size: Option<u64>,
+        stands: &'a Cell<bool>,
+    ) -> Progress<'a> {
         let meter = if is_wanted {
-            Meter::new(rt, size)
+            Meter::new(rt, size, stands)
         } else {
             None
         };
@@ -49,29 +47,16 @@ impl Progress<'_> {
 }
 
 impl Watch for Progress<'_> {
-    fn look(&mut self, piece: &[u8], report: &Report) {
+    fn look(&mut self, piece: &[u8], counts: Counts) {
         if let Some(meter) = &mut self.meter {
-            meter.look(piece, counts_of(report));
+            meter.look(piece, counts);
         }
     }
 
-    fn end(&mut self, run: &Result<Report, RunFault>) {
+    fn end(&mut self, counts: Counts, run: Result<(), RunFault>) {
         if let Some(meter) = &mut self.meter {
-            if let Ok(report) = run {
-                meter.counts = counts_of(report);
-            }
-            meter.end();
+            meter.end(counts);
         }
-    }
-}
-
-fn counts_of(report: &Report) -> Counts
-    ensures pictures { result.pictures ≡ report.now.pictures }
-    ensures refused { result.refused ≡ length report.now.refused }
-{
-    Counts {
-        pictures: report.pictures,
-        refused: report.refused.as_slice().len(),
     }
 }
 
@@ -87,10 +72,17 @@ struct Meter<'a> {
     rate: RateSearch,
     counts: Counts,
     place: Place,
+
+    /// Whether the line stands, and is not ended.
+    stands: &'a Cell<bool>,
 }
 
 impl Meter<'_> {
-    fn new(rt: &HostRuntime, size: Option<u64>) -> Option<Meter<'_>> {
+    fn new<'a>(
+        rt: &'a HostRuntime,
+        size: Option<u64>,
+        stands: &'a Cell<bool>,
+    ) -> Option<Meter<'a>> {
         let start = Instant::now(rt).ok()?;
         Some(Meter {
             rt,
@@ -102,6 +94,7 @@ impl Meter<'_> {
                 refused: 0,
             },
             place: Place { read: 0, size },
+            stands,
         })
     }
 
@@ -117,10 +110,12 @@ impl Meter<'_> {
     }
 
     // The last line stays.
-    fn end(&mut self) {
+    fn end(&mut self, counts: Counts) {
+        self.counts = counts;
         if let Ok(elapsed) = self.start.elapsed(self.rt) {
             self.write(elapsed);
             let _ = self.rt.stderr().write(b"\n");
+            self.stands.set(false);
         }
     }
 
@@ -131,6 +126,7 @@ impl Meter<'_> {
         let rate = self.rate.found();
         if let Ok(line) = progress_line(self.rt.alloc(), self.counts, self.place, millis, rate) {
             let _ = self.rt.stderr().write(line.as_bytes());
+            self.stands.set(true);
         }
     }
 }

@@ -1,8 +1,9 @@
 //! What is told behind what a command tells itself.
 
-use crate::observer::Outcome;
 use crate::reason::reason_line;
+use avc_console::Counts;
 use avc_container::{container_line, container_of, no_picture_line};
+use avc_explain::counts_line;
 use avc_request::{Manner, Task};
 use std::io::{ErrorKind, IsTerminal, Write};
 
@@ -15,13 +16,14 @@ pub fn tell_reason(rt: &HostRuntime, name: Option<&str>, kind: Option<ErrorKind>
     }
 }
 
-/// Tells what refusals mean, where that is wanted, and what a stream is in which no picture was found, by its first bytes, where that is
-/// wanted or somebody looks.
-pub fn tell_outcome(rt: &HostRuntime, manner: &Manner, outcome: &Outcome, first: &[u8]) {
-    if let Some(text) = &outcome.explanation {
-        tell(rt, text);
+/// Tells how many pictures and refusals there were, and what a stream is in which no picture was found, by its first bytes, where more
+/// than the lines that scripts read may be told.
+pub fn tell_outcome(rt: &HostRuntime, manner: &Manner, counts: Counts, first: &[u8]) {
+    if !is_told_more(rt, manner) {
+        return;
     }
-    if outcome.pictures == 0 && is_told_more(rt, manner) {
+    tell(rt, counts_line(counts.pictures, counts.refused).as_str());
+    if counts.pictures == 0 {
         if let Ok(line) = no_picture_line(rt.alloc(), first) {
             tell(rt, &line);
         }

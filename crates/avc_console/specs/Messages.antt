@@ -5,6 +5,7 @@ use Rattle.std.specs.Borrow.{Bor}
 use Rattle.std.specs.Fmt.{decimal}
 use Rattle.avc_types.specs.declared.fault.Fault.{Fault}
 use Rattle.avc_types.specs.Faults.{number_of, name_of}
+use Rattle.avc_explain.specs.Explanations.{explained_line}
 use Rattle.avc_console.specs.declared.console.Names.{Names}
 use Rattle.avc_console.specs.declared.fault.RunFault.{RunFault}
 use Rattle.avc_console.specs.declared.fault.RunFault.TheVariants.{Read, Endless, Write, Memory, Size}
@@ -19,9 +20,13 @@ abbrev pub refusal_line : ℕ × Fault → List ℕ
 refusal_line (unit, fault) =
     codes "refused unit " ++ decimal unit ++ codes ": " ++ decimal (number_of fault) ++ codes " " ++ name_of fault ++ newline
 
--- one line for each refusal
-abbrev pub refusal_lines : Report → List ℕ
-refusal_lines report = flat_map refusal_line report.refused
+-- and behind it, where that is wanted, the line that says what it means
+unfoldable pub refusal_text : (explained : Bool) → ℕ × Fault → List ℕ
+refusal_text explained refusal = refusal_line refusal ++ (if explained then explained_line refusal else [])
+
+-- of each refusal, in order
+abbrev pub refusal_texts : (explained : Bool) → List (ℕ × Fault) → List ℕ
+refusal_texts explained refusals = flat_map (refusal_text explained) refusals
 
 -- why the program stopped
 abbrev pub fault_text : RunFault → List ℕ
@@ -48,10 +53,14 @@ name_text (Some name) = codes ": " ++ name.now
 abbrev pub fault_line : Names → RunFault → List ℕ
 fault_line names fault = fault_text fault ++ name_text (file_of names fault) ++ newline
 
--- of a run
-abbrev pub text_of : Names → Result Report RunFault → List ℕ
-text_of names (Ok report) = refusal_lines report
-text_of names (Err fault) = fault_line names fault
+-- of the fault that ended a run, if one did
+abbrev pub end_text : Names → Result (Unit {0}) RunFault → List ℕ
+end_text names (Ok _) = []
+end_text names (Err fault) = fault_line names fault
+
+-- of a run: of its refusals, and then of its end
+abbrev pub run_text : Names → (explained : Bool) → Report → Result (Unit {0}) RunFault → List ℕ
+run_text names explained report run = refusal_texts explained report.refused ++ end_text names run
 
 -- that no piece has this number
 abbrev pub no_piece_line : (number : ℕ) → List ℕ

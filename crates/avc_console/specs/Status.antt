@@ -25,6 +25,11 @@ abbrev pub status_of : Result Report RunFault → ℕ
 status_of (Ok report) = refused_status report.refused
 status_of (Err fault) = fault_status fault
 
+-- after decoding that came to this report, and ended so
+abbrev pub run_status : Report → Result (Unit {0}) RunFault → ℕ
+run_status report (Ok _) = refused_status report.refused
+run_status report (Err fault) = fault_status fault
+
 -- after listing units or headers
 abbrev pub units_status : Result (Unit {0}) RunFault → ℕ
 units_status (Ok _) = 0

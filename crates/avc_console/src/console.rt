@@ -1,5 +1,5 @@
 use crate::fault::RunFault;
-use crate::report::Report;
+use crate::reporter::Counts;
 
 /// The files that a command reads and writes, by name, where they are no standard streams.
 #[derive(Clone, Copy, Debug, PartialEq, Eq)]
@@ -15,6 +15,9 @@ pub struct Names<'a> {
 pub struct Console<'a, E, V> {
     pub names: Names<'a>,
 
+    /// Whether behind the line of each refusal one says what it means.
+    pub is_explained: bool,
+
     pub errors: E,
 
     pub watch: V,
@@ -23,10 +26,10 @@ pub struct Console<'a, E, V> {
 /// Whoever is told how far a run is. What becomes of it is no matter of the run: nothing that the run writes or answers hangs on it.
 pub trait Watch {
     /// After each read: the bytes that it gave, and what the stream has come to.
-    fn look(&mut self, piece: &[u8], report: &Report);
+    fn look(&mut self, piece: &[u8], counts: Counts);
 
-    /// At the end of the run.
-    fn end(&mut self, run: &Result<Report, RunFault>);
+    /// At the end of the run: what the stream has come to, and the fault that ended the run, if one did.
+    fn end(&mut self, counts: Counts, run: Result<(), RunFault>);
 }
 
 /// Nobody watches.
@@ -35,8 +38,8 @@ pub struct Unwatched;
 
 impl Watch for Unwatched {
     #[inline(always)]
-    fn look(&mut self, piece: &[u8], report: &Report) {}
+    fn look(&mut self, piece: &[u8], counts: Counts) {}
 
     #[inline(always)]
-    fn end(&mut self, run: &Result<Report, RunFault>) {}
+    fn end(&mut self, counts: Counts, run: Result<(), RunFault>) {}
 }

@@ -1,5 +1,7 @@
-ghost use Rattle.std.specs.Prelude.{◌≡◌};
-ghost use Rattle.avc_console.specs.Status.{answer_status, cut_status, fault_status, status_of};
+ghost use Rattle.std.specs.Prelude.{◌≡◌, ℕ, List, length};
+ghost use Rattle.avc_annexb.specs.Units.{saturated};
+ghost use Rattle.avc_types.specs.declared.fault.Fault.{Fault as Refused};
+ghost use Rattle.avc_console.specs.Status.{answer_status, cut_status, fault_status, refused_status, status_of};
 
 use crate::fault::RunFault;
 use crate::report::Report;
@@ -49,6 +51,13 @@ pub fn status(run: &Result<Report, RunFault>) -> u8
         }
         Err(fault) => fault_status(*fault),
     }
+}
+
+/// The exit status after so many refusals, where no fault ended the run: 1 where something was refused.
+pub(crate) fn refused_status(refused: u64) -> u8
+    ensures { (refusals : List (ℕ × Refused)) → refused ≡ saturated (length refusals) → result ≡ refused_status refusals }
+{
+    if refused == 0 { 0 } else { 1 }
 }
 
 /// The exit status after `cut`: 0 where a piece has the number, and else 1.

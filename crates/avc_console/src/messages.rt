@@ -1,14 +1,15 @@
-ghost use Rattle.std.specs.Prelude.{◌≡◌, ◌++◌, IfErr, IfOk, OnErr, OnOk, string_bytes};
+ghost use Rattle.std.specs.Prelude.{◌≡◌, IfErr, IfOk, OnErr, OnOk, string_bytes};
 ghost use Rattle.std.specs.Io.KnownBytes.{Appends};
 ghost use Rattle.avc_console.specs.Reading.{WritesFirst};
-ghost use Rattle.avc_console.specs.Messages.{fault_line, fault_text, file_of, name_text, no_piece_line, refusal_line, refusal_lines};
+ghost use Rattle.avc_console.specs.Messages.{fault_line, fault_text, file_of, name_text, no_piece_line, refusal_line};
 ghost use Rattle.avc_console.specs.declared.fault.RunFault.TheVariants as faults;
 
 use crate::console::Names;
 use crate::fault::RunFault;
-use crate::report::Report;
+use arrayvec::ArrayString;
 use avc_types::{Fault, OutOfMemory};
 use avc_yuv::write_bytes;
+use itoa::Buffer;
 use std::alloc::Global;
 use std::io::Write;
 
@@ -62,15 +63,20 @@ fn write_name<E: Write>(name: Option<&str>, errors: &mut E) -> Result<(), RunFau
     }
 }
 
-/// The lines of the standard error that tell of the refusals, one each, in order.
-pub fn refusal_lines(alloc: Global, report: &Report) -> Result<String, OutOfMemory>
-    ensures { IfOk result (λ text. string_bytes text ≡ refusal_lines report.now) }
+/// The line of the standard error that tells of a refusal. It asks for no memory.
+pub fn refusal_line(unit: u64, fault: Fault) -> ArrayString<80>
+    ensures { result.bytes ≡ refusal_line (unit, fault) }
 {
-    let mut text = String::new(alloc);
-    for &(unit, fault) in report.refused.as_slice() {
-        add_line(&mut text, unit, fault)?;
-    }
-    Ok(text)
+    let mut digits = Buffer::new();
+    let mut line = ArrayString::new();
+    line.push_str("refused unit ");
+    line.push_str(digits.format(unit));
+    line.push_str(": ");
+    line.push_str(digits.format(fault.number()));
+    line.push_str(" ");
+    line.push_str(fault.name());
+    line.push_str("\n");
+    line
 }
 
 /// The line of the standard error that tells that there is no piece of this number.
@@ -80,15 +86,6 @@ pub(crate) fn no_piece_line(alloc: Global, number: u32) -> Result<String, OutOfM
     let mut text = String::new(alloc);
     writeln!(text, "avcdec: no piece {number}")?;
     Ok(text)
-}
-
-fn add_line(text: &mut String, unit: u64, fault: Fault) -> Result<(), OutOfMemory>
-    ensures { OnOk result (string_bytes text.new ≡ string_bytes text.old ++ refusal_line (unit, fault)) }
-{
-    let number = fault.number();
-    let name = fault.name();
-    writeln!(text, "refused unit {unit}: {number} {name}")?;
-    Ok(())
 }
 
 /// Writes a text.

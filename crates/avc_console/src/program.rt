@@ -1,56 +1,61 @@
-ghost use Rattle.std.specs.Prelude.{◌≡◌, IfErr, IfOk, OnErr, false, is_ok, true};
+ghost use Rattle.std.specs.Prelude.{◌≡◌, ℕ, List, Option, IfErr, IfOk, OnErr, false};
 ghost use Rattle.std.specs.Io.KnownBytes.{Keeps};
 ghost use Rattle.avc_tools.specs.Lines.{header_lines_so_far, unit_lines_so_far};
-ghost use Rattle.avc_console.specs.Program.{EndsCutting, EndsListing, Tells, TellsListing, TellsRun};
+ghost use Rattle.avc_console.specs.Program.{EndsCutting, EndsListing, TellsListing, TellsRun};
+ghost use Rattle.avc_console.specs.Reporting.{report_in, reported_by, IsTold};
+ghost use Rattle.avc_console.specs.Telling.{Tells, TellsMore};
 ghost use Rattle.avc_console.specs.Status.{fault_status};
-ghost use Rattle.avc_console.specs.Messages.{cut_text, fault_line, text_of};
+ghost use Rattle.avc_console.specs.Messages.{cut_text, fault_line};
 ghost use Rattle.avc_console.specs.declared.fault.RunFault.TheVariants as faults;
 
 use crate::console::{Console, Names};
 use crate::cutting::run_cut;
-use crate::exit::{Ending, cut_status, fault_status, status};
+use crate::exit::{Ending, cut_status, fault_status, refused_status};
 use crate::fault::RunFault;
 use crate::listing::{run_headers, run_units};
-use crate::messages::{no_piece_line, refusal_lines, write_fault, write_text};
-use crate::report::Report;
+use crate::messages::{no_piece_line, write_fault};
+use crate::reporter::Reporter;
+use crate::tally::Tally;
+use crate::telling::write_what_is_taken;
 use std::alloc::Global;
 use std::io::{Read, Write};
 
-/// Tells of a run's refusals, or of the fault that ended it, with the name of the file that it is about.
+/// Tells how a run ended, behind its refusals: of the fault that ended it, if one did, with the name of the file that it is about.
 pub fn tell<E: Write>(
-    alloc: Global,
-    run: &Result<Report, RunFault>,
+    run: Result<(), RunFault>,
+    tally: &Tally,
     names: &Names<'_>,
     errors: &mut E,
 ) -> Ending
-    ensures { TellsRun names.now run.now (E.contents errors.old) (E.contents errors.new) result }
+    ensures { (start : Option (List ℕ)) → IsTold start (E.contents errors.old) (reported_by tally.now)
+        → TellsRun names.now tally.now.explained (report_in tally.now) run start (E.contents errors.new) result }
 {
-    match write_messages(alloc, run, names, errors) {
-        Ok(told) => Ending {
-            status: status(run),
-            told,
+    match run {
+        Ok(()) => Ending {
+            status: refused_status(tally.counts().refused),
+            told: tally.is_told(),
         },
-        Err(fault) => fail(fault, names, errors),
+        Err(fault) => fail_behind(tally.is_told(), fault, names, errors),
     }
 }
 
-// Tells of a run, and answers whether all was taken. An error is want of memory for the lines of refusals.
-fn write_messages<E: Write>(
-    alloc: Global,
-    run: &Result<Report, RunFault>,
+// Tells of a fault behind what was told before, where all of that was taken.
+fn fail_behind<E: Write>(
+    is_told: bool,
+    fault: RunFault,
     names: &Names<'_>,
     errors: &mut E,
-) -> Result<bool, RunFault>
-    ensures ok { IfOk result (λ told. Tells (E.contents errors.old) (E.contents errors.new) (text_of names.now run.now) told) }
-    ensures err { IfErr result (λ fault. (fault ≡ faults.Memory) × Keeps (E.contents errors.old) (E.contents errors.new)) }
-    ensures refusals { OnErr result (is_ok run.now ≡ true) }
+) -> Ending
+    ensures status { result.status ≡ fault_status fault }
+    ensures told { TellsMore is_told (E.contents errors.old) (E.contents errors.new) (fault_line names.now fault) result.told }
 {
-    match run {
-        Ok(report) => {
-            let text = refusal_lines(alloc, report)?;
-            Ok(write_what_is_taken(&text, errors))
+    if is_told {
+        fail(fault, names, errors)
+    } else {
+        Ending {
+            status: fault_status(fault),
+            told: false,
         }
-        Err(fault) => Ok(fail(*fault, names, errors).told),
     }
 }
 
@@ -66,16 +71,6 @@ pub fn fail<E: Write>(fault: RunFault, names: &Names<'_>, errors: &mut E) -> End
     Ending {
         status: fault_status(fault),
         told,
-    }
-}
-
-// Whether all of the text was taken.
-fn write_what_is_taken<E: Write>(text: &str, errors: &mut E) -> bool
-    ensures { Tells (E.contents errors.old) (E.contents errors.new) text.now result }
-{
-    match write_text(text, errors) {
-        Ok(()) => true,
-        Err(_) => false,
     }
 }
 
@@ -115,7 +110,7 @@ pub fn end_listing<E: Write>(run: Result<(), RunFault>, names: &Names<'_>, error
     match run {
         Ok(()) => Ending {
             status: 0,
-            told: write_what_is_taken("", errors),
+            told: write_what_is_taken(&[], errors),
         },
         Err(fault) => fail(fault, names, errors),
     }
@@ -157,8 +152,8 @@ fn write_no_piece<E: Write>(
     ensures none { OnErr result (found ≡ false) }
 {
     if found {
-        return Ok(write_what_is_taken("", errors));
+        return Ok(write_what_is_taken(&[], errors));
     }
     let text = no_piece_line(alloc, number)?;
-    Ok(write_what_is_taken(&text, errors))
+    Ok(write_what_is_taken(text.as_bytes(), errors))
 }

@@ -1,4 +1,5 @@
-ghost use Rattle.std.specs.Prelude.{◌≡◌, ◌∷◌, ◌++◌, [], OnOk};
+ghost use Rattle.std.specs.Prelude.{◌≡◌, ◌∷◌, ◌++◌, [], OnErr, OnOk};
+ghost use Rattle.avc_console.specs.Reporting.{no_report};
 
 use avc_types::{Fault, OutOfMemory};
 use std::alloc::Global;
@@ -30,7 +31,8 @@ impl Refusals {
     }
 
     pub fn push(&mut self, unit: u64, fault: Fault) -> Result<(), OutOfMemory>
-        ensures { OnOk result (self.new ≡ self.old ++ (unit, fault) ∷ []) }
+        ensures ok { OnOk result (self.new ≡ self.old ++ (unit, fault) ∷ []) }
+        ensures err { OnErr result (self.new ≡ self.old) }
     {
         self.refusals.push((unit, fault))?;
         Ok(())
@@ -50,4 +52,16 @@ pub struct Report {
     pub pictures: u64,
 
     pub refused: Refusals,
+}
+
+impl Report {
+    /// Of a run that has not begun.
+    pub fn new(alloc: Global) -> Report
+        ensures { result ≡ no_report }
+    {
+        Report {
+            pictures: 0,
+            refused: Refusals::new(alloc),
+        }
+    }
 }

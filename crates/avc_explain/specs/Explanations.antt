@@ -1,6 +1,5 @@
 -- What a refusal means, for people.
-use Rattle.std.specs.Prelude.{ℕ, List, ◌∷◌, ◌++◌, [], length, codes}
-use Rattle.std.specs.List.{flat_map}
+use Rattle.std.specs.Prelude.{ℕ, List, ◌∷◌, ◌++◌, [], codes}
 use Rattle.std.specs.Fmt.{decimal}
 use Rattle.avc_types.specs.declared.fault.Fault.{Fault}
 use Rattle.avc_types.specs.Faults.{number_of, name_of}
@@ -57,7 +56,3 @@ explained_line (unit, fault) =
 abbrev pub counts_line : (pictures refused : ℕ) → List ℕ
 counts_line pictures refused =
     decimal pictures ++ codes " pictures, " ++ decimal refused ++ codes " refusals" ++ newline
-
--- a line for each refusal, in order, and then how many pictures and refusals there are
-abbrev pub explanation : (pictures : ℕ) → List (ℕ × Fault) → List ℕ
-explanation pictures refused = flat_map explained_line refused ++ counts_line pictures (length refused)

@@ -1,40 +1,39 @@
-ghost use Rattle.std.specs.Prelude.{◌≡◌, ◌++◌, IfOk, OnOk, string_bytes};
-ghost use Rattle.avc_explain.specs.Explanations.{counts_line, explained_line, explanation};
+ghost use Rattle.std.specs.Prelude.{◌≡◌, length};
+ghost use Rattle.avc_explain.specs.Explanations.{counts_line, explained_line};
 
 use crate::meaning::meaning_of;
+use arrayvec::ArrayString;
 use avc_types::Fault;
-use std::alloc::{AllocError, Global};
+use itoa::Buffer;
 
-/// A line for each refusal of a stream, with what it means, and then one with the number of pictures and of refusals. A refusal is the
-/// place of a unit among the stream's units, from 0, and its fault.
-pub fn explanation(
-    alloc: Global,
-    pictures: u64,
-    refused: &[(u64, Fault)],
-) -> Result<String, AllocError>
-    ensures { IfOk result (λ text. string_bytes text ≡ explanation pictures refused.now) }
+/// The line that says what a refusal means: the place of a unit among the stream's units, from 0, its fault, and when that is there. It
+/// asks for no memory.
+pub fn explained_line(unit: u64, fault: Fault) -> ArrayString<256>
+    ensures { result.bytes ≡ explained_line (unit, fault) }
 {
-    let mut text = String::new(alloc);
-    for &(unit, fault) in refused {
-        add_line(&mut text, unit, fault)?;
-    }
-    add_counts(&mut text, pictures, refused.len())?;
-    Ok(text)
+    let mut digits = Buffer::new();
+    let mut line = ArrayString::new();
+    line.push_str("unit ");
+    line.push_str(digits.format(unit));
+    line.push_str(": ");
+    line.push_str(digits.format(fault.number()));
+    line.push_str(" ");
+    line.push_str(fault.name());
+    line.push_str(": ");
+    line.push_str(meaning_of(fault));
+    line.push_str("\n");
+    line
 }
 
-fn add_line(text: &mut String, unit: u64, fault: Fault) -> Result<(), AllocError>
-    ensures { OnOk result (string_bytes text.new ≡ string_bytes text.old ++ explained_line (unit, fault)) }
+/// The line that says how many pictures went out, and how many refusals there were. It asks for no memory.
+pub fn counts_line(pictures: u64, refused: u64) -> ArrayString<64>
+    ensures { result.bytes ≡ counts_line pictures refused }
 {
-    let number = fault.number();
-    let name = fault.name();
-    let meaning = meaning_of(fault);
-    writeln!(text, "unit {unit}: {number} {name}: {meaning}")?;
-    Ok(())
-}
-
-fn add_counts(text: &mut String, pictures: u64, refused: usize) -> Result<(), AllocError>
-    ensures { OnOk result (string_bytes text.new ≡ string_bytes text.old ++ counts_line pictures refused) }
-{
-    writeln!(text, "{pictures} pictures, {refused} refusals")?;
-    Ok(())
+    let mut digits = Buffer::new();
+    let mut line = ArrayString::new();
+    line.push_str(digits.format(pictures));
+    line.push_str(" pictures, ");
+    line.push_str(digits.format(refused));
+    line.push_str(" refusals\n");
+    line
 }

@@ -4,18 +4,15 @@ unfoldable pub use Events.*
 
 -- ---- reports
 
-abbrev fresh : Report
-fresh = record { pictures = 0; refused = [] }
-
-told : (es : List Event) → report_with fresh es ≡ report_of es
+told : (es : List Event) → report_with no_report es ≡ report_of es
 told es = reported_is 0 [] es ∙ ap (λ n. record { pictures = saturated n; refused = refusals_in es }) (omega arith)
 
 report_more : (a b : List Event) → report_with (report_of a) b ≡ report_of (a ++ b)
-report_more a b = ap (λ r. report_with r b) (sym (told a)) ∙ sym (report_with-append fresh a b) ∙ told (a ++ b)
+report_more a b = ap (λ r. report_with r b) (sym (told a)) ∙ sym (report_with-append no_report a b) ∙ told (a ++ b)
 
 -- a report's number of pictures, as they are counted from 0
 counted : (es : List Event) → (report_of es).pictures ≡ pictures_after 0 es
-counted es = ap (λ r. r.pictures) (sym (told es)) ∙ pictures_now fresh es
+counted es = ap (λ r. r.pictures) (sym (told es)) ∙ pictures_now no_report es
 
 -- what was written from the start on, and then behind it
 abbrev OfAll : Format → (old new : Option (List ℕ)) → List Event → Type 0
@@ -23,7 +20,7 @@ OfAll f old new es = Appends old new (written_from f 0 es)
 
 joined : (f : Format) (r : Report) (w0 w w' : Option (List ℕ)) (a b : List Event) → r ≡ report_of a → OfAll f w0 w a → Appends w w' (written_from f r.pictures b)
     → OfAll f w0 w' (a ++ b)
-joined f r w0 w w' a b is before more = behind f fresh r w0 w w' a b (is ∙ sym (told a)) before more
+joined f r w0 w w' a b is before more = behind f no_report r w0 w w' a b (is ∙ sym (told a)) before more
 
 -- ---- what is due
 
@@ -49,9 +46,6 @@ drained_then m front others taken all due' =
 
 -- ---- the states of a run
 
-abbrev report_of_none : List (ℕ × Fault) → Report
-report_of_none refused = record { pictures = 0; refused = refused }
-
 pub one_piece : (f : Format) → EventsOnlyGrow → (output : Output) (unread left left' w0 w w' : Option (List ℕ)) (d d' : Machine) (r r' : Report) (piece : List ℕ) →
     IsRunning f output unread left w0 w d r → Consumes left left' piece → IsHandled f (after_feed piece d) d' r r' w w' → IsRunning f output unread left' w0 w' d' r'
 one_piece f grow output unread left left' w0 w w' d d' r r' piece i more h =
@@ -75,8 +69,8 @@ due_at_end grow output bytes =
     let same : defined output bytes ≡ events output max_unit (bytes ++ []) true = ap (λ bs. events output max_unit bs true) (sym (append-nil bytes)) in
     (then'.0, same ∙ then'.1, ap (λ es. drop (length (events output max_unit bytes false)) es) same ∙ then'.2)
 
-pub ended : (f : Format) → EventsOnlyGrow → (output : Output) (unread left left' w0 w w' : Option (List ℕ)) (d d' : Machine) (r r' : Report) (len : ℕ) (piece : List ℕ) →
-    IsRunning f output unread left w0 w d r → len ≡ 0 → Consumes left left' (take len piece) → IsAtEnd left' → IsHandled f (after_flush d) d' r r' w w' → DecodesAs f output unread left' w0 w' (Ok r')
+ended : (f : Format) → EventsOnlyGrow → (output : Output) (unread left left' w0 w w' : Option (List ℕ)) (d d' : Machine) (r r' : Report) (len : ℕ) (piece : List ℕ) →
+    IsRunning f output unread left w0 w d r → len ≡ 0 → Consumes left left' (take len piece) → IsAtEnd left' → IsHandled f (after_flush d) d' r r' w w' → DecodesAs f output unread left' w0 w' r' (Ok tt)
 ended f grow output unread left left' w0 w w' d d' r r' len piece i none more at_end h =
     let front = events output max_unit i.bytes false in
     let then' = due_at_end grow output i.bytes in
@@ -93,25 +87,25 @@ ended f grow output unread left left' w0 w w' d d' r r' len piece i none more at
 
 -- as many pictures as are wanted
 pub enough : (f : Format) (output : Output) (unread left w0 w : Option (List ℕ)) (d : Machine) (r : Report) → IsRunning f output unread left w0 w d r → f.enough r.pictures ≡ true
-    → DecodesAs f output unread left w0 w (Ok r)
+    → DecodesAs f output unread left w0 w r (Ok tt)
 enough f output unread left w0 w d r i all = (i.bytes, false, record { consumed = i.consumed; whole = λ is. cc }, i.written, i.report, λ other. all)
 
 -- ---- faults
 
 -- one of reading
-pub unread_on : (f : Format) (output : Output) (unread left left' w0 w : Option (List ℕ)) (d : Machine) (r : Report) (fault : RunFault) → IsRunning f output unread left w0 w d r → Keeps left left' → fault ≡ Read → DecodesAs f output unread left' w0 w (Err fault)
+pub unread_on : (f : Format) (output : Output) (unread left left' w0 w : Option (List ℕ)) (d : Machine) (r : Report) (fault : RunFault) → IsRunning f output unread left w0 w d r → Keeps left left' → fault ≡ Read → DecodesAs f output unread left' w0 w r (Err fault)
 unread_on f output unread left left' w0 w d r fault i kept is =
-    rw is (i.bytes, record { consumed = Consumes-kept unread left left' i.bytes i.consumed kept; whole = λ all. cc }, i.written)
+    rw is (i.bytes, record { consumed = Consumes-kept unread left left' i.bytes i.consumed kept; whole = λ all. cc }, i.written, i.report)
 
 -- so many reads, each of some bytes
 pub record IsReading (format : Format) (reads : ℕ) (output : Output) (unread left held holds : Option (List ℕ)) (m : Machine) (r : Report) : Type 0 where
   pub runs : IsRunning format output unread left held holds m r
   pub many : reads ≤ length runs.bytes
 
-pub reading_begins : (f : Format) (output : Output) (unread holds : Option (List ℕ)) (m : Machine) (refused : List (ℕ × Fault)) → m ≡ new_machine output → refused ≡ []
-    → IsReading f 0 output unread unread holds holds m (record { pictures = 0; refused = refused })
-reading_begins f output unread holds m refused new none = record {
-  runs = record { bytes = []; consumed = Consumes-nil unread; machine = new; report = ap (λ rs. report_of_none rs) none; written = Appends-nil holds };
+pub reading_begins : (f : Format) (output : Output) (unread holds : Option (List ℕ)) (m : Machine) (r : Report) → m ≡ new_machine output → r ≡ no_report
+    → IsReading f 0 output unread unread holds holds m r
+reading_begins f output unread holds m r new none = record {
+  runs = record { bytes = []; consumed = Consumes-nil unread; machine = new; report = none; written = Appends-nil holds };
   many = omega arith;
 }
 
@@ -119,13 +113,13 @@ reading_begins f output unread holds m refused new none = record {
 pub front_is : (left : Option (List ℕ)) (front : List ℕ) → Consumes (prepend_known front left) left front
 front_is left front = grind arith
 
-pub front_taken : (f : Format) → EventsOnlyGrow → (output : Output) (left w0 w : Option (List ℕ)) (d d' : Machine) (refused : List (ℕ × Fault)) (r : Report) (front : List ℕ) → d ≡ new_machine output → refused ≡ []
-    → IsHandled f (after_feed front d) d' (record { pictures = 0; refused = refused }) r w0 w → IsReading f 0 output (prepend_known front left) left w0 w d' r
-front_taken f grow output left w0 w d d' refused r front new none h =
+pub front_taken : (f : Format) → EventsOnlyGrow → (output : Output) (left w0 w : Option (List ℕ)) (d d' : Machine) (r0 r : Report) (front : List ℕ) → d ≡ new_machine output → r0 ≡ no_report
+    → IsHandled f (after_feed front d) d' r0 r w0 w → IsReading f 0 output (prepend_known front left) left w0 w d' r
+front_taken f grow output left w0 w d d' r0 r front new none h =
     let all = prepend_known front left in
-    let start = reading_begins f output all w0 d refused new none in
+    let start = reading_begins f output all w0 d r0 new none in
     record {
-      runs = one_piece f grow output all all left w0 w0 w d d' (record { pictures = 0; refused = refused }) r front start.runs (front_is left front) h;
+      runs = one_piece f grow output all all left w0 w0 w d d' r0 r front start.runs (front_is left front) h;
       many = omega arith;
     }
 
@@ -138,50 +132,65 @@ one_read f grow reads output unread left left' w0 w w' d d' r r' piece some i mo
 }
 
 -- more reads than a run may take
-pub endless : (f : Format) (output : Output) (unread left w0 w : Option (List ℕ)) (d : Machine) (r : Report) (reads : ℕ) → IsReading f reads output unread left w0 w d r → 2 ^ 32 ≤ reads → DecodesAs f output unread left w0 w (Err Endless)
+pub endless : (f : Format) (output : Output) (unread left w0 w : Option (List ℕ)) (d : Machine) (r : Report) (reads : ℕ) → IsReading f reads output unread left w0 w d r → 2 ^ 32 ≤ reads → DecodesAs f output unread left w0 w r (Err Endless)
 endless f output unread left w0 w d r reads i all =
-    (i.runs.bytes, record { consumed = i.runs.consumed; whole = λ all. cc }, i.runs.written, omega (arith, i.many, all))
+    (i.runs.bytes, record { consumed = i.runs.consumed; whole = λ all. cc }, i.runs.written, i.runs.report, omega (arith, i.many, all))
+
+-- from the start on
+off_from_start : (f : Format) (r : Report) (fault : RunFault) (w0 w' : Option (List ℕ)) (es : List Event) → BreaksOffFrom f no_report r fault w0 w' es → BreaksOff f r fault w0 w' es
+off_from_start f r fault w0 w' es off = record { front = off.front; rest = off.rest; parts = off.parts; reported = off.report ∙ told off.front; stops = off.stops }
 
 -- a fault at the events of all bytes so far
-broken : (f : Format) (output : Output) (fault : RunFault) (unread left w0 w' : Option (List ℕ)) (bytes : List ℕ) (all : Bool) → HasRead unread left bytes all
-    → BreaksOff f 0 fault w0 w' (events output max_unit bytes all) → DecodesAs f output unread left w0 w' (Err fault)
-broken f output Read unread left w0 w' bytes all read off = absurd off
-broken f output Endless unread left w0 w' bytes all read off = absurd off
-broken f output _ unread left w0 w' bytes all read off = (bytes, all, read, off)
+broken : (f : Format) (output : Output) (fault : RunFault) (unread left w0 w' : Option (List ℕ)) (r : Report) (bytes : List ℕ) (all : Bool) → HasRead unread left bytes all
+    → BreaksOffFrom f no_report r fault w0 w' (events output max_unit bytes all) → DecodesAs f output unread left w0 w' r (Err fault)
+broken f output Read unread left w0 w' r bytes all read off = absurd off.stops
+broken f output Endless unread left w0 w' r bytes all read off = absurd off.stops
+broken f output Write unread left w0 w' r bytes all read off = (bytes, all, read, off_from_start f r Write w0 w' (events output max_unit bytes all) off)
+broken f output Memory unread left w0 w' r bytes all read off = (bytes, all, read, off_from_start f r Memory w0 w' (events output max_unit bytes all) off)
+broken f output Size unread left w0 w' r bytes all read off = (bytes, all, read, off_from_start f r Size w0 w' (events output max_unit bytes all) off)
 
 -- the front, what broke off, and nothing after it
 nothing_after : (front due all : List Event) → all ≡ front ++ due → all ≡ front ++ (due ++ [])
 nothing_after front due all is = is ∙ ap (λ es. front ++ es) (sym (append-nil due))
 
 -- at the events of a piece
-pub broken_in : (f : Format) → EventsOnlyGrow → (output : Output) (unread left left' w0 w w' : Option (List ℕ)) (d : Machine) (r : Report) (piece : List ℕ) (fault : RunFault) →
-    IsRunning f output unread left w0 w d r → Consumes left left' piece → BreaksOff f r.pictures fault w w' (events_left (after_feed piece d)) → DecodesAs f output unread left' w0 w' (Err fault)
-broken_in f grow output unread left left' w0 w w' d r piece fault i more off =
+pub broken_in : (f : Format) → EventsOnlyGrow → (output : Output) (unread left left' w0 w w' : Option (List ℕ)) (d : Machine) (r r' : Report) (piece : List ℕ) (fault : RunFault) →
+    IsRunning f output unread left w0 w d r → Consumes left left' piece → BreaksOffFrom f r r' fault w w' (events_left (after_feed piece d)) → DecodesAs f output unread left' w0 w' r' (Err fault)
+broken_in f grow output unread left left' w0 w w' d r r' piece fault i more off =
     let front = events output max_unit i.bytes false in
     let due = events_left (after_feed piece d) in
     let then' = due_then grow output i.bytes piece false in
     let due_is : due ≡ then'.0 = ap (λ n. events_left (after_feed piece n)) i.machine ∙ then'.2 in
     let all = nothing_after front due (events output max_unit (i.bytes ++ piece) false) (then'.1 ∙ ap (λ es. front ++ es) (sym due_is)) in
-    broken f output fault unread left' w0 w' (i.bytes ++ piece) false
+    broken f output fault unread left' w0 w' r' (i.bytes ++ piece) false
     (record { consumed = Consumes-trans unread left left' i.bytes piece i.consumed more; whole = λ all. cc })
-    (subst (BreaksOff f 0 fault w0 w') (sym all) (breaks_behind f fresh r fault w0 w w' front due [] (i.report ∙ sym (told front)) i.written off))
+    (subst (BreaksOffFrom f no_report r' fault w0 w') (sym all) (breaks_behind f no_report r r' fault w0 w w' front due [] (i.report ∙ sym (told front)) i.written off))
 
 -- at the events of the end
-pub broken_at_end : (f : Format) → EventsOnlyGrow → (output : Output) (unread left left' w0 w w' : Option (List ℕ)) (d : Machine) (r : Report) (len : ℕ) (piece : List ℕ) (fault : RunFault) →
-    IsRunning f output unread left w0 w d r → len ≡ 0 → Consumes left left' (take len piece) → IsAtEnd left' → BreaksOff f r.pictures fault w w' (events_left (after_flush d)) → DecodesAs f output unread left' w0 w' (Err fault)
-broken_at_end f grow output unread left left' w0 w w' d r len piece fault i none more at_end off =
+broken_at_end : (f : Format) → EventsOnlyGrow → (output : Output) (unread left left' w0 w w' : Option (List ℕ)) (d : Machine) (r r' : Report) (len : ℕ) (piece : List ℕ) (fault : RunFault) →
+    IsRunning f output unread left w0 w d r → len ≡ 0 → Consumes left left' (take len piece) → IsAtEnd left' → BreaksOffFrom f r r' fault w w' (events_left (after_flush d)) → DecodesAs f output unread left' w0 w' r' (Err fault)
+broken_at_end f grow output unread left left' w0 w w' d r r' len piece fault i none more at_end off =
     let front = events output max_unit i.bytes false in
     let due = events_left (after_flush d) in
     let then' = due_at_end grow output i.bytes in
     let due_is : due ≡ then'.0 = ap (λ n. events_left (after_flush n)) i.machine ∙ then'.2 in
     let all = nothing_after front due (defined output i.bytes) (then'.1 ∙ ap (λ es. front ++ es) (sym due_is)) in
-    broken f output fault unread left' w0 w' i.bytes true
+    broken f output fault unread left' w0 w' r' i.bytes true
     (record { consumed = nothing_more unread left left' i.bytes piece len i.consumed none more; whole = λ is. at_end })
-    (subst (BreaksOff f 0 fault w0 w') (sym all) (breaks_behind f fresh r fault w0 w w' front due [] (i.report ∙ sym (told front)) i.written off))
+    (subst (BreaksOffFrom f no_report r' fault w0 w') (sym all) (breaks_behind f no_report r r' fault w0 w w' front due [] (i.report ∙ sym (told front)) i.written off))
 
-pub decodes_err : (format : Format) (output : Output) (unread left old new : Option (List ℕ)) (r : Result Report RunFault) (f : RunFault) → IsErrAnd r (λ e. e ≡ f)
-    → DecodesAs format output unread left old new (Err f) → DecodesAs format output unread left old new r
-decodes_err format output unread left old new r f is d = subst (DecodesAs format output unread left old new) (sym (err_is r f is)) d
+-- the end
+pub at_end : (f : Format) → EventsOnlyGrow → (output : Output) (unread left left' w0 w w' : Option (List ℕ)) (d d' : Machine) (r r' : Report) (len : ℕ) (piece : List ℕ) (result : Result (Unit {0}) RunFault) →
+    IsRunning f output unread left w0 w d r → len ≡ 0 → Consumes left left' (take len piece) → IsAtEnd left' → OnOk result (IsHandled f (after_flush d) d' r r' w w')
+    → IfErr result (λ fault. BreaksOffFrom f r r' fault w w' (events_left (after_flush d))) → DecodesAs f output unread left' w0 w' r' result
+at_end f grow output unread left left' w0 w w' d d' r r' len piece (Ok done) i none more last ok err =
+    ended f grow output unread left left' w0 w w' d d' r r' len piece i none more last ok
+at_end f grow output unread left left' w0 w w' d d' r r' len piece (Err fault) i none more last ok err =
+    broken_at_end f grow output unread left left' w0 w w' d r r' len piece fault i none more last err
+
+pub decodes_err : (format : Format) (output : Output) (unread left old new : Option (List ℕ)) (report : Report) (r : Result (Unit {0}) RunFault) (f : RunFault) → IsErrAnd r (λ e. e ≡ f)
+    → DecodesAs format output unread left old new report (Err f) → DecodesAs format output unread left old new report r
+decodes_err format output unread left old new report r f is d = subst (DecodesAs format output unread left old new report) (sym (err_is r f is)) d
 
 -- all events that had come were taken
 pub drained : (f : Format) (output : Output) (unread left w0 w : Option (List ℕ)) (d : Machine) (r : Report) → IsRunning f output unread left w0 w d r → IsDrained d
@@ -191,28 +200,57 @@ drained f output unread left w0 w d r i = record {
 }
 
 -- at the events of the front
-pub broken_in_front : (f : Format) → EventsOnlyGrow → (output : Output) (left w0 w : Option (List ℕ)) (d : Machine) (refused : List (ℕ × Fault)) (front : List ℕ) (fault : RunFault) → d ≡ new_machine output → refused ≡ []
-    → BreaksOff f 0 fault w0 w (events_left (after_feed front d)) → DecodesAs f output (prepend_known front left) left w0 w (Err fault)
-broken_in_front f grow output left w0 w d refused front fault new none off =
+pub broken_in_front : (f : Format) → EventsOnlyGrow → (output : Output) (left w0 w : Option (List ℕ)) (d : Machine) (r0 r : Report) (front : List ℕ) (fault : RunFault) → d ≡ new_machine output → r0 ≡ no_report
+    → BreaksOffFrom f r0 r fault w0 w (events_left (after_feed front d)) → DecodesAs f output (prepend_known front left) left w0 w r (Err fault)
+broken_in_front f grow output left w0 w d r0 r front fault new none off =
     let all = prepend_known front left in
-    let start = reading_begins f output all w0 d refused new none in
-    broken_in f grow output all all left w0 w0 w d (record { pictures = 0; refused = refused }) front fault start.runs (front_is left front) off
+    let start = reading_begins f output all w0 d r0 new none in
+    broken_in f grow output all all left w0 w0 w d r0 r front fault start.runs (front_is left front) off
 
 pub new_is_drained : (d : Machine) (output : Output) → d ≡ new_machine output → IsDrained d
-new_is_drained d output new = drained plain output None None None None d (report_of_none []) (reading_begins plain output None None d [] new refl).runs
+new_is_drained d output new = drained plain output None None None None d no_report (reading_begins plain output None None d no_report new refl).runs
 
 -- nothing was read before
-pub without_front : (f : Format) (output : Output) (unread left w0 w : Option (List ℕ)) (r : Result Report RunFault) → DecodesAs f output (prepend_known [] unread) left w0 w r → DecodesAs f output unread left w0 w r
-without_front f output unread left w0 w r d = subst (λ u. DecodesAs f output u left w0 w r) (prepend_known-nil unread) d
+pub without_front : (f : Format) (output : Output) (unread left w0 w : Option (List ℕ)) (report : Report) (r : Result (Unit {0}) RunFault)
+    → DecodesAs f output (prepend_known [] unread) left w0 w report r → DecodesAs f output unread left w0 w report r
+without_front f output unread left w0 w report r d = subst (λ u. DecodesAs f output u left w0 w report r) (prepend_known-nil unread) d
 
 -- by a new decoder
-pub by_new : (f : Format) (output : Output) (unread left w0 w : Option (List ℕ)) (r : Result Report RunFault) (m : Machine) → m ≡ new_machine output
-    → DecodesAs f m.output unread left w0 w r → DecodesAs f output unread left w0 w r
-by_new f output unread left w0 w r m e d = subst (λ (n : Machine). DecodesAs f n.output unread left w0 w r) e d
+pub by_new : (f : Format) (output : Output) (unread left w0 w : Option (List ℕ)) (report : Report) (r : Result (Unit {0}) RunFault) (m : Machine) → m ≡ new_machine output
+    → DecodesAs f m.output unread left w0 w report r → DecodesAs f output unread left w0 w report r
+by_new f output unread left w0 w report r m e d = subst (λ (n : Machine). DecodesAs f n.output unread left w0 w report r) e d
 
 -- ---- what is decoded behind a front
 
+-- what is read behind a front, of a reader from which the front was read
+read_behind : (unread middle left : Option (List ℕ)) (front bytes : List ℕ) (all : Bool) → Consumes unread middle front → HasRead (prepend_known front middle) left bytes all
+    → HasRead unread left bytes all
+read_behind None middle left front bytes all c h = record { consumed = tt; whole = h.whole }
+read_behind (Some xs) None left front bytes all c h = absurd c
+read_behind (Some xs) (Some ys) left front bytes all c h = subst (λ l. HasRead (Some l) left bytes all) (sym c) h
+
+decoded_behind : (f : Format) (output : Output) (unread middle left w0 w : Option (List ℕ)) (front : List ℕ) (report : Report) (r : Result (Unit {0}) RunFault) → Consumes unread middle front
+    → DecodesAs f output (prepend_known front middle) left w0 w report r → DecodesAs f output unread left w0 w report r
+decoded_behind f output unread middle left w0 w front report (Ok done) c d = (d.0, d.1, read_behind unread middle left front d.0 d.1 c d.2, d.3, d.4, d.5)
+decoded_behind f output unread middle left w0 w front report (Err Read) c d = (d.0, read_behind unread middle left front d.0 false c d.1, d.2, d.3)
+decoded_behind f output unread middle left w0 w front report (Err Endless) c d = (d.0, read_behind unread middle left front d.0 false c d.1, d.2, d.3, d.4)
+decoded_behind f output unread middle left w0 w front report (Err Write) c d = (d.0, d.1, read_behind unread middle left front d.0 d.1 c d.2, d.3)
+decoded_behind f output unread middle left w0 w front report (Err Memory) c d = (d.0, d.1, read_behind unread middle left front d.0 d.1 c d.2, d.3)
+decoded_behind f output unread middle left w0 w front report (Err Size) c d = (d.0, d.1, read_behind unread middle left front d.0 d.1 c d.2, d.3)
+
+-- by the set that was found in the front
+pub decodes_behind : (format : Presentation → Format) (output : Output) (unread middle left w0 w : Option (List ℕ)) (front bytes : List ℕ) (said : Presentation) (report : Report)
+    (r : Result (Unit {0}) RunFault) → bytes ≡ front → IsFront unread middle bytes said → DecodesAs (format said) output (prepend_known front middle) left w0 w report r
+    → DecodesBySetOrNot format output unread left w0 w report r
+decodes_behind format output unread middle left w0 w front bytes said report r same found d = by_set (record {
+  bytes = bytes;
+  middle = middle;
+  said = said;
+  front = found;
+  decodes = decoded_behind (format said) output unread middle left w0 w front report r (subst (Consumes unread middle) same found.has_read.consumed) d;
+})
+
 -- where there is none
-pub decodes_not : (format : Presentation → Format) (output : Output) (unread left holds : Option (List ℕ)) (r : Result Report RunFault) (fault : RunFault) → IsErrAnd r (λ e. e ≡ fault)
-    → NoFront fault unread left → DecodesBySetOrNot format output unread left holds holds r
-decodes_not format output unread left holds r fault is none = in_front fault (err_is r fault is) none (Appends-nil holds)
+pub decodes_not : (format : Presentation → Format) (output : Output) (unread left holds : Option (List ℕ)) (report : Report) (r : Result (Unit {0}) RunFault) (fault : RunFault)
+    → IsErrAnd r (λ e. e ≡ fault) → report ≡ no_report → NoFront fault unread left → DecodesBySetOrNot format output unread left holds holds report r
+decodes_not format output unread left holds report r fault is same none = in_front fault (err_is r fault is) none (Appends-nil holds) same

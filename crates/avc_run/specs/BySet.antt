@@ -1,8 +1,9 @@
 -- A stream is decoded in a format that its sequence parameter set decides.
-use Rattle.std.specs.Prelude.{◌≡◌, ℕ, List, [], Option, Result, Err}
+use Rattle.std.specs.Prelude.{◌≡◌, ℕ, Bool, List, [], Option, Result, Err}
 use Rattle.std.specs.Io.KnownBytes.{Appends}
 use Rattle.avc_decoder.specs.Output.{Output}
 use Rattle.avc_console.specs.Program.{TellsRun}
+use Rattle.avc_console.specs.Reporting.{no_report}
 use Rattle.avc_console.specs.declared.console.Names.{Names}
 use Rattle.avc_console.specs.declared.exit.Ending.{Ending}
 use Rattle.avc_console.specs.declared.fault.RunFault.{RunFault}
@@ -13,20 +14,21 @@ use Rattle.avc_formats.specs.declared.presentation.Presentation.{Presentation}
 use Rattle.avc_run.specs.Formats.{DecodesAs}
 
 -- A stream is decoded in the format that this set decides.
-pub record DecodesBySet (format : Presentation → Format) (output : Output) (unread left held holds : Option (List ℕ)) (run : Result Report RunFault) : Type 0 where
+pub record DecodesBySet (format : Presentation → Format) (output : Output) (unread left held holds : Option (List ℕ)) (report : Report) (run : Result (Unit {0}) RunFault) : Type 0 where
   pub bytes : List ℕ
   pub middle : Option (List ℕ)
   pub said : Presentation
   pub front : IsFront unread middle bytes said
-  pub decodes : DecodesAs (format said) output unread left held holds run
+  pub decodes : DecodesAs (format said) output unread left held holds report run
 
--- A stream is decoded so, or its front can't be read, and nothing is written.
-pub data Decodes (format : Presentation → Format) (output : Output) (unread left held holds : Option (List ℕ)) (run : Result Report RunFault) : Type 0 where
-  by_set : DecodesBySet format output unread left held holds run → Decodes format output unread left held holds run
-  in_front : (fault : RunFault) → run ≡ Err fault → NoFront fault unread left → Appends held holds [] → Decodes format output unread left held holds run
+-- A stream is decoded so, or its front can't be read, and nothing is written or reported.
+pub data Decodes (format : Presentation → Format) (output : Output) (unread left held holds : Option (List ℕ)) (report : Report) (run : Result (Unit {0}) RunFault) : Type 0 where
+  by_set : DecodesBySet format output unread left held holds report run → Decodes format output unread left held holds report run
+  in_front : (fault : RunFault) → run ≡ Err fault → NoFront fault unread left → Appends held holds [] → report ≡ no_report → Decodes format output unread left held holds report run
 
--- `decode` in such a format was a run, and its exit status and what it told are those of this run.
-pub record EndsDecodingBySet (names : Names) (format : Presentation → Format) (output : Output) (unread left held holds before now : Option (List ℕ)) (ending : Ending) : Type 0 where
-  pub run : Result Report RunFault
-  pub decodes : Decodes format output unread left held holds run
-  pub tells : TellsRun names run before now ending
+-- `decode` in such a format was a run that came to this report, and its exit status and what it told are those of this run.
+pub record EndsDecodingBySet (names : Names) (explained : Bool) (format : Presentation → Format) (output : Output) (unread left held holds before now : Option (List ℕ)) (ending : Ending) : Type 0 where
+  pub report : Report
+  pub run : Result (Unit {0}) RunFault
+  pub decodes : Decodes format output unread left held holds report run
+  pub tells : TellsRun names explained report run before now ending

@@ -10,10 +10,9 @@ use Rattle.avc_decoder.specs.declared.event.Event.TheVariants.{Picture, Refused}
 use Rattle.std.specs.Io.KnownBytes.{Appends, Consumes}
 use Rattle.avc_run.specs.Decoding.{report_of}
 use Rattle.avc_formats.specs.Formats.{Format}
-use Rattle.avc_run.specs.Formats.{written_from, EndsAtAnotherSize, WritesPicturesAs}
-use Rattle.avc_console.specs.Reading.{max_unit, WritesFirst}
+use Rattle.avc_run.specs.Formats.{pictures_after, written_from, StopsAt}
+use Rattle.avc_console.specs.Reading.{max_unit}
 use Rattle.avc_console.specs.declared.fault.RunFault.{RunFault}
-use Rattle.avc_console.specs.declared.fault.RunFault.TheVariants.{Read, Endless, Write, Memory, Size}
 use Rattle.avc_console.specs.declared.report.Report.{Report}
 
 -- the events that the bytes so far define
@@ -70,10 +69,10 @@ pub record IsRunning (format : Format) (output : Output) (unread left held holds
   pub report : r ≡ report_of (events output max_unit bytes false)
   pub written : Appends held holds (written_from format 0 (events output max_unit bytes false))
 
--- A fault broke off the handling of these events, before which so many pictures went out. None comes from reading here.
-abbrev pub BreaksOff : Format → (number : ℕ) → RunFault → (old new : Option (List ℕ)) → List Event → Type 0
-BreaksOff format n Read old new events = ⊥
-BreaksOff format n Endless old new events = ⊥
-BreaksOff format n Write old new events = WritesFirst old new (written_from format n events)
-BreaksOff format n Memory old new events = WritesPicturesAs format n old new events
-BreaksOff format n Size old new events = EndsAtAnotherSize format n old new events
+-- A fault broke off the handling of these events: the first of them were handled.
+pub record BreaksOffFrom (format : Format) (before now : Report) (fault : RunFault) (held holds : Option (List ℕ)) (events : List Event) : Type 0 where
+  pub front : List Event
+  pub rest : List Event
+  pub parts : events ≡ front ++ rest
+  pub report : now ≡ report_with before front
+  pub stops : StopsAt format (pictures_after before.pictures front) fault held holds (written_from format before.pictures front) rest

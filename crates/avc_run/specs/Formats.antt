@@ -1,5 +1,5 @@
 -- What `decode` writes where pictures have a format of their own, and not all may be wanted.
-use Rattle.std.specs.Prelude.{◌≡◌, ℕ, ◌+◌, ◌≤◌, ◌^◌, Bool, true, false, List, [], ◌∷◌, ◌++◌, length, take, Option, Result, Ok, Err}
+use Rattle.std.specs.Prelude.{◌≡◌, ℕ, ◌+◌, ◌<◌, ◌≤◌, ◌^◌, Bool, true, false, List, [], ◌∷◌, ◌++◌, length, take, Option, Result, Ok, Err}
 use Rattle.std.specs.Io.KnownBytes.{Appends}
 use Rattle.avc_types.specs.declared.picture.Picture.{Picture as Decoded}
 use Rattle.avc_annexb.specs.Units.{saturated}
@@ -8,7 +8,7 @@ use Rattle.avc_decoder.specs.Events.{events}
 use Rattle.avc_decoder.specs.SeenEvents.{Event}
 use Rattle.avc_decoder.specs.declared.event.Event.TheVariants.{Picture, Refused}
 use Rattle.avc_run.specs.Decoding.{report_of}
-use Rattle.avc_console.specs.Reading.{max_unit, HasRead, WritesFirst}
+use Rattle.avc_console.specs.Reading.{max_unit, HasRead}
 use Rattle.avc_formats.specs.Formats.{Format}
 use Rattle.avc_console.specs.declared.fault.RunFault.{RunFault}
 use Rattle.avc_console.specs.declared.fault.RunFault.TheVariants.{Read, Endless, Write, Memory, Size}
@@ -26,35 +26,42 @@ written_from format n [] = []
 written_from format n (Picture p ∷ events) = format.text n p ++ written_from format (saturated (n + 1)) events
 written_from format n (Refused unit f ∷ events) = written_from format n events
 
--- Some of these events have been handled, the first ones: the pictures among them are written, each whole.
-pub record WritesPicturesAs (format : Format) (number : ℕ) (old new : Option (List ℕ)) (events : List Event) : Type 0 where
+-- Behind this text the first of these further bytes were written, and not all.
+pub record WritesWithin (old new : Option (List ℕ)) (text more : List ℕ) : Type 0 where
   pub count : ℕ
-  pub within : count ≤ length events
-  pub written : Appends old new (written_from format number (take count events))
+  pub fewer : count < length more
+  pub written : Appends old new (text ++ take count more)
 
--- The pictures before one that has another size are written, each whole.
-pub record EndsAtAnotherSize (format : Format) (number : ℕ) (old new : Option (List ℕ)) (events : List Event) : Type 0 where
+-- A fault came before any of these events, of which the first picture has this number, was handled whole, when this text had been written:
+-- want of memory, or in the writing of the first of them, a picture, that the writer took no more of it, or that it has another size.
+-- None comes from reading here.
+abbrev pub StopsAt : Format → (number : ℕ) → RunFault → (old new : Option (List ℕ)) → (text : List ℕ) → List Event → Type 0
+StopsAt format n Memory old new text events = Appends old new text
+StopsAt format n Write old new text (Picture p ∷ events) = WritesWithin old new text (format.text n p)
+StopsAt format n Size old new text (Picture p ∷ events) = (format.fits n p ≡ false) × Appends old new text
+StopsAt format n _ old new text events = ⊥
+
+-- A fault broke off the handling of these events: the first of them were written, each whole, and are reported.
+pub record BreaksOff (format : Format) (report : Report) (fault : RunFault) (old new : Option (List ℕ)) (events : List Event) : Type 0 where
   pub front : List Event
-  pub picture : Decoded
   pub rest : List Event
-  pub parts : events ≡ front ++ Picture picture ∷ rest
-  pub another : format.fits (pictures_after number front) picture ≡ false
-  pub written : Appends old new (written_from format number front)
+  pub parts : events ≡ front ++ rest
+  pub reported : report ≡ report_of front
+  pub stops : StopsAt format (pictures_after 0 front) fault old new (written_from format 0 front) rest
 
 -- Of all bytes that the reader had, or of the first of them where these bring as many pictures as are wanted, the defined pictures
--- are written, and the report is on what they define. After a fault the same is written as in `decode`, and after a picture of
--- another size those before it.
-abbrev pub DecodesAs : Format → Output → (unread left held holds : Option (List ℕ)) → Result Report RunFault → Type 0
-DecodesAs format output unread left held holds (Ok report) =
+-- are written, and the report is on what they define. After a read fault exactly the pictures are written that the bytes read so far
+-- define, and reported what these define, and also where there were more reads than a run may take, each of some bytes. After other
+-- faults the events before it are.
+abbrev pub DecodesAs : Format → Output → (unread left held holds : Option (List ℕ)) → Report → Result (Unit {0}) RunFault → Type 0
+DecodesAs format output unread left held holds report (Ok _) =
     (bytes : List ℕ) × (all : Bool) × HasRead unread left bytes all × Appends held holds (written_from format 0 (events output max_unit bytes all))
     × (report ≡ report_of (events output max_unit bytes all)) × (all ≡ false → format.enough report.pictures ≡ true)
-DecodesAs format output unread left held holds (Err Read) =
+DecodesAs format output unread left held holds report (Err Read) =
     (bytes : List ℕ) × HasRead unread left bytes false × Appends held holds (written_from format 0 (events output max_unit bytes false))
-DecodesAs format output unread left held holds (Err Endless) =
-    (bytes : List ℕ) × HasRead unread left bytes false × Appends held holds (written_from format 0 (events output max_unit bytes false)) × (2 ^ 32 ≤ length bytes)
-DecodesAs format output unread left held holds (Err Write) =
-    (bytes : List ℕ) × (all : Bool) × HasRead unread left bytes all × WritesFirst held holds (written_from format 0 (events output max_unit bytes all))
-DecodesAs format output unread left held holds (Err Memory) =
-    (bytes : List ℕ) × (all : Bool) × HasRead unread left bytes all × WritesPicturesAs format 0 held holds (events output max_unit bytes all)
-DecodesAs format output unread left held holds (Err Size) =
-    (bytes : List ℕ) × (all : Bool) × HasRead unread left bytes all × EndsAtAnotherSize format 0 held holds (events output max_unit bytes all)
+    × (report ≡ report_of (events output max_unit bytes false))
+DecodesAs format output unread left held holds report (Err Endless) =
+    (bytes : List ℕ) × HasRead unread left bytes false × Appends held holds (written_from format 0 (events output max_unit bytes false))
+    × (report ≡ report_of (events output max_unit bytes false)) × (2 ^ 32 ≤ length bytes)
+DecodesAs format output unread left held holds report (Err fault) =
+    (bytes : List ℕ) × (all : Bool) × HasRead unread left bytes all × BreaksOff format report fault held holds (events output max_unit bytes all)

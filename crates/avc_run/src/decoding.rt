@@ -2,18 +2,20 @@ ghost use Rattle.std.specs.Prelude.{◌≡◌, ◌∷◌, [], take, IfErr, IfOk,
 ghost use Rattle.std.specs.Io.KnownBytes.{prepend_known, Appends};
 ghost use Rattle.avc_types.specs.Whole.{IsWhole};
 ghost use Rattle.avc_console.specs.Reading.{max_unit};
+ghost use Rattle.avc_console.specs.Reporting.{no_report, TellsOn};
 ghost use Rattle.avc_run.specs.Decoding.{Decodes};
 ghost use Rattle.avc_run.specs.Formats.{written_from, DecodesAs};
-ghost use Rattle.avc_run.specs.Draining.{events_left, report_with, BreaksOff, IfPicture, IsDrained, IsHandled};
+ghost use Rattle.avc_run.specs.Draining.{events_left, report_with, BreaksOffFrom, IfPicture, IsDrained, IsHandled};
 ghost use Rattle.avc_decoder.specs.Machine.{after_feed, after_flush, new_machine, IsUpToUnit};
 
 use crate::calls::{MAX_UNIT, feed_unit, flush, next_event};
-use avc_console::{PIECE, READS, Refusals, Report, RunFault, Unwatched, Watch, read_once};
+use avc_console::{PIECE, READS, Report, Reporter, RunFault, Unwatched, Watch, read_once};
 use avc_decoder::laws::{events_only_grow, pictures_are_whole};
 use avc_decoder::{Decoder, Event, Output};
 use avc_formats::{I420, PictureFormat};
 use avc_plane::SharedPicture;
 use std::alloc::Global;
+use std::io;
 use std::io::{Read, Write};
 
 /// Decodes a byte stream (Annex B) and writes its pictures as I420, each as soon as it goes out in this mode of output: before
@@ -26,89 +28,116 @@ pub fn run<R: Read, W: Write>(
 ) -> Result<Report, RunFault>
     ensures { Decodes output (R.remaining reader.old) (R.remaining reader.new) (W.contents writer.old) (W.contents writer.new) result }
 {
-    run_plain(alloc, output, &mut Unwatched, reader, writer)
+    let mut report = Report::new(alloc);
+    let run = run_watched(
+        alloc,
+        output,
+        &I420,
+        &mut report,
+        &mut io::sink(),
+        &mut Unwatched,
+        reader,
+        writer,
+    );
+    match run {
+        Ok(()) => Ok(report),
+        Err(fault) => Err(fault),
+    }
 }
 
-/// The same, where `watch` is told how far the run is.
-pub(crate) fn run_plain<V: Watch, R: Read, W: Write>(
-    alloc: Global,
-    output: Output,
-    watch: &mut V,
-    reader: &mut R,
-    writer: &mut W,
-) -> Result<Report, RunFault>
-    ensures { Decodes output (R.remaining reader.old) (R.remaining reader.new) (W.contents writer.old) (W.contents writer.new) result }
-{
-    run_watched(alloc, output, &I420, watch, reader, writer)
-}
-
-/// Decodes a byte stream (Annex B) in this format. Where it wants no more pictures, the bytes are not read to their end. `watch` is told
-/// how far the run is, after each read and at the end.
-pub fn run_watched<F: PictureFormat, V: Watch, R: Read, W: Write>(
+/// Decodes a byte stream (Annex B) in this format. Where it wants no more pictures, the bytes are not read to their end. Each picture
+/// and each refusal is reported as it comes, and `watch` is told how far the run is, after each read and at the end.
+pub fn run_watched<F: PictureFormat, T: Reporter, E: Write, V: Watch, R: Read, W: Write>(
     alloc: Global,
     output: Output,
     format: &F,
+    report: &mut T,
+    errors: &mut E,
     watch: &mut V,
     reader: &mut R,
     writer: &mut W,
-) -> Result<Report, RunFault>
-    ensures { DecodesAs (F.format format.now) output (R.remaining reader.old) (R.remaining reader.new) (W.contents writer.old)
-        (W.contents writer.new) result }
+) -> Result<(), RunFault>
+    requires { (T.reported report.old).report ≡ no_report }
+    ensures decodes { DecodesAs (F.format format.now) output (R.remaining reader.old) (R.remaining reader.new) (W.contents writer.old)
+        (W.contents writer.new) (T.reported report.new).report result }
+    ensures told { TellsOn (T.reported report.old) (T.reported report.new) (E.contents errors.old) (E.contents errors.new) }
 {
-    run_behind(alloc, output, format, watch, &[], reader, writer)
+    run_behind(
+        alloc,
+        output,
+        format,
+        report,
+        errors,
+        watch,
+        &[],
+        reader,
+        writer,
+    )
 }
 
 /// The same of a stream of which the front was read before.
-pub fn run_behind<F: PictureFormat, V: Watch, R: Read, W: Write>(
+pub fn run_behind<F: PictureFormat, T: Reporter, E: Write, V: Watch, R: Read, W: Write>(
     alloc: Global,
     output: Output,
     format: &F,
+    report: &mut T,
+    errors: &mut E,
     watch: &mut V,
     front: &[u8],
     reader: &mut R,
     writer: &mut W,
-) -> Result<Report, RunFault>
-    ensures { DecodesAs (F.format format.now) output (prepend_known front.now (R.remaining reader.old)) (R.remaining reader.new)
-        (W.contents writer.old) (W.contents writer.new) result }
+) -> Result<(), RunFault>
+    requires { (T.reported report.old).report ≡ no_report }
+    ensures decodes { DecodesAs (F.format format.now) output (prepend_known front.now (R.remaining reader.old)) (R.remaining reader.new)
+        (W.contents writer.old) (W.contents writer.new) (T.reported report.new).report result }
+    ensures told { TellsOn (T.reported report.old) (T.reported report.new) (E.contents errors.old) (E.contents errors.new) }
 {
     let mut decoder = Decoder::<MAX_UNIT, SharedPicture>::sharing(alloc, output);
-    let run = decode_by(&mut decoder, alloc, format, watch, front, reader, writer);
-    watch.end(&run);
+    let run = decode_by(
+        &mut decoder,
+        format,
+        report,
+        errors,
+        watch,
+        front,
+        reader,
+        writer,
+    );
+    watch.end(report.counts(), run);
     run
 }
 
 // The same by a new decoder, and without its end.
-fn decode_by<F: PictureFormat, V: Watch, R: Read, W: Write>(
+fn decode_by<F: PictureFormat, T: Reporter, E: Write, V: Watch, R: Read, W: Write>(
     decoder: &mut Decoder<MAX_UNIT, SharedPicture>,
-    alloc: Global,
     format: &F,
+    report: &mut T,
+    errors: &mut E,
     watch: &mut V,
     front: &[u8],
     reader: &mut R,
     writer: &mut W,
-) -> Result<Report, RunFault>
-    requires { decoder.old ≡ new_machine decoder.old.output }
-    ensures { DecodesAs (F.format format.now) decoder.old.output (prepend_known front.now (R.remaining reader.old)) (R.remaining reader.new)
-        (W.contents writer.old) (W.contents writer.new) result }
+) -> Result<(), RunFault>
+    requires new { decoder.old ≡ new_machine decoder.old.output }
+    requires none { (T.reported report.old).report ≡ no_report }
+    ensures decodes { DecodesAs (F.format format.now) decoder.old.output (prepend_known front.now (R.remaining reader.old)) (R.remaining reader.new)
+        (W.contents writer.old) (W.contents writer.new) (T.reported report.new).report result }
+    ensures told { TellsOn (T.reported report.old) (T.reported report.new) (E.contents errors.old) (E.contents errors.new) }
 {
     events_only_grow();
-    let mut report = Report {
-        pictures: 0,
-        refused: Refusals::new(alloc),
-    };
-    take_in(decoder, front, format, writer, &mut report)?;
-    watch.look(front, &report);
+    take_in(decoder, front, format, writer, report, errors)?;
+    watch.look(front, report.counts());
     let mut piece = [0; PIECE];
     'pieces: for _read in 0..READS {
         let len = read_once(reader, &mut piece)?;
         if len == 0 {
-            finish(decoder, format, writer, &mut report)?;
-            return Ok(report);
+            return finish(decoder, format, writer, report, errors);
         }
-        take_in(decoder, &piece[..len], format, writer, &mut report)?;
-        watch.look(&piece[..len], &report);
-        if format.is_enough(report.pictures) {
-            return Ok(report);
+        take_in(decoder, &piece[..len], format, writer, report, errors)?;
+        let counts = report.counts();
+        watch.look(&piece[..len], counts);
+        if format.is_enough(counts.pictures) {
+            return Ok(());
         }
     }
     Err(RunFault::Endless)
@@ -116,106 +145,116 @@ fn decode_by<F: PictureFormat, V: Watch, R: Read, W: Write>(
 
 // The next bytes of the stream, and all events that come by them. Those of one unit are taken before the next unit is fed, so that few
 // pictures wait at a time.
-fn take_in<F: PictureFormat, W: Write>(
+fn take_in<F: PictureFormat, T: Reporter, E: Write, W: Write>(
     decoder: &mut Decoder<MAX_UNIT, SharedPicture>,
     piece: &[u8],
     format: &F,
     writer: &mut W,
-    report: &mut Report,
+    report: &mut T,
+    errors: &mut E,
 ) -> Result<(), RunFault>
     requires { IsDrained decoder.old }
-    ensures ok { OnOk result (IsHandled (F.format format.now) (after_feed piece.now decoder.old) decoder.new report.old report.new
-        (W.contents writer.old) (W.contents writer.new)) }
-    ensures err { IfErr result (λ fault. BreaksOff (F.format format.now) report.old.pictures fault
+    ensures ok { OnOk result (IsHandled (F.format format.now) (after_feed piece.now decoder.old) decoder.new
+        (T.reported report.old).report (T.reported report.new).report (W.contents writer.old) (W.contents writer.new)) }
+    ensures err { IfErr result (λ fault. BreaksOffFrom (F.format format.now) (T.reported report.old).report (T.reported report.new).report fault
         (W.contents writer.old) (W.contents writer.new) (events_left (after_feed piece.now decoder.old))) }
+    ensures told { TellsOn (T.reported report.old) (T.reported report.new) (E.contents errors.old) (E.contents errors.new) }
 {
     events_only_grow();
     let mut done = 0;
     'units: while done < piece.len() {
-        let used = take_unit(decoder, &piece[done..], format, writer, report)?;
+        let used = take_unit(decoder, &piece[done..], format, writer, report, errors)?;
         done += used;
     }
     Ok(())
 }
 
 // The same of bytes up to where a unit has ended. Answers how many they are.
-fn take_unit<F: PictureFormat, W: Write>(
+fn take_unit<F: PictureFormat, T: Reporter, E: Write, W: Write>(
     decoder: &mut Decoder<MAX_UNIT, SharedPicture>,
     bytes: &[u8],
     format: &F,
     writer: &mut W,
-    report: &mut Report,
+    report: &mut T,
+    errors: &mut E,
 ) -> Result<usize, RunFault>
     requires { IsDrained decoder.old }
     ensures unit { IfOk result (λ used. IsUpToUnit max_unit decoder.old.bytes bytes.now used) }
-    ensures ok { IfOk result (λ used. IsHandled (F.format format.now) (after_feed (take used bytes.now) decoder.old) decoder.new report.old report.new
-        (W.contents writer.old) (W.contents writer.new)) }
-    ensures err { IfErr result (λ fault. BreaksOff (F.format format.now) report.old.pictures fault
+    ensures ok { IfOk result (λ used. IsHandled (F.format format.now) (after_feed (take used bytes.now) decoder.old) decoder.new
+        (T.reported report.old).report (T.reported report.new).report (W.contents writer.old) (W.contents writer.new)) }
+    ensures err { IfErr result (λ fault. BreaksOffFrom (F.format format.now) (T.reported report.old).report (T.reported report.new).report fault
         (W.contents writer.old) (W.contents writer.new) (events_left (after_feed bytes.now decoder.old))) }
+    ensures told { TellsOn (T.reported report.old) (T.reported report.new) (E.contents errors.old) (E.contents errors.new) }
 {
     events_only_grow();
     let used = feed_unit(decoder, bytes)?;
-    drain(decoder, format, writer, report)?;
+    drain(decoder, format, writer, report, errors)?;
     Ok(used)
 }
 
 // The end of the stream, and all events that come by it.
-fn finish<F: PictureFormat, W: Write>(
+fn finish<F: PictureFormat, T: Reporter, E: Write, W: Write>(
     decoder: &mut Decoder<MAX_UNIT, SharedPicture>,
     format: &F,
     writer: &mut W,
-    report: &mut Report,
+    report: &mut T,
+    errors: &mut E,
 ) -> Result<(), RunFault>
-    ensures ok { OnOk result (IsHandled (F.format format.now) (after_flush decoder.old) decoder.new report.old report.new
-        (W.contents writer.old) (W.contents writer.new)) }
-    ensures err { IfErr result (λ fault. BreaksOff (F.format format.now) report.old.pictures fault
+    ensures ok { OnOk result (IsHandled (F.format format.now) (after_flush decoder.old) decoder.new
+        (T.reported report.old).report (T.reported report.new).report (W.contents writer.old) (W.contents writer.new)) }
+    ensures err { IfErr result (λ fault. BreaksOffFrom (F.format format.now) (T.reported report.old).report (T.reported report.new).report fault
         (W.contents writer.old) (W.contents writer.new) (events_left (after_flush decoder.old))) }
+    ensures told { TellsOn (T.reported report.old) (T.reported report.new) (E.contents errors.old) (E.contents errors.new) }
 {
     flush(decoder)?;
-    drain(decoder, format, writer, report)?;
+    drain(decoder, format, writer, report, errors)?;
     Ok(())
 }
 
 // Takes all events that have come.
-fn drain<F: PictureFormat, W: Write>(
+fn drain<F: PictureFormat, T: Reporter, E: Write, W: Write>(
     decoder: &mut Decoder<MAX_UNIT, SharedPicture>,
     format: &F,
     writer: &mut W,
-    report: &mut Report,
+    report: &mut T,
+    errors: &mut E,
 ) -> Result<(), RunFault>
-    ensures ok { OnOk result (IsHandled (F.format format.now) decoder.old decoder.new report.old report.new
+    ensures ok { OnOk result (IsHandled (F.format format.now) decoder.old decoder.new (T.reported report.old).report (T.reported report.new).report
         (W.contents writer.old) (W.contents writer.new)) }
-    ensures err { IfErr result (λ fault. BreaksOff (F.format format.now) report.old.pictures fault
+    ensures err { IfErr result (λ fault. BreaksOffFrom (F.format format.now) (T.reported report.old).report (T.reported report.new).report fault
         (W.contents writer.old) (W.contents writer.new) (events_left decoder.old)) }
+    ensures told { TellsOn (T.reported report.old) (T.reported report.new) (E.contents errors.old) (E.contents errors.new) }
 {
     pictures_are_whole();
     'events: while let Some(event) = next_event(decoder)? {
-        handle(event, format, writer, report)?;
+        handle(event, format, writer, report, errors)?;
     }
     Ok(())
 }
 
-fn handle<F: PictureFormat, W: Write>(
+fn handle<F: PictureFormat, T: Reporter, E: Write, W: Write>(
     event: Event<SharedPicture>,
     format: &F,
     writer: &mut W,
-    report: &mut Report,
+    report: &mut T,
+    errors: &mut E,
 ) -> Result<(), RunFault>
     requires { IfPicture event IsWhole }
-    ensures report { OnOk result (report.new ≡ report_with report.old (event ∷ [])) }
+    ensures report { OnOk result ((T.reported report.new).report ≡ report_with (T.reported report.old).report (event ∷ [])) }
     ensures written { OnOk result (Appends (W.contents writer.old) (W.contents writer.new)
-        (written_from (F.format format.now) report.old.pictures (event ∷ []))) }
-    ensures err { IfErr result (λ fault. BreaksOff (F.format format.now) report.old.pictures fault (W.contents writer.old) (W.contents writer.new)
-        (event ∷ [])) }
+        (written_from (F.format format.now) (T.reported report.old).report.pictures (event ∷ []))) }
+    ensures err { IfErr result (λ fault. BreaksOffFrom (F.format format.now) (T.reported report.old).report (T.reported report.new).report fault
+        (W.contents writer.old) (W.contents writer.new) (event ∷ [])) }
+    ensures told { TellsOn (T.reported report.old) (T.reported report.new) (E.contents errors.old) (E.contents errors.new) }
 {
     match event {
         Event::Picture(picture) => {
-            format.write(report.pictures, &picture, writer)?;
-            report.pictures = report.pictures.saturating_add(1);
+            format.write(report.counts().pictures, &picture, writer)?;
+            report.count_picture();
             Ok(())
         }
         Event::Refused { unit, fault } => {
-            report.refused.push(unit, fault)?;
+            report.refuse(unit, fault, errors)?;
             Ok(())
         }
     }

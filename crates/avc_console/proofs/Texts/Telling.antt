@@ -4,30 +4,12 @@ unfoldable pub use Common.*
 
 -- ---- texts that are told
 
--- the parts of a line
-pub line_is : (unit number name : List ℕ) → unit ++ codes ": " ++ number ++ codes " " ++ name ++ 10 ∷ [] ≡ unit ++ (58 ∷ 32 ∷ (number ++ (32 ∷ (name ++ (10 ∷ [])))))
-line_is unit number name = simp append_assoc
-
 -- one item more
 pub told_more : {A : Type 0} (line : A → List ℕ) (items : List A) (x : A) → flat_map line (items ++ x ∷ []) ≡ flat_map line items ++ line x
 told_more line items x = flat_map-append line items (x ∷ []) ∙ ap (λ l. flat_map line items ++ l) (append-nil (line x))
 
--- one line more
-pub told_next : {A : Type 0} (line : A → List ℕ) (old new : List ℕ) (d : A) (items : List A) (i : ℕ) → i < length items → old ≡ flat_map line (take i items)
-    → new ≡ old ++ line (get_or items i d) → new ≡ flat_map line (take (i + 1) items)
-told_next line old new d items i low so_far more = rw (more, so_far, take_more items i d low) (sym (told_more line (take i items) (get_or items i d)))
-
 pub kept_front : (a b c : Option (List ℕ)) (bytes : List ℕ) → Keeps a b → Appends b c bytes → Appends a c bytes
 kept_front a b c bytes kept more = grind arith
-
--- ---- what is told of a run
-
-pub as_it_is : (run : Result Report RunFault) → IsToldAs run run
-as_it_is run = grind arith
-
--- no memory was found for the lines of its refusals
-pub as_memory : (run : Result Report RunFault) (fault : RunFault) → fault ≡ Memory → is_ok run ≡ true → IsToldAs run (Err fault)
-as_memory run fault is ok = grind arith
 
 -- after nothing was told
 pub told_after : (a b c : Option (List ℕ)) (text : List ℕ) (told : Bool) → Keeps a b → Tells b c text told → Tells a c text told
@@ -51,6 +33,64 @@ stopped_after a b c xs ys all some = record {
   fewer = omega (arith, length-append xs ys, some.fewer);
   written = subst (Appends a c) (sym (take-append-add xs ys some.count)) (Appends-trans a b c xs (take some.count ys) all some.written);
 }
+
+-- ---- telling on
+
+-- where all was taken so far
+pub more_told : (was : Bool) (b c : Option (List ℕ)) (text : List ℕ) (told : Bool) → was ≡ true → Tells b c text told → TellsMore was b c text told
+more_told was b c text told all more = subst (λ w. TellsMore w b c text told) (sym all) (by told more)
+  where
+    by : (told : Bool) → Tells b c text told → TellsMore true b c text told
+    by true some = record { on = λ start so_far before. Appends-trans start b c so_far text before some }
+    by false some = record { on = λ start so_far before. stopped_after start b c so_far text before some }
+
+-- one text, and then another
+pub told_both : (was mid is : Bool) (a b c : Option (List ℕ)) (xs ys : List ℕ) → TellsMore was a b xs mid → TellsMore mid b c ys is → TellsMore was a c (xs ++ ys) is
+told_both was mid is a b c xs ys first second = record {
+  on = λ start so_far before. subst (λ t. Tells start c t is) (append_assoc so_far xs ys) (second.on start (so_far ++ xs) (first.on start so_far before));
+}
+
+-- ---- telling refusals
+
+-- its line, and what it means
+pub explained_told : (explained was mid is : Bool) (r : ℕ × Fault) (a b c : Option (List ℕ)) (xs ys : List ℕ) → explained ≡ true → xs ≡ refusal_line r → ys ≡ explained_line r
+    → TellsMore was a b xs mid → TellsMore mid b c ys is → TellsMore was a c (refusal_text explained r) is
+unfolding refusal_text
+explained_told explained was mid is r a b c xs ys wanted line meaning first second =
+    subst (λ x. TellsMore was a c (refusal_text x r) is) (sym wanted)
+    (subst (λ l. TellsMore was a c (l ++ explained_line r) is) line
+    (subst (λ l. TellsMore was a c (xs ++ l) is) meaning (told_both was mid is a b c xs ys first second)))
+
+-- its line alone
+pub refusal_told : (explained was is : Bool) (r : ℕ × Fault) (a b : Option (List ℕ)) (xs : List ℕ) → explained ≡ false → xs ≡ refusal_line r
+    → TellsMore was a b xs is → TellsMore was a b (refusal_text explained r) is
+unfolding refusal_text
+refusal_told explained was is r a b xs unwanted line tells =
+    subst (λ x. TellsMore was a b (refusal_text x r) is) (sym unwanted) (subst (λ l. TellsMore was a b l is) (line ∙ sym (append-nil (refusal_line r))) tells)
+
+-- a run that a fault ended
+pub ended_by : (names : Names) (t : Tallied) (run : Result (Unit {0}) RunFault) (fault : RunFault) (told : Bool) (before now : Option (List ℕ)) (ending : Ending) → run ≡ Err fault → told ≡ t.told
+    → ending.status ≡ fault_status fault → TellsMore told before now (fault_line names fault) ending.told
+    → (start : Option (List ℕ)) → IsTold start before (reported_by t) → TellsRun names t.explained (report_in t) run start now ending
+ended_by names t run fault told before now ending is same status tells start so_far =
+    let refusals = refusal_texts t.explained t.refusals in
+    let on = subst (λ w. TellsMore w before now (fault_line names fault) ending.told) same tells in
+    record {
+      status_is = status ∙ sym (ap (λ r. run_status (report_in t) r) is);
+      told = subst (λ r. Tells start now (run_text names t.explained (report_in t) r) ending.told) (sym is) (on.on start refusals so_far);
+    }
+
+-- one refusal more of a tally
+pub tally_told : (old new : Tallied) (r : ℕ × Fault) (before now : Option (List ℕ)) → new.explained ≡ old.explained → new.refusals ≡ old.refusals ++ r ∷ []
+    → TellsMore old.told before now (refusal_text old.explained r) new.told → TellsOn (reported_by old) (reported_by new) before now
+tally_told old new r before now same more tells =
+    let line = refusal_text old.explained in
+    let all : flat_map (refusal_text new.explained) new.refusals ≡ flat_map line old.refusals ++ line r =
+    ap (λ x. flat_map (refusal_text x) new.refusals) same ∙ ap (λ rs. flat_map line rs) more ∙ told_more line old.refusals r in
+    record {
+      line_is = ap (λ x. refusal_text x) same;
+      told = λ start so_far. subst (λ t. Tells start now t new.told) (sym all) (tells.on start (flat_map line old.refusals) so_far);
+    }
 
 -- ---- by results
 

@@ -102,87 +102,131 @@ handled f d0 d d' r0 r w0 w none same i =
 
 -- ---- a fault
 
-take_behind : {A : Type 0} (a b c : List A) (n : ℕ) → n ≤ length b → take (length a + n) (a ++ (b ++ c)) ≡ a ++ take n b
-take_behind a b c n within = take-append-add a (b ++ c) n ∙ ap (λ t. a ++ t) (take-append-le n b c within)
-
-written_three : (f : Format) (n : ℕ) (a b c : List Event) → written_from f n (a ++ (b ++ c))
-    ≡ written_from f n a ++ (written_from f (pictures_after n a) b ++ written_from f (pictures_after (pictures_after n a) b) c)
-written_three f n a b c = rw (written-append f n a (b ++ c), written-append f (pictures_after n a) b c) refl
-
--- the pictures of a, and of the first n events of b, before what would have followed
-parts : (f : Format) (m : ℕ) (w0 w w' : Option (List ℕ)) (a b c : List Event) (n : ℕ) → n ≤ length b → Appends w0 w (written_from f m a)
-    → Appends w w' (written_from f (pictures_after m a) (take n b)) → Appends w0 w' (written_from f m (take (length a + n) (a ++ (b ++ c))))
-parts f m w0 w w' a b c n within all some =
-    subst (Appends w0 w') (sym (ap (λ es. written_from f m es) (take_behind a b c n within) ∙ written-append f m a (take n b)))
-    (Appends-trans w0 w w' (written_from f m a) (written_from f (pictures_after m a) (take n b)) all some)
+-- behind what was written before, and before what would have followed
+stops_on : (f : Format) (n : ℕ) (fault : RunFault) (w0 w w' : Option (List ℕ)) (x text : List ℕ) (rest c : List Event) → Appends w0 w x
+    → StopsAt f n fault w w' text rest → StopsAt f n fault w0 w' (x ++ text) (rest ++ c)
+stops_on f n Memory w0 w w' x text rest c all some = Appends-trans w0 w w' x text all some
+stops_on f n Write w0 w w' x text [] c all some = absurd some
+stops_on f n Write w0 w w' x text (Refused unit e ∷ rest) c all some = absurd some
+stops_on f n Write w0 w w' x text (Picture p ∷ rest) c all some =
+    let more = take some.count (f.text n p) in
+    record {
+      count = some.count;
+      fewer = some.fewer;
+      written = subst (Appends w0 w') (sym (append_assoc x text more)) (Appends-trans w0 w w' x (text ++ more) all some.written);
+    }
+stops_on f n Size w0 w w' x text [] c all some = absurd some
+stops_on f n Size w0 w w' x text (Refused unit e ∷ rest) c all some = absurd some
+stops_on f n Size w0 w w' x text (Picture p ∷ rest) c all some = (some.0, Appends-trans w0 w w' x text all some.1)
+stops_on f n Read w0 w w' x text rest c all some = absurd some
+stops_on f n Endless w0 w w' x text rest c all some = absurd some
 
 -- a fault in b, after all of a and before c
-pub breaks_later : (f : Format) (n : ℕ) (fault : RunFault) (w0 w w' : Option (List ℕ)) (a b c : List Event) → Appends w0 w (written_from f n a)
-    → BreaksOff f (pictures_after n a) fault w w' b → BreaksOff f n fault w0 w' (a ++ (b ++ c))
-breaks_later f n Read w0 w w' a b c all some = some
-breaks_later f n Endless w0 w w' a b c all some = some
-breaks_later f n Write w0 w w' a b c all some =
+pub breaks_behind : (f : Format) (r r' r'' : Report) (fault : RunFault) (w0 w w' : Option (List ℕ)) (a b c : List Event) → r' ≡ report_with r a
+    → Appends w0 w (written_from f r.pictures a) → BreaksOffFrom f r' r'' fault w w' b → BreaksOffFrom f r r'' fault w0 w' (a ++ (b ++ c))
+breaks_behind f r r' r'' fault w0 w w' a b c told all some =
+    let n = r.pictures in
     let m = pictures_after n a in
-    let y = written_from f m b in
-    let z = written_from f (pictures_after m b) c in
-    subst (WritesFirst w0 w') (sym (written_three f n a b c)) (stopped_after w0 w w' (written_from f n a) (y ++ z) all (stopped_before w w' y z some))
-breaks_later f n Memory w0 w w' a b c all some = record {
-  count = length a + some.count;
-  within = omega (arith, length-append a (b ++ c), length-append b c, some.within);
-  written = parts f n w0 w w' a b c some.count some.within all some.written;
-}
-breaks_later f n Size w0 w w' a b c all some =
-    let next = Picture some.picture in
+    let text = written_from f n a ++ written_from f m some.front in
+    let here = subst (λ k. StopsAt f (pictures_after k some.front) fault w w' (written_from f k some.front) some.rest) (number_after r r' a told) some.stops in
+    let later = stops_on f (pictures_after m some.front) fault w0 w w' (written_from f n a) (written_from f m some.front) some.rest c all here in
+    let number = subst (λ k. StopsAt f k fault w0 w' text (some.rest ++ c)) (sym (after-append n a some.front)) later in
     record {
       front = a ++ some.front;
-      picture = some.picture;
       rest = some.rest ++ c;
-      parts = ap (λ es. a ++ es) (ap (λ es. es ++ c) some.parts ∙ append_assoc some.front (next ∷ some.rest) c) ∙ sym (append_assoc a some.front (next ∷ (some.rest ++ c)));
-      another = ap (λ k. f.fits k some.picture) (after-append n a some.front) ∙ some.another;
-      written =
-          subst (Appends w0 w') (sym (written-append f n a some.front))
-          (Appends-trans w0 w w' (written_from f n a) (written_from f (pictures_after n a) some.front) all some.written);
+      parts = ap (λ es. a ++ es) (ap (λ es. es ++ c) some.parts ∙ append_assoc some.front some.rest c) ∙ sym (append_assoc a some.front (some.rest ++ c));
+      report = some.report ∙ ap (λ q. report_with q some.front) told ∙ sym (report_with-append r a some.front);
+      stops = subst (λ t. StopsAt f (pictures_after n (a ++ some.front)) fault w0 w' t (some.rest ++ c)) (sym (written-append f n a some.front)) number;
     }
 
--- the same, told by the report
-pub breaks_behind : (f : Format) (r r' : Report) (fault : RunFault) (w0 w w' : Option (List ℕ)) (a b c : List Event) → r' ≡ report_with r a
-    → Appends w0 w (written_from f r.pictures a) → BreaksOff f r'.pictures fault w w' b → BreaksOff f r.pictures fault w0 w' (a ++ (b ++ c))
-breaks_behind f r r' fault w0 w w' a b c told all some =
-    breaks_later f r.pictures fault w0 w w' a b c all (subst (λ n. BreaksOff f n fault w w' b) (number_after r r' a told) some)
-
 -- before an event was taken
-pub stopped : (f : Format) (d0 d : Machine) (r0 r : Report) (w0 w : Option (List ℕ)) → IsDraining f d0 d r0 r w0 w → WritesPicturesAs f r0.pictures w0 w (events_left d0)
-stopped f d0 d r0 r w0 w i =
+pub stopped : (f : Format) (fault : RunFault) (d0 d : Machine) (r0 r : Report) (w0 w : Option (List ℕ)) → fault ≡ Memory → IsDraining f d0 d r0 r w0 w
+    → BreaksOffFrom f r0 r fault w0 w (events_left d0)
+stopped f fault d0 d r0 r w0 w memory i =
     record {
-      count = length i.done;
-      within = omega (arith, ap (λ es. length es) i.rest, length-append i.done (events_left d));
-      written =
-          subst (Appends w0 w) (sym (ap (λ es. written_from f r0.pictures (take (length i.done) es)) i.rest
-          ∙ ap (λ es. written_from f r0.pictures es) (take-append_seam i.done (events_left d)))) i.written;
+      front = i.done;
+      rest = events_left d;
+      parts = i.rest;
+      report = i.report;
+      stops = subst (λ e. StopsAt f (pictures_after r0.pictures i.done) e w0 w (written_from f r0.pictures i.done) (events_left d)) (sym memory) i.written;
     }
 
 -- in the midst of one
-pub stopped_in : (f : Format) (fault : RunFault) (d0 d : Machine) (r0 r : Report) (w0 w w' : Option (List ℕ)) (e : Event)
-    → Some e ≡ next_event max_unit d → BreaksOff f r.pictures fault w w' (e ∷ []) → IsDraining f d0 d r0 r w0 w → BreaksOff f r0.pictures fault w0 w' (events_left d0)
-stopped_in f fault d0 d r0 r w0 w w' e next some i =
+pub stopped_in : (f : Format) (fault : RunFault) (d0 d : Machine) (r0 r r' : Report) (w0 w w' : Option (List ℕ)) (e : Event)
+    → Some e ≡ next_event max_unit d → BreaksOffFrom f r r' fault w w' (e ∷ []) → IsDraining f d0 d r0 r w0 w → BreaksOffFrom f r0 r' fault w0 w' (events_left d0)
+stopped_in f fault d0 d r0 r r' w0 w w' e next some i =
     let c = events_left (after_take (Some e) d) in
     let all : events_left d0 ≡ i.done ++ ((e ∷ []) ++ c) = i.rest ∙ ap (λ es. i.done ++ es) (due_next d e next) in
-    subst (BreaksOff f r0.pictures fault w0 w') (sym all) (breaks_behind f r0 r fault w0 w w' i.done (e ∷ []) c i.report i.written some)
+    subst (BreaksOffFrom f r0 r' fault w0 w') (sym all) (breaks_behind f r0 r r' fault w0 w w' i.done (e ∷ []) c i.report i.written some)
 
 -- in the writing of one picture
-in_picture : (f : Format) (n : ℕ) (fault : RunFault) (w w' : Option (List ℕ)) (p : Decoded) → StopsPicture fault (f.fits n p) w w' (f.text n p) → BreaksOff f n fault w w' (Picture p ∷ [])
-in_picture f n Write w w' p some = rw append-nil some
-in_picture f n Memory w w' p some = record { count = 0; within = omega arith; written = some }
-in_picture f n Size w w' p some = record { front = []; picture = p; rest = []; parts = refl; another = some.0; written = some.1 }
+in_picture : (f : Format) (n : ℕ) (fault : RunFault) (w w' : Option (List ℕ)) (p : Decoded) → StopsPicture fault (f.fits n p) w w' (f.text n p) → StopsAt f n fault w w' [] (Picture p ∷ [])
+in_picture f n Write w w' p some = record { count = some.count; fewer = some.fewer; written = some.written }
+in_picture f n Memory w w' p some = some
+in_picture f n Size w w' p some = some
 in_picture f n _ w w' p some = absurd some
 
-pub picture_broken : (f : Format) (n : ℕ) (fault : RunFault) (w w' : Option (List ℕ)) (e : Event) (p : Decoded) → e ≡ Picture p → StopsPicture fault (f.fits n p) w w' (f.text n p)
-    → BreaksOff f n fault w w' (e ∷ [])
-picture_broken f n fault w w' e p is some = rw is (in_picture f n fault w w' p some)
+pub picture_broken : (f : Format) (r r' : Report) (fault : RunFault) (w w' : Option (List ℕ)) (e : Event) (p : Decoded) → e ≡ Picture p → r' ≡ r
+    → StopsPicture fault (f.fits r.pictures p) w w' (f.text r.pictures p) → BreaksOffFrom f r r' fault w w' (e ∷ [])
+picture_broken f r r' fault w w' e p is same some = record {
+  front = [];
+  rest = e ∷ [];
+  parts = refl;
+  report = same;
+  stops = subst (λ x. StopsAt f r.pictures fault w w' [] (x ∷ [])) (sym is) (in_picture f r.pictures fault w w' p some);
+}
 
--- nothing was handled
-pub none_handled : (f : Format) (n : ℕ) (w : Option (List ℕ)) (events : List Event) → WritesPicturesAs f n w w events
-none_handled f n w events = record { count = 0; within = omega arith; written = Appends-nil w }
+-- nothing was handled, for want of memory
+pub none_handled : (f : Format) (r r' : Report) (fault : RunFault) (w : Option (List ℕ)) (events : List Event) → fault ≡ Memory → r' ≡ r → BreaksOffFrom f r r' fault w w events
+none_handled f r r' fault w events memory same = record {
+  front = [];
+  rest = events;
+  parts = refl;
+  report = same;
+  stops = subst (λ e. StopsAt f r.pictures e w w [] events) (sym memory) (Appends-nil w);
+}
+
+-- ---- what is told meanwhile
+
+-- of a run from its start on, by a tally, and then of its end
+pub run_told : (names : Names) (explained : Bool) (t0 t1 : Tallied) (run : Result (Unit {0}) RunFault) (b0 b1 b2 : Option (List ℕ)) (ending : Ending) → t0 ≡ new_tally explained
+    → TellsOn (reported_by t0) (reported_by t1) b0 b1
+    → ((start : Option (List ℕ)) → IsTold start b1 (reported_by t1) → TellsRun names t1.explained (report_in t1) run start b2 ending)
+    → TellsRun names explained (report_in t1) run b0 b2 ending
+run_told names explained t0 t1 run b0 b1 b2 ending new on tells =
+    let going = subst (λ (t : Tallied). TellsOn (reported_by t) (reported_by t1) b0 b1) new on in
+    let ends = tells b0 (going.told b0 (Appends-nil b0)) in
+    record { status_is = ends.status_is; told = subst (λ line. Tells b0 b2 (flat_map line t1.refusals ++ end_text names run) ending.told) going.line_is ends.told }
+
+-- and behind that of a digest that was compared
+pub verified : (names : Names) (explained : Bool) (format : Format) (output : Output) (expected digest : List ℕ) (unread left : Option (List ℕ)) (report : Report) (run : Result (Unit {0}) RunFault)
+    (b0 b2 b3 : Option (List ℕ)) (decoded ending : Ending) → Sums format output unread left report run digest → TellsRun names explained report run b0 b2 decoded
+    → (digest ≡ expected → (ending ≡ decoded) × (b3 ≡ b2)) → ((digest ≡ expected → ⊥) → ending.status ≡ other_status decoded.status)
+    → ((digest ≡ expected → ⊥) → TellsMore decoded.told b2 b3 (other_text run digest) ending.told)
+    → EndsVerifying names explained format output expected unread left b0 b3 ending
+verified names explained format output expected digest unread left report run b0 b2 b3 decoded ending sums tells same status told = record {
+  report = report;
+  run = run;
+  digest = digest;
+  sums = sums;
+  same = λ e. subst (λ x. TellsRun names explained report run b0 b3 x) (sym (same e).0) (subst (λ b. TellsRun names explained report run b0 b decoded) (sym (same e).1) tells);
+  other = λ differs. record {
+      status_is = status differs ∙ ap other_status tells.status_is;
+      told = (told differs).on b0 (run_text names explained report run) tells.told;
+    };
+}
+
+-- of nothing
+pub stays_told : (r : Reported) (w : Option (List ℕ)) → TellsOn r r w w
+stays_told r w = record { line_is = refl; told = λ start so_far. so_far }
+
+-- of a picture
+pub picture_told : (r r' : Reported) (w : Option (List ℕ)) → r' ≡ with_picture r → TellsOn r r' w w
+picture_told r r' w is = subst (λ q. TellsOn r q w w) (sym is) (record { line_is = refl; told = λ start so_far. so_far })
+
+-- one after another
+pub told_then : (a b c : Reported) (x y z : Option (List ℕ)) → TellsOn a b x y → TellsOn b c y z → TellsOn a c x z
+told_then a b c x y z first second = record { line_is = second.line_is ∙ first.line_is; told = λ start so_far. second.told start (first.told start so_far) }
 
 -- ---- as the loop says it
 
@@ -305,10 +349,10 @@ pub all_fed : (f : Format) (d0 d : Machine) (piece : List ℕ) (n : ℕ) (r0 r :
 all_fed f d0 d piece n r0 r w0 w all h = subst (λ bs. IsHandled f (after_feed bs d0) d r0 r w0 w) (ap (λ k. take k piece) all ∙ take-length piece) h
 
 -- a fault in a part
-pub part_broken : (f : Format) → EventsOnlyGrow → (d0 d : Machine) (piece part : List ℕ) (n len : ℕ) (r0 r : Report) (w0 w w' : Option (List ℕ)) (fault : RunFault) → IsDrained d0
-    → part ≡ take (n + len - n) (drop n piece) → IsHandled f (after_feed (take n piece) d0) d r0 r w0 w → BreaksOff f r.pictures fault w w' (events_left (after_feed part d))
-    → BreaksOff f r0.pictures fault w0 w' (events_left (after_feed piece d0))
-part_broken f grow d0 d piece part n len r0 r w0 w w' fault i is h off =
+pub part_broken : (f : Format) → EventsOnlyGrow → (d0 d : Machine) (piece part : List ℕ) (n len : ℕ) (r0 r r' : Report) (w0 w w' : Option (List ℕ)) (fault : RunFault) → IsDrained d0
+    → part ≡ take (n + len - n) (drop n piece) → IsHandled f (after_feed (take n piece) d0) d r0 r w0 w → BreaksOffFrom f r r' fault w w' (events_left (after_feed part d))
+    → BreaksOffFrom f r0 r' fault w0 w' (events_left (after_feed piece d0))
+part_broken f grow d0 d piece part n len r0 r r' w0 w w' fault i is h off =
     let front = take (n + len) piece in
     let rest = drop (n + len) piece in
     let a = events_left (after_feed (take n piece) d0) in
@@ -318,13 +362,13 @@ part_broken f grow d0 d piece part n len r0 r w0 w w' fault i is h off =
     let c = later_events grow d0 front rest i in
     let whole : events_left (after_feed piece d0) ≡ a ++ (b ++ c.0) =
     ap (λ bs. events_left (after_feed bs d0)) (sym (take-append-drop (n + len) piece)) ∙ c.1 ∙ ap (λ es. es ++ c.0) so_far ∙ append_assoc a b c.0 in
-    subst (BreaksOff f r0.pictures fault w0 w') (sym whole) (breaks_behind f r0 r fault w0 w w' a b c.0 h.report h.written off)
+    subst (BreaksOffFrom f r0 r' fault w0 w') (sym whole) (breaks_behind f r0 r r' fault w0 w w' a b c.0 h.report h.written off)
 
 -- a fault at the events of the first of these bytes
-pub front_broken : (f : Format) → EventsOnlyGrow → (d : Machine) (bytes : List ℕ) (used : ℕ) (r : Report) (w w' : Option (List ℕ)) (fault : RunFault) → IsDrained d
-    → BreaksOff f r.pictures fault w w' (events_left (after_feed (take used bytes) d)) → BreaksOff f r.pictures fault w w' (events_left (after_feed bytes d))
-front_broken f grow d bytes used r w w' fault i off =
-    part_broken f grow d d bytes (take used bytes) 0 used r r w w w' fault i (ap (λ k. take k bytes) (omega arith)) (none_fed f grow d r w bytes i) off
+pub front_broken : (f : Format) → EventsOnlyGrow → (d : Machine) (bytes : List ℕ) (used : ℕ) (r r' : Report) (w w' : Option (List ℕ)) (fault : RunFault) → IsDrained d
+    → BreaksOffFrom f r r' fault w w' (events_left (after_feed (take used bytes) d)) → BreaksOffFrom f r r' fault w w' (events_left (after_feed bytes d))
+front_broken f grow d bytes used r r' w w' fault i off =
+    part_broken f grow d d bytes (take used bytes) 0 used r r r' w w w' fault i (ap (λ k. take k bytes) (omega arith)) (none_fed f grow d r w bytes i) off
 
 -- of what is left behind n bytes the first, and all of it
 pub first_left : (piece : List ℕ) (n used : ℕ) → take used (take (length piece - n) (drop n piece)) ≡ take (n + used - n) (drop n piece)
@@ -346,18 +390,66 @@ written_plain n [] = refl
 written_plain n (Picture p ∷ es) = ap (λ bs. i420 p ++ bs) (written_plain (saturated (n + 1)) es)
 written_plain n (Refused unit f ∷ es) = written_plain n es
 
-pub plainly : (output : Output) (unread left held holds : Option (List ℕ)) (result : Result Report RunFault) → DecodesAs plain output unread left held holds result
-    → Decodes output unread left held holds result
-plainly output unread left held holds (Ok report) (bytes, true, read, wrote, told, wanted) =
+plainly : (output : Output) (unread left held holds : Option (List ℕ)) (report : Report) → DecodesAs plain output unread left held holds report (Ok tt)
+    → Decodes output unread left held holds (Ok report)
+plainly output unread left held holds report (bytes, true, read, wrote, told, wanted) =
     (bytes, read, subst (Appends held holds) (written_plain 0 (events output max_unit bytes true)) wrote, told)
-plainly output unread left held holds (Ok report) (bytes, false, read, wrote, told, wanted) = cc (wanted refl)
-plainly output unread left held holds (Err Read) (bytes, read, wrote) =
+plainly output unread left held holds report (bytes, false, read, wrote, told, wanted) = cc (wanted refl)
+
+-- where a picture was not written whole
+within_shown : (held holds : Option (List ℕ)) (k : ℕ) (es front rest : List Event) → es ≡ front ++ rest → StopsAt plain k Write held holds (written_from plain 0 front) rest
+    → WritesFirst held holds (shown es)
+within_shown held holds k es front [] parts some = absurd some
+within_shown held holds k es front (Refused unit f ∷ rest) parts some = absurd some
+within_shown held holds k es front (Picture p ∷ rest) parts some =
+    let t = written_from plain 0 front in
+    let s = written_from plain (saturated (pictures_after 0 front + 1)) rest in
+    let all : shown es ≡ t ++ (i420 p ++ s) =
+    sym (written_plain 0 es) ∙ ap (λ xs. written_from plain 0 xs) parts ∙ written-append plain 0 front (Picture p ∷ rest) in
+    let first : take (length t + some.count) (t ++ (i420 p ++ s)) ≡ t ++ take some.count (i420 p) =
+    take-append-add t (i420 p ++ s) some.count ∙ ap (λ xs. t ++ xs) (take-append-le some.count (i420 p) s (omega (arith, some.fewer))) in
+    record {
+      count = length t + some.count;
+      fewer = omega (arith, ap length all, length-append t (i420 p ++ s), length-append (i420 p) s, some.fewer);
+      written = subst (Appends held holds) (sym (ap (λ xs. take (length t + some.count) xs) all ∙ first)) some.written;
+    }
+
+-- none has another size
+no_other_size : (held holds : Option (List ℕ)) (k : ℕ) (text : List ℕ) (rest : List Event) → StopsAt plain k Size held holds text rest → ⊥
+no_other_size held holds k text [] some = some
+no_other_size held holds k text (Refused unit f ∷ rest) some = some
+no_other_size held holds k text (Picture p ∷ rest) some = let another : true ≡ false = some.0 in cc
+
+plainly_off : (output : Output) (unread left held holds : Option (List ℕ)) (report : Report) (fault : RunFault) → DecodesAs plain output unread left held holds report (Err fault)
+    → Decodes output unread left held holds (Err fault)
+plainly_off output unread left held holds report Read (bytes, read, wrote, told) =
     (bytes, read, subst (Appends held holds) (written_plain 0 (events output max_unit bytes false)) wrote)
-plainly output unread left held holds (Err Endless) (bytes, read, wrote, many) =
+plainly_off output unread left held holds report Endless (bytes, read, wrote, told, many) =
     (bytes, read, subst (Appends held holds) (written_plain 0 (events output max_unit bytes false)) wrote, many)
-plainly output unread left held holds (Err Write) (bytes, all, read, some) =
-    (bytes, all, read, subst (WritesFirst held holds) (written_plain 0 (events output max_unit bytes all)) some)
-plainly output unread left held holds (Err Memory) (bytes, all, read, some) =
-    let is = written_plain 0 (take some.count (events output max_unit bytes all)) in
-    (bytes, all, read, record { count = some.count; within = some.within; written = subst (Appends held holds) is some.written })
-plainly output unread left held holds (Err Size) (bytes, all, read, some) = let another : true ≡ false = some.another in cc
+plainly_off output unread left held holds report Write (bytes, all, read, off) =
+    (bytes, all, read, within_shown held holds (pictures_after 0 off.front) (events output max_unit bytes all) off.front off.rest off.parts off.stops)
+plainly_off output unread left held holds report Memory (bytes, all, read, off) =
+    let es = events output max_unit bytes all in
+    let is : take (length off.front) es ≡ off.front = ap (λ xs. take (length off.front) xs) off.parts ∙ take-append_seam off.front off.rest in (
+      bytes,
+      all,
+      read,
+      record {
+        count = length off.front;
+        within = omega (arith, ap length off.parts, length-append off.front off.rest);
+        written = subst (Appends held holds) (written_plain 0 off.front ∙ ap shown (sym is)) off.stops;
+      },
+    )
+plainly_off output unread left held holds report Size (bytes, all, read, off) =
+    absurd (no_other_size held holds (pictures_after 0 off.front) (written_from plain 0 off.front) off.rest off.stops)
+
+-- by how it ended
+pub plainly_ok : (output : Output) (unread left held holds : Option (List ℕ)) (report : Report) (run : Result (Unit {0}) RunFault) (done : Unit {0}) → run ≡ Ok done
+    → DecodesAs plain output unread left held holds report run → Decodes output unread left held holds (Ok report)
+plainly_ok output unread left held holds report run done is d =
+    plainly output unread left held holds report (subst (DecodesAs plain output unread left held holds report) is d)
+
+pub plainly_err : (output : Output) (unread left held holds : Option (List ℕ)) (report : Report) (run : Result (Unit {0}) RunFault) (fault : RunFault) → run ≡ Err fault
+    → DecodesAs plain output unread left held holds report run → Decodes output unread left held holds (Err fault)
+plainly_err output unread left held holds report run fault is d =
+    plainly_off output unread left held holds report fault (subst (DecodesAs plain output unread left held holds report) is d)

@@ -13,12 +13,18 @@ pub use Rattle.std.specs.Prelude.{Result, Ok, Err, is_ok, refl, ◌≤◌, IfErr
 pub use Rattle.avc_tools.specs.PieceSoFar.{bytes_of, piece_text, is_over, numbered_piece, pieces_so_far, PieceSoFar, PiecesAreWhole, PiecesStay}
 pub use Rattle.avc_tools.specs.Pieces.{pieces}
 pub use Rattle.avc_tools.specs.Streams.{OnlyGrows, StreamSoFar, after_end, after_piece, new_stream}
-pub use Rattle.avc_types.specs.declared.fault.Fault.TheVariants.{Truncated}
+pub use Rattle.avc_types.specs.declared.fault.Fault.{Fault}
 pub use Rattle.avc_console.specs.Listing.{Cuts, Lists, IsPieceOf}
-pub use Rattle.avc_console.specs.Messages.{fault_line, cut_text, name_text, refusal_line, fault_text, file_of}
-pub use Rattle.avc_console.specs.Program.{IsToldAs, Tells}
+pub use Rattle.avc_console.specs.Messages.{fault_line, cut_text, name_text, refusal_line, refusal_texts, run_text, fault_text, file_of}
+unfoldable pub use Rattle.avc_console.specs.Messages.{refusal_text}
+pub use Rattle.avc_explain.specs.Explanations.{explained_line}
+pub use Rattle.avc_console.specs.Program.{TellsRun}
+pub use Rattle.avc_console.specs.declared.console.Names.{Names}
+pub use Rattle.avc_console.specs.declared.exit.Ending.{Ending}
+pub use Rattle.avc_console.specs.Reporting.{Reported, Tallied, TellsOn, report_in, reported_by, IsTold}
+pub use Rattle.avc_console.specs.Telling.{Tells, TellsMore}
 pub use Rattle.avc_console.specs.Reading.{WritesFirst, WritesSome, HasRead}
-pub use Rattle.avc_console.specs.Status.{fault_status}
+pub use Rattle.avc_console.specs.Status.{fault_status, run_status}
 pub use Rattle.avc_console.specs.StreamWriting.{IsStopped, IsWhole, IsWriting, IsWrittenOn, StopsWriting}
 pub use Rattle.avc_console.specs.declared.fault.RunFault.{RunFault}
 pub use Rattle.avc_console.specs.declared.fault.RunFault.TheVariants.{Memory, Write}

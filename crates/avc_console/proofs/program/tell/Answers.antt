@@ -1,10 +1,7 @@
-use Rattle.avc_console.proofs.Texts.{Err, as_memory, told_after}
+use Rattle.avc_console.proofs.Texts.{ended_by}
 use Rattle.avc_console.proofs.program.tell.Goals as goal
 
 pub returns-in-Err : goal.returns-in-Err
-returns-in-Err g c = record {
-  told_run = Err c.in-Err.fault;
-  as_it_is = as_memory c.args.run.now c.in-Err.fault c.in-Err.ensures.err.0 c.in-Err.ensures.refusals;
-  status_is = c.fail.ensures.status;
-  told = told_after _ _ _ _ _ c.in-Err.ensures.err.1 c.fail.ensures.told;
-}
+returns-in-Err g c =
+    ended_by c.args.names.now c.args.tally.now c.args.run c.in-Err.fault c.is_told-in-Err.result _ _ c.fail_behind.result c.in-Err.is c.is_told-in-Err.ensures
+    c.fail_behind.ensures.status c.fail_behind.ensures.told

@@ -6,7 +6,7 @@ pub use Rattle.std.proofs.lemmas.List.{take-append-le, drop_more, take-append-dr
 pub use Rattle.std.proofs.lemmas.Option.{slice_get_within, get_or_from_slice_get}
 pub use Rattle.std.specs.Io.KnownBytes.{Appends, Keeps, Consumes, IsAtEnd, prepend_known}
 pub use Rattle.std.specs.Prelude.{◌≡◌, ℕ, suc, ◌+◌, ◌<◌, List, [], ◌∷◌, ◌++◌, length, take, Option, Some, None, Bool, true, false}
-pub use Rattle.std.specs.Prelude.{Result, Ok, Err, refl, ◌≤◌, zero, ◌-◌, drop, IsErrAnd, slice_get, ◌^◌}
+pub use Rattle.std.specs.Prelude.{Result, Ok, Err, refl, ◌≤◌, zero, ◌-◌, drop, IsErrAnd, IfErr, OnOk, slice_get, ◌^◌}
 pub use Rattle.avc_annexb.specs.Units.{saturated}
 pub use Rattle.avc_decoder.specs.Events.{pictures_in, refusals_in, events}
 pub use Rattle.avc_decoder.specs.Laws.{EventsOnlyGrow}
@@ -18,19 +18,27 @@ pub use Rattle.avc_types.specs.declared.fault.Fault.{Fault}
 pub use Rattle.avc_types.specs.declared.picture.Picture.{Picture as Decoded}
 pub use Rattle.avc_yuv.specs.I420.{i420}
 pub use Rattle.avc_console.specs.Reading.{max_unit}
+pub use Rattle.avc_console.specs.Reporting.{new_tally, no_report, report_in, reported_by, with_picture, IsTold, Reported, Tallied, TellsOn}
+pub use Rattle.avc_console.specs.Telling.{Tells, TellsMore}
+pub use Rattle.avc_console.specs.Messages.{end_text, run_text}
+pub use Rattle.avc_console.specs.Program.{TellsRun}
+pub use Rattle.avc_console.specs.declared.console.Names.{Names}
+pub use Rattle.avc_console.specs.declared.exit.Ending.{Ending}
+pub use Rattle.avc_run.specs.Digesting.{other_status, other_text, EndsVerifying, Sums}
+pub use Rattle.std.specs.List.{flat_map}
 pub use Rattle.avc_run.specs.Decoding.{shown, report_of, Decodes, defined}
-pub use Rattle.avc_run.specs.Draining.{events_defined, events_left, count_left, report_with, BreaksOff, IsDraining, IsHandled, IsDrained}
+pub use Rattle.avc_run.specs.Draining.{events_defined, events_left, count_left, report_with, BreaksOffFrom, IsDraining, IsHandled, IsDrained}
 pub use Rattle.avc_run.specs.Draining.{after_draining, IsRunning}
-pub use Rattle.avc_run.specs.Formats.{pictures_after, written_from, WritesPicturesAs, DecodesAs}
+pub use Rattle.avc_run.specs.Formats.{pictures_after, written_from, BreaksOff, DecodesAs, StopsAt}
 pub use Rattle.avc_formats.specs.Formats.{Format, StopsPicture, plain}
 pub use Rattle.avc_console.specs.Reading.{WritesFirst, HasRead}
 pub use Rattle.avc_console.specs.declared.fault.RunFault.{RunFault}
 pub use Rattle.avc_console.specs.declared.fault.RunFault.TheVariants.{Memory, Write, Read, Endless, Size}
 pub use Rattle.avc_console.specs.declared.report.Report.{Report}
 pub use Rattle.avc_console.proofs.Texts.{nothing_more}
-pub use Rattle.avc_console.proofs.Texts.Telling.{by_fault, err_is, stopped_after, stopped_before}
-pub use Rattle.avc_formats.specs.Front.{NoFront}
+pub use Rattle.avc_console.proofs.Texts.Telling.{by_fault, err_is, told_both}
+pub use Rattle.avc_formats.specs.Front.{IsFront, NoFront}
 pub use Rattle.avc_formats.specs.Headed.{headed}
 pub use Rattle.avc_formats.specs.Selecting.{selected}
 pub use Rattle.avc_formats.specs.declared.presentation.Presentation.{Presentation}
-pub use Rattle.avc_run.specs.BySet.{Decodes as DecodesBySetOrNot, in_front}
+pub use Rattle.avc_run.specs.BySet.{Decodes as DecodesBySetOrNot, by_set, in_front}

@@ -1,60 +1,78 @@
-use Rattle.avc_run.proofs.Running.{arith, rules, EventsOnlyGrow, broken_at_end, broken_in, broken_in_front, decodes_err, ended, endless}
-use Rattle.avc_run.proofs.Running.{enough, front_taken, new_is_drained, one_piece, one_read, unread_on}
+use Rattle.avc_run.proofs.Running.{ap, ◌∙◌, sym, arith, rules, EventsOnlyGrow, at_end, broken_in, broken_in_front, decodes_err, endless}
+use Rattle.avc_run.proofs.Running.{enough, front_taken, new_is_drained, one_piece, one_read, told_then, unread_on}
 use Rattle.avc_run.proofs.decoding.decode_by.Goals as goal
 
-pub returns-in_err-len : goal.returns-in_err-len
-returns-in_err-len g c =
+pub returns-in_err-len-clause-decodes : goal.returns-in_err-len-clause-decodes
+returns-in_err-len-clause-decodes g c =
+    let f = g.F.PictureFormat.format c.args.format.now in
     let fault = c.in_err-len.field-0.0 in
-    decodes_err (g.F.PictureFormat.format c.args.format.now) c.args.decoder.now.output _ _ _ _ c.from_residual-in_err-len.result fault c.from_residual-in_err-len.ensures.1
-    (unread_on (g.F.PictureFormat.format c.args.format.now) c.args.decoder.now.output _ _ _ _ _ c.pieces.decoder c.pieces.report fault c.pieces.invariant.runs c.in_err-len.ensures.err c.in_err-len.ensures.fault)
+    let report = (g.T.Reporter.reported c.pieces.report).report in
+    decodes_err f c.args.decoder.now.output _ _ _ _ report c.from_residual-in_err-len.result fault c.from_residual-in_err-len.ensures.1
+    (unread_on f c.args.decoder.now.output _ _ _ _ _ c.pieces.decoder report fault c.pieces.invariant.reading.runs c.in_err-len.ensures.err c.in_err-len.ensures.fault)
 
-pub returns-in_err-finish : goal.returns-in_err-finish
-returns-in_err-finish g c =
-    let grow : EventsOnlyGrow = c.events_only_grow.ensures in
-    let fault = c.in_err-finish.field-0.0 in
-    decodes_err (g.F.PictureFormat.format c.args.format.now) c.args.decoder.now.output _ _ _ _ c.from_residual-in_err-finish.result fault c.from_residual-in_err-finish.ensures.1
-    (broken_at_end (g.F.PictureFormat.format c.args.format.now) grow c.args.decoder.now.output _ _ _ _ _ _ c.pieces.decoder c.pieces.report c.in_ok-len.len c.read_once.new.piece fault c.pieces.invariant.runs (search rules) c.in_ok-len.ensures.bytes (search rules) c.in_err-finish.ensures.err)
+pub returns-then-len-eq0-clause-decodes : goal.returns-then-len-eq0-clause-decodes
+returns-then-len-eq0-clause-decodes g c =
+    at_end (g.F.PictureFormat.format c.args.format.now) c.events_only_grow.ensures c.args.decoder.now.output _ _ _ _ _ _ c.pieces.decoder c.finish.new.decoder
+    (g.T.Reporter.reported c.pieces.report).report (g.T.Reporter.reported c.finish.new.report).report c.in_ok-len.len c.read_once.new.piece c.finish.result c.pieces.invariant.reading.runs
+    (search rules) c.in_ok-len.ensures.bytes (search rules) c.finish.ensures.ok c.finish.ensures.err
 
-pub returns-then-len-eq0 : goal.returns-then-len-eq0
-returns-then-len-eq0 g c =
-    let grow : EventsOnlyGrow = c.events_only_grow.ensures in
-    ended (g.F.PictureFormat.format c.args.format.now) grow c.args.decoder.now.output _ _ _ _ _ _ c.pieces.decoder c.finish.new.decoder c.pieces.report c.finish.new.report c.in_ok-len.len c.read_once.new.piece c.pieces.invariant.runs (search rules) c.in_ok-len.ensures.bytes (search rules) c.in_ok-finish.ensures.ok
+pub returns-then-len-eq0-clause-told : goal.returns-then-len-eq0-clause-told
+returns-then-len-eq0-clause-told g c =
+    told_then _ (g.T.Reporter.reported c.pieces.report) (g.T.Reporter.reported c.finish.new.report) _ _ _ c.pieces.invariant.told c.finish.ensures.told
 
-pub returns-in_err-take_in-2 : goal.returns-in_err-take_in-2
-returns-in_err-take_in-2 g c =
+pub returns-in_err-take_in-2-clause-decodes : goal.returns-in_err-take_in-2-clause-decodes
+returns-in_err-take_in-2-clause-decodes g c =
+    let f = g.F.PictureFormat.format c.args.format.now in
     let grow : EventsOnlyGrow = c.events_only_grow.ensures in
     let fault = c.in_err-take_in-2.field-0.0 in
-    decodes_err (g.F.PictureFormat.format c.args.format.now) c.args.decoder.now.output _ _ _ _ c.from_residual-in_err-take_in-2.result fault c.from_residual-in_err-take_in-2.ensures.1
-    (broken_in (g.F.PictureFormat.format c.args.format.now) grow c.args.decoder.now.output _ _ _ _ _ _ c.pieces.decoder c.pieces.report _ fault c.pieces.invariant.runs c.in_ok-len.ensures.bytes c.in_err-take_in-2.ensures.err)
+    let report = (g.T.Reporter.reported c.take_in-in-pieces.new.report).report in
+    decodes_err f c.args.decoder.now.output _ _ _ _ report c.from_residual-in_err-take_in-2.result fault c.from_residual-in_err-take_in-2.ensures.1
+    (broken_in f grow c.args.decoder.now.output _ _ _ _ _ _ c.pieces.decoder (g.T.Reporter.reported c.pieces.report).report report _ fault c.pieces.invariant.reading.runs c.in_ok-len.ensures.bytes c.in_err-take_in-2.ensures.err)
 
-pub returns-then-is_enough : goal.returns-then-is_enough
-returns-then-is_enough g c =
+pub returns-in_err-take_in-2-clause-told : goal.returns-in_err-take_in-2-clause-told
+returns-in_err-take_in-2-clause-told g c =
+    told_then _ (g.T.Reporter.reported c.pieces.report) (g.T.Reporter.reported c.take_in-in-pieces.new.report) _ _ _ c.pieces.invariant.told c.take_in-in-pieces.ensures.told
+
+pub returns-then-is_enough-clause-decodes : goal.returns-then-is_enough-clause-decodes
+returns-then-is_enough-clause-decodes g c =
+    let f = g.F.PictureFormat.format c.args.format.now in
     let grow : EventsOnlyGrow = c.events_only_grow.ensures in
-    enough (g.F.PictureFormat.format c.args.format.now) c.args.decoder.now.output _ _ _ _ c.take_in-in-pieces.new.decoder c.take_in-in-pieces.new.report
-    (one_piece (g.F.PictureFormat.format c.args.format.now) grow c.args.decoder.now.output _ _ _ _ _ _ c.pieces.decoder c.take_in-in-pieces.new.decoder c.pieces.report c.take_in-in-pieces.new.report _
-    c.pieces.invariant.runs c.in_ok-len.ensures.bytes c.in_ok-take_in-2.ensures.ok)
+    let report = (g.T.Reporter.reported c.take_in-in-pieces.new.report).report in
+    enough f c.args.decoder.now.output _ _ _ _ c.take_in-in-pieces.new.decoder report
+    (one_piece f grow c.args.decoder.now.output _ _ _ _ _ _ c.pieces.decoder c.take_in-in-pieces.new.decoder (g.T.Reporter.reported c.pieces.report).report report _
+    c.pieces.invariant.reading.runs c.in_ok-len.ensures.bytes c.in_ok-take_in-2.ensures.ok)
     (search rules)
 
-pub take_in-requires : goal.take_in-requires
-take_in-requires g c = new_is_drained c.args.decoder.now c.args.decoder.now.output c.requires
+pub returns-then-is_enough-clause-told : goal.returns-then-is_enough-clause-told
+returns-then-is_enough-clause-told g c =
+    told_then _ (g.T.Reporter.reported c.pieces.report) (g.T.Reporter.reported c.take_in-in-pieces.new.report) _ _ _ c.pieces.invariant.told c.take_in-in-pieces.ensures.told
 
-pub returns-in_err-take_in : goal.returns-in_err-take_in
-returns-in_err-take_in g c =
-    let grow : EventsOnlyGrow = c.events_only_grow.ensures in
+pub take_in-requires : goal.take_in-requires
+take_in-requires g c = new_is_drained c.args.decoder.now c.args.decoder.now.output c.requires.new
+
+pub returns-in_err-take_in-clause-decodes : goal.returns-in_err-take_in-clause-decodes
+returns-in_err-take_in-clause-decodes g c =
+    let f = g.F.PictureFormat.format c.args.format.now in
     let fault = c.in_err-take_in.field-0.0 in
-    decodes_err (g.F.PictureFormat.format c.args.format.now) c.args.decoder.now.output _ _ _ _ c.from_residual.result fault c.from_residual.ensures.1
-    (broken_in_front (g.F.PictureFormat.format c.args.format.now) grow c.args.decoder.now.output _ _ _ c.args.decoder.now c.new.result c.args.front.now fault c.requires c.new.ensures c.in_err-take_in.ensures.err)
+    let report = (g.T.Reporter.reported c.take_in.new.report).report in
+    decodes_err f c.args.decoder.now.output _ _ _ _ report c.from_residual.result fault c.from_residual.ensures.1
+    (broken_in_front f c.events_only_grow.ensures c.args.decoder.now.output _ _ _ c.args.decoder.now (g.T.Reporter.reported c.args.report.now).report report c.args.front.now fault c.requires.new c.requires.none c.in_err-take_in.ensures.err)
 
 pub pieces-init : goal.pieces-init
-pieces-init g c =
-    let grow : EventsOnlyGrow = c.events_only_grow.ensures in
-    front_taken (g.F.PictureFormat.format c.args.format.now) grow c.args.decoder.now.output _ _ _ c.args.decoder.now c.take_in.new.decoder c.new.result c.take_in.new.report c.args.front.now c.requires c.new.ensures c.in_ok-take_in.ensures.ok
+pieces-init g c = record {
+  reading = front_taken (g.F.PictureFormat.format c.args.format.now) c.events_only_grow.ensures c.args.decoder.now.output _ _ _ c.args.decoder.now c.take_in.new.decoder
+      (g.T.Reporter.reported c.args.report.now).report (g.T.Reporter.reported c.take_in.new.report).report c.args.front.now c.requires.new c.requires.none c.in_ok-take_in.ensures.ok;
+  told = c.take_in.ensures.told;
+}
 
 pub pieces-preserved : goal.pieces-preserved
-pieces-preserved g c =
-    let grow : EventsOnlyGrow = c.events_only_grow.ensures in
-    one_read (g.F.PictureFormat.format c.args.format.now) grow c.pieces._read c.args.decoder.now.output _ _ _ _ _ _ c.pieces.decoder c.take_in-in-pieces.new.decoder c.pieces.report c.take_in-in-pieces.new.report _ (search rules)
-    c.pieces.invariant c.in_ok-len.ensures.bytes c.in_ok-take_in-2.ensures.ok
+pieces-preserved g c = record {
+  reading = one_read (g.F.PictureFormat.format c.args.format.now) c.events_only_grow.ensures c.pieces._read c.args.decoder.now.output _ _ _ _ _ _ c.pieces.decoder c.take_in-in-pieces.new.decoder
+      (g.T.Reporter.reported c.pieces.report).report (g.T.Reporter.reported c.take_in-in-pieces.new.report).report _ (search rules)
+      c.pieces.invariant.reading c.in_ok-len.ensures.bytes c.in_ok-take_in-2.ensures.ok;
+  told = told_then _ (g.T.Reporter.reported c.pieces.report) (g.T.Reporter.reported c.take_in-in-pieces.new.report) _ _ _ c.pieces.invariant.told c.take_in-in-pieces.ensures.told;
+}
 
-pub returns : goal.returns
-returns g c = endless (g.F.PictureFormat.format c.args.format.now) c.args.decoder.now.output _ _ _ _ c.pieces.decoder c.pieces.report c.pieces._read c.pieces.invariant (omega (arith, c.pieces-test.false))
+pub returns-clause-decodes : goal.returns-clause-decodes
+returns-clause-decodes g c =
+    endless (g.F.PictureFormat.format c.args.format.now) c.args.decoder.now.output _ _ _ _ c.pieces.decoder (g.T.Reporter.reported c.pieces.report).report c.pieces._read c.pieces.invariant.reading (omega (arith, c.pieces-test.false))
