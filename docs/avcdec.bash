@@ -20,12 +20,12 @@ _avcdec_options() {
     decode) echo '--early --format -f --verify --skip -s --limit -l --progress --quiet -q --strict --explain --output -o --help -h' ;;
     info) echo '--json --help -h' ;;
     cut) echo '--output -o --help -h' ;;
-    units | headers) echo '--help -h' ;;
+    units | headers | pieces) echo '--help -h' ;;
     esac
 }
 
 _avcdec() {
-    local commands='decode units headers info cut help'
+    local commands='decode units headers pieces info cut help'
     COMPREPLY=()
     if [ "$COMP_CWORD" -eq 1 ]; then
         _avcdec_words "$commands --help -h --version -V"

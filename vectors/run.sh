@@ -243,7 +243,7 @@ done
 
 # lines come while the stream goes on
 mkfifo "$work/live"
-for command in units headers; do
+for command in units headers pieces; do
     : >"$work/lines"
     "$program" "$command" <"$work/live" >"$work/lines" &
     exec 9>"$work/live"
@@ -298,6 +298,17 @@ fi
 
 # a piece ends where the next begins, though the stream goes on
 pieces=$here/encoder/pub_x_keyint3.264
+# each IDR picture of it is one slice: a piece begins with each unit of type 5
+"$program" units "$pieces" | awk '$4 == 5 { print number++, $1, $2 }' >"$work/expected"
+"$program" pieces "$pieces" >"$work/lines" 2>"$work/told"
+judge 'pieces' $? 0 ''
+holds 'lines of pieces' cmp -s "$work/lines" "$work/expected"
+holds 'more than one' [ "$(wc -l <"$work/lines")" -gt 1 ]
+# a slice of type 5 that is not the first of its picture begins no piece
+"$program" units "$picture" | awk '$4 == 5 { print 0, $1, $2; exit }' >"$work/expected"
+{ cat "$picture" && printf '\000\000\001\145\100\200'; } | "$program" pieces >"$work/lines" 2>"$work/told"
+judge 'pieces of a picture with a second slice' $? 0 ''
+holds 'its line' cmp -s "$work/lines" "$work/expected"
 "$program" cut 0 "$pieces" >"$work/piece"
 timeout 20 "$program" cut 0 <"$work/live" >"$work/written" 2>"$work/told" &
 cutting=$!
@@ -519,7 +530,7 @@ judge 'decode into its standard input' $? 2 "avcdec: $work/same.264 is the file 
 holds 'the input is whole' cmp -s "$work/same.264" "$picture"
 
 # the line of a fault has the name of the file, also where that could be opened, and one more says why
-for command in decode 'decode --format md5' 'decode --format framemd5' 'decode --limit 1' "decode --verify $some_md5" units headers info 'info --json' 'cut 0'; do
+for command in decode 'decode --format md5' 'decode --format framemd5' 'decode --limit 1' "decode --verify $some_md5" units headers info 'info --json' pieces 'cut 0'; do
     # shellcheck disable=SC2086
     "$program" $command "$here" >"$work/written" 2>"$work/told"
     judge "$command of a directory" $? 3 "avcdec: read fault: $here

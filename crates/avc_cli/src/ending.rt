@@ -36,6 +36,7 @@ fn is_verified(task: &Task) -> bool
         | Task::Check(_)
         | Task::Units
         | Task::Headers
+        | Task::Pieces
         | Task::Info
         | Task::InfoJson
         | Task::Cut(_) => false,
@@ -52,6 +53,7 @@ fn shown_by(task: &Task, pictures: u64) -> u64
         | Task::Check(_)
         | Task::Units
         | Task::Headers
+        | Task::Pieces
         | Task::Info
         | Task::InfoJson
         | Task::Cut(_) => pictures,

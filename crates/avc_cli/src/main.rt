@@ -13,7 +13,8 @@ mod reason;
 mod told;
 
 use avc_console::{
-    Answer, Console, Ending, Names, RunFault, Watch, answer_status, cut, fail, headers, units,
+    Answer, Console, Ending, Names, RunFault, Watch, answer_status, cut, fail, headers, pieces,
+    units,
 };
 use avc_formats::{HeadedFormat, I420, Selected};
 use avc_info::{ForPeople, ForPrograms, info};
@@ -163,6 +164,7 @@ fn carry_out_between<R: Read, W: Write, E: Write, V: Watch>(
         Task::Show(showing) => show(alloc, showing, reader, writer, console),
         Task::Units => units(alloc, reader, writer, console),
         Task::Headers => headers(alloc, reader, writer, console),
+        Task::Pieces => pieces(alloc, reader, writer, console),
         Task::Info => info(alloc, ForPeople, reader, writer, console),
         Task::InfoJson => info(alloc, ForPrograms, reader, writer, console),
         Task::Cut(number) => cut(alloc, number, reader, writer, console),

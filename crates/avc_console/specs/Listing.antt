@@ -1,4 +1,4 @@
--- What `units`, `headers` and `cut` write.
+-- What `units`, `headers`, `pieces` and `cut` write.
 use Rattle.std.specs.Prelude.{◌≡◌, ℕ, ◌≤◌, ◌^◌, Bool, true, false, List, [], ◌++◌, length, slice_get, Option, is_some, Result, Ok, Err}
 use Rattle.std.specs.Io.KnownBytes.{Appends}
 use Rattle.avc_tools.specs.Pieces.{pieces}

@@ -1,5 +1,6 @@
 ghost use Rattle.std.specs.Prelude.{◌≡◌, ℕ, List, Option, IfErr, IfOk, OnErr, false};
 ghost use Rattle.std.specs.Io.KnownBytes.{Keeps};
+ghost use Rattle.avc_tools.specs.CutPoints.{cut_point_lines_so_far};
 ghost use Rattle.avc_tools.specs.Lines.{header_lines_so_far, unit_lines_so_far};
 ghost use Rattle.avc_console.specs.Program.{EndsCutting, EndsListing, TellsListing, TellsRun};
 ghost use Rattle.avc_console.specs.Reporting.{report_in, reported_by, IsTold};
@@ -12,7 +13,7 @@ use crate::console::{Console, Names};
 use crate::cutting::run_cut;
 use crate::exit::{Ending, cut_status, fault_status, refused_status};
 use crate::fault::RunFault;
-use crate::listing::{run_headers, run_units};
+use crate::listing::{run_headers, run_pieces, run_units};
 use crate::messages::{no_piece_line, write_fault};
 use crate::reporter::Reporter;
 use crate::tally::Tally;
@@ -103,7 +104,21 @@ pub fn headers<R: Read, W: Write, E: Write, V>(
     end_listing(run, &console.names, &mut console.errors)
 }
 
-/// Tells of the fault that ended a run of `units` or `headers`, if one did.
+/// The command `pieces`: writes a line for each piece that `cut` can write of a byte stream (Annex B), and tells of a fault on the console.
+pub fn pieces<R: Read, W: Write, E: Write, V>(
+    alloc: Global,
+    reader: &mut R,
+    writer: &mut W,
+    console: &mut Console<'_, E, V>,
+) -> Ending
+    ensures { EndsListing console.old.names cut_point_lines_so_far (R.remaining reader.old) (R.remaining reader.new) (W.contents writer.old)
+        (W.contents writer.new) (E.contents console.old.errors) (E.contents console.new.errors) result }
+{
+    let run = run_pieces(alloc, reader, writer);
+    end_listing(run, &console.names, &mut console.errors)
+}
+
+/// Tells of the fault that ended a run of `units`, `headers` or `pieces`, if one did.
 pub fn end_listing<E: Write>(run: Result<(), RunFault>, names: &Names<'_>, errors: &mut E) -> Ending
     ensures { TellsListing names.now run (E.contents errors.old) (E.contents errors.new) result }
 {

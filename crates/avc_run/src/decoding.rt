@@ -14,6 +14,7 @@ use avc_decoder::laws::{events_only_grow, pictures_are_whole};
 use avc_decoder::{Decoder, Event, Output};
 use avc_formats::{I420, PictureFormat};
 use avc_plane::SharedPicture;
+use avc_yuv::ROOM;
 use std::alloc::Global;
 use std::io;
 use std::io::{Read, Write};
@@ -125,15 +126,24 @@ fn decode_by<F: PictureFormat, T: Reporter, E: Write, V: Watch, R: Read, W: Writ
     ensures told { TellsOn (T.reported report.old) (T.reported report.new) (E.contents errors.old) (E.contents errors.new) }
 {
     events_only_grow();
-    take_in(decoder, front, format, writer, report, errors)?;
+    let mut room = [0; ROOM];
+    take_in(decoder, front, format, &mut room, writer, report, errors)?;
     watch.look(front, report.counts());
     let mut piece = [0; PIECE];
     'pieces: for _read in 0..READS {
         let len = read_once(reader, &mut piece)?;
         if len == 0 {
-            return finish(decoder, format, writer, report, errors);
+            return finish(decoder, format, &mut room, writer, report, errors);
         }
-        take_in(decoder, &piece[..len], format, writer, report, errors)?;
+        take_in(
+            decoder,
+            &piece[..len],
+            format,
+            &mut room,
+            writer,
+            report,
+            errors,
+        )?;
         let counts = report.counts();
         watch.look(&piece[..len], counts);
         if format.is_enough(counts.pictures) {
@@ -149,6 +159,7 @@ fn take_in<F: PictureFormat, T: Reporter, E: Write, W: Write>(
     decoder: &mut Decoder<MAX_UNIT, SharedPicture>,
     piece: &[u8],
     format: &F,
+    room: &mut [u8],
     writer: &mut W,
     report: &mut T,
     errors: &mut E,
@@ -163,7 +174,15 @@ fn take_in<F: PictureFormat, T: Reporter, E: Write, W: Write>(
     events_only_grow();
     let mut done = 0;
     'units: while done < piece.len() {
-        let used = take_unit(decoder, &piece[done..], format, writer, report, errors)?;
+        let used = take_unit(
+            decoder,
+            &piece[done..],
+            format,
+            room,
+            writer,
+            report,
+            errors,
+        )?;
         done += used;
     }
     Ok(())
@@ -174,6 +193,7 @@ fn take_unit<F: PictureFormat, T: Reporter, E: Write, W: Write>(
     decoder: &mut Decoder<MAX_UNIT, SharedPicture>,
     bytes: &[u8],
     format: &F,
+    room: &mut [u8],
     writer: &mut W,
     report: &mut T,
     errors: &mut E,
@@ -188,7 +208,7 @@ fn take_unit<F: PictureFormat, T: Reporter, E: Write, W: Write>(
 {
     events_only_grow();
     let used = feed_unit(decoder, bytes)?;
-    drain(decoder, format, writer, report, errors)?;
+    drain(decoder, format, room, writer, report, errors)?;
     Ok(used)
 }
 
@@ -196,6 +216,7 @@ fn take_unit<F: PictureFormat, T: Reporter, E: Write, W: Write>(
 fn finish<F: PictureFormat, T: Reporter, E: Write, W: Write>(
     decoder: &mut Decoder<MAX_UNIT, SharedPicture>,
     format: &F,
+    room: &mut [u8],
     writer: &mut W,
     report: &mut T,
     errors: &mut E,
@@ -207,7 +228,7 @@ fn finish<F: PictureFormat, T: Reporter, E: Write, W: Write>(
     ensures told { TellsOn (T.reported report.old) (T.reported report.new) (E.contents errors.old) (E.contents errors.new) }
 {
     flush(decoder)?;
-    drain(decoder, format, writer, report, errors)?;
+    drain(decoder, format, room, writer, report, errors)?;
     Ok(())
 }
 
@@ -215,6 +236,7 @@ fn finish<F: PictureFormat, T: Reporter, E: Write, W: Write>(
 fn drain<F: PictureFormat, T: Reporter, E: Write, W: Write>(
     decoder: &mut Decoder<MAX_UNIT, SharedPicture>,
     format: &F,
+    room: &mut [u8],
     writer: &mut W,
     report: &mut T,
     errors: &mut E,
@@ -227,7 +249,7 @@ fn drain<F: PictureFormat, T: Reporter, E: Write, W: Write>(
 {
     pictures_are_whole();
     'events: while let Some(event) = next_event(decoder)? {
-        handle(event, format, writer, report, errors)?;
+        handle(event, format, room, writer, report, errors)?;
     }
     Ok(())
 }
@@ -235,6 +257,7 @@ fn drain<F: PictureFormat, T: Reporter, E: Write, W: Write>(
 fn handle<F: PictureFormat, T: Reporter, E: Write, W: Write>(
     event: Event<SharedPicture>,
     format: &F,
+    room: &mut [u8],
     writer: &mut W,
     report: &mut T,
     errors: &mut E,
@@ -249,7 +272,7 @@ fn handle<F: PictureFormat, T: Reporter, E: Write, W: Write>(
 {
     match event {
         Event::Picture(picture) => {
-            format.write(report.counts().pictures, &picture, writer)?;
+            format.write(report.counts().pictures, &picture, room, writer)?;
             report.count_picture();
             Ok(())
         }

@@ -211,9 +211,9 @@ verified names explained format output expected digest unread left report run b0
   sums = sums;
   same = λ e. subst (λ x. TellsRun names explained report run b0 b3 x) (sym (same e).0) (subst (λ b. TellsRun names explained report run b0 b decoded) (sym (same e).1) tells);
   other = λ differs. record {
-      status_is = status differs ∙ ap other_status tells.status_is;
-      told = (told differs).on b0 (run_text names explained report run) tells.told;
-    };
+    status_is = status differs ∙ ap other_status tells.status_is;
+    told = (told differs).on b0 (run_text names explained report run) tells.told;
+  };
 }
 
 -- of nothing
