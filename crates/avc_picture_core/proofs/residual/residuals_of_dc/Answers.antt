@@ -1,4 +1,4 @@
-use Rattle.avc_picture_core.proofs.InterTiles.{ℕ, ℤ, ◌≡◌, ◌+◌, ◌<◌, ◌^◌, ◌+ℤ◌, ◌>>ℤ◌, ◌∙◌, List, [], pos, arith, ints, ap, refl, slice_index_or, to_z, of_z, w32, level, residual4x4_with_dc, residual_of_dc}
+use Rattle.avc_picture_core.proofs.InterTiles.{ℕ, ℤ, ◌≡◌, ◌+◌, ◌^◌, ◌+ℤ◌, ◌>>ℤ◌, ◌∙◌, List, [], pos, arith, ints, ap, refl, slice_index_or, to_z, of_z, w32, level, residual4x4_with_dc, residual_of_dc}
 use Rattle.avc_transform.specs.Bounds.{IsBelow}
 use Rattle.avc_transform.proofs.Residuals.{below_four}
 use Rattle.avc_picture_core.proofs.residual.residuals_of_dc.Goals as goal
