@@ -282,17 +282,30 @@ avcdec: write fault
 
 # refusals take no memory: that of 400,000 units of five bytes, forbidden_zero_bit of each 1, is that of 4,000
 if command -v python3 >/dev/null; then
+    # the last unit has no end yet: once all others are told, the peak of the program's own memory is asked for
     cat >"$work/peak.py" <<'END'
-import resource, subprocess, sys
+import re, subprocess, sys, time
 
-program, count = sys.argv[1], int(sys.argv[2])
-run = subprocess.run([program, "decode"], input=b"\0\0\1\xe6\x42" * count, capture_output=True)
-told = run.stderr.decode().splitlines()
-whole = run.returncode == 1 and told == [f"refused unit {unit}: 4 ForbiddenBit" for unit in range(count)]
-print(resource.getrusage(resource.RUSAGE_CHILDREN).ru_maxrss if whole else "no")
+program, count, told = sys.argv[1], int(sys.argv[2]), sys.argv[3]
+with open(told, "wb") as errors:
+    run = subprocess.Popen([program, "decode"], stdin=subprocess.PIPE, stdout=subprocess.DEVNULL, stderr=errors)
+    run.stdin.write(b"\0\0\1\xe6\x42" * count)
+    run.stdin.flush()
+    for _ in range(600):
+        with open(told, "rb") as file:
+            if file.read().count(b"\n") >= count - 1:
+                break
+        time.sleep(0.1)
+    with open(f"/proc/{run.pid}/status", encoding="ascii") as file:
+        peak = int(re.search(r"VmHWM:\s+(\d+)", file.read())[1])
+    run.stdin.close()
+    status = run.wait()
+with open(told, encoding="ascii") as file:
+    whole = status == 1 and file.read().splitlines() == [f"refused unit {unit}: 4 ForbiddenBit" for unit in range(count)]
+print(peak if whole else "no")
 END
-    few=$(python3 "$work/peak.py" "$(readlink -f "$here/../crates/avc_cli/out/avc_cli")" 4000)
-    many=$(python3 "$work/peak.py" "$(readlink -f "$here/../crates/avc_cli/out/avc_cli")" 400000)
+    few=$(python3 "$work/peak.py" "$(readlink -f "$here/../crates/avc_cli/out/avc_cli")" 4000 "$work/told")
+    many=$(python3 "$work/peak.py" "$(readlink -f "$here/../crates/avc_cli/out/avc_cli")" 400000 "$work/told")
     holds "refusals take no memory: $few and $many KiB" [ "$many" -le $((few + 1024)) ]
 fi
 
@@ -305,10 +318,10 @@ judge 'pieces' $? 0 ''
 holds 'lines of pieces' cmp -s "$work/lines" "$work/expected"
 holds 'more than one' [ "$(wc -l <"$work/lines")" -gt 1 ]
 # a slice of type 5 that is not the first of its picture begins no piece
-"$program" units "$picture" | awk '$4 == 5 { print 0, $1, $2; exit }' >"$work/expected"
+"$program" units "$picture" | awk '$4 == 5 { print number++, $1, $2 }' >"$work/expected"
 { cat "$picture" && printf '\000\000\001\145\100\200'; } | "$program" pieces >"$work/lines" 2>"$work/told"
-judge 'pieces of a picture with a second slice' $? 0 ''
-holds 'its line' cmp -s "$work/lines" "$work/expected"
+judge 'pieces of pictures, the last with a second slice' $? 0 ''
+holds 'their lines' cmp -s "$work/lines" "$work/expected"
 "$program" cut 0 "$pieces" >"$work/piece"
 timeout 20 "$program" cut 0 <"$work/live" >"$work/written" 2>"$work/told" &
 cutting=$!
