@@ -2,8 +2,8 @@
 """prove.py [--tests] CRATE..: proves the crates named and all that they stand on, and builds them: a program, or a library, or with --tests
 the program of their tests, which is run.
 
-Crates that don't stand on each other are proved side by side, one a processor (a proof uses little more than one), as many as memory
-holds, and first those with the longest way of others behind them. A second proof can't go on in the folders of one repository, so each
+Crates that don't stand on each other are proved side by side, as many as memory holds, and first those with the longest way of others
+behind them. A proof has one processor, the one with the longest way two, and what no other crate waits for. A second proof can't go on in the folders of one repository, so each
 has a copy of the sources in a folder of its own; the toolchain lets a copy take what another one has proved. What was proved before is
 not proved again, also after an interrupt. Every half minute a line on standard error says what is being proved, and how long is left by
 the times of scripts/proof-times.txt.
@@ -161,8 +161,14 @@ class Proofs:
                 if ready and (not self.running or free_memory() > NEED):
                     name = max(ready, key=lambda it: (self.way[it], it))
                     self.running[name] = time.time()
-                    return name
+                    return name, self.processors_for(name, left, len(ready) - 1)
                 self.change.wait(5)
+
+    def processors_for(self, name, left, waiting):
+        """Those that no other crate has or waits for, and one more where all wait for this one in the end."""
+        free = max(0, self.jobs - len(self.running) - waiting)
+        is_longest = all(self.way[it] <= self.way[name] for it in left | set(self.running))
+        return min(self.jobs, 1 + free + is_longest)
 
     def ended(self, name, log, status):
         with self.change:
@@ -183,9 +189,10 @@ class Proofs:
         return max(way, work / self.jobs + self.last) / 60
 
     def work(self, at):
-        while (name := self.next()) is not None:
+        while (chosen := self.next()) is not None:
+            name, jobs = chosen
             with open(f"{at}/{name}.log", "w", encoding="utf-8") as log:
-                verb = ["rt", "lib", "--jobs", "1"]
+                verb = ["rt", "lib", "--jobs", str(jobs)]
                 run = subprocess.run(verb, cwd=f"{at}/crates/{name}", stdin=subprocess.DEVNULL, stdout=log, stderr=log, check=False)
             self.ended(name, f"{at}/{name}.log", run.returncode)
 
