@@ -6,7 +6,7 @@
 #include <string.h>
 
 /* Bytes that are read at a time, and of rows that are gathered before they are written: more than a row has. */
-enum { PIECE = 65536, GATHERED = 262144 };
+enum { PIECE = 65536, GATHERED = 131072 };
 
 enum { WELL = 0, REFUSED = 1, WORDS = 2, FILE_FAULT = 3, MEMORY = 4 };
 
