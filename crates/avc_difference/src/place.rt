@@ -2,7 +2,8 @@
 
 ghost use Rattle.std.specs.Prelude.{◌≡◌, ◌*◌, ◌<◌, ◌≤◌, ◌^◌};
 ghost use Rattle.avc_plane.specs.Shown.{scaled};
-ghost use Rattle.avc_difference.specs.Places.{macroblock_columns, macroblock_rows, macroblocks, place_at, place_in, place_of, sample_count, shown_columns, shown_rows, shown_samples};
+ghost use Rattle.avc_difference.specs.Places.{macroblock_columns, macroblock_rows, macroblocks, place_at, place_in, place_of};
+ghost use Rattle.avc_difference.specs.Places.{sample_count, shown_columns, shown_rows, shown_samples};
 
 use avc_plane::Component;
 use avc_types::Crop;
