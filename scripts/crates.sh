@@ -1,6 +1,7 @@
 #!/bin/sh
 # Writes docs/CRATES.md to standard output: the crates by storey, from crates.txt, with what each is about, from the first line of its
-# root file. A crate's storey is one above the highest of those that it stands on.
+# root file. A crate's storey is one above the highest of those that it stands on. What no line of its code names is marked as there for
+# contracts and proofs alone.
 set -eu
 export LC_ALL=C
 cd "$(dirname "$0")/.."
@@ -42,15 +43,32 @@ about() {
     sed -n '1s/^\/\/! //p' "$root"
 }
 
+# whether some line of the crate $1 that is compiled names the crate $2
+is_compiled_with() {
+    grep -rhEv '^ *(ghost use|//)' "crates/$1/src" | grep -qw "$2"
+}
+
+# the crates that $1 stands on, those for contracts and proofs alone in italics
+stands_on() {
+    name=$1
+    shift
+    separator=
+    for dep; do
+        if is_compiled_with "$name" "$dep"; then mark=; else mark=_; fi
+        printf '%s%s%s%s' "$separator" "$mark" "${dep#avc_}" "$mark"
+        separator=', '
+    done
+}
+
 cat <<TXT
 # The crates
 
-By storey, lowest first: each stands on crates of lower storeys alone. \`crates.txt\` is what the build reads; \`scripts/crates.sh\` makes
-this page of it.
+By storey, lowest first: each stands on crates of lower storeys alone. What stands in _italics_ is named by a crate's contracts and proofs
+alone, and by no code. \`crates.txt\` is what the build reads; \`scripts/crates.sh\` makes this page of it.
 
 | Storey | Crate | What it is about | Stands on |
 |---|---|---|---|
 TXT
 storeys | while read -r storey name deps; do
-    echo "| $storey | [$name](../crates/$name) | $(about "$name") | $(echo "$deps" | sed 's/avc_//g; s/ /, /g') |"
+    echo "| $storey | [$name](../crates/$name) | $(about "$name") | $(stands_on "$name" $deps) |"
 done
