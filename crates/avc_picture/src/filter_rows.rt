@@ -5,6 +5,7 @@ ghost use Rattle.avc_types.specs.Pictures.{Coded};
 ghost use Rattle.avc_plane.specs.Frames.{planes_of, AreSized};
 ghost use Rattle.avc_deblock.specs.FilterInfo.{Names};
 ghost use Rattle.avc_deblock.specs.OneEdge.{HasRoom};
+ghost use Rattle.avc_picture_core.specs.Canvas.{address_of};
 ghost use Rattle.avc_picture.specs.RowLate.{filtered_rows, AreInfoOf, FiltersUpTo};
 ghost use Rattle.avc_motion.specs.Motion.{AreOfOneMotion, has_one_motion};
 ghost use Rattle.avc_picture.specs.FilterRows.{AddsInfo};
@@ -13,6 +14,7 @@ use crate::filter_info::set_filter_info;
 use crate::slice_context::SliceContext;
 use avc_deblock::{MbInfo, row};
 use avc_neigh::Motion;
+use avc_picture_core::MbPlace;
 use avc_plane::Planes;
 use avc_types::{FilteredEdges, History, Mb, Mv, OutOfMemory};
 use std::alloc::Global;
@@ -89,6 +91,17 @@ impl FilterRows {
         ensures { result ≡ self.now.width }
     {
         self.width
+    }
+
+    /// Where the macroblock stands that comes next.
+    pub(crate) fn place(&self) -> MbPlace
+        ensures column { result.column < self.now.width }
+        ensures address { address_of self.now.width result ≡ length self.now.info }
+    {
+        MbPlace {
+            column: self.column,
+            row: self.row,
+        }
     }
 
     /// Forgets all macroblocks. What is kept of them is not cleared: a row is asked for only once it is there.

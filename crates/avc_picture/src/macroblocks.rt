@@ -158,7 +158,7 @@ impl<const PAD: usize> Macroblocks<PAD> {
     /// component of one of its vectors is no 16-bit number, `RefMissing` where a block has no reference picture, `IntraUnavailable` where
     /// an intra prediction has not the samples that it needs: the first of these. After a fault nothing more is to be asked of the
     /// macroblocks. Anything may stand in `info`, which is where what its neighbours are told is written.
-    #[tactic(auto, using(crate::proofs::Slices::asked, crate::proofs::Slices::late_room))]
+    #[tactic(auto, using(crate::proofs::Slices::asked, crate::proofs::Slices::late_room, crate::proofs::Slices::row_below))]
     pub(crate) fn decode(
         &mut self,
         mb: &Mb,
@@ -182,8 +182,9 @@ impl<const PAD: usize> Macroblocks<PAD> {
             &sources.neighbours,
             self.canvas.constrained_intra_pred,
         )?;
+        let place = self.filter_rows.place();
         self.canvas
-            .build(&mut self.planes, self.next, mb, info, &sources)?;
+            .build(&mut self.planes, place, mb, info, &sources)?;
         self.filter_rows
             .filter_late(&mut self.planes, self.canvas.chroma_qp_index_offset);
         self.filter_rows.put(mb, &info.motion, slice);

@@ -1,5 +1,5 @@
 -- A picture that is being built, and what one of its macroblocks is built from, ITU-T H.264 clauses 8.3 to 8.5.
-use Rattle.std.specs.Prelude.{◌≡◌, ℕ, ◌<◌, ◌≤◌, ℤ, pos, ◌+ℤ◌, ◌-ℤ◌, nat_lt, Bool, true, not, ◌||◌, List, Option, Some, None, Result, Ok, Err}
+use Rattle.std.specs.Prelude.{◌≡◌, ℕ, ◌+◌, ◌*◌, ◌<◌, ◌≤◌, ℤ, pos, ◌+ℤ◌, ◌-ℤ◌, nat_lt, Bool, true, not, ◌||◌, List, Option, Some, None, Result, Ok, Err}
 use Rattle.avc_types.specs.declared.fault.Fault.{Fault}
 use Rattle.avc_types.specs.Macroblock.{Mb, MbSyntax, p_skip, i_pcm, i_nxn, i_16x16, p_inter}
 use Rattle.avc_neigh.specs.Around.{Around, is_intra_info}
@@ -14,6 +14,7 @@ use Rattle.avc_picture_core.specs.Built.{Place, planes_after, sides_of}
 use Rattle.avc_picture_core.specs.Faults.{refusal}
 use Rattle.avc_picture_core.specs.References.{AreReferences}
 use Rattle.avc_picture_core.specs.declared.inter.ReferencePicture.{ReferencePicture}
+use Rattle.avc_picture_core.specs.declared.places.MbPlace.{MbPlace}
 
 -- Its size in macroblocks, what its picture parameter set says of all its macroblocks, and its planes with those so far in them.
 pub record CanvasState : Type 0 where
@@ -46,6 +47,10 @@ sides_near constrained n k =
       left = at (x -ℤ pos 1) y;
       corner = at (x -ℤ pos 1) (y -ℤ pos 1);
     }
+
+-- the address of the macroblock at this place of a picture so wide (6.4.1)
+abbrev pub address_of : (width : ℕ) → MbPlace → ℕ
+address_of width p = p.row * width + p.column
 
 -- The place of the macroblock at this address of the canvas, with these modes, motion, neighbours and reference pictures.
 pub record IsPlaceOn {PAD : ℕ} (canvas : CanvasState) (address : ℕ) (mb : Mb) (info : NeighbourInfo) (n : Around)

@@ -1,11 +1,11 @@
-ghost use Rattle.std.specs.Prelude.{◌≡◌, ◌*◌, ◌<◌, ◌≤◌, true, All};
+ghost use Rattle.std.specs.Prelude.{◌≡◌, ◌<◌, ◌≤◌, true, All};
 ghost use Rattle.avc_types.specs.MacroblockFields.{syntax_of};
 ghost use Rattle.avc_neigh.specs.Around.{info_of};
 ghost use Rattle.avc_neigh.specs.Modes.{IsMode};
 ghost use Rattle.avc_motion.specs.Motion.{AreOfOneMotion, has_one_motion, is_intra};
 ghost use Rattle.avc_plane.specs.Frames.{planes_of, AreSized};
 ghost use Rattle.avc_picture_core.specs.Built.{Place};
-ghost use Rattle.avc_picture_core.specs.Canvas.{IsBuilt, IsInRange, IsPlaceOn};
+ghost use Rattle.avc_picture_core.specs.Canvas.{address_of, IsBuilt, IsInRange, IsPlaceOn};
 ghost use Rattle.avc_picture_core.specs.CanvasFields.{with_planes};
 ghost use Rattle.avc_picture_core.specs.References.{AreUsable};
 ghost use Rattle.avc_picture_core.specs.Sides.{readable_near};
@@ -64,24 +64,25 @@ fn readable_neighbours(
 }
 
 impl Canvas {
-    /// Builds the macroblock at this address (6.4.1) in the planes, of which `info` is known. RefMissing where a block has no reference
-    /// picture, IntraUnavailable where an intra prediction needs samples that are not there: any samples may stand in the planes then.
+    /// Builds the macroblock at this place in the planes, of which `info` is known. RefMissing where a block has no reference picture,
+    /// IntraUnavailable where an intra prediction needs samples that are not there: any samples may stand in the planes then.
     pub fn build<const PAD: usize>(
         &self,
         planes: &mut Planes<PAD>,
-        address: usize,
+        place: MbPlace,
         mb: &Mb,
         info: &NeighbourInfo,
         sources: &Sources<'_, PAD>,
     ) -> Result<(), Fault>
-        requires address { address < self.now.width * self.now.height }
+        requires column { place.column < self.now.width }
+        requires row { place.row < self.now.height }
         requires sized { AreSized self.now.width self.now.height (planes_of planes.old) }
         requires syntax { IsInRange mb.now.syntax }
         requires quantiser { mb.now.qp ≤ 51 }
         requires modes { All IsMode info.now.modes }
         requires one { has_one_motion mb.now.syntax ≡ true → AreOfOneMotion info.now.motion }
         requires references { AreUsable self.now.width self.now.height sources.now.references.now }
-        ensures built { (p : Place) → IsPlaceOn (with_planes self.now (planes_of planes.old)) address mb.now info.now (info_of sources.now.neighbours)
+        ensures built { (p : Place) → IsPlaceOn (with_planes self.now (planes_of planes.old)) (address_of self.now.width place) mb.now info.now (info_of sources.now.neighbours)
             sources.now.references.now p →
             IsBuilt p result (with_planes self.now (planes_of planes.old)) (with_planes self.now (planes_of planes.new)) }
         ensures sized { AreSized self.now.width self.now.height (planes_of planes.new) }
@@ -89,10 +90,6 @@ impl Canvas {
         let size = PictureSize {
             width: self.width,
             height: self.height,
-        };
-        let place = MbPlace {
-            column: address % self.width,
-            row: address / self.width,
         };
         let qp = Quantisers {
             luma: mb.qp,

@@ -18,4 +18,5 @@ mod sides;
 
 pub use canvas::{Canvas, Sources};
 pub use inter::ReferencePicture;
+pub use places::MbPlace;
 pub use sides::ReadableNeighbours;

@@ -8,7 +8,7 @@ pub(crate) struct PictureSize {
 
 /// Where a macroblock stands in its picture, in macroblocks.
 #[derive(Clone, Copy)]
-pub(crate) struct MbPlace {
+pub struct MbPlace {
     pub column: usize,
 
     pub row: usize,

@@ -230,13 +230,20 @@ module _ {PAD : ℕ} (canvas : CanvasState) (address qp_of_chroma : ℕ) (mb : M
       → IsPlaceIn (address % canvas.width) (address / canvas.width) canvas.width canvas.height mb.syntax mb.qp qp_of_chroma info r references p
   place_in chroma near = grind (arith, place_reads)
 
-  -- the planes of a canvas that is else as it was
-  pub canvas_built : qp_of_chroma ≡ chroma_qp canvas.chroma_qp_index_offset mb.qp → (is_intra mb.syntax ≡ true → r ≡ readable_near canvas.constrained_intra_pred n)
-      → (result : Result (Unit {0}) Fault) (new : Planes)
-      → (IsPlaceIn (address % canvas.width) (address / canvas.width) canvas.width canvas.height mb.syntax mb.qp qp_of_chroma info r references p
-      → ArePlanesBuilt p result canvas.planes new) → IsBuilt p result canvas (record canvas { planes = new })
-  canvas_built chroma near (Ok done) new built = let all = built (place_in chroma near) in (all.0, ap (λ s. record canvas { planes = s }) all.1)
-  canvas_built chroma near (Err f) new built = built (place_in chroma near)
+  module _ (column row : ℕ) (narrow : column < canvas.width) (at : address ≡ row * canvas.width + column)
+      (chroma : qp_of_chroma ≡ chroma_qp canvas.chroma_qp_index_offset mb.qp) (near : is_intra mb.syntax ≡ true → r ≡ readable_near canvas.constrained_intra_pred n) where
+    place_at : IsPlaceIn column row canvas.width canvas.height mb.syntax mb.qp qp_of_chroma info r references p
+    place_at =
+        let column_is : address % canvas.width ≡ column = ap (λ a. a % canvas.width) at ∙ mod-mul-add row canvas.width column narrow in
+        let row_is : address / canvas.width ≡ row = ap (λ a. a / canvas.width) at ∙ div-mul-add row canvas.width column narrow in
+        rw (column_is, row_is) at (place_in chroma near)
+
+    -- the planes of a canvas that is else as it was
+    pub canvas_built : (result : Result (Unit {0}) Fault) (new : Planes)
+        → (IsPlaceIn column row canvas.width canvas.height mb.syntax mb.qp qp_of_chroma info r references p → ArePlanesBuilt p result canvas.planes new)
+        → IsBuilt p result canvas (record canvas { planes = new })
+    canvas_built (Ok done) new built = let all = built place_at in (all.0, ap (λ s. record canvas { planes = s }) all.1)
+    canvas_built (Err f) new built = built place_at
 
 -- ---- a macroblock whose neighbours have samples: its blocks have the sides that any mode needs
 

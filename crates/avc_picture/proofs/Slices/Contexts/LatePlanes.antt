@@ -546,6 +546,12 @@ module _ {c : Coded} {names : Names} {m : MbsState} (holds : HoldsFirst c names 
 pub sized_room : (width height column row : ℕ) (s : Planes) → AreSized width height s → column < width → row < height → HasRoom column row s
 sized_room width height column row s sized h k = grind arith
 
+-- the row of a place in the picture
+pub row_below : (width height column row n : ℕ) → row * width + column ≡ n → n < width * height → row < height
+row_below width height column row n at low =
+    let high : height ≤ row → ⊥ = λ (h : height ≤ row). let more : height * width ≤ row * width = mul-le-mul_right width h in omega (arith, mul_comm width height) in
+    omega arith
+
 -- room for the row that is filtered next
 pub late_room : (m : MbsState) → PartsAgree m → (w : ℕ) → w ≡ m.canvas.width → (s : Planes) → AreSized m.canvas.width m.canvas.height s
     → (column : ℕ) → column < w → HasRoom column (length m.filter_info / w - 1) s

@@ -1,6 +1,7 @@
 use Rattle.avc_picture.proofs.Slices.{Err, suc, ◌≡◌, ◌∙◌, ◌<◌, ◌*◌, refl, sym, ap, subst, rules, add-one, w8, to_z, of_z, Around, HasModes, planes_of, AreInfoOf}
 use Rattle.avc_picture.proofs.Slices.{FilterInfo, FiltersUpTo, filtered_rows, state_of, with_planes, kept_more, modes_above, modes_left, build_fault, decoded_more}
 use Rattle.avc_picture.proofs.Slices.{vector_fault}
+use Rattle.avc_picture_core.specs.Canvas.{address_of}
 use Rattle.avc_picture.proofs.macroblocks.Macroblocks.decode.Goals as goal
 
 pub returns-in_err-set_neighbour_info-clause-decoded : goal.returns-in_err-set_neighbour_info-clause-decoded
@@ -14,8 +15,10 @@ returns-in_err-build-clause-decoded g c = rw (← c.self.view_is) (λ coded name
     let f = c.in_err-build.field-0.0 in
     let e : c.from_residual-in_err-build.result ≡ Err f = search rules in
     let told = c.in_ok-set_neighbour_info.ensures in
+    let w = c.self.invariant in
+    let here = ap (λ v. address_of v c.place-place.result) (sym w.filter_width) ∙ c.place-place.ensures.address ∙ w.kept.filter_count in
     rw e (build_fault holds c.self.invariant.kept slice is (c.sources-sources.ensures.neighbours ∙ c.around.ensures) c.set_neighbour_info.new.info told.motion told.told
-    c.sources-sources.ensures.references f (with_planes c.self.inside.canvas (planes_of c.build.new.planes)) c.in_err-build.ensures.built))
+    c.sources-sources.ensures.references f (with_planes c.self.inside.canvas (planes_of c.build.new.planes)) (rw here at c.in_err-build.ensures.built)))
 
 pub invariant_of-self-2 : goal.invariant_of-self-2
 invariant_of-self-2 g c =
@@ -42,6 +45,7 @@ returns-clause-decoded g c = rw (← c.self.view_is) (λ coded names holds is sl
     let adds = c.put.ensures.info in
     let room : i.next < i.canvas.width * i.canvas.height = rw (← c.self.view_is) at c.requires.room in
     let after = planes_of c.filter_late.new.planes in
+    let here = ap (λ v. address_of v c.place-place.result) (sym w.filter_width) ∙ c.place-place.ensures.address ∙ w.kept.filter_count in
     let same : to_z w8 (of_z w8 i.canvas.chroma_qp_index_offset) ≡ i.canvas.chroma_qp_index_offset = search rules in
     let width : i.filter_rows.width ≡ coded.width = w.filter_width ∙ holds.width in
     let of : AreInfoOf coded names (to_z w8 (of_z w8 i.canvas.chroma_qp_index_offset)) i.filter_rows =
@@ -50,5 +54,5 @@ returns-clause-decoded g c = rw (← c.self.view_is) (λ coded names holds is sl
     rw (width, w.kept.filter_count) at (c.filter_late.ensures.lines coded names of) in
     let more = decoded_more holds w.kept slice is (c.sources-sources.ensures.neighbours ∙ c.around.ensures) c.set_neighbour_info.new.info told.motion
     told.told c.sources-sources.ensures.references (with_planes i.canvas (planes_of c.build.new.planes))
-    c.in_ok-build.field-0 c.in_ok-build.ensures.built c.put.ensures.blocks adds.info adds.told room after filters in
+    c.in_ok-build.field-0 (rw here at c.in_ok-build.ensures.built) c.put.ensures.blocks adds.info adds.told room after filters in
     (more.0, rw (adds.new_is, c.put-2.ensures, add-one) more.1))
