@@ -3,10 +3,11 @@
 the program of their tests, which is run.
 
 Crates that don't stand on each other are proved side by side, as many as memory holds, and first those with the longest way of others
-behind them. A proof has one processor, the one with the longest way two, and what no other crate waits for. A second proof can't go on in the folders of one repository, so each
-has a copy of the sources in a folder of its own; the toolchain lets a copy take what another one has proved. What was proved before is
-not proved again, also after an interrupt. Every half minute a line on standard error says what is being proved, and how long is left by
-the times of scripts/proof-times.txt.
+behind them. A proof has one processor: its parts on several ones would each read all that it stands on, which takes longer but for the
+crate at the bottom, for which all others wait. A second proof can't go on in the folders of one repository, so each has a copy of the
+sources in a folder of its own; the toolchain lets a copy take what another one has proved. What was proved before is not proved again,
+also after an interrupt. Every half minute a line on standard error says what is being proved, and how long is left by the times of
+scripts/proof-times.txt.
 
 --plan shows the order and how long it takes, and proves nothing."""
 import hashlib
@@ -161,14 +162,12 @@ class Proofs:
                 if ready and (not self.running or free_memory() > NEED):
                     name = max(ready, key=lambda it: (self.way[it], it))
                     self.running[name] = time.time()
-                    return name, self.processors_for(name, left, len(ready) - 1)
+                    return name, self.processors_for(name)
                 self.change.wait(5)
 
-    def processors_for(self, name, left, waiting):
-        """Those that no other crate has or waits for, and one more where all wait for this one in the end."""
-        free = max(0, self.jobs - len(self.running) - waiting)
-        is_longest = all(self.way[it] <= self.way[name] for it in left | set(self.running))
-        return min(self.jobs, 1 + free + is_longest)
+    def processors_for(self, name):
+        """Those that nobody else has, for a crate that stands on no other."""
+        return 1 if self.below[name] else max(1, self.jobs - len(self.running) + 1)
 
     def ended(self, name, log, status):
         with self.change:

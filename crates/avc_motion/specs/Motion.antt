@@ -207,6 +207,10 @@ HasVectors n syntax result =
     (p : Coded) (known : List (List Motion)) (a : ℕ) → MotionIsAround n p.mbs p.width known a
     → result ≡ vectors_or_fault (motion_of p known a syntax)
 
+-- blocks that stand still: of reference index 0 and vector 0 (8.4.1.1)
+abbrev pub still_blocks : List Motion
+still_blocks = replicate 16 (inter 0 zero_vector)
+
 -- ---- what others ask of a macroblock and of its slice (7.3.5, 8.4.2.1)
 
 -- a macroblock of an Intra macroblock prediction mode (Table 7-11)

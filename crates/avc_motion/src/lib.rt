@@ -6,5 +6,5 @@ mod neighbouring;
 mod parts;
 mod prediction;
 
-pub use macroblock::{has_one_motion, is_one_partition, motion, vectors};
+pub use macroblock::{has_one_motion, is_one_partition, motion, stands_still, vectors};
 pub use neighbouring::NeighbouringPartitions;

@@ -1,4 +1,4 @@
-ghost use Rattle.std.specs.Prelude.{◌≡◌, true, map, replicate, OnOk};
+ghost use Rattle.std.specs.Prelude.{◌≡◌, true, map, replicate, Ok, OnOk};
 ghost use Rattle.std.specs.List.{list_all};
 ghost use Rattle.avc_types.specs.Macroblock.{p_skip};
 ghost use Rattle.avc_types.specs.References.{result_map};
@@ -7,7 +7,7 @@ ghost use Rattle.avc_neigh.specs.BlockNear.{motion_near};
 ghost use Rattle.avc_neigh.specs.declared.neighbour_info.Motion.TheVariants.{Absent as absent};
 ghost use Rattle.avc_motion.specs.Motion.{AreOfOneMotion, HasMotion, HasVectors, is_in_range, motion_by, vector_of as motion_vector};
 ghost use Rattle.avc_motion.specs.Motion.{has_one_motion as has_one_motion_by, is_one_partition as is_one_partition_by};
-ghost use Rattle.avc_motion.specs.Motion.{neighbours_of, skip_vector, zero_vector};
+ghost use Rattle.avc_motion.specs.Motion.{neighbours_of, skip_vector, still_blocks, zero_vector};
 ghost use Rattle.avc_motion.specs.Decoding.{blocks_or_fault, decoded_whole, HasFourQuarters};
 
 use crate::neighbouring::{NeighbouringPartitions, above, left_of};
@@ -52,6 +52,14 @@ fn is_held(neighbours: &Neighbours<'_>) -> bool
 {
     let mine = [Motion::Absent; 16];
     is_still(left_of(neighbours, &mine, 0, 0)) || is_still(above(neighbours, &mine, 0, 0))
+}
+
+/// Whether a skipped macroblock with these neighbours stands still by what A and B have alone (8.4.1.1).
+#[inline]
+pub fn stands_still(neighbours: &Neighbours<'_>) -> bool
+    ensures { result ≡ true → HasMotion (info_of neighbours.now) p_skip (Ok still_blocks) }
+{
+    is_held(neighbours)
 }
 
 /// The blocks of a skipped macroblock that may move.

@@ -1,17 +1,18 @@
 -- What is told of one macroblock: to later macroblocks, and to the deblocking filter.
-use Rattle.std.specs.Prelude.{◌≡◌, ◌≤◌, ◌<◌, ◌*◌, ℕ, Bool, List, map, All, slice_index, slice_index_or}
+use Rattle.std.specs.Prelude.{◌≡◌, ◌≤◌, ◌<◌, ◌*◌, ℕ, Bool, List, map, replicate, All, slice_index, slice_index_or}
 use Rattle.avc_types.specs.Macroblock.{Mb, MbSyntax, p_skip, i_pcm, i_nxn, i_16x16, p_inter}
 use Rattle.avc_types.specs.Pictures.{Coded}
 use Rattle.avc_neigh.specs.Around.{Around}
 use Rattle.avc_neigh.specs.BlockNear.{ModesAreAround, HasModes}
 use Rattle.avc_neigh.specs.Modes.{IsMode, IsRem, modes_of}
-use Rattle.avc_neigh.specs.TotalCoeffs.{total_coeffs_of}
+use Rattle.avc_neigh.specs.TotalCoeffs.{all_total_coeffs, total_coeffs_of}
 use Rattle.avc_neigh.specs.declared.neighbour_info.NeighbourInfo.{NeighbourInfo}
 use Rattle.avc_neigh.specs.declared.neighbour_info.NearMode.{NearMode}
+use Rattle.avc_neigh.specs.declared.neighbour_info.NearMode.TheVariants.{Inter as inter_mode}
 use Rattle.avc_neigh.specs.declared.neighbour_info.Motion.{Motion}
 use Rattle.avc_neigh.specs.declared.neighbour_info.Motion.TheVariants.{Absent as absent, Intra as intra, Inter as inter}
 use Rattle.avc_mbsyntax.specs.Ranges.{IsSyntax}
-use Rattle.avc_motion.specs.Motion.{is_intra, vector_of}
+use Rattle.avc_motion.specs.Motion.{is_intra, still_blocks, vector_of}
 use Rattle.avc_deblock.specs.declared.mb_info.MbInfo.{MbInfo}
 use Rattle.avc_deblock.specs.Edges.{filter_qp, has_coefficients}
 use Rattle.avc_deblock.specs.FilterInfo.{has_bit}
@@ -44,6 +45,10 @@ pub record IsNeighbourInfo (slice : ℕ) (n : Around) (constrained_intra_pred : 
   pub total_coeffs_is : f.total_coeffs ≡ total_coeffs_of mb.syntax
   pub modes_are : AreModes n constrained_intra_pred mb.syntax f.modes
   pub in_range : HasModes n.a → HasModes n.b → All IsMode f.modes
+
+-- what neighbours are told of a skipped macroblock of this slice that stands still (8.4.1.1)
+abbrev pub still_info : (slice : ℕ) → NeighbourInfo
+still_info slice = record { slice = slice; total_coeffs = all_total_coeffs 0; modes = replicate 16 inter_mode; motion = still_blocks }
 
 -- the number of the frame that a block is predicted from, by the slice's numbers; 0 of a block that is not
 abbrev pub number_of : (frame_numbers : List ℕ) → Motion → ℕ

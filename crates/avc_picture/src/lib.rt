@@ -1,6 +1,7 @@
 //! The slices of one picture (7.4.3, 8).
 #![tactic(auto)]
 
+mod current_info;
 mod decoder;
 mod filter_info;
 mod filter_rows;

@@ -18,29 +18,17 @@ ghost use Rattle.avc_picture.specs.FirstMbs.{HasSameSize, HasSets, HoldsFirst, I
 ghost use Rattle.avc_picture.specs.MacroblockInfo.{IsRead};
 ghost use Rattle.avc_picture.specs.RowLate.{covering_address, row_late};
 
+use crate::current_info::CurrentInfo;
 use crate::filter_rows::FilterRows;
-use crate::info_for_neighbours::set_neighbour_info;
 use crate::memory::{FactRows, PictureMemory};
 use crate::slice_context::SliceContext;
-use avc_neigh::{Motion, NearMode, NeighbourInfo, Neighbours, Row, TotalCoeffs};
+use avc_neigh::{NeighbourInfo, Neighbours, Row, TotalCoeffs};
 use avc_params::{Pps, Sps};
 use avc_picture_core::{Canvas, ReferencePicture, Sources};
 use avc_plane::Planes;
 use avc_types::{Fault, Mb, OutOfMemory};
 use std::alloc::Global;
 use std::marker::Model;
-
-/// What stands for what neighbours are told of a macroblock, until it is known.
-pub(crate) const NOTHING_TOLD: NeighbourInfo = NeighbourInfo {
-    slice: 0,
-    total_coeffs: TotalCoeffs {
-        luma: [0; 16],
-        cb: [0; 4],
-        cr: [0; 4],
-    },
-    modes: [NearMode::Absent; 16],
-    motion: [Motion::Absent; 16],
-};
 
 /// The macroblocks of a picture so far, with all that later ones and the deblocking filter ask of them.
 #[derive(Drop)]
@@ -157,13 +145,14 @@ impl<const PAD: usize> Macroblocks<PAD> {
     /// Decodes the macroblock that comes next, and filters the row above where it is the last of its own (8.7). `VectorRange` where a
     /// component of one of its vectors is no 16-bit number, `RefMissing` where a block has no reference picture, `IntraUnavailable` where
     /// an intra prediction has not the samples that it needs: the first of these. After a fault nothing more is to be asked of the
-    /// macroblocks. Anything may stand in `info`, which is where what its neighbours are told is written.
+    /// macroblocks. Anything may stand in `info`, which is where what its
+    /// neighbours are told is written.
     #[tactic(auto, using(crate::proofs::Slices::asked, crate::proofs::Slices::late_room, crate::proofs::Slices::row_below))]
     pub(crate) fn decode(
         &mut self,
         mb: &Mb,
         slice: &SliceContext<'_, PAD>,
-        info: &mut NeighbourInfo,
+        info: &mut CurrentInfo,
     ) -> Result<(), Fault>
         requires room { self.old.next < self.old.canvas.width * self.old.canvas.height }
         requires mb { IsRead mb.now }
@@ -175,13 +164,13 @@ impl<const PAD: usize> Macroblocks<PAD> {
             → IsSlice c names slice.now → IsDecoded c names self.old.next result self.new }
     {
         let sources = sources(self.row.around(slice.number), &slice.references);
-        set_neighbour_info(
-            info,
+        info.set(
             mb,
             slice.number,
             &sources.neighbours,
             self.canvas.constrained_intra_pred,
         )?;
+        let info = info.info();
         let place = self.filter_rows.place();
         self.canvas
             .build(&mut self.planes, place, mb, info, &sources)?;

@@ -20,13 +20,13 @@ ghost use Rattle.avc_picture.specs.DecoderState.{IsDataAnswer, IsDataOf, IsDecod
 ghost use Rattle.avc_picture.specs.FirstMbs.{HasSameSize, HoldsFirst};
 ghost use Rattle.avc_picture.specs.Slices.{data_of, start_of};
 
+use crate::current_info::CurrentInfo;
 use crate::header_checks::check_address;
-use crate::macroblocks::{Macroblocks, NOTHING_TOLD};
+use crate::macroblocks::Macroblocks;
 use crate::reference_places::{Places, reference_places};
 use crate::slice_context::SliceContext;
 use avc_bits::BitReader;
 use avc_mbsyntax::SliceData;
-use avc_neigh::NeighbourInfo;
 use avc_params::{Pps, Sps};
 use avc_plane::Frame;
 use avc_slice::{Header, Slice};
@@ -89,7 +89,7 @@ fn decode_data<const PAD: usize>(
     macroblocks: &mut Macroblocks<PAD>,
     read: &mut u32,
     mb: &mut Mb,
-    info: &mut NeighbourInfo,
+    info: &mut CurrentInfo,
 ) -> Result<(), Fault>
     requires some { CanGoOn macroblocks.old unread.old context.now }
     requires usable { AreUsable macroblocks.old.canvas.width macroblocks.old.canvas.height context.now.references }
@@ -135,7 +135,7 @@ fn decode_macroblocks<const PAD: usize>(
         → IsDataAnswer c names macroblocks.old.next (outcome_from c s macroblocks.old d) result read.new macroblocks.new }
 {
     let context = SliceContext::new(number, header, frames, places);
-    let mut info = NOTHING_TOLD;
+    let mut info = CurrentInfo::new();
     *read += 1;
     macroblocks.decode(mb, &context, &mut info)?;
     decode_data(unread, &context, macroblocks, read, mb, &mut info)

@@ -4,20 +4,20 @@ use Rattle.avc_picture.proofs.Slices.{vector_fault}
 use Rattle.avc_picture_core.specs.Canvas.{address_of}
 use Rattle.avc_picture.proofs.macroblocks.Macroblocks.decode.Goals as goal
 
-pub returns-in_err-set_neighbour_info-clause-decoded : goal.returns-in_err-set_neighbour_info-clause-decoded
-returns-in_err-set_neighbour_info-clause-decoded g c = rw (← c.self.view_is) (λ coded names holds is slice.
-    let f = c.in_err-set_neighbour_info.field-0.0 in
+pub returns-in_err-set-clause-decoded : goal.returns-in_err-set-clause-decoded
+returns-in_err-set-clause-decoded g c = rw (← c.self.view_is) (λ coded names holds is slice.
+    let f = c.in_err-set.field-0.0 in
     let e : c.from_residual.result ≡ Err f = search rules in
-    rw e (vector_fault holds c.self.invariant.kept slice is (c.sources-sources.ensures.neighbours ∙ c.around.ensures) f c.in_err-set_neighbour_info.ensures.motion))
+    rw e (vector_fault holds c.self.invariant.kept slice is (c.sources-sources.ensures.neighbours ∙ c.around.ensures) f c.in_err-set.ensures.motion))
 
 pub returns-in_err-build-clause-decoded : goal.returns-in_err-build-clause-decoded
 returns-in_err-build-clause-decoded g c = rw (← c.self.view_is) (λ coded names holds is slice.
     let f = c.in_err-build.field-0.0 in
     let e : c.from_residual-in_err-build.result ≡ Err f = search rules in
-    let told = c.in_ok-set_neighbour_info.ensures in
+    let told = rw (← c.info-info.ensures) at c.in_ok-set.ensures in
     let w = c.self.invariant in
     let here = ap (λ v. address_of v c.place-place.result) (sym w.filter_width) ∙ c.place-place.ensures.address ∙ w.kept.filter_count in
-    rw e (build_fault holds c.self.invariant.kept slice is (c.sources-sources.ensures.neighbours ∙ c.around.ensures) c.set_neighbour_info.new.info told.motion told.told
+    rw e (build_fault holds c.self.invariant.kept slice is (c.sources-sources.ensures.neighbours ∙ c.around.ensures) c.info-info.result.now told.motion told.told
     c.sources-sources.ensures.references f (with_planes c.self.inside.canvas (planes_of c.build.new.planes)) (rw here at c.in_err-build.ensures.built)))
 
 pub invariant_of-self-2 : goal.invariant_of-self-2
@@ -26,12 +26,13 @@ invariant_of-self-2 g c =
     let n_is = sym (c.sources-sources.ensures.neighbours ∙ c.around.ensures) in
     let w = c.self.invariant in
     let adds = c.put.ensures.info in
+    let told = rw (← c.info-info.ensures) at c.in_ok-set.ensures in
     let room : i.next < i.canvas.width * i.canvas.height = rw (← c.self.view_is) at c.requires.room in
     record {
       sized = c.filter_late.ensures.sized i.canvas.width i.canvas.height c.build.ensures.sized;
       filter_width = ap (λ (f : FilterInfo). f.width) adds.new_is ∙ w.filter_width;
-      kept = rw adds.new_is (kept_more (state_of i) w.kept (with_planes i.canvas (planes_of c.filter_late.new.planes)) refl refl c.set_neighbour_info.new.info
-          (c.in_ok-set_neighbour_info.ensures.told.in_range
+      kept = rw adds.new_is (kept_more (state_of i) w.kept (with_planes i.canvas (planes_of c.filter_late.new.planes)) refl refl c.info-info.result.now
+          (told.told.in_range
           (subst (λ (n : Around). HasModes n.a) n_is (modes_left i.row c.args.slice.now.number w.kept.modes))
           (subst (λ (n : Around). HasModes n.b) n_is (modes_above i.row c.args.slice.now.number w.kept.modes)))
           adds.info room c.put-2.new.self c.put-2.ensures);
@@ -41,7 +42,7 @@ pub returns-clause-decoded : goal.returns-clause-decoded
 returns-clause-decoded g c = rw (← c.self.view_is) (λ coded names holds is slice.
     let i = c.self.inside in
     let w = c.self.invariant in
-    let told = c.in_ok-set_neighbour_info.ensures in
+    let told = rw (← c.info-info.ensures) at c.in_ok-set.ensures in
     let adds = c.put.ensures.info in
     let room : i.next < i.canvas.width * i.canvas.height = rw (← c.self.view_is) at c.requires.room in
     let after = planes_of c.filter_late.new.planes in
@@ -52,7 +53,7 @@ returns-clause-decoded g c = rw (← c.self.view_is) (λ coded names holds is sl
     record { width_is = sym width; offset_is = sym holds.offset ∙ sym same; info_are = holds.filter } in
     let filters : FiltersUpTo coded (filtered_rows coded.width i.next) (filtered_rows coded.width (suc i.next)) (planes_of c.build.new.planes) after =
     rw (width, w.kept.filter_count) at (c.filter_late.ensures.lines coded names of) in
-    let more = decoded_more holds w.kept slice is (c.sources-sources.ensures.neighbours ∙ c.around.ensures) c.set_neighbour_info.new.info told.motion
+    let more = decoded_more holds w.kept slice is (c.sources-sources.ensures.neighbours ∙ c.around.ensures) c.info-info.result.now told.motion
     told.told c.sources-sources.ensures.references (with_planes i.canvas (planes_of c.build.new.planes))
     c.in_ok-build.field-0 (rw here at c.in_ok-build.ensures.built) c.put.ensures.blocks adds.info adds.told room after filters in
     (more.0, rw (adds.new_is, c.put-2.ensures, add-one) more.1))
