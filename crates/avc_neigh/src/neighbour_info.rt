@@ -59,6 +59,17 @@ pub struct NeighbourInfo {
 impl NeighbourInfo {
     ghost use Rattle.avc_neigh.specs.Around.{is_intra_info};
 
+    /// Takes over what another one says: field by field, each of which is copied in place.
+    #[inline]
+    pub(crate) fn copy_from(&mut self, other: &NeighbourInfo)
+        ensures { self.new ≡ other.now }
+    {
+        self.slice = other.slice;
+        self.total_coeffs = other.total_coeffs;
+        self.modes = other.modes;
+        self.motion = other.motion;
+    }
+
     /// Whether the macroblock is intra.
     #[inline]
     pub fn is_intra(&self) -> bool

@@ -85,7 +85,7 @@ fn write(entry: &mut Option<NeighbourInfo>, info: &NeighbourInfo)
     ensures { entry.new ≡ Some info.now }
 {
     match entry {
-        Some(known) => *known = *info,
+        Some(known) => known.copy_from(info),
         None => *entry = Some(*info),
     }
 }

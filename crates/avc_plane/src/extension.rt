@@ -4,6 +4,7 @@ ghost use Rattle.std.specs.Prelude.{◌≡◌, ℕ, ◌+◌, ◌-◌, ◌*◌, �
 ghost use Rattle.avc_plane.specs.Padded.{nearest};
 
 /// Sets `count` samples to one.
+#[inline(always)]
 fn repeat(stored: &mut [u8], first: usize, count: usize, sample: u8)
     requires { first + count ≤ length stored.old }
     ensures before { (k : ℕ) → k < first → slice_index stored.new k ≡ slice_index stored.old k }
@@ -15,6 +16,7 @@ fn repeat(stored: &mut [u8], first: usize, count: usize, sample: u8)
 
 /// Repeats the outer samples of a row on both sides of it, `pad` times on the left and up to the next row on the right. `first` is the
 /// place of its first sample with the padding.
+#[inline(always)]
 fn extend_row(stored: &mut [u8], first: usize, width: usize, pad: usize, stride: usize)
     requires some { 0 < width }
     requires wide { width + pad ≤ stride }
@@ -41,6 +43,7 @@ fn copy(stored: &mut [u8], from: usize, to: usize, count: usize)
 }
 
 /// Repeats the outer samples of each row of a plane on both sides of it.
+#[inline(always)]
 fn extend_sides(stored: &mut [u8], width: usize, height: usize, pad: usize, stride: usize)
     requires some { 0 < width }
     requires wide { width + pad ≤ stride }
@@ -72,7 +75,9 @@ fn extend_ends(stored: &mut [u8], height: usize, pad: usize, stride: usize)
     }
 }
 
-/// Gives each place around a plane the sample inside that is nearest.
+/// Gives each place around a plane the sample inside that is nearest. Where it is called `pad` is a constant, and a side of that many
+/// samples is stored without a loop.
+#[inline(always)]
 pub fn extend(stored: &mut [u8], width: usize, height: usize, pad: usize, stride: usize)
     requires some_column { 0 < width }
     requires some_row { 0 < height }

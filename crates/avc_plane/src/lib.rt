@@ -27,4 +27,4 @@ pub use spare::SparePlanes;
 
 /// How many samples a stored frame has on each side of each plane, copies of the nearest ones: a prediction that leads no further is
 /// read without a look at the edges.
-pub const PADDING: usize = 32;
+pub const PADDING: usize = 16;
