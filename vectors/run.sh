@@ -621,7 +621,7 @@ while IFS='|' read -r bytes what; do
     judge "decode of what begins with $bytes" $? 0 ''
     for format in i420 y4m framemd5 null; do
         "$program" decode --explain --format "$format" "$work/other" >"$work/written" 2>"$work/told"
-        judge "decode --explain --format $format of what begins with $bytes" $? 0 "0 pictures, 0 refusals
+        judge "decode --explain --format $format of what begins with $bytes" $? 0 "0 pictures, 0 refusals, 0 slices passed over
 avcdec: no picture was found; $what
 "
         holds 'nothing is written' [ ! -s "$work/written" ]
@@ -665,10 +665,17 @@ judge 'decode --verify of no picture' $? 1 ''
 "$program" decode --verify "$some_md5" --limit 0 "$moving" >"$work/written" 2>"$work/told"
 judge 'decode --verify --limit 0' $? 1 ''
 
-# what each refusal means is told in the words of docs/behaviour.md, behind its line, and then how many pictures and refusals there are
+# What each refusal means is told in the words of docs/behaviour.md, behind its line, and that decoding waits where it is that of a slice
+# whose forbidden_zero_bit is 0; and then how many pictures and refusals there are, and slices with which no piece begins and which are
+# passed over: such that come before the first piece begins, or with a loss between them and the last that began before them.
 explained_as() {
-    awk -F '|' '
-        FNR == NR {
+    pictures=$("$program" decode --format framemd5 "${1%.refused}.264" 2>"$work/others" | grep -vc '^#')
+    "$program" units "${1%.refused}.264" >"$work/its_units"
+    "$program" pieces "${1%.refused}.264" >"$work/its_pieces"
+    awk -F '|' -v pictures="$pictures" '
+        FILENAME == ARGV[2] { split($0, part, " "); type[part[1]] = part[4]; units++; next }
+        FILENAME == ARGV[3] { split($0, part, " "); begins[part[2]] = 1; next }
+        FILENAME == ARGV[1] {
             if ($2 ~ /^ [0-9]+ [A-Za-z]+ $/) {
                 split($2, head, " ")
                 text = substr($3, 2, length($3) - 2)
@@ -683,10 +690,26 @@ explained_as() {
             sub(/^refused /, "")
             split($0, part, /[: ]+/)
             print $0 ": " meaning[part[3]]
+            refusals++
+            if (part[3] == 4) forbidden[part[2]] = 1
+            else if (type[part[2]] >= 1 && type[part[2]] <= 5) {
+                lost[part[2]] = 1
+                print "waits for an IDR picture from unit " part[2] " on"
+            }
         }
-    ' "$here/../docs/behaviour.md" "$1"
-    pictures=$("$program" decode --format framemd5 "${1%.refused}.264" 2>"$work/others" | grep -vc '^#')
-    echo "$pictures pictures, $(wc -l <"$1" | tr -d ' ') refusals"
+        END {
+            for (slice = 0; slice < units; slice++) {
+                if (type[slice] < 1 || type[slice] > 5 || slice in begins || slice in forbidden) continue
+                is_passed = 1
+                for (before = slice - 1; before >= 0; before--) {
+                    if (before in lost) break
+                    if (before in begins) { is_passed = 0; break }
+                }
+                passed += is_passed
+            }
+            printf "%d pictures, %d refusals, %d slices passed over\n", pictures, refusals, passed
+        }
+    ' "$here/../docs/behaviour.md" "$work/its_units" "$work/its_pieces" "$1"
     if [ "$pictures" = 0 ]; then
         echo 'avcdec: no picture was found; the first bytes are those of a byte stream'
     fi
@@ -698,7 +721,23 @@ for refused in "$here"/cases/*.refused; do
 "
 done
 "$program" decode --explain "$moving" >"$work/written" 2>"$work/told"
-judge 'decode --explain of ten pictures' $? 0 '10 pictures, 0 refusals
+judge 'decode --explain of ten pictures' $? 0 '10 pictures, 0 refusals, 0 slices passed over
+'
+# the slice with the gap, which is bytes 26 to 32, two times more: they are passed over
+gap=$here/cases/gap_and_resumed.264
+{ head -c 33 "$gap"; tail -c +27 "$gap" | head -c 7; tail -c +27 "$gap" | head -c 7; tail -c +34 "$gap"; } | "$program" decode --explain >"$work/written" 2>"$work/told"
+judge 'decode --explain of slices behind a loss' $? 1 'refused unit 3: 32 FrameNumGap
+unit 3: 32 FrameNumGap: a gap in frame_num where gaps are not allowed (7.4.3)
+waits for an IDR picture from unit 3 on
+refused unit 7: 3 OutOfRange
+unit 7: 3 OutOfRange: a value is outside the range that its semantics give (7.4)
+waits for an IDR picture from unit 7 on
+2 pictures, 2 refusals, 2 slices passed over
+'
+# two slices of type 1 before the first IDR picture, and a unit between them that is none
+{ printf '\000\000\001\101\232\042\240\000\000\001\014\377\000\000\001\101\232\042\240' && cat "$moving"; } |
+    "$program" decode --explain >"$work/written" 2>"$work/told"
+judge 'decode --explain of a stream that begins late' $? 0 '10 pictures, 0 refusals, 2 slices passed over
 '
 
 # letters stand for words
@@ -792,6 +831,11 @@ if command -v script >/dev/null; then
     holds 'on a terminal it is told where no picture was found' grep -q 'avcdec: no picture was found; there is nothing to read' "$work/told"
     script -qec "'$program' decode --quiet -f null </dev/null" /dev/null </dev/null >"$work/told" 2>&1
     holds 'not with --quiet' [ ! -s "$work/told" ]
+    script -qec "'$program' decode -f null '$here/cases/gap_and_resumed.264'" /dev/null </dev/null >"$work/told" 2>&1
+    holds 'on a terminal it is told where decoding waits' grep -q 'waits for an IDR picture from unit 3 on' "$work/told"
+    holds 'and how many slices are passed over' grep -q '2 pictures, 2 refusals, 0 slices passed over' "$work/told"
+    script -qec "'$program' decode --quiet -f null '$here/cases/gap_and_resumed.264'" /dev/null </dev/null >"$work/told" 2>&1
+    holds 'with --quiet the refusals alone' [ "$(grep -c . "$work/told")" = 2 ]
     # standard output is a terminal
     for command in decode 'decode -f y4m' 'decode -l 1' 'cut 0'; do
         script -qec "'$program' $command '$picture' 2>'$work/told'" /dev/null </dev/null >"$work/written"

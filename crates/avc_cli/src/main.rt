@@ -4,6 +4,7 @@
 mod ending;
 mod errors;
 mod input;
+mod loss_lines;
 mod misuse;
 mod observer;
 mod output;
@@ -24,6 +25,7 @@ use clap::error::ErrorKind;
 use ending::ended_status;
 use errors::Errors;
 use input::Input;
+use loss_lines::LossLines;
 use misuse::is_output_refused;
 use observer::Observer;
 use output::{Output, OutputFile};
@@ -34,7 +36,7 @@ use std::fs::{File, metadata};
 use std::io;
 use std::io::{IsTerminal, Read, Write};
 use std::process::ExitCode;
-use told::{tell_container, tell_outcome, tell_reason};
+use told::{is_told_more, tell_container, tell_outcome, tell_reason};
 
 fn main(rt: HostRuntime) -> ExitCode {
     let ended = match words_of(&rt) {
@@ -81,6 +83,7 @@ fn carry_out_on<R: Read + Drop>(
     let has_left = Cell::new(false);
     let progress_stands = Cell::new(false);
     let manner = &request.manner;
+    let is_told_more = is_told_more(rt, manner);
     let progress = Progress::new(
         rt,
         is_progress_told(rt, manner.progress),
@@ -91,7 +94,7 @@ fn carry_out_on<R: Read + Drop>(
         names: names_of(request),
         is_explained: manner.is_explained,
         errors: Errors::new(rt, manner.is_quiet, &has_left, &progress_stands),
-        watch: Observer::new(progress),
+        watch: Observer::new(progress, LossLines::new(rt, is_told_more)),
     };
     let (status, unwritten) = write_out(rt, request, &mut input, &has_left, &mut console);
     tell_reason(rt, request.input, input.fault());
@@ -101,7 +104,9 @@ fn carry_out_on<R: Read + Drop>(
     }
     match console.watch.outcome() {
         Some(outcome) => {
-            tell_outcome(rt, manner, outcome, input.first());
+            if is_told_more {
+                tell_outcome(rt, outcome, console.watch.passed(), input.first());
+            }
             ended_status(manner.is_strict, &request.task, outcome.pictures, status)
         }
         None => status,

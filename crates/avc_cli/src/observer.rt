@@ -1,20 +1,24 @@
 //! What is known of a run while it goes on, and at its end.
 
+use crate::loss_lines::LossLines;
 use crate::progress::Progress;
 use avc_console::{Counts, RunFault, Watch};
+use avc_types::Fault;
 
-/// Watches a run: shows how far it is, and remembers what it came to.
+/// Watches a run: shows how far it is and what is lost, and remembers what it came to.
 #[derive(Drop)]
 pub struct Observer<'a> {
     progress: Progress<'a>,
+    losses: LossLines<'a>,
     outcome: Option<Counts>,
 }
 
-impl Observer<'_> {
+impl<'a> Observer<'a> {
     /// Of a run that has not begun.
-    pub fn new(progress: Progress<'_>) -> Observer<'_> {
+    pub fn new(progress: Progress<'a>, losses: LossLines<'a>) -> Observer<'a> {
         Observer {
             progress,
+            losses,
             outcome: None,
         }
     }
@@ -23,15 +27,36 @@ impl Observer<'_> {
     pub fn outcome(&self) -> Option<Counts> {
         self.outcome
     }
+
+    /// How many slices were passed over, where that is known.
+    pub fn passed(&self) -> Option<u64> {
+        self.losses.passed()
+    }
 }
 
 impl Watch for Observer<'_> {
+    fn note_bytes(&mut self, piece: &[u8]) {
+        self.losses.note_bytes(piece);
+    }
+
+    fn note_end(&mut self) {
+        self.losses.note_end();
+    }
+
+    fn note_picture(&mut self) {}
+
+    fn note_refusal(&mut self, unit: u64, fault: Fault) {
+        self.losses.note_refusal(unit, fault);
+    }
+
     fn look(&mut self, piece: &[u8], counts: Counts) {
+        self.losses.note_units();
         self.progress.look(piece, counts);
     }
 
     fn end(&mut self, counts: Counts, run: Result<(), RunFault>) {
-        self.progress.end(counts, run);
+        self.losses.note_units();
+        self.progress.end(counts);
         if run.is_ok() {
             self.outcome = Some(counts);
         }

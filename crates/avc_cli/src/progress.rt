@@ -3,7 +3,7 @@ ghost use Rattle.avc_cli.specs.Progress.{clock_text, counts_text, left_text, pla
 ghost use Rattle.avc_cli.specs.Progress.{tenths_text, times_by, times_text};
 
 use crate::rate::RateSearch;
-use avc_console::{Counts, RunFault, Watch};
+use avc_console::Counts;
 use std::alloc::{AllocError, Global};
 use std::cell::Cell;
 use std::io::Write;
@@ -44,16 +44,16 @@ impl Progress<'_> {
         };
         Progress { meter }
     }
-}
 
-impl Watch for Progress<'_> {
-    fn look(&mut self, piece: &[u8], counts: Counts) {
+    /// After each read: the bytes that it gave, and what the stream has come to.
+    pub fn look(&mut self, piece: &[u8], counts: Counts) {
         if let Some(meter) = &mut self.meter {
             meter.look(piece, counts);
         }
     }
 
-    fn end(&mut self, counts: Counts, run: Result<(), RunFault>) {
+    /// At the end of the run: what the stream has come to.
+    pub fn end(&mut self, counts: Counts) {
         if let Some(meter) = &mut self.meter {
             meter.end(counts);
         }

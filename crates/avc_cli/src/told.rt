@@ -16,13 +16,13 @@ pub fn tell_reason(rt: &HostRuntime, name: Option<&str>, kind: Option<ErrorKind>
     }
 }
 
-/// Tells how many pictures and refusals there were, and what a stream is in which no picture was found, by its first bytes, where more
-/// than the lines that scripts read may be told.
-pub fn tell_outcome(rt: &HostRuntime, manner: &Manner, counts: Counts, first: &[u8]) {
-    if !is_told_more(rt, manner) {
-        return;
-    }
-    tell(rt, counts_line(counts.pictures, counts.refused).as_str());
+/// Tells how many pictures and refusals there were, and how many slices were passed over, where that is known, and what a stream is in
+/// which no picture was found, by its first bytes.
+pub fn tell_outcome(rt: &HostRuntime, counts: Counts, passed: Option<u64>, first: &[u8]) {
+    tell(
+        rt,
+        counts_line(counts.pictures, counts.refused, passed).as_str(),
+    );
     if counts.pictures == 0 {
         if let Ok(line) = no_picture_line(rt.alloc(), first) {
             tell(rt, &line);
@@ -30,8 +30,8 @@ pub fn tell_outcome(rt: &HostRuntime, manner: &Manner, counts: Counts, first: &[
     }
 }
 
-// Whether more than the lines that scripts read may be told.
-fn is_told_more(rt: &HostRuntime, manner: &Manner) -> bool {
+/// Whether more than the lines that scripts read may be told.
+pub fn is_told_more(rt: &HostRuntime, manner: &Manner) -> bool {
     manner.is_explained || (!manner.is_quiet && rt.stderr().is_terminal())
 }
 

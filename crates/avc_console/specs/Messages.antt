@@ -5,7 +5,7 @@ use Rattle.std.specs.Borrow.{Bor}
 use Rattle.std.specs.Fmt.{decimal}
 use Rattle.avc_types.specs.declared.fault.Fault.{Fault}
 use Rattle.avc_types.specs.Faults.{number_of, name_of}
-use Rattle.avc_explain.specs.Explanations.{explained_line}
+use Rattle.avc_explain.specs.Explanations.{explained_line, waits_line}
 use Rattle.avc_console.specs.declared.console.Names.{Names}
 use Rattle.avc_console.specs.declared.fault.RunFault.{RunFault}
 use Rattle.avc_console.specs.declared.fault.RunFault.TheVariants.{Read, Endless, Write, Memory, Size}
@@ -27,6 +27,10 @@ refusal_text explained refusal = refusal_line refusal ++ (if explained then expl
 -- of each refusal, in order
 abbrev pub refusal_texts : (explained : Bool) → List (ℕ × Fault) → List ℕ
 refusal_texts explained refusals = flat_map (refusal_text explained) refusals
+
+-- behind a refusal of a unit, where decoding waits from there on or not
+abbrev pub loss_text : (unit : ℕ) → (waits : Bool) → List ℕ
+loss_text unit waits = if waits then waits_line unit else []
 
 -- why the program stopped
 abbrev pub fault_text : RunFault → List ℕ

@@ -1,5 +1,6 @@
 use crate::fault::RunFault;
 use crate::reporter::Counts;
+use avc_types::Fault;
 
 /// The files that a command reads and writes, by name, where they are no standard streams.
 #[derive(Clone, Copy, Debug, PartialEq, Eq)]
@@ -25,6 +26,18 @@ pub struct Console<'a, E, V> {
 
 /// Whoever is told how far a run is. What becomes of it is no matter of the run: nothing that the run writes or answers hangs on it.
 pub trait Watch {
+    /// The next bytes of the stream, before they are decoded.
+    fn note_bytes(&mut self, piece: &[u8]);
+
+    /// There are no more bytes.
+    fn note_end(&mut self);
+
+    /// A picture was written.
+    fn note_picture(&mut self);
+
+    /// A refusal was told: the place of a unit among the stream's units, from 0, and its fault.
+    fn note_refusal(&mut self, unit: u64, fault: Fault);
+
     /// After each read: the bytes that it gave, and what the stream has come to.
     fn look(&mut self, piece: &[u8], counts: Counts);
 
@@ -37,6 +50,18 @@ pub trait Watch {
 pub struct Unwatched;
 
 impl Watch for Unwatched {
+    #[inline(always)]
+    fn note_bytes(&mut self, piece: &[u8]) {}
+
+    #[inline(always)]
+    fn note_end(&mut self) {}
+
+    #[inline(always)]
+    fn note_picture(&mut self) {}
+
+    #[inline(always)]
+    fn note_refusal(&mut self, unit: u64, fault: Fault) {}
+
     #[inline(always)]
     fn look(&mut self, piece: &[u8], counts: Counts) {}
 

@@ -27,4 +27,4 @@ pub use report::{Refusals, Report};
 pub use reporter::{Counts, Reporter};
 pub use streaming::write_stream;
 pub use tally::Tally;
-pub use telling::tell_more;
+pub use telling::{tell_loss, tell_more};

@@ -1,8 +1,8 @@
-ghost use Rattle.avc_console.specs.Messages.{refusal_text};
+ghost use Rattle.avc_console.specs.Messages.{loss_text, refusal_text};
 ghost use Rattle.avc_console.specs.Telling.{Tells, TellsMore};
 
 use crate::messages::{refusal_line, write_all};
-use avc_explain::explained_line;
+use avc_explain::{explained_line, waits_line};
 use avc_types::Fault;
 use std::io::Write;
 
@@ -30,6 +30,17 @@ pub(crate) fn tell_refusal<E: Write>(
         )
     } else {
         told
+    }
+}
+
+/// Tells behind the refusal of a unit that decoding waits from there on, where it does. Answers whether all was taken. It asks for no memory.
+pub fn tell_loss<E: Write>(unit: u64, waits: bool, errors: &mut E) -> bool
+    ensures { Tells (E.contents errors.old) (E.contents errors.new) (loss_text unit waits) result }
+{
+    if waits {
+        write_what_is_taken(waits_line(unit).as_str().as_bytes(), errors)
+    } else {
+        write_what_is_taken(&[], errors)
     }
 }
 

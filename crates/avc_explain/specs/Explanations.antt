@@ -1,5 +1,5 @@
 -- What a refusal means, for people.
-use Rattle.std.specs.Prelude.{ℕ, List, ◌∷◌, ◌++◌, [], codes}
+use Rattle.std.specs.Prelude.{ℕ, List, ◌∷◌, ◌++◌, [], Option, Some, None, codes}
 use Rattle.std.specs.Fmt.{decimal}
 use Rattle.avc_types.specs.declared.fault.Fault.{Fault}
 use Rattle.avc_types.specs.Faults.{number_of, name_of}
@@ -52,7 +52,13 @@ explained_line (unit, fault) =
     codes "unit " ++ decimal unit ++ codes ": " ++ decimal (number_of fault) ++ codes " " ++ name_of fault
     ++ codes ": " ++ meaning_of fault ++ newline
 
--- how many pictures went out, and how many refusals there are
-abbrev pub counts_line : (pictures refused : ℕ) → List ℕ
-counts_line pictures refused =
+-- that decoding waits, behind the refusal of this unit with its picture
+abbrev pub waits_line : (unit : ℕ) → List ℕ
+waits_line unit = codes "waits for an IDR picture from unit " ++ decimal unit ++ codes " on" ++ newline
+
+-- how many pictures went out, how many refusals there are, and how many slices were passed over, where that is known
+abbrev pub counts_line : (pictures refused : ℕ) → (passed : Option ℕ) → List ℕ
+counts_line pictures refused None =
     decimal pictures ++ codes " pictures, " ++ decimal refused ++ codes " refusals" ++ newline
+counts_line pictures refused (Some passed) =
+    decimal pictures ++ codes " pictures, " ++ decimal refused ++ codes " refusals, " ++ decimal passed ++ codes " slices passed over" ++ newline

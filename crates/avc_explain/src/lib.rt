@@ -4,5 +4,5 @@
 mod lines;
 mod meaning;
 
-pub use lines::{counts_line, explained_line};
+pub use lines::{counts_line, explained_line, waits_line};
 pub use meaning::meaning_of;

@@ -1,5 +1,5 @@
 ghost use Rattle.std.specs.Prelude.{◌≡◌, length};
-ghost use Rattle.avc_explain.specs.Explanations.{counts_line, explained_line};
+ghost use Rattle.avc_explain.specs.Explanations.{counts_line, explained_line, waits_line};
 
 use crate::meaning::meaning_of;
 use arrayvec::ArrayString;
@@ -25,15 +25,38 @@ pub fn explained_line(unit: u64, fault: Fault) -> ArrayString<256>
     line
 }
 
-/// The line that says how many pictures went out, and how many refusals there were. It asks for no memory.
-pub fn counts_line(pictures: u64, refused: u64) -> ArrayString<64>
-    ensures { result.bytes ≡ counts_line pictures refused }
+/// The line that says that decoding waits, behind the refusal of the unit at this place with its picture. It asks for no memory.
+pub fn waits_line(unit: u64) -> ArrayString<64>
+    ensures { result.bytes ≡ waits_line unit }
+{
+    let mut digits = Buffer::new();
+    let mut line = ArrayString::new();
+    line.push_str("waits for an IDR picture from unit ");
+    line.push_str(digits.format(unit));
+    line.push_str(" on\n");
+    line
+}
+
+/// The line that says how many pictures went out, how many refusals there were, and how many slices were passed over while decoding waited,
+/// where that is known. It asks for no memory.
+pub fn counts_line(pictures: u64, refused: u64, passed: Option<u64>) -> ArrayString<128>
+    ensures { result.bytes ≡ counts_line pictures refused passed }
 {
     let mut digits = Buffer::new();
     let mut line = ArrayString::new();
     line.push_str(digits.format(pictures));
     line.push_str(" pictures, ");
     line.push_str(digits.format(refused));
-    line.push_str(" refusals\n");
-    line
+    match passed {
+        Some(passed) => {
+            line.push_str(" refusals, ");
+            line.push_str(digits.format(passed));
+            line.push_str(" slices passed over\n");
+            line
+        }
+        None => {
+            line.push_str(" refusals\n");
+            line
+        }
+    }
 }

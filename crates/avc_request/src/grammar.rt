@@ -187,7 +187,7 @@ const COMMANDS: &[CommandWords] = &[
                 name: EXPLAIN,
                 short: None,
                 kind: Kind::Flag,
-                help: "Tells on standard error what each refusal means, how many pictures and refusals there are, and what a stream without a picture is",
+                help: "Tells on standard error what each refusal means and loses, how many pictures, refusals and slices passed over there are, and what a stream without a picture is",
                 conflicts: &[],
             },
             OUTPUT_WORD,

@@ -10,7 +10,7 @@ use avc_decoder::{Decoder, Event};
 use avc_plane::SharedPicture;
 
 /// The most bytes of a unit.
-pub(crate) const MAX_UNIT: usize = 134_217_728;
+pub const MAX_UNIT: usize = 134_217_728;
 
 /// Feeds bytes up to where a unit has ended. Answers how many they are.
 pub(crate) fn feed_unit(

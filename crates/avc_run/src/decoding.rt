@@ -127,14 +127,19 @@ fn decode_by<F: PictureFormat, T: Reporter, E: Write, V: Watch, R: Read, W: Writ
 {
     events_only_grow();
     let mut room = [0; ROOM];
-    take_in(decoder, front, format, &mut room, writer, report, errors)?;
+    watch.note_bytes(front);
+    take_in(
+        decoder, front, format, &mut room, writer, report, errors, watch,
+    )?;
     watch.look(front, report.counts());
     let mut piece = [0; PIECE];
     'pieces: for _read in 0..READS {
         let len = read_once(reader, &mut piece)?;
         if len == 0 {
-            return finish(decoder, format, &mut room, writer, report, errors);
+            watch.note_end();
+            return finish(decoder, format, &mut room, writer, report, errors, watch);
         }
+        watch.note_bytes(&piece[..len]);
         take_in(
             decoder,
             &piece[..len],
@@ -143,6 +148,7 @@ fn decode_by<F: PictureFormat, T: Reporter, E: Write, V: Watch, R: Read, W: Writ
             writer,
             report,
             errors,
+            watch,
         )?;
         let counts = report.counts();
         watch.look(&piece[..len], counts);
@@ -155,7 +161,7 @@ fn decode_by<F: PictureFormat, T: Reporter, E: Write, V: Watch, R: Read, W: Writ
 
 // The next bytes of the stream, and all events that come by them. Those of one unit are taken before the next unit is fed, so that few
 // pictures wait at a time.
-fn take_in<F: PictureFormat, T: Reporter, E: Write, W: Write>(
+fn take_in<F: PictureFormat, T: Reporter, E: Write, V: Watch, W: Write>(
     decoder: &mut Decoder<MAX_UNIT, SharedPicture>,
     piece: &[u8],
     format: &F,
@@ -163,6 +169,7 @@ fn take_in<F: PictureFormat, T: Reporter, E: Write, W: Write>(
     writer: &mut W,
     report: &mut T,
     errors: &mut E,
+    watch: &mut V,
 ) -> Result<(), RunFault>
     requires { IsDrained decoder.old }
     ensures ok { OnOk result (IsHandled (F.format format.now) (after_feed piece.now decoder.old) decoder.new
@@ -182,6 +189,7 @@ fn take_in<F: PictureFormat, T: Reporter, E: Write, W: Write>(
             writer,
             report,
             errors,
+            watch,
         )?;
         done += used;
     }
@@ -189,7 +197,7 @@ fn take_in<F: PictureFormat, T: Reporter, E: Write, W: Write>(
 }
 
 // The same of bytes up to where a unit has ended. Answers how many they are.
-fn take_unit<F: PictureFormat, T: Reporter, E: Write, W: Write>(
+fn take_unit<F: PictureFormat, T: Reporter, E: Write, V: Watch, W: Write>(
     decoder: &mut Decoder<MAX_UNIT, SharedPicture>,
     bytes: &[u8],
     format: &F,
@@ -197,6 +205,7 @@ fn take_unit<F: PictureFormat, T: Reporter, E: Write, W: Write>(
     writer: &mut W,
     report: &mut T,
     errors: &mut E,
+    watch: &mut V,
 ) -> Result<usize, RunFault>
     requires { IsDrained decoder.old }
     ensures unit { IfOk result (λ used. IsUpToUnit max_unit decoder.old.bytes bytes.now used) }
@@ -208,18 +217,19 @@ fn take_unit<F: PictureFormat, T: Reporter, E: Write, W: Write>(
 {
     events_only_grow();
     let used = feed_unit(decoder, bytes)?;
-    drain(decoder, format, room, writer, report, errors)?;
+    drain(decoder, format, room, writer, report, errors, watch)?;
     Ok(used)
 }
 
 // The end of the stream, and all events that come by it.
-fn finish<F: PictureFormat, T: Reporter, E: Write, W: Write>(
+fn finish<F: PictureFormat, T: Reporter, E: Write, V: Watch, W: Write>(
     decoder: &mut Decoder<MAX_UNIT, SharedPicture>,
     format: &F,
     room: &mut [u8],
     writer: &mut W,
     report: &mut T,
     errors: &mut E,
+    watch: &mut V,
 ) -> Result<(), RunFault>
     ensures ok { OnOk result (IsHandled (F.format format.now) (after_flush decoder.old) decoder.new
         (T.reported report.old).report (T.reported report.new).report (W.contents writer.old) (W.contents writer.new)) }
@@ -228,18 +238,19 @@ fn finish<F: PictureFormat, T: Reporter, E: Write, W: Write>(
     ensures told { TellsOn (T.reported report.old) (T.reported report.new) (E.contents errors.old) (E.contents errors.new) }
 {
     flush(decoder)?;
-    drain(decoder, format, room, writer, report, errors)?;
+    drain(decoder, format, room, writer, report, errors, watch)?;
     Ok(())
 }
 
 // Takes all events that have come.
-fn drain<F: PictureFormat, T: Reporter, E: Write, W: Write>(
+fn drain<F: PictureFormat, T: Reporter, E: Write, V: Watch, W: Write>(
     decoder: &mut Decoder<MAX_UNIT, SharedPicture>,
     format: &F,
     room: &mut [u8],
     writer: &mut W,
     report: &mut T,
     errors: &mut E,
+    watch: &mut V,
 ) -> Result<(), RunFault>
     ensures ok { OnOk result (IsHandled (F.format format.now) decoder.old decoder.new (T.reported report.old).report (T.reported report.new).report
         (W.contents writer.old) (W.contents writer.new)) }
@@ -249,18 +260,19 @@ fn drain<F: PictureFormat, T: Reporter, E: Write, W: Write>(
 {
     pictures_are_whole();
     'events: while let Some(event) = next_event(decoder)? {
-        handle(event, format, room, writer, report, errors)?;
+        handle(event, format, room, writer, report, errors, watch)?;
     }
     Ok(())
 }
 
-fn handle<F: PictureFormat, T: Reporter, E: Write, W: Write>(
+fn handle<F: PictureFormat, T: Reporter, E: Write, V: Watch, W: Write>(
     event: Event<SharedPicture>,
     format: &F,
     room: &mut [u8],
     writer: &mut W,
     report: &mut T,
     errors: &mut E,
+    watch: &mut V,
 ) -> Result<(), RunFault>
     requires { IfPicture event IsWhole }
     ensures report { OnOk result ((T.reported report.new).report ≡ report_with (T.reported report.old).report (event ∷ [])) }
@@ -274,10 +286,12 @@ fn handle<F: PictureFormat, T: Reporter, E: Write, W: Write>(
         Event::Picture(picture) => {
             format.write(report.counts().pictures, &picture, room, writer)?;
             report.count_picture();
+            watch.note_picture();
             Ok(())
         }
         Event::Refused { unit, fault } => {
             report.refuse(unit, fault, errors)?;
+            watch.note_refusal(unit, fault);
             Ok(())
         }
     }

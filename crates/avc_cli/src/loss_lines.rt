@@ -1,0 +1,104 @@
+//! What is lost behind refusals, told as decoding goes on.
+
+use avc_console::tell_loss;
+use avc_run::MAX_UNIT;
+use avc_tools::Losses;
+use avc_types::{Fault, OutOfMemory};
+
+/// Tells behind the refusal of a unit with its picture that decoding waits, and counts the slices that it passes over, where more than
+/// the lines that scripts read may be told.
+#[derive(Drop)]
+pub struct LossLines<'a> {
+    rt: &'a HostRuntime,
+    // none where they are not told, and once memory was wanting
+    losses: Option<Losses<MAX_UNIT>>,
+}
+
+impl LossLines<'_> {
+    /// Of a stream of which nothing was read.
+    pub fn new(rt: &HostRuntime, are_told: bool) -> LossLines<'_> {
+        let losses = if are_told {
+            Some(Losses::new(rt.alloc()))
+        } else {
+            None
+        };
+        LossLines { rt, losses }
+    }
+
+    /// The next bytes of the stream.
+    pub fn note_bytes(&mut self, piece: &[u8]) {
+        if let Some(mut losses) = self.losses.take() {
+            if losses.feed(piece).is_ok() {
+                self.losses = Some(losses);
+            }
+        }
+    }
+
+    /// The end of the stream.
+    pub fn note_end(&mut self) {
+        if let Some(mut losses) = self.losses.take() {
+            if losses.finish().is_ok() {
+                self.losses = Some(losses);
+            }
+        }
+    }
+
+    /// A refusal, behind which a line is told where decoding waits. A unit whose forbidden_zero_bit is 1, and a parameter set, is refused
+    /// alone.
+    pub fn note_refusal(&mut self, unit: u64, fault: Fault) {
+        if let Fault::ForbiddenBit = fault {
+            return;
+        }
+        if let Some(mut losses) = self.losses.take() {
+            if let Ok(is_lost) = lose_at(&mut losses, unit) {
+                self.losses = Some(losses);
+                let _ = tell_loss(unit, is_lost, &mut self.rt.stderr());
+            }
+        }
+    }
+
+    /// All refusals by the bytes so far were noted.
+    pub fn note_units(&mut self) {
+        if let Some(mut losses) = self.losses.take() {
+            if take_all(&mut losses).is_ok() {
+                self.losses = Some(losses);
+            }
+        }
+    }
+
+    /// How many slices were passed over, where that is known.
+    pub fn passed(&self) -> Option<u64> {
+        match &self.losses {
+            Some(losses) => Some(losses.passed()),
+            None => None,
+        }
+    }
+}
+
+// Takes the units up to the one at this place, and answers whether it is refused with a picture.
+fn lose_at(losses: &mut Losses<MAX_UNIT>, unit: u64) -> Result<bool, OutOfMemory> {
+    'units: for _unit in 0..u64::MAX {
+        match losses.next_unit()? {
+            Some(seen) => {
+                if seen.index == unit {
+                    if seen.is_slice {
+                        losses.lose();
+                    }
+                    return Ok(seen.is_slice);
+                }
+            }
+            None => return Ok(false),
+        }
+    }
+    Ok(false)
+}
+
+// Takes all units whose end has been seen.
+fn take_all(losses: &mut Losses<MAX_UNIT>) -> Result<(), OutOfMemory> {
+    'units: for _unit in 0..u64::MAX {
+        if losses.next_unit()?.is_none() {
+            break;
+        }
+    }
+    Ok(())
+}
