@@ -208,6 +208,38 @@ for name in \
     holds "pieces of $name" pieces_decode_alike "$here/$name"
 done
 
+# Of 13 pictures each third is an IDR picture: from piece N on all but the first 3N are written, and no picture where there is no such piece.
+thirds=$here/encoder/pub_x_keyint3
+"$program" decode <"$thirds.264" >"$work/whole"
+holds 'the whole stream' [ "$(md5sum <"$work/whole" | cut -d ' ' -f 1)" = "$(cut -d ' ' -f 1 <"$thirds.md5")" ]
+for number in 0 1 2 3 4; do
+    tail -c $(((13 - 3 * number) * $(wc -c <"$work/whole") / 13)) "$work/whole" >"$work/expected"
+    "$program" decode --from "$number" "$thirds.264" >"$work/pictures" 2>"$work/told"
+    judge "decode --from $number" $? 0 ''
+    holds 'the last pictures' cmp -s "$work/pictures" "$work/expected"
+    dd bs=1 if="$thirds.264" 2>/dev/null | "$program" decode --from "$number" >"$work/pictures" 2>"$work/told"
+    judge "decode --from $number byte by byte" $? 0 ''
+    holds 'the last pictures' cmp -s "$work/pictures" "$work/expected"
+    "$program" cut "$number" "$thirds.264" | "$program" decode -f y4m >"$work/expected"
+    "$program" decode --from "$number" --limit 3 -f y4m "$thirds.264" >"$work/pictures" 2>"$work/told"
+    judge "decode --from $number -f y4m" $? 0 ''
+    holds 'those of a piece' cmp -s "$work/pictures" "$work/expected"
+done
+for format in i420 y4m framemd5 null; do
+    "$program" decode --explain --from 5 -f "$format" "$thirds.264" >"$work/pictures" 2>"$work/told"
+    judge "decode --from 5 -f $format" $? 1 'avcdec: no piece 5
+'
+    holds 'no picture is written' [ ! -s "$work/pictures" ]
+done
+# from the second IDR picture on: two parameter sets, that picture, and a unit that is refused
+"$program" decode --from 1 --explain "$here/cases/gap_and_resumed.264" >"$work/pictures" 2>"$work/told"
+judge 'a refusal behind a cut point' $? 1 'refused unit 3: 3 OutOfRange
+unit 3: 3 OutOfRange: a value is outside the range that its semantics give (7.4)
+waits for an IDR picture from unit 3 on
+1 pictures, 1 refusals, 0 slices passed over
+'
+holds 'its picture, which is 16x16' [ "$(wc -c <"$work/pictures")" = 384 ]
+
 # Between two pictures of 16x16 a unit of more than 134,217,728 bytes, a slice or a parameter set: it is refused, and takes no set out
 # of force.
 head -c 768 /dev/zero | tr '\000' '\200' >"$work/two_grey"
@@ -605,6 +637,8 @@ done <<END
 --output:units --output $work/out
 --quiet:cut 0 --quiet
 --strict:info --strict
+--from:units --from 1
+--from:decode --from second
 --explain:units --explain
 END
 holds 'no container is made' [ ! -e "$work/out.mp4" ]

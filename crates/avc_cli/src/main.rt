@@ -3,6 +3,7 @@
 
 mod ending;
 mod errors;
+mod from_piece;
 mod input;
 mod loss_lines;
 mod misuse;
@@ -14,8 +15,8 @@ mod reason;
 mod told;
 
 use avc_console::{
-    Answer, Console, Ending, Names, RunFault, Watch, answer_status, cut, fail, headers, pieces,
-    units,
+    Answer, Console, Ending, Names, RunFault, Watch, answer_status, cut, cut_status, fail,
+    fault_status, headers, pieces, units,
 };
 use avc_formats::{HeadedFormat, I420, Selected};
 use avc_info::{ForPeople, ForPrograms, info};
@@ -24,6 +25,7 @@ use avc_run::{decode, decode_as, decode_headed, decode_md5, verify};
 use clap::error::ErrorKind;
 use ending::ended_status;
 use errors::Errors;
+use from_piece::FromPiece;
 use input::Input;
 use loss_lines::LossLines;
 use misuse::is_output_refused;
@@ -36,7 +38,7 @@ use std::fs::{File, metadata};
 use std::io;
 use std::io::{IsTerminal, Read, Write};
 use std::process::ExitCode;
-use told::{is_told_more, tell_container, tell_outcome, tell_reason};
+use told::{is_told_more, tell_container, tell_no_piece, tell_outcome, tell_reason};
 
 fn main(rt: HostRuntime) -> ExitCode {
     let ended = match words_of(&rt) {
@@ -96,9 +98,17 @@ fn carry_out_on<R: Read + Drop>(
         errors: Errors::new(rt, manner.is_quiet, &has_left, &progress_stands),
         watch: Observer::new(progress, LossLines::new(rt, is_told_more)),
     };
-    let (status, unwritten) = write_out(rt, request, &mut input, &has_left, &mut console);
+    let written = match request.from {
+        Some(number) => write_out_from(rt, request, number, &mut input, &has_left, &mut console),
+        None => write_out(rt, request, &mut input, &has_left, &mut console),
+    };
+    let status = written.status;
     tell_reason(rt, request.input, input.fault());
-    tell_reason(rt, request.output, unwritten);
+    tell_reason(rt, request.output, written.fault);
+    if let Some(number) = written.missing {
+        tell_no_piece(rt, number);
+        return cut_status(false);
+    }
     if status == 0 {
         tell_container(rt, &request.task, input.first());
     }
@@ -122,8 +132,11 @@ fn is_progress_told(rt: &HostRuntime, progress: Telling) -> bool {
     }
 }
 
-// How many bytes the input has, where it is a file with a name.
+// How many bytes the input has, where it is a file with a name, and decoded from its beginning.
 fn size_of(rt: &HostRuntime, request: &Request<'_>) -> Option<u64> {
+    if request.from.is_some() {
+        return None;
+    }
     let about = metadata(rt, request.input?).ok()?;
     if about.is_file() {
         Some(about.len())
@@ -132,25 +145,79 @@ fn size_of(rt: &HostRuntime, request: &Request<'_>) -> Option<u64> {
     }
 }
 
-// Writes the output. Answers the exit status, and why a write failed, where one did.
+// How writing the output ended.
+#[derive(Clone, Copy)]
+struct Written {
+    status: u8,
+
+    // why a write failed, where one did
+    fault: Option<io::ErrorKind>,
+
+    // the number of a piece that the stream has not
+    missing: Option<u32>,
+}
+
+// Writes the output of what is read from the piece of this number on.
+fn write_out_from<R: Read, E: Write, V: Watch>(
+    rt: &HostRuntime,
+    request: &Request<'_>,
+    number: u32,
+    reader: &mut R,
+    has_left: &Cell<bool>,
+    console: &mut Console<'_, E, V>,
+) -> Written {
+    match FromPiece::new(rt.alloc(), number, reader) {
+        Ok(mut reader) => {
+            let written = write_out(rt, request, &mut reader, has_left, console);
+            Written {
+                status: if reader.is_out_of_memory() {
+                    fault_status(RunFault::Memory)
+                } else {
+                    written.status
+                },
+                fault: written.fault,
+                missing: if reader.is_missing() && written.fault.is_none() {
+                    Some(number)
+                } else {
+                    None
+                },
+            }
+        }
+        Err(_) => Written {
+            status: fail(RunFault::Memory, &console.names, &mut console.errors).status,
+            fault: None,
+            missing: None,
+        },
+    }
+}
+
+// Writes the output.
 fn write_out<R: Read, E: Write, V: Watch>(
     rt: &HostRuntime,
     request: &Request<'_>,
     reader: &mut R,
     has_left: &Cell<bool>,
     console: &mut Console<'_, E, V>,
-) -> (u8, Option<io::ErrorKind>) {
+) -> Written {
     let alloc = rt.alloc();
     match request.output {
         Some(name) => {
             let mut output = Output::new(OutputFile::new(rt, name), has_left);
             let status = carry_out_between(alloc, request.task, reader, &mut output, console);
-            (status, output.fault())
+            Written {
+                status,
+                fault: output.fault(),
+                missing: None,
+            }
         }
         None => {
             let mut output = Output::new(io::writer(rt), has_left);
             let status = carry_out_between(alloc, request.task, reader, &mut output, console);
-            (status, output.fault())
+            Written {
+                status,
+                fault: output.fault(),
+                missing: None,
+            }
         }
     }
 }

@@ -1,7 +1,7 @@
 //! What is told behind what a command tells itself.
 
 use crate::reason::reason_line;
-use avc_console::Counts;
+use avc_console::{Counts, no_piece_line};
 use avc_container::{container_line, container_of, no_picture_line};
 use avc_explain::counts_line;
 use avc_request::{Manner, Task};
@@ -43,6 +43,13 @@ pub fn tell_container(rt: &HostRuntime, task: &Task, first: &[u8]) {
                 tell(rt, &line);
             }
         }
+    }
+}
+
+/// Tells that a stream has no piece of this number.
+pub fn tell_no_piece(rt: &HostRuntime, number: u32) {
+    if let Ok(line) = no_piece_line(rt.alloc(), number) {
+        tell(rt, &line);
     }
 }
 

@@ -20,7 +20,7 @@ pub use cutting::run_cut;
 pub use exit::{Answer, Ending, answer_status, cut_status, fault_status, status};
 pub use fault::RunFault;
 pub use listing::{run_headers, run_pieces, run_units};
-pub use messages::{refusal_line, write_text};
+pub use messages::{no_piece_line, refusal_line, write_text};
 pub use program::{cut, end_listing, fail, headers, pieces, tell, units};
 pub use read::{PIECE, READS, read_once};
 pub use report::{Refusals, Report};

@@ -80,7 +80,7 @@ pub fn refusal_line(unit: u64, fault: Fault) -> ArrayString<80>
 }
 
 /// The line of the standard error that tells that there is no piece of this number.
-pub(crate) fn no_piece_line(alloc: Global, number: u32) -> Result<String, OutOfMemory>
+pub fn no_piece_line(alloc: Global, number: u32) -> Result<String, OutOfMemory>
     ensures { IfOk result (λ text. string_bytes text ≡ no_piece_line number) }
 {
     let mut text = String::new(alloc);

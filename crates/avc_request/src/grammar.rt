@@ -38,6 +38,8 @@ const FORMATS: &[&str] = &[I420, Y4M, NULL, MD5, FRAME_MD5];
 
 pub(crate) const VERIFY: &str = "verify";
 
+pub(crate) const FROM: &str = "from";
+
 pub(crate) const SKIP: &str = "skip";
 
 pub(crate) const LIMIT: &str = "limit";
@@ -54,7 +56,7 @@ pub(crate) const JSON: &str = "json";
 
 const STATUSES: &str = concat!(
     "Exit status: 0 all well, 1 decode refused something, found another MD5 or, with --strict, no picture, ",
-    "or cut has no such piece, 2 wrong words, ",
+    "or a stream has no such piece, 2 wrong words, ",
     "3 reading or writing failed, 4 out of memory"
 );
 
@@ -66,6 +68,9 @@ enum Kind {
 
     /// An option with a number of pictures.
     Pictures,
+
+    /// An option with the number of a piece.
+    Start,
 
     /// An option with an MD5.
     Digest,
@@ -147,6 +152,13 @@ const COMMANDS: &[CommandWords] = &[
                 kind: Kind::Digest,
                 help: "Writes nothing; the status is 1 where the pictures have another MD5, in hex digits, or there are none",
                 conflicts: &[FORMAT, OUTPUT],
+            },
+            Word {
+                name: FROM,
+                short: None,
+                kind: Kind::Start,
+                help: "Begins with the piece of this number, from 0, as pieces lists them; what stands before it is not decoded",
+                conflicts: &[],
             },
             Word {
                 name: SKIP,
@@ -291,6 +303,7 @@ fn taking<'a>(arg: Arg<'a>, name: &'static str, kind: Kind) -> Arg<'a> {
     match kind {
         Kind::Flag => arg.long(name).action(ArgAction::SetTrue),
         Kind::Pictures => option(arg, name, NUMBER).value_parser(clap::value_parser!(u64)),
+        Kind::Start => option(arg, name, NUMBER).value_parser(clap::value_parser!(u32)),
         Kind::Digest => option(arg, name, "MD5"),
         Kind::Format => option(arg, name, "format").value_parser(FORMATS),
         Kind::Output => option(arg, name, "FILE"),

@@ -17,6 +17,9 @@ pub struct Request<'a> {
     /// Whether the standard output was named as the output: then it may be a terminal, whatever is written.
     pub is_standard_output_named: bool,
 
+    /// The number of the piece with which decoding begins, from 0, where it is not the stream's beginning.
+    pub from: Option<u32>,
+
     pub manner: Manner,
 }
 

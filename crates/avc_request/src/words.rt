@@ -3,7 +3,7 @@ ghost use Rattle.avc_request.specs.Commands.{form_by_name, mode_of, progress_of,
 
 use crate::file_kind::{FileKind, file_kind};
 use crate::grammar::{
-    CUT, DECODE, EARLY, EXPLAIN, FORMAT, FRAME_MD5, HEADERS, I420, INFO, INPUT, JSON, LIMIT, MD5,
+    CUT, DECODE, EARLY, EXPLAIN, FORMAT, FRAME_MD5, FROM, HEADERS, I420, INFO, INPUT, JSON, LIMIT, MD5,
     NULL, NUMBER, OUTPUT, PIECES, PROGRESS, QUIET, SKIP, STRICT, UNITS, VERIFY, Y4M, grammar,
 };
 use crate::request::{Form, Manner, Request, Showing, Task, Telling};
@@ -186,6 +186,7 @@ fn request_of<'a>(
         input: file_named(word(matches, INPUT)),
         output: file_named(output),
         is_standard_output_named: output == Some(STANDARD),
+        from: start_of(command, matches),
         manner: manner_of(command, matches),
     })
 }
@@ -195,6 +196,14 @@ fn output_word<'a>(command: Command, matches: &ArgMatches<'a>) -> Option<&'a str
     match command {
         Command::Decode | Command::Cut => word(matches, OUTPUT),
         Command::Units | Command::Headers | Command::Pieces | Command::Info => None,
+    }
+}
+
+// With which piece decoding begins.
+fn start_of(command: Command, matches: &ArgMatches<'_>) -> Option<u32> {
+    match command {
+        Command::Decode => matches.get_one::<u32>(FROM),
+        Command::Units | Command::Headers | Command::Pieces | Command::Info | Command::Cut => None,
     }
 }
 

@@ -11,6 +11,7 @@ mod piece;
 mod piece_text;
 mod sets_in_force;
 mod stream_text;
+mod tail_text;
 mod units;
 mod writing;
 
@@ -20,4 +21,5 @@ pub use headers::{HeaderLines, show_headers, shown_height, shown_width};
 pub use losses::{Losses, SeenUnit};
 pub use piece_text::PieceText;
 pub use stream_text::StreamText;
+pub use tail_text::TailText;
 pub use units::{UnitLines, list_units};

@@ -1,0 +1,26 @@
+use Rattle.avc_tools.proofs.Taking.{max_unit, all_taken, draining_begun, one_more}
+use Rattle.avc_tools.proofs.Tails.{tail_more, tail_none}
+use Rattle.avc_tools.proofs.tail_text.tail_units_left.Goals as goal
+
+pub loop-unit-init : goal.loop-unit-init
+loop-unit-init c = record { draining = draining_begun max_unit _ _ (tail_none _ _ c.new-tail.ensures.items) }
+
+pub loop-unit-preserved-in_ok-add_unit : goal.loop-unit-preserved-in_ok-add_unit
+loop-unit-preserved-in_ok-add_unit c = record {
+  draining =
+      one_more max_unit _ _ _ _ c.in-Some.unit _ _ c.loop-unit.invariant.draining c.requires c.next_unit.ensures.unit c.next_unit.ensures.taken c.in-Some.is
+      (tail_more c.args.cutter.now _ _ _ _ c.in-Some.unit c.in_ok-add_unit.ensures);
+}
+
+pub loop-unit-preserved : goal.loop-unit-preserved
+loop-unit-preserved c = record {
+  draining =
+      one_more max_unit _ _ _ _ c.in-Some.unit _ _ c.loop-unit.invariant.draining c.requires c.next_unit.ensures.unit c.next_unit.ensures.taken c.in-Some.is
+      (tail_more c.args.cutter.now _ _ _ _ c.in-Some.unit c.in_ok-add_unit.ensures);
+}
+
+pub returns-clause-tail : goal.returns-clause-tail
+returns-clause-tail c = (all_taken max_unit _ _ _ _ _ c.loop-unit.invariant.draining c.requires c.next_unit.ensures.unit c.next_unit.ensures.taken c.in_default.is).0
+
+pub returns-clause-taken : goal.returns-clause-taken
+returns-clause-taken c = (all_taken max_unit _ _ _ _ _ c.loop-unit.invariant.draining c.requires c.next_unit.ensures.unit c.next_unit.ensures.taken c.in_default.is).1
