@@ -17,7 +17,7 @@ _avcdec_files() {
 
 _avcdec_options() {
     case $1 in
-    decode) echo '--early --format -f --verify --from --skip -s --limit -l --progress --quiet -q --strict --explain --output -o --help -h' ;;
+    decode) echo '--early --format -f --verify --from --skip -s --limit -l --frametimes --progress --quiet -q --strict --explain --output -o --help -h' ;;
     info) echo '--json --help -h' ;;
     cut) echo '--output -o --help -h' ;;
     units | headers | pieces) echo '--help -h' ;;
@@ -35,7 +35,7 @@ _avcdec() {
     help) _avcdec_words "$commands" ;;
     --format | -f) _avcdec_words 'i420 y4m null md5 framemd5' ;;
     --verify | --from | --skip | -s | --limit | -l) ;;
-    -o | --output) _avcdec_files ;;
+    -o | --output | --frametimes) _avcdec_files ;;
     *)
         case ${COMP_WORDS[COMP_CWORD]} in
         -*) _avcdec_words "$(_avcdec_options "${COMP_WORDS[1]}")" ;;

@@ -638,6 +638,7 @@ done <<END
 --quiet:cut 0 --quiet
 --strict:info --strict
 --from:units --from 1
+--frametimes:info --frametimes times
 --from:decode --from second
 --explain:units --explain
 END
@@ -808,6 +809,27 @@ done
 "$program" decode --quiet "$moving" >/dev/full 2>"$work/told"
 judge 'decode --quiet to a full device' $? 3 'avcdec: write fault
 '
+
+# how long each picture took: a number for each, and no more together than what passed
+before=$(date +%s%N)
+"$program" decode --frametimes "$work/times" "$moving" >"$work/pictures" 2>"$work/told"
+holds 'decode --frametimes' is_decoded "${moving%.264}.md5" $? 0 /dev/null
+passed_time=$(($(date +%s%N) - before))
+holds 'ten times' [ "$(grep -cx '[0-9][0-9]*' "$work/times")" = 10 ]
+holds 'no other line' [ "$(wc -l <"$work/times")" = 10 ]
+holds 'they are not above what was measured' [ "$(awk '{ all += $1 } END { print all }' "$work/times")" -le "$passed_time" ]
+# from a reader that waits a second before its last bytes
+{ head -c "$(($(wc -c <"$moving") - 1))" "$moving"; sleep 1; tail -c 1 "$moving"; } | "$program" decode --frametimes - >"$work/pictures" 2>"$work/told"
+holds 'times of a stream that waits' [ "$(awk '{ all += $1 } END { print (all >= 1000000000) }' "$work/told")" = 1 ]
+"$program" decode --frametimes "$work" "$moving" >"$work/pictures" 2>"$work/told"
+judge 'times into a folder' $? 3 "avcdec: write fault: $work
+avcdec: $work: it is a folder
+"
+cp "$moving" "$work/times.264"
+"$program" decode --frametimes "$work/times.264" "$work/times.264" >"$work/pictures" 2>"$work/told"
+judge 'times into the file that is read' $? 2 "avcdec: $work/times.264 is the file that is read
+"
+holds 'it is as it was' cmp -s "$moving" "$work/times.264"
 
 # how far decoding is: the last line stays, and nothing else changes
 rate_known=$here/encoder/pub_x_keyint3

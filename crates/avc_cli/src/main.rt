@@ -3,6 +3,7 @@
 
 mod ending;
 mod errors;
+mod frame_times;
 mod from_piece;
 mod input;
 mod loss_lines;
@@ -25,6 +26,7 @@ use avc_run::{decode, decode_as, decode_headed, decode_md5, verify};
 use clap::error::ErrorKind;
 use ending::ended_status;
 use errors::Errors;
+use frame_times::FrameTimes;
 use from_piece::FromPiece;
 use input::Input;
 use loss_lines::LossLines;
@@ -92,19 +94,27 @@ fn carry_out_on<R: Read + Drop>(
         size_of(rt, request),
         &progress_stands,
     );
+    let beside = Errors::new(rt, manner.is_quiet, &has_left, &progress_stands);
+    let times = match times_of(rt, request.frame_times, beside) {
+        Ok(times) => times,
+        Err(error) => return fail_times(rt, request.frame_times, error.kind()),
+    };
     let mut console = Console {
         names: names_of(request),
         is_explained: manner.is_explained,
         errors: Errors::new(rt, manner.is_quiet, &has_left, &progress_stands),
-        watch: Observer::new(progress, LossLines::new(rt, is_told_more)),
+        watch: Observer::new(progress, LossLines::new(rt, is_told_more), times),
     };
     let written = match request.from {
         Some(number) => write_out_from(rt, request, number, &mut input, &has_left, &mut console),
         None => write_out(rt, request, &mut input, &has_left, &mut console),
     };
-    let status = written.status;
     tell_reason(rt, request.input, input.fault());
     tell_reason(rt, request.output, written.fault);
+    let status = match console.watch.times_fault() {
+        Some(kind) => fail_times(rt, request.frame_times, kind),
+        None => written.status,
+    };
     if let Some(number) = written.missing {
         tell_no_piece(rt, number);
         return cut_status(false);
@@ -121,6 +131,29 @@ fn carry_out_on<R: Read + Drop>(
         }
         None => status,
     }
+}
+
+// What writes how long pictures take, where that is wanted.
+fn times_of<'a>(
+    rt: &'a HostRuntime,
+    name: Option<&str>,
+    errors: Errors<'a>,
+) -> io::Result<Option<FrameTimes<'a>>> {
+    match name {
+        Some(name) => Ok(Some(FrameTimes::new(rt, name, errors)?)),
+        None => Ok(None),
+    }
+}
+
+// Tells that times cannot be written. Answers the exit status.
+fn fail_times(rt: &HostRuntime, name: Option<&str>, kind: io::ErrorKind) -> u8 {
+    let names = Names {
+        input: None,
+        output: name,
+    };
+    let ending = fail(RunFault::Write, &names, &mut rt.stderr());
+    tell_reason(rt, name, Some(kind));
+    ending.status
 }
 
 // Whether a line says how far decoding is.

@@ -6,6 +6,11 @@ use std::io::IsTerminal;
 
 /// Tells why the output cannot be taken, where it cannot, and answers whether that is so.
 pub fn is_output_refused(rt: &HostRuntime, request: &Request<'_>) -> bool {
+    if let Some(times) = request.frame_times {
+        if is_written_over(rt, request.input, times) {
+            return true;
+        }
+    }
     match request.output {
         Some(output) => is_written_over(rt, request.input, output),
         None => is_terminal_refused(rt, request),

@@ -1,24 +1,32 @@
 //! What is known of a run while it goes on, and at its end.
 
+use crate::frame_times::FrameTimes;
 use crate::loss_lines::LossLines;
 use crate::progress::Progress;
 use avc_console::{Counts, RunFault, Watch};
 use avc_types::Fault;
+use std::io::ErrorKind;
 
 /// Watches a run: shows how far it is and what is lost, and remembers what it came to.
 #[derive(Drop)]
 pub struct Observer<'a> {
     progress: Progress<'a>,
     losses: LossLines<'a>,
+    times: Option<FrameTimes<'a>>,
     outcome: Option<Counts>,
 }
 
 impl<'a> Observer<'a> {
     /// Of a run that has not begun.
-    pub fn new(progress: Progress<'a>, losses: LossLines<'a>) -> Observer<'a> {
+    pub fn new(
+        progress: Progress<'a>,
+        losses: LossLines<'a>,
+        times: Option<FrameTimes<'a>>,
+    ) -> Observer<'a> {
         Observer {
             progress,
             losses,
+            times,
             outcome: None,
         }
     }
@@ -32,6 +40,14 @@ impl<'a> Observer<'a> {
     pub fn passed(&self) -> Option<u64> {
         self.losses.passed()
     }
+
+    /// Why times could not be written, where that is so.
+    pub fn times_fault(&self) -> Option<ErrorKind> {
+        match &self.times {
+            Some(times) => times.fault(),
+            None => None,
+        }
+    }
 }
 
 impl Watch for Observer<'_> {
@@ -43,7 +59,11 @@ impl Watch for Observer<'_> {
         self.losses.note_end();
     }
 
-    fn note_picture(&mut self) {}
+    fn note_picture(&mut self) {
+        if let Some(times) = &mut self.times {
+            times.note_picture();
+        }
+    }
 
     fn note_refusal(&mut self, unit: u64, fault: Fault) {
         self.losses.note_refusal(unit, fault);

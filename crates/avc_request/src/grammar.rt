@@ -44,6 +44,8 @@ pub(crate) const SKIP: &str = "skip";
 
 pub(crate) const LIMIT: &str = "limit";
 
+pub(crate) const FRAME_TIMES: &str = "frametimes";
+
 pub(crate) const PROGRESS: &str = "progress";
 
 pub(crate) const QUIET: &str = "quiet";
@@ -80,6 +82,9 @@ enum Kind {
 
     /// An option with the file to write.
     Output,
+
+    /// An option with another file to write.
+    Times,
 
     /// The file to read, which may be left out.
     Input,
@@ -172,6 +177,13 @@ const COMMANDS: &[CommandWords] = &[
                 short: Some('l'),
                 kind: Kind::Pictures,
                 help: "Decodes until N pictures are out, those left out not counted",
+                conflicts: &[],
+            },
+            Word {
+                name: FRAME_TIMES,
+                short: None,
+                kind: Kind::Times,
+                help: "Writes a line for each picture to this file: the nanoseconds that it took; standard error for -",
                 conflicts: &[],
             },
             Word {
@@ -306,7 +318,7 @@ fn taking<'a>(arg: Arg<'a>, name: &'static str, kind: Kind) -> Arg<'a> {
         Kind::Start => option(arg, name, NUMBER).value_parser(clap::value_parser!(u32)),
         Kind::Digest => option(arg, name, "MD5"),
         Kind::Format => option(arg, name, "format").value_parser(FORMATS),
-        Kind::Output => option(arg, name, "FILE"),
+        Kind::Output | Kind::Times => option(arg, name, "FILE"),
         Kind::Input => arg.action(ArgAction::Set),
         Kind::Piece => arg
             .required(true)

@@ -20,6 +20,9 @@ pub struct Request<'a> {
     /// The number of the piece with which decoding begins, from 0, where it is not the stream's beginning.
     pub from: Option<u32>,
 
+    /// The file into which it is written how long each picture took; `-` for the standard error.
+    pub frame_times: Option<&'a str>,
+
     pub manner: Manner,
 }
 

@@ -3,7 +3,7 @@ ghost use Rattle.avc_request.specs.Commands.{form_by_name, mode_of, progress_of,
 
 use crate::file_kind::{FileKind, file_kind};
 use crate::grammar::{
-    CUT, DECODE, EARLY, EXPLAIN, FORMAT, FRAME_MD5, FROM, HEADERS, I420, INFO, INPUT, JSON, LIMIT, MD5,
+    CUT, DECODE, EARLY, EXPLAIN, FORMAT, FRAME_MD5, FRAME_TIMES, FROM, HEADERS, I420, INFO, INPUT, JSON, LIMIT, MD5,
     NULL, NUMBER, OUTPUT, PIECES, PROGRESS, QUIET, SKIP, STRICT, UNITS, VERIFY, Y4M, grammar,
 };
 use crate::request::{Form, Manner, Request, Showing, Task, Telling};
@@ -187,6 +187,7 @@ fn request_of<'a>(
         output: file_named(output),
         is_standard_output_named: output == Some(STANDARD),
         from: start_of(command, matches),
+        frame_times: times_word(command, matches),
         manner: manner_of(command, matches),
     })
 }
@@ -203,6 +204,14 @@ fn output_word<'a>(command: Command, matches: &ArgMatches<'a>) -> Option<&'a str
 fn start_of(command: Command, matches: &ArgMatches<'_>) -> Option<u32> {
     match command {
         Command::Decode => matches.get_one::<u32>(FROM),
+        Command::Units | Command::Headers | Command::Pieces | Command::Info | Command::Cut => None,
+    }
+}
+
+// The file for times.
+fn times_word<'a>(command: Command, matches: &ArgMatches<'a>) -> Option<&'a str> {
+    match command {
+        Command::Decode => word(matches, FRAME_TIMES),
         Command::Units | Command::Headers | Command::Pieces | Command::Info | Command::Cut => None,
     }
 }
