@@ -629,6 +629,11 @@ done <<END
 .y4m:decode -o $work/out.mp4
 .y4m:decode --format i420 -o $work/out.MKV
 .y4m:cut 0 -o $work/out.ts
+%09d:decode -o $work/100%.yuv
+%09d:decode -o $work/%d-%d.yuv
+%09d:decode -o $work/%5d.yuv
+%09d:decode -o $work/%00d.yuv
+%09d:decode -o $work/%d.txt -f md5
 --skip:units --skip 1
 --limit:info --limit 1
 --early:headers --early
@@ -809,6 +814,31 @@ done
 "$program" decode --quiet "$moving" >/dev/full 2>"$work/told"
 judge 'decode --quiet to a full device' $? 3 'avcdec: write fault
 '
+
+# one file a picture: together they are the whole, and each has the bytes of one picture of 150x90
+mkdir "$work/files"
+"$program" decode "$moving" -o "$work/files/out-%03d.yuv" 2>"$work/told"
+judge 'decode -o out-%03d.yuv' $? 0 ''
+holds 'ten files' [ "$(cd "$work/files" && echo *)" = 'out-000.yuv out-001.yuv out-002.yuv out-003.yuv out-004.yuv out-005.yuv out-006.yuv out-007.yuv out-008.yuv out-009.yuv' ]
+holds 'each of one picture' [ "$(wc -c "$work/files"/*.yuv | grep -cw $((150 * 90 * 3 / 2)))" = 10 ]
+holds 'together the whole' [ "$(cat "$work/files"/*.yuv | md5sum | cut -d ' ' -f 1)" = "$(cut -d ' ' -f 1 <"${moving%.264}.md5")" ]
+"$program" decode --skip 7 --limit 2 "$moving" -o "$work/files/some-%d" 2>"$work/told"
+judge 'decode --skip 7 --limit 2 -o some-%d' $? 0 ''
+holds 'the eighth' cmp -s "$work/files/some-0" "$work/files/out-007.yuv"
+holds 'the ninth' cmp -s "$work/files/some-1" "$work/files/out-008.yuv"
+holds 'no more' [ ! -e "$work/files/some-2" ]
+"$program" decode "$moving" -o "$work/files/%d.y4m" 2>"$work/told"
+judge 'decode -o %d.y4m' $? 0 ''
+for number in 0 9; do
+    { "$program" decode -f y4m --limit 1 "$moving" 2>"$work/told" | head -n 2; cat "$work/files/out-00$number.yuv"; } >"$work/expected"
+    holds "picture $number is a whole file" cmp -s "$work/files/$number.y4m" "$work/expected"
+done
+cp "$moving" "$work/files/read-1"
+"$program" decode "$work/files/read-1" -o "$work/files/read-%d" 2>"$work/told"
+judge 'a file of a picture that is the one that is read' $? 3 "avcdec: write fault: $work/files/read-%d
+avcdec: $work/files/read-%d: there is no permission
+"
+holds 'it is as it was' cmp -s "$moving" "$work/files/read-1"
 
 # how long each picture took: a number for each, and no more together than what passed
 before=$(date +%s%N)

@@ -32,7 +32,7 @@ use input::Input;
 use loss_lines::LossLines;
 use misuse::is_output_refused;
 use observer::Observer;
-use output::{Output, OutputFile};
+use output::{Output, OutputFile, PictureFiles};
 use progress::Progress;
 use std::alloc::Global;
 use std::cell::Cell;
@@ -86,6 +86,7 @@ fn carry_out_on<R: Read + Drop>(
 ) -> u8 {
     let has_left = Cell::new(false);
     let progress_stands = Cell::new(false);
+    let pictures = Cell::new(0);
     let manner = &request.manner;
     let is_told_more = is_told_more(rt, manner);
     let progress = Progress::new(
@@ -103,11 +104,15 @@ fn carry_out_on<R: Read + Drop>(
         names: names_of(request),
         is_explained: manner.is_explained,
         errors: Errors::new(rt, manner.is_quiet, &has_left, &progress_stands),
-        watch: Observer::new(progress, LossLines::new(rt, is_told_more), times),
+        watch: Observer::new(progress, LossLines::new(rt, is_told_more), times, &pictures),
+    };
+    let noted = Noted {
+        has_left: &has_left,
+        pictures: &pictures,
     };
     let written = match request.from {
-        Some(number) => write_out_from(rt, request, number, &mut input, &has_left, &mut console),
-        None => write_out(rt, request, &mut input, &has_left, &mut console),
+        Some(number) => write_out_from(rt, request, number, &mut input, noted, &mut console),
+        None => write_out(rt, request, &mut input, noted, &mut console),
     };
     tell_reason(rt, request.input, input.fault());
     tell_reason(rt, request.output, written.fault);
@@ -178,6 +183,16 @@ fn size_of(rt: &HostRuntime, request: &Request<'_>) -> Option<u64> {
     }
 }
 
+// What is noted while the output is written.
+#[derive(Clone, Copy)]
+struct Noted<'a> {
+    // whether whoever reads it has left
+    has_left: &'a Cell<bool>,
+
+    // how many pictures were written or left out
+    pictures: &'a Cell<u64>,
+}
+
 // How writing the output ended.
 #[derive(Clone, Copy)]
 struct Written {
@@ -196,12 +211,12 @@ fn write_out_from<R: Read, E: Write, V: Watch>(
     request: &Request<'_>,
     number: u32,
     reader: &mut R,
-    has_left: &Cell<bool>,
+    noted: Noted<'_>,
     console: &mut Console<'_, E, V>,
 ) -> Written {
     match FromPiece::new(rt.alloc(), number, reader) {
         Ok(mut reader) => {
-            let written = write_out(rt, request, &mut reader, has_left, console);
+            let written = write_out(rt, request, &mut reader, noted, console);
             Written {
                 status: if reader.is_out_of_memory() {
                     fault_status(RunFault::Memory)
@@ -229,14 +244,24 @@ fn write_out<R: Read, E: Write, V: Watch>(
     rt: &HostRuntime,
     request: &Request<'_>,
     reader: &mut R,
-    has_left: &Cell<bool>,
+    noted: Noted<'_>,
     console: &mut Console<'_, E, V>,
 ) -> Written {
     let alloc = rt.alloc();
+    if let Some(name) = request.numbered {
+        let files = PictureFiles::new(rt, name, request.input, noted.pictures);
+        let mut output = Output::new(files, noted.has_left);
+        let status = carry_out_between(alloc, request, reader, &mut output, console);
+        return Written {
+            status,
+            fault: output.fault(),
+            missing: None,
+        };
+    }
     match request.output {
         Some(name) => {
-            let mut output = Output::new(OutputFile::new(rt, name), has_left);
-            let status = carry_out_between(alloc, request.task, reader, &mut output, console);
+            let mut output = Output::new(OutputFile::new(rt, name), noted.has_left);
+            let status = carry_out_between(alloc, request, reader, &mut output, console);
             Written {
                 status,
                 fault: output.fault(),
@@ -244,8 +269,8 @@ fn write_out<R: Read, E: Write, V: Watch>(
             }
         }
         None => {
-            let mut output = Output::new(io::writer(rt), has_left);
-            let status = carry_out_between(alloc, request.task, reader, &mut output, console);
+            let mut output = Output::new(io::writer(rt), noted.has_left);
+            let status = carry_out_between(alloc, request, reader, &mut output, console);
             Written {
                 status,
                 fault: output.fault(),
@@ -258,15 +283,24 @@ fn write_out<R: Read, E: Write, V: Watch>(
 // The same from this input to this output.
 fn carry_out_between<R: Read, W: Write, E: Write, V: Watch>(
     alloc: Global,
-    task: Task,
+    request: &Request<'_>,
     reader: &mut R,
     writer: &mut W,
     console: &mut Console<'_, E, V>,
 ) -> u8 {
-    let ending = match task {
+    let ending = match request.task {
         Task::Decode(output) => decode(alloc, output, reader, writer, console),
         Task::Check(output) => decode(alloc, output, reader, &mut io::sink(), console),
-        Task::Show(showing) => show(alloc, showing, reader, writer, console),
+        Task::Show(showing) => {
+            show(
+                alloc,
+                showing,
+                request.numbered.is_some(),
+                reader,
+                writer,
+                console,
+            )
+        }
         Task::Units => units(alloc, reader, writer, console),
         Task::Headers => headers(alloc, reader, writer, console),
         Task::Pieces => pieces(alloc, reader, writer, console),
@@ -277,10 +311,11 @@ fn carry_out_between<R: Read, W: Write, E: Write, V: Watch>(
     ending.status
 }
 
-// Shows some of the pictures, or their MD5.
+// Shows some of the pictures, each in a file of its own or not, or their MD5.
 fn show<R: Read, W: Write, E: Write, V: Watch>(
     alloc: Global,
     showing: Showing,
+    is_each_alone: bool,
     reader: &mut R,
     writer: &mut W,
     console: &mut Console<'_, E, V>,
@@ -297,7 +332,14 @@ fn show<R: Read, W: Write, E: Write, V: Watch>(
         Form::I420 => decode_as(alloc, mode, &format, reader, writer, console),
         Form::Null => decode_as(alloc, mode, &format, reader, &mut io::sink(), console),
         Form::Md5 => decode_md5(alloc, mode, &format, reader, writer, console),
-        Form::Y4m => show_headed(alloc, HeadedFormat::Y4m, showing, reader, writer, console),
+        Form::Y4m => {
+            let y4m = if is_each_alone {
+                HeadedFormat::Y4mEach
+            } else {
+                HeadedFormat::Y4m
+            };
+            show_headed(alloc, y4m, showing, reader, writer, console)
+        }
         Form::FrameMd5 => show_headed(
             alloc,
             HeadedFormat::FrameMd5,

@@ -5,6 +5,7 @@ use crate::loss_lines::LossLines;
 use crate::progress::Progress;
 use avc_console::{Counts, RunFault, Watch};
 use avc_types::Fault;
+use std::cell::Cell;
 use std::io::ErrorKind;
 
 /// Watches a run: shows how far it is and what is lost, and remembers what it came to.
@@ -13,20 +14,23 @@ pub struct Observer<'a> {
     progress: Progress<'a>,
     losses: LossLines<'a>,
     times: Option<FrameTimes<'a>>,
+    pictures: &'a Cell<u64>,
     outcome: Option<Counts>,
 }
 
 impl<'a> Observer<'a> {
-    /// Of a run that has not begun.
+    /// Of a run that has not begun, and where it is noted how many pictures were written or left out.
     pub fn new(
         progress: Progress<'a>,
         losses: LossLines<'a>,
         times: Option<FrameTimes<'a>>,
+        pictures: &'a Cell<u64>,
     ) -> Observer<'a> {
         Observer {
             progress,
             losses,
             times,
+            pictures,
             outcome: None,
         }
     }
@@ -60,6 +64,7 @@ impl Watch for Observer<'_> {
     }
 
     fn note_picture(&mut self) {
+        self.pictures.set(self.pictures.get().saturating_add(1));
         if let Some(times) = &mut self.times {
             times.note_picture();
         }

@@ -1,5 +1,6 @@
 //! What is written.
 
+use avc_request::Numbered;
 use std::cell::Cell;
 use std::fs::{File, metadata};
 use std::io;
@@ -44,6 +45,86 @@ impl Write for OutputFile<'_> {
         let mut file = File::create(self.rt, self.name)?;
         let taken = file.write(buf);
         self.file = Some(file);
+        taken
+    }
+
+    fn flush(&mut self) -> io::Result<()> {
+        Ok(())
+    }
+}
+
+/// Files of one picture each, of which each is made, or emptied, by the first bytes of its picture.
+#[derive(Drop)]
+pub struct PictureFiles<'a> {
+    rt: &'a HostRuntime,
+    name: Numbered<'a>,
+    // which must not be written over
+    input: Option<&'a str>,
+    // how many pictures were written or left out
+    pictures: &'a Cell<u64>,
+    // so many before the file that stands
+    before: u64,
+    // of that file, once there is one
+    number: u64,
+    file: Option<File>,
+}
+
+impl<'a> PictureFiles<'a> {
+    /// Files of these names, none of them made, where it is noted how many pictures were written or left out.
+    pub fn new(
+        rt: &'a HostRuntime,
+        name: Numbered<'a>,
+        input: Option<&'a str>,
+        pictures: &'a Cell<u64>,
+    ) -> PictureFiles<'a> {
+        PictureFiles {
+            rt,
+            name,
+            input,
+            pictures,
+            before: 0,
+            number: 0,
+            file: None,
+        }
+    }
+
+    // Makes the file of this number.
+    fn make(&self, number: u64) -> io::Result<File> {
+        let name = match self.name.file_name(self.rt.alloc(), number) {
+            Ok(name) => name,
+            Err(_) => return Err(io::Error::from(ErrorKind::OutOfMemory)),
+        };
+        if is_input(self.rt, self.input, &name) {
+            return Err(io::Error::from(ErrorKind::PermissionDenied));
+        }
+        File::create(self.rt, &name)
+    }
+}
+
+impl Write for PictureFiles<'_> {
+    ghost use Rattle.std.specs.Prelude.{None};
+
+    ghost contents = { λ _. None };
+
+    fn write(&mut self, buf: &[u8]) -> io::Result<usize> {
+        if buf.is_empty() {
+            return Ok(0);
+        }
+        if let Some(file) = &mut self.file {
+            if self.pictures.get() == self.before {
+                return file.write(buf);
+            }
+        }
+        let number = if self.file.is_some() {
+            self.number.saturating_add(1)
+        } else {
+            self.number
+        };
+        let mut file = self.make(number)?;
+        let taken = file.write(buf);
+        self.file = Some(file);
+        self.number = number;
+        self.before = self.pictures.get();
         taken
     }
 

@@ -1,11 +1,11 @@
-//! Pictures in a format with a head in front of the first.
+//! Pictures in a format with a head in front of the first, or of each.
 
 ghost use Rattle.std.specs.Prelude.{◌≡◌, ◌++◌, true, IfOk, IfErr, OnOk, string_bytes};
 ghost use Rattle.std.specs.Io.KnownBytes.{Appends};
 ghost use Rattle.avc_types.specs.Whole.{IsWhole};
 ghost use Rattle.avc_yuv.specs.I420.{shown_height, shown_width};
 ghost use Rattle.avc_formats.specs.Formats.{StopsPicture};
-ghost use Rattle.avc_formats.specs.Headed.{before_first, has_size, head_of, headed, picture_text};
+ghost use Rattle.avc_formats.specs.Headed.{has_head, has_size, head_before, head_of, headed, picture_text};
 
 use crate::format::PictureFormat;
 use crate::framemd5::{add_framemd5_head, write_line};
@@ -17,11 +17,14 @@ use avc_types::OutOfMemory;
 use std::alloc::Global;
 use std::io::Write;
 
-/// A format with a head in front of the first picture, which says how pictures are shown. All pictures have the size that it says.
+/// A format with a head in front of the first picture, or of each, which says how pictures are shown. All pictures have the size that it says.
 #[derive(Clone, Copy, Debug, PartialEq, Eq)]
 pub enum HeadedFormat {
     /// YUV4MPEG2: each picture as I420 behind a line of its own.
     Y4m,
+
+    /// The same, with a head in front of each picture, so that each can stand in a file of its own.
+    Y4mEach,
 
     /// The MD5 of each picture as I420, in a line of its own, as ffmpeg's framemd5 writes it.
     FrameMd5,
@@ -83,20 +86,30 @@ fn front(
     said: &Presentation,
     number: u64,
 ) -> Result<String, OutOfMemory>
-    ensures { IfOk result (λ text. string_bytes text ≡ before_first number (head_of format said.now)) }
+    ensures { IfOk result (λ text. string_bytes text ≡ head_before format said.now number) }
 {
     let mut text = String::new(alloc);
-    if number == 0 {
+    if has_head(format, number) {
         add_head(&mut text, format, said)?;
     }
     Ok(text)
+}
+
+// Whether a head stands in front of the picture of a number.
+fn has_head(format: HeadedFormat, number: u64) -> bool
+    ensures { result ≡ has_head format number }
+{
+    match format {
+        HeadedFormat::Y4mEach => true,
+        HeadedFormat::Y4m | HeadedFormat::FrameMd5 => number == 0,
+    }
 }
 
 fn add_head(text: &mut String, format: HeadedFormat, said: &Presentation) -> Result<(), OutOfMemory>
     ensures { OnOk result (string_bytes text.new ≡ string_bytes text.old ++ head_of format said.now) }
 {
     match format {
-        HeadedFormat::Y4m => add_y4m_header(text, said),
+        HeadedFormat::Y4m | HeadedFormat::Y4mEach => add_y4m_header(text, said),
         HeadedFormat::FrameMd5 => add_framemd5_head(text, said),
     }
 }
@@ -117,7 +130,7 @@ fn write_behind<W: Write>(
         (string_bytes front ++ picture_text format number picture.now)) }
 {
     match format {
-        HeadedFormat::Y4m => write_frame(front, picture, room, writer),
+        HeadedFormat::Y4m | HeadedFormat::Y4mEach => write_frame(front, picture, room, writer),
         HeadedFormat::FrameMd5 => write_line(alloc, front, number, picture, room, writer),
     }
 }

@@ -124,7 +124,7 @@ const OUTPUT_WORD: Word = Word {
     name: OUTPUT,
     short: Some('o'),
     kind: Kind::Output,
-    help: "The file to write, which is emptied first; standard output where none is named, and for -, which may be a terminal",
+    help: "The file to write, which is emptied first; standard output where none is named, and for -, which may be a terminal; by decode one file a picture, where %d, or %05d, stands for its number",
     conflicts: &[],
 };
 

@@ -3,10 +3,12 @@
 
 mod file_kind;
 mod grammar;
+mod numbered;
 mod reading;
 mod request;
 mod words;
 
+pub use numbered::Numbered;
 pub use reading::words_of;
 pub use request::{Form, Manner, Request, Showing, Task, Telling};
 pub use words::requested;

@@ -1,6 +1,7 @@
 ghost use Rattle.std.specs.Prelude.{◌≡◌};
 ghost use Rattle.avc_request.specs.Commands.{is_raw, is_raw_form};
 
+use crate::numbered::Numbered;
 use avc_dpb::Output;
 
 /// What the words of the command line ask for.
@@ -13,6 +14,9 @@ pub struct Request<'a> {
 
     /// The file that is written, where it is not the standard output.
     pub output: Option<&'a str>,
+
+    /// What the name of the file that is written stands for, where it is one file a picture.
+    pub numbered: Option<Numbered<'a>>,
 
     /// Whether the standard output was named as the output: then it may be a terminal, whatever is written.
     pub is_standard_output_named: bool,

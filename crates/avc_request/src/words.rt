@@ -3,9 +3,11 @@ ghost use Rattle.avc_request.specs.Commands.{form_by_name, mode_of, progress_of,
 
 use crate::file_kind::{FileKind, file_kind};
 use crate::grammar::{
-    CUT, DECODE, EARLY, EXPLAIN, FORMAT, FRAME_MD5, FRAME_TIMES, FROM, HEADERS, I420, INFO, INPUT, JSON, LIMIT, MD5,
-    NULL, NUMBER, OUTPUT, PIECES, PROGRESS, QUIET, SKIP, STRICT, UNITS, VERIFY, Y4M, grammar,
+    CUT, DECODE, EARLY, EXPLAIN, FORMAT, FRAME_MD5, FRAME_TIMES, FROM, HEADERS, I420, INFO, INPUT,
+    JSON, LIMIT, MD5, NULL, NUMBER, OUTPUT, PIECES, PROGRESS, QUIET, SKIP, STRICT, UNITS, VERIFY,
+    Y4M, grammar,
 };
+use crate::numbered::{Naming, Numbered, naming_of};
 use crate::request::{Form, Manner, Request, Showing, Task, Telling};
 use avc_dpb::Output;
 use clap::error::ErrorKind;
@@ -32,6 +34,9 @@ enum Misuse {
 
     /// The output's name is that of a container, or of a picture, as no command writes.
     Container,
+
+    /// The output's name has a `%` that stands for no number, or that of a picture where none are written.
+    Numbering,
 }
 
 /// The limit where all pictures are wanted.
@@ -181,10 +186,12 @@ fn request_of<'a>(
         None => return Err(Misuse::Digest),
     };
     let output = output_word(command, matches);
+    let numbered = numbered_of(command, &task, output)?;
     Ok(Request {
         task,
         input: file_named(word(matches, INPUT)),
         output: file_named(output),
+        numbered,
         is_standard_output_named: output == Some(STANDARD),
         from: start_of(command, matches),
         frame_times: times_word(command, matches),
@@ -197,6 +204,22 @@ fn output_word<'a>(command: Command, matches: &ArgMatches<'a>) -> Option<&'a str
     match command {
         Command::Decode | Command::Cut => word(matches, OUTPUT),
         Command::Units | Command::Headers | Command::Pieces | Command::Info => None,
+    }
+}
+
+// What the output's name stands for, where it is one file a picture.
+fn numbered_of<'a>(
+    command: Command,
+    task: &Task,
+    output: Option<&'a str>,
+) -> Result<Option<Numbered<'a>>, Misuse> {
+    match (command, output) {
+        (Command::Decode, Some(name)) => match naming_of(name) {
+            Naming::Plain => Ok(None),
+            Naming::Numbered(numbered) if task.is_raw() => Ok(Some(numbered)),
+            Naming::Numbered(_) | Naming::Wrong => Err(Misuse::Numbering),
+        },
+        _ => Ok(None),
     }
 }
 
@@ -277,6 +300,9 @@ fn output_kind(alloc: Global, output: Option<&str>) -> Result<FileKind, AllocErr
 fn misuse_text(misuse: Misuse) -> &'static str {
     match misuse {
         Misuse::Digest => "--verify takes an MD5 of 32 hex digits",
+        Misuse::Numbering => {
+            "--output takes one %d in the name, or %01d to %09d, for one file a picture, with the formats i420 and y4m, and no other %"
+        }
         Misuse::Container => {
             "--output takes no container, nor a picture of another format: FILE.yuv or FILE.y4m is written, and FILE.264 by cut"
         }
