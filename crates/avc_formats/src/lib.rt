@@ -19,5 +19,5 @@ pub use headed::{Headed, HeadedFormat};
 pub use md5_line::write_digest;
 pub use md5_writer::Md5Writer;
 pub use presentation::{ChromaSite, Presentation};
-pub use ratio::Ratio;
+pub use ratio::{Ratio, lowest_terms};
 pub use selected::Selected;

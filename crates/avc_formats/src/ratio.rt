@@ -10,7 +10,7 @@ pub struct Ratio {
 }
 
 /// A ratio in lowest terms.
-pub(crate) fn lowest_terms(numerator: u64, denominator: u64) -> Ratio
+pub fn lowest_terms(numerator: u64, denominator: u64) -> Ratio
     requires { 0 < denominator }
     ensures { IsLowest numerator denominator result }
 {

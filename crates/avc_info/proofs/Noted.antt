@@ -37,10 +37,10 @@ noted_more before old new first f more u put added done h = record {
 }
 
 -- once more has come
-pub noted_again : (max : ℕ) (old mid new : SplitterState) (ended ended' : Bool) (sets now : List SetUnit) (f more : StreamFacts) → AreNoted max old ended sets f → AreLeft max old mid
+pub noted_again : (max : ℕ) (old mid new : SplitterState) (ended ended' : Bool) (sets now : List SetUnit) (f more : StreamFacts) (n n' : ℕ) → AreNoted max old ended sets f n → AreLeft max old mid
     → new ≡ after_units_left max mid → now ≡ sets ++ set_units (units_left max mid) → more ≡ facts_after sets (units_left max mid) f → ended' ≡ mid.ended
-    → AreNoted max new ended' now more
-noted_again max old mid new ended ended' sets now f more h left is put added e = record {
+    → n' ≡ saturated (length mid.bytes) → AreNoted max new ended' now more n'
+noted_again max old mid new ended ended' sets now f more n n' h left is put added e counted = record {
   drained = drained max old mid new left is;
   end_is = e ∙ ap (λ (s : SplitterState). s.ended) (sym is);
   sets_are = sets_again max old mid new sets now h.sets_are left is put;
@@ -50,23 +50,38 @@ noted_again max old mid new ended ended' sets now f more h left is put added e =
       ∙ sym (facts-append [] (units max old.bytes old.ended) (units_left max mid) no_facts)
       ∙ ap (λ us. facts_after [] us no_facts) (sym left.all)
       ∙ ap (λ (s : SplitterState). facts_after [] (units max s.bytes s.ended) no_facts) (sym is);
+  bytes_are = counted ∙ ap (λ (s : SplitterState). saturated (length s.bytes)) (sym is);
 }
 
+-- the bytes of a piece more
+counted_more : (a b n m : ℕ) → n ≡ saturated a → m ≡ saturated (n + b) → m ≡ saturated (a + b)
+counted_more a b n m is more = omega (arith, is, more)
+
+pub counted_piece : (old mid : SplitterState) (piece : List ℕ) (n m : ℕ) → n ≡ saturated (length old.bytes) → mid ≡ after_feed old piece → old.ended ≡ false
+    → m ≡ saturated (n + length piece) → m ≡ saturated (length mid.bytes)
+counted_piece old mid piece n m is fed open_before more =
+    let joined : mid.bytes ≡ old.bytes ++ piece =
+    ap (λ (s : SplitterState). s.bytes) fed ∙ ap (λ (e : Bool). (if e then old else record old { bytes = old.bytes ++ piece }).bytes) open_before in
+    counted_more (length old.bytes) (length piece) n m is more
+    ∙ ap saturated (sym (length-append old.bytes piece))
+    ∙ ap (λ bytes. saturated (length bytes)) (sym joined)
+
 -- at the end
-pub told_at_end : (form : StreamFacts → List ℕ) (max : ℕ) (s : SplitterState) (ended : Bool) (sets : List SetUnit) (f : StreamFacts) (before : StreamSoFar) (added : List ℕ)
-    → AreNoted max s ended sets f → ended ≡ true → before.ended ≡ false → added ≡ form f → length s.bytes ≤ max
+pub told_at_end : (form : StreamFacts → ℕ → List ℕ) (max : ℕ) (s : SplitterState) (ended : Bool) (sets : List SetUnit) (f : StreamFacts) (n : ℕ) (before : StreamSoFar) (added : List ℕ)
+    → AreNoted max s ended sets f n → ended ≡ true → before.ended ≡ false → added ≡ form f n → length s.bytes ≤ max
     → info_so_far form s.bytes s.ended ≡ info_so_far form before.bytes before.ended ++ added
-told_at_end form max s ended sets f before added h is_ended open_before text short =
+told_at_end form max s ended sets f n before added h is_ended open_before text short =
     let all : s.ended ≡ true = sym h.end_is ∙ is_ended in
     ap (λ e. info_so_far form s.bytes e) all
-    ∙ ap (λ us. form (facts_after [] us no_facts)) (sym (whole_units max s.bytes true short))
-    ∙ ap (λ e. form (facts_after [] (units max s.bytes e) no_facts)) (sym all)
-    ∙ ap form (sym h.facts_are)
+    ∙ ap (λ us. form (facts_after [] us no_facts) (saturated (length s.bytes))) (sym (whole_units max s.bytes true short))
+    ∙ ap (λ e. form (facts_after [] (units max s.bytes e) no_facts) (saturated (length s.bytes))) (sym all)
+    ∙ ap (λ x. form x (saturated (length s.bytes))) (sym h.facts_are)
+    ∙ ap (form f) (sym h.bytes_are)
     ∙ sym text
     ∙ ap (λ e. info_so_far form before.bytes e ++ added) (sym open_before)
 
 -- before it
-pub nothing_yet : (form : StreamFacts → List ℕ) (s : SplitterState) (before : StreamSoFar) (added : List ℕ) → s.ended ≡ false → before.ended ≡ false → added ≡ []
+pub nothing_yet : (form : StreamFacts → ℕ → List ℕ) (s : SplitterState) (before : StreamSoFar) (added : List ℕ) → s.ended ≡ false → before.ended ≡ false → added ≡ []
     → info_so_far form s.bytes s.ended ≡ info_so_far form before.bytes before.ended ++ added
 nothing_yet form s before added now_open open_before none =
     ap (λ e. info_so_far form s.bytes e) now_open

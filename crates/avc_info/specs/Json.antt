@@ -1,11 +1,16 @@
 -- What is told of a stream to programs: one line of JSON (RFC 8259). The members of an object stand in the order of their names.
-use Rattle.std.specs.Prelude.{ℕ, ◌*◌, List, ◌++◌, Option, Some, None, codes}
-use Rattle.serde_json.specs.Data.{Data, member, no_members, null, number, object, string, unsigned}
+use Rattle.std.specs.Prelude.{ℕ, Bool, List, ◌++◌, Option, Some, None, codes, option_and_then}
+use Rattle.serde_json.specs.Data.{Data, boolean, member, no_members, null, number, object, string, unsigned}
 use Rattle.serde_json.specs.Written.{compact_text}
 use Rattle.avc_types.specs.Faults.{number_of, name_of}
+use Rattle.avc_formats.specs.declared.ratio.Ratio.{Ratio}
+use Rattle.avc_params.specs.declared.vui.Colour.{Colour}
 use Rattle.avc_params.specs.declared.vui.Timing.{Timing}
+use Rattle.avc_info.specs.Rates.{bit_rate, duration, rate_ratio}
 use Rattle.avc_info.specs.Text.{level_name, newline, profile_name}
+use Rattle.avc_info.specs.declared.sequence_facts.Crop.{Crop}
 use Rattle.avc_info.specs.declared.sequence_facts.SequenceFacts.{SequenceFacts}
+use Rattle.avc_info.specs.declared.sequence_facts.Size.{Size}
 use Rattle.avc_info.specs.declared.stream_facts.Refusal.{Refusal}
 use Rattle.avc_info.specs.declared.stream_facts.StreamFacts.{StreamFacts}
 
@@ -18,23 +23,56 @@ abbrev pub count_if_given : Option ℕ → Data
 count_if_given None = null
 count_if_given (Some n) = count n
 
--- the frame rate as a fraction, where there is a clock: a frame takes two ticks (E.2.1)
-abbrev pub rate_data : Option Timing → Data
-rate_data None = null
-rate_data (Some t) =
-    object (member (codes "denominator") (count (2 * t.num_units_in_tick))
-    (member (codes "numerator") (count t.time_scale) no_members))
+-- a ratio, where it is given
+abbrev pub ratio_data : Option Ratio → Data
+ratio_data None = null
+ratio_data (Some r) =
+    object (member (codes "denominator") (count r.denominator)
+    (member (codes "numerator") (count r.numerator) no_members))
+
+-- a flag, where it is given
+abbrev pub flag_data : Option Bool → Data
+flag_data None = null
+flag_data (Some set) = boolean set
+
+-- a width and a height
+abbrev pub size_data : Size → Data
+size_data s =
+    object (member (codes "height") (count s.height)
+    (member (codes "width") (count s.width) no_members))
+
+-- what is cropped at each side
+abbrev pub crop_data : Crop → Data
+crop_data c =
+    object (member (codes "bottom") (count c.bottom)
+    (member (codes "left") (count c.left)
+    (member (codes "right") (count c.right)
+    (member (codes "top") (count c.top) no_members))))
+
+-- the colour description, where it is given (E.2.1)
+abbrev pub colour_data : Option Colour → Data
+colour_data None = null
+colour_data (Some c) =
+    object (member (codes "colour_primaries") (count c.colour_primaries)
+    (member (codes "matrix_coefficients") (count c.matrix_coefficients)
+    (member (codes "transfer_characteristics") (count c.transfer_characteristics) no_members)))
 
 -- of a sequence parameter set
 abbrev pub sequence_data : SequenceFacts → Data
 sequence_data s =
-    object (member (codes "frame_rate") (rate_data s.timing)
+    object (member (codes "chroma_sample_loc_type_top_field") (count_if_given s.chroma_place)
+    (member (codes "coded_size") (size_data s.coded)
+    (member (codes "colour") (colour_data s.colour)
+    (member (codes "crop") (crop_data s.crop)
+    (member (codes "frame_rate") (ratio_data (rate_ratio s.timing))
     (member (codes "height") (count s.height)
     (member (codes "level") (string (level_name s))
     (member (codes "max_num_ref_frames") (count s.max_num_ref_frames)
     (member (codes "max_num_reorder_frames") (count_if_given s.max_num_reorder_frames)
     (member (codes "profile") (string (profile_name s))
-    (member (codes "width") (count s.width) no_members)))))))
+    (member (codes "sample_aspect_ratio") (ratio_data s.sample_aspect)
+    (member (codes "video_full_range_flag") (flag_data s.full_range)
+    (member (codes "width") (count s.width) no_members)))))))))))))
 
 -- of a stream with a picture
 abbrev pub sequence_if_given : Option SequenceFacts → Data
@@ -49,16 +87,22 @@ refusal_data (Some r) =
     (member (codes "number") (count (number_of r.fault))
     (member (codes "unit") (count r.unit) no_members)))
 
--- all of it
-abbrev pub facts_data : StreamFacts → Data
-facts_data f =
-    object (member (codes "coded_video_sequences") (count f.counts.sequences)
+-- the clock, where there is one (E.2.1)
+abbrev pub clock_of : Option SequenceFacts → Option Timing
+clock_of s = option_and_then (λ x. x.timing) s
+
+-- all of it, of a stream of so many bytes
+abbrev pub facts_data : StreamFacts → (bytes : ℕ) → Data
+facts_data f bytes =
+    object (member (codes "bits_per_second") (count_if_given (bit_rate (clock_of f.sequence) bytes f.counts.pictures))
+    (member (codes "coded_video_sequences") (count f.counts.sequences)
+    (member (codes "duration_in_milliseconds") (count_if_given (duration (clock_of f.sequence) f.counts.pictures))
     (member (codes "first_refusal") (refusal_data f.first_refusal)
     (member (codes "pictures") (count f.counts.pictures)
     (member (codes "refused_units") (count f.refused)
     (member (codes "sequence") (sequence_if_given f.sequence)
-    (member (codes "slices_per_picture") (count f.counts.most_slices) no_members))))))
+    (member (codes "slices_per_picture") (count f.counts.most_slices) no_members))))))))
 
 -- in one line
-abbrev pub json_line : StreamFacts → List ℕ
-json_line f = compact_text (facts_data f) ++ newline
+abbrev pub json_line : StreamFacts → (bytes : ℕ) → List ℕ
+json_line f bytes = compact_text (facts_data f bytes) ++ newline

@@ -1,5 +1,7 @@
 pub mod Facts
+pub mod Rates
 pub mod Text
+pub mod PictureText
 pub mod Json
 pub mod Noting
 pub mod Info

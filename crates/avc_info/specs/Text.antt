@@ -43,18 +43,23 @@ frame_rate (Some t) = rate_of t
 abbrev pub behind_point : ℕ → List ℕ
 behind_point n = codes "." ++ (decimal (n / 100 % 10) ++ (decimal (n / 10 % 10) ++ decimal (n % 10)))
 
--- frames in a second, by those in a thousand seconds
-abbrev pub rate_text : ℕ → List ℕ
-rate_text n = codes ", frame rate " ++ decimal (n / 1000) ++ behind_point n
+-- so many thousandths
+abbrev pub thousandths : ℕ → List ℕ
+thousandths n = decimal (n / 1000) ++ behind_point n
 
--- where they are given
-abbrev pub rate_if_given : Option ℕ → List ℕ
-rate_if_given None = codes ", frame rate not given"
-rate_if_given (Some rate) = rate_text rate
+-- a number by its name, where it is given
+abbrev pub if_given : (name : List ℕ) → Option ℕ → List ℕ
+if_given name None = name ++ codes " not given"
+if_given name (Some n) = name ++ codes " " ++ decimal n
 
--- of a sequence parameter set
+-- by its thousandths
+abbrev pub thousandths_if_given : (name : List ℕ) → Option ℕ → List ℕ
+thousandths_if_given name None = name ++ codes " not given"
+thousandths_if_given name (Some n) = name ++ codes " " ++ thousandths n
+
+-- frames in a second
 abbrev pub clock_text : SequenceFacts → List ℕ
-clock_text s = rate_if_given (frame_rate s.timing)
+clock_text s = thousandths_if_given (codes ", frame rate") (frame_rate s.timing)
 
 -- the size after cropping
 abbrev pub size_text : SequenceFacts → List ℕ
@@ -72,14 +77,9 @@ shape_line s = size_text s ++ profile_text s ++ level_text s ++ clock_text s ++ 
 abbrev pub references_text : SequenceFacts → List ℕ
 references_text s = codes "reference frames " ++ decimal s.max_num_ref_frames
 
--- max_num_reorder_frames, where it is given
-abbrev pub reordering_text : Option ℕ → List ℕ
-reordering_text None = codes ", reorder number not given"
-reordering_text (Some n) = codes ", reorder number " ++ decimal n
-
 -- the second line
 abbrev pub frames_line : SequenceFacts → List ℕ
-frames_line s = references_text s ++ reordering_text s.max_num_reorder_frames ++ newline
+frames_line s = references_text s ++ if_given (codes ", reorder number") s.max_num_reorder_frames ++ newline
 
 -- of a stream with a picture
 abbrev pub sequence_text : Option SequenceFacts → List ℕ
@@ -101,10 +101,10 @@ abbrev pub refusal_text : Option Refusal → List ℕ
 refusal_text None = []
 refusal_text (Some r) = codes ", the first unit " ++ decimal r.unit ++ codes ": " ++ decimal (number_of r.fault) ++ codes " " ++ name_of r.fault
 
--- the last line
+-- whether any is refused
 abbrev pub refused_line : StreamFacts → List ℕ
 refused_line f = refused_text f.refused ++ refusal_text f.first_refusal ++ newline
 
--- all of it
-abbrev pub info_text : StreamFacts → List ℕ
-info_text f = sequence_text f.sequence ++ counts_line f.counts ++ refused_line f
+-- the four lines that say what a stream is
+abbrev pub stream_text : StreamFacts → List ℕ
+stream_text f = sequence_text f.sequence ++ counts_line f.counts ++ refused_line f

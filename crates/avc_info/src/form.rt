@@ -1,6 +1,6 @@
 ghost use Rattle.std.specs.Prelude.{◌≡◌, ℕ, List, IfOk, string_bytes};
 ghost use Rattle.avc_info.specs.Json.{json_line};
-ghost use Rattle.avc_info.specs.Text.{info_text};
+ghost use Rattle.avc_info.specs.PictureText.{info_text};
 ghost use Rattle.avc_info.specs.declared.stream_facts.StreamFacts.{StreamFacts};
 
 use crate::json::info_json;
@@ -11,15 +11,15 @@ use std::alloc::Global;
 
 /// A form in which the facts of a stream are told.
 pub trait InfoForm {
-    /// What is told of them.
-    ghost text: { StreamFacts → List ℕ };
+    /// What is told of them, where the stream has so many bytes.
+    ghost text: { StreamFacts → (bytes : ℕ) → List ℕ };
 
-    /// The facts in this form.
-    fn tell(&self, alloc: Global, facts: &StreamFacts) -> Result<String, OutOfMemory>
-        ensures { IfOk result (λ told. string_bytes told ≡ text facts.now) };
+    /// The facts of a stream of so many bytes in this form.
+    fn tell(&self, alloc: Global, facts: &StreamFacts, bytes: u64) -> Result<String, OutOfMemory>
+        ensures { IfOk result (λ told. string_bytes told ≡ text facts.now bytes) };
 }
 
-/// A few lines of words and numbers.
+/// Some lines of words and numbers.
 #[derive(Clone, Copy, Debug)]
 pub struct ForPeople;
 
@@ -30,15 +30,15 @@ pub struct ForPrograms;
 impl InfoForm for ForPeople {
     ghost text = { info_text };
 
-    fn tell(&self, alloc: Global, facts: &StreamFacts) -> Result<String, OutOfMemory> {
-        info_text(alloc, facts)
+    fn tell(&self, alloc: Global, facts: &StreamFacts, bytes: u64) -> Result<String, OutOfMemory> {
+        info_text(alloc, facts, bytes)
     }
 }
 
 impl InfoForm for ForPrograms {
     ghost text = { json_line };
 
-    fn tell(&self, alloc: Global, facts: &StreamFacts) -> Result<String, OutOfMemory> {
-        info_json(alloc, facts)
+    fn tell(&self, alloc: Global, facts: &StreamFacts, bytes: u64) -> Result<String, OutOfMemory> {
+        info_json(alloc, facts, bytes)
     }
 }

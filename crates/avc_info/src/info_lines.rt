@@ -27,6 +27,7 @@ pub struct InfoLines<F> {
     splitter: Splitter<MAX_UNIT>,
     reader: HeaderReader,
     facts: StreamFacts,
+    bytes: u64,
     ended: bool,
     failed: bool,
 }
@@ -40,7 +41,7 @@ impl<F> Model for InfoLines<F> {
 
     ghost view = { λ l. record { bytes = l.splitter.bytes; ended = l.splitter.ended; failed = l.failed } };
 
-    ghost invariant = { λ l. l.failed ≡ false → AreNoted max_unit l.splitter l.ended l.reader l.facts };
+    ghost invariant = { λ l. l.failed ≡ false → AreNoted max_unit l.splitter l.ended l.reader l.facts l.bytes };
 }
 
 impl<F> InfoLines<F> {
@@ -57,6 +58,7 @@ impl<F> InfoLines<F> {
             splitter: Splitter::new(alloc),
             reader: HeaderReader::new(alloc),
             facts: StreamFacts::new(),
+            bytes: 0,
             ended: false,
             failed: false,
         }
@@ -94,6 +96,7 @@ impl<F: InfoForm> StreamText for InfoLines<F> {
         self.failed = true;
         self.splitter.feed(piece)?;
         note_units_left(&mut self.splitter, &mut self.reader, &mut self.facts)?;
+        self.bytes = self.bytes.saturating_add(piece.len() as u64);
         self.failed = false;
         Ok(Vec::new(self.alloc))
     }
@@ -109,7 +112,7 @@ impl<F: InfoForm> StreamText for InfoLines<F> {
         self.failed = true;
         self.splitter.finish()?;
         note_units_left(&mut self.splitter, &mut self.reader, &mut self.facts)?;
-        let text = self.form.tell(self.alloc, &self.facts)?;
+        let text = self.form.tell(self.alloc, &self.facts, self.bytes)?;
         self.ended = true;
         self.failed = false;
         Ok(text.into_bytes())

@@ -1,39 +1,49 @@
-ghost use Rattle.std.specs.Prelude.{◌≡◌, IfOk, OnOk, string_bytes};
+ghost use Rattle.std.specs.Prelude.{◌≡◌, IfOk, OnOk, codes, string_bytes};
 ghost use Rattle.serde_json.specs.Data.{put as with_member, string};
 ghost use Rattle.serde_json.specs.View.{members_view, view};
-ghost use Rattle.avc_info.specs.Json.{count as count_data, count_if_given, facts_data, json_line, rate_data, refusal_data, sequence_data, sequence_if_given};
-ghost use Rattle.avc_info.specs.Text.{level_name};
+ghost use Rattle.avc_info.specs.Json.{clock_of, colour_data, count as count_data, count_if_given, crop_data, facts_data, flag_data, json_line};
+ghost use Rattle.avc_info.specs.Json.{ratio_data, refusal_data, sequence_data, sequence_if_given, size_data};
+ghost use Rattle.avc_info.specs.Text.{level_name, profile_name};
 
-use crate::sequence_facts::SequenceFacts;
+use crate::rates::{bit_rate, duration, rate_ratio};
+use crate::sequence_facts::{Crop, SequenceFacts, Size};
 use crate::stream_facts::{Refusal, StreamFacts};
 use crate::text::{add_level_name, profile_name};
-use avc_params::Timing;
+use avc_formats::Ratio;
+use avc_params::{Colour, Timing};
 use avc_types::OutOfMemory;
 use serde_json::{Map, Value, json, put};
 use std::alloc::Global;
 
-/// A stream's facts for programs: a line of JSON.
-pub fn info_json(alloc: Global, facts: &StreamFacts) -> Result<String, OutOfMemory>
-    ensures { IfOk result (λ text. string_bytes text ≡ json_line facts.now) }
+/// A stream's facts for programs, where it has so many bytes: a line of JSON.
+#[tactic(auto, using(crate::proofs::Floats::none_is_float))]
+pub fn info_json(alloc: Global, facts: &StreamFacts, bytes: u64) -> Result<String, OutOfMemory>
+    ensures { IfOk result (λ text. string_bytes text ≡ json_line facts.now bytes) }
 {
-    let mut text = facts_value(alloc, facts)?.to_string(alloc)?;
+    let mut text = facts_value(alloc, facts, bytes)?.to_string(alloc)?;
     text.push_str("\n")?;
     Ok(text)
 }
 
-fn facts_value(alloc: Global, facts: &StreamFacts) -> Result<Value, OutOfMemory>
-    ensures { IfOk result (λ value. view value ≡ facts_data facts.now) }
+fn facts_value(alloc: Global, facts: &StreamFacts, bytes: u64) -> Result<Value, OutOfMemory>
+    ensures { IfOk result (λ value. view value ≡ facts_data facts.now bytes) }
 {
     let mut map = Map::new(alloc);
+    let pictures = facts.counts.pictures;
+    let timing = clock_of(&facts.sequence);
+    let bits = count_if_given(bit_rate(timing, bytes, pictures));
+    put(&mut map, alloc, "bits_per_second", bits)?;
     put_count(
         &mut map,
         alloc,
         "coded_video_sequences",
         facts.counts.sequences,
     )?;
+    let lasts = count_if_given(duration(timing, pictures));
+    put(&mut map, alloc, "duration_in_milliseconds", lasts)?;
     let first_refusal = refusal_value(alloc, facts.first_refusal)?;
     put(&mut map, alloc, "first_refusal", first_refusal)?;
-    put_count(&mut map, alloc, "pictures", facts.counts.pictures)?;
+    put_count(&mut map, alloc, "pictures", pictures)?;
     put_count(&mut map, alloc, "refused_units", facts.refused)?;
     let sequence = sequence_if_given(alloc, &facts.sequence)?;
     put(&mut map, alloc, "sequence", sequence)?;
@@ -44,6 +54,15 @@ fn facts_value(alloc: Global, facts: &StreamFacts) -> Result<Value, OutOfMemory>
         facts.counts.most_slices,
     )?;
     Ok(Value::Object(map))
+}
+
+fn clock_of(sequence: &Option<SequenceFacts>) -> Option<Timing>
+    ensures { result ≡ clock_of sequence.now }
+{
+    match sequence {
+        Some(sequence) => sequence.timing,
+        None => None,
+    }
 }
 
 fn put_count(
@@ -58,16 +77,28 @@ fn put_count(
     Ok(())
 }
 
-fn put_text(
+fn put_level(
     map: &mut Map<String, Value>,
     alloc: Global,
-    name: &str,
-    text: &str,
+    sequence: &SequenceFacts,
 ) -> Result<(), OutOfMemory>
-    ensures { OnOk result (members_view map.new.entries ≡ with_member name.now (string text.now) (members_view map.old.entries)) }
+    ensures { OnOk result (members_view map.new.entries ≡ with_member (codes "level") (string (level_name sequence.now)) (members_view map.old.entries)) }
 {
-    let text = Value::try_from_str(alloc, text)?;
-    put(map, alloc, name, text)?;
+    let mut name = String::new(alloc);
+    add_level_name(&mut name, sequence)?;
+    put(map, alloc, "level", Value::String(name))?;
+    Ok(())
+}
+
+fn put_profile(
+    map: &mut Map<String, Value>,
+    alloc: Global,
+    sequence: &SequenceFacts,
+) -> Result<(), OutOfMemory>
+    ensures { OnOk result (members_view map.new.entries ≡ with_member (codes "profile") (string (profile_name sequence.now)) (members_view map.old.entries)) }
+{
+    let name = Value::try_from_str(alloc, profile_name(sequence))?;
+    put(map, alloc, "profile", name)?;
     Ok(())
 }
 
@@ -84,52 +115,91 @@ fn sequence_value(alloc: Global, sequence: &SequenceFacts) -> Result<Value, OutO
     ensures { IfOk result (λ value. view value ≡ sequence_data sequence.now) }
 {
     let mut map = Map::new(alloc);
-    let frame_rate = rate_value(alloc, sequence.timing)?;
+    let place = count_if_given(sequence.chroma_place);
+    put(&mut map, alloc, "chroma_sample_loc_type_top_field", place)?;
+    let coded = size_value(alloc, sequence.coded)?;
+    put(&mut map, alloc, "coded_size", coded)?;
+    let colour = colour_value(alloc, sequence.colour)?;
+    put(&mut map, alloc, "colour", colour)?;
+    let crop = crop_value(alloc, sequence.crop)?;
+    put(&mut map, alloc, "crop", crop)?;
+    let frame_rate = ratio_value(alloc, rate_ratio(sequence.timing))?;
     put(&mut map, alloc, "frame_rate", frame_rate)?;
     put_count(&mut map, alloc, "height", sequence.height)?;
-    put_text(&mut map, alloc, "level", &level_name(alloc, sequence)?)?;
+    put_level(&mut map, alloc, sequence)?;
     put_count(
         &mut map,
         alloc,
         "max_num_ref_frames",
         u64::from(sequence.max_num_ref_frames),
     )?;
-    put(
-        &mut map,
-        alloc,
-        "max_num_reorder_frames",
-        count_if_given(sequence.max_num_reorder_frames),
-    )?;
-    put_text(&mut map, alloc, "profile", profile_name(sequence))?;
+    let reordered = count_if_given(sequence.max_num_reorder_frames);
+    put(&mut map, alloc, "max_num_reorder_frames", reordered)?;
+    put_profile(&mut map, alloc, sequence)?;
+    let aspect = ratio_value(alloc, sequence.sample_aspect)?;
+    put(&mut map, alloc, "sample_aspect_ratio", aspect)?;
+    let full_range = flag_value(sequence.full_range);
+    put(&mut map, alloc, "video_full_range_flag", full_range)?;
     put_count(&mut map, alloc, "width", sequence.width)?;
     Ok(Value::Object(map))
 }
 
-fn rate_value(alloc: Global, timing: Option<Timing>) -> Result<Value, OutOfMemory>
-    ensures { IfOk result (λ value. view value ≡ rate_data timing) }
+fn ratio_value(alloc: Global, ratio: Option<Ratio>) -> Result<Value, OutOfMemory>
+    ensures { IfOk result (λ value. view value ≡ ratio_data ratio) }
 {
-    match timing {
-        Some(timing) => Ok(json!(in alloc; {
-            "denominator": 2 * u64::from(timing.num_units_in_tick),
-            "numerator": u64::from(timing.time_scale)
+    match ratio {
+        Some(ratio) => Ok(json!(in alloc; {
+            "denominator": ratio.denominator,
+            "numerator": ratio.numerator
         })?),
         None => Ok(Value::Null),
     }
 }
 
-fn level_name(alloc: Global, sequence: &SequenceFacts) -> Result<String, OutOfMemory>
-    ensures { IfOk result (λ name. string_bytes name ≡ level_name sequence.now) }
+fn size_value(alloc: Global, size: Size) -> Result<Value, OutOfMemory>
+    ensures { IfOk result (λ value. view value ≡ size_data size) }
 {
-    let mut name = String::new(alloc);
-    add_level_name(&mut name, sequence)?;
-    Ok(name)
+    Ok(json!(in alloc; { "height": size.height, "width": size.width })?)
 }
 
-fn count_if_given(count: Option<u32>) -> Value
+fn crop_value(alloc: Global, crop: Crop) -> Result<Value, OutOfMemory>
+    ensures { IfOk result (λ value. view value ≡ crop_data crop) }
+{
+    Ok(json!(in alloc; {
+        "bottom": crop.bottom,
+        "left": crop.left,
+        "right": crop.right,
+        "top": crop.top
+    })?)
+}
+
+fn colour_value(alloc: Global, colour: Option<Colour>) -> Result<Value, OutOfMemory>
+    ensures { IfOk result (λ value. view value ≡ colour_data colour) }
+{
+    match colour {
+        Some(colour) => Ok(json!(in alloc; {
+            "colour_primaries": u64::from(colour.colour_primaries),
+            "matrix_coefficients": u64::from(colour.matrix_coefficients),
+            "transfer_characteristics": u64::from(colour.transfer_characteristics)
+        })?),
+        None => Ok(Value::Null),
+    }
+}
+
+fn flag_value(flag: Option<bool>) -> Value
+    ensures { view result ≡ flag_data flag }
+{
+    match flag {
+        Some(set) => Value::from(set),
+        None => Value::Null,
+    }
+}
+
+fn count_if_given(count: Option<u64>) -> Value
     ensures { view result ≡ count_if_given count }
 {
     match count {
-        Some(count) => Value::from(u64::from(count)),
+        Some(count) => Value::from(count),
         None => Value::Null,
     }
 }

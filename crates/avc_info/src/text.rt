@@ -1,9 +1,11 @@
-ghost use Rattle.std.specs.Prelude.{◌≡◌, ◌++◌, IfOk, OnOk, string_bytes};
-ghost use Rattle.avc_info.specs.Text.{clock_text, counts_line, frame_rate, frames_line, info_text, is_level_1b};
-ghost use Rattle.avc_info.specs.Text.{level_name, level_text, profile_name, profile_text, rate_of, rate_text};
-ghost use Rattle.avc_info.specs.Text.{newline, references_text, reordering_text, refusal_text, refused_line, refused_text};
-ghost use Rattle.avc_info.specs.Text.{sequence_text, shape_line, size_text};
+ghost use Rattle.std.specs.Prelude.{◌≡◌, ◌++◌, IfOk, OnOk, codes, string_bytes};
+ghost use Rattle.avc_info.specs.PictureText.{info_text};
+ghost use Rattle.avc_info.specs.Text.{clock_text, counts_line, frame_rate, frames_line, if_given, is_level_1b};
+ghost use Rattle.avc_info.specs.Text.{level_name, level_text, profile_name, profile_text, rate_of};
+ghost use Rattle.avc_info.specs.Text.{newline, references_text, refusal_text, refused_line, refused_text};
+ghost use Rattle.avc_info.specs.Text.{sequence_text, shape_line, size_text, stream_text, thousandths, thousandths_if_given};
 
+use crate::picture_text::add_picture;
 use crate::sequence_facts::SequenceFacts;
 use crate::slice_counts::SliceCounts;
 use crate::stream_facts::{Refusal, StreamFacts};
@@ -11,15 +13,23 @@ use avc_params::Timing;
 use avc_types::OutOfMemory;
 use std::alloc::Global;
 
-/// A stream's facts for people.
-pub fn info_text(alloc: Global, facts: &StreamFacts) -> Result<String, OutOfMemory>
-    ensures { IfOk result (λ text. string_bytes text ≡ info_text facts.now) }
+/// A stream's facts for people, where it has so many bytes.
+pub fn info_text(alloc: Global, facts: &StreamFacts, bytes: u64) -> Result<String, OutOfMemory>
+    ensures { IfOk result (λ text. string_bytes text ≡ info_text facts.now bytes) }
 {
     let mut text = String::new(alloc);
-    add_sequence(&mut text, &facts.sequence)?;
-    add_counts(&mut text, &facts.counts)?;
-    add_refused(&mut text, facts)?;
+    add_stream(&mut text, facts)?;
+    add_picture(&mut text, bytes, facts.counts.pictures, &facts.sequence)?;
     Ok(text)
+}
+
+fn add_stream(text: &mut String, facts: &StreamFacts) -> Result<(), OutOfMemory>
+    ensures { OnOk result (string_bytes text.new ≡ string_bytes text.old ++ stream_text facts.now) }
+{
+    add_sequence(text, &facts.sequence)?;
+    add_counts(text, &facts.counts)?;
+    add_refused(text, facts)?;
+    Ok(())
 }
 
 fn add_sequence(text: &mut String, sequence: &Option<SequenceFacts>) -> Result<(), OutOfMemory>
@@ -111,23 +121,51 @@ fn is_level_1b(sequence: &SequenceFacts) -> bool
 fn add_clock(text: &mut String, sequence: &SequenceFacts) -> Result<(), OutOfMemory>
     ensures { OnOk result (string_bytes text.new ≡ string_bytes text.old ++ clock_text sequence.now) }
 {
-    match frame_rate(sequence.timing) {
-        Some(rate) => add_rate(text, rate),
+    add_thousandths_if_given(text, ", frame rate", frame_rate(sequence.timing))
+}
+
+/// Adds a number by its name, where it is given.
+pub(crate) fn add_if_given(
+    text: &mut String,
+    name: &str,
+    number: Option<u64>,
+) -> Result<(), OutOfMemory>
+    ensures { OnOk result (string_bytes text.new ≡ string_bytes text.old ++ if_given name.now number) }
+{
+    text.push_str(name)?;
+    match number {
+        Some(number) => write!(text, " {number}")?,
+        None => text.push_str(" not given")?,
+    }
+    Ok(())
+}
+
+/// Adds a number by its name, where its thousandths are given.
+pub(crate) fn add_thousandths_if_given(
+    text: &mut String,
+    name: &str,
+    number: Option<u64>,
+) -> Result<(), OutOfMemory>
+    ensures { OnOk result (string_bytes text.new ≡ string_bytes text.old ++ thousandths_if_given name.now number) }
+{
+    text.push_str(name)?;
+    match number {
+        Some(number) => add_thousandths(text, number),
         None => {
-            text.push_str(", frame rate not given")?;
+            text.push_str(" not given")?;
             Ok(())
         }
     }
 }
 
-fn add_rate(text: &mut String, rate: u64) -> Result<(), OutOfMemory>
-    ensures { OnOk result (string_bytes text.new ≡ string_bytes text.old ++ rate_text rate) }
+fn add_thousandths(text: &mut String, number: u64) -> Result<(), OutOfMemory>
+    ensures { OnOk result (string_bytes text.new ≡ string_bytes text.old ++ codes " " ++ thousandths number) }
 {
-    let whole = rate / 1000;
-    let tenth = rate / 100 % 10;
-    let hundredth = rate / 10 % 10;
-    let thousandth = rate % 10;
-    write!(text, ", frame rate {whole}.{tenth}{hundredth}{thousandth}")?;
+    let whole = number / 1000;
+    let tenth = number / 100 % 10;
+    let hundredth = number / 10 % 10;
+    let thousandth = number % 10;
+    write!(text, " {whole}.{tenth}{hundredth}{thousandth}")?;
     Ok(())
 }
 
@@ -155,7 +193,7 @@ fn add_frames(text: &mut String, sequence: &SequenceFacts) -> Result<(), OutOfMe
     ensures { OnOk result (string_bytes text.new ≡ string_bytes text.old ++ frames_line sequence.now) }
 {
     add_references(text, sequence)?;
-    add_reordering(text, sequence)?;
+    add_if_given(text, ", reorder number", sequence.max_num_reorder_frames)?;
     end_line(text)?;
     Ok(())
 }
@@ -166,21 +204,6 @@ fn add_references(text: &mut String, sequence: &SequenceFacts) -> Result<(), Out
     let references = sequence.max_num_ref_frames;
     write!(text, "reference frames {references}")?;
     Ok(())
-}
-
-fn add_reordering(text: &mut String, sequence: &SequenceFacts) -> Result<(), OutOfMemory>
-    ensures { OnOk result (string_bytes text.new ≡ string_bytes text.old ++ reordering_text sequence.now.max_num_reorder_frames) }
-{
-    match sequence.max_num_reorder_frames {
-        Some(reordered) => {
-            write!(text, ", reorder number {reordered}")?;
-            Ok(())
-        }
-        None => {
-            text.push_str(", reorder number not given")?;
-            Ok(())
-        }
-    }
 }
 
 fn add_counts(text: &mut String, counts: &SliceCounts) -> Result<(), OutOfMemory>
@@ -227,7 +250,7 @@ fn add_first_refusal(text: &mut String, refusal: Option<Refusal>) -> Result<(), 
     }
 }
 
-fn end_line(text: &mut String) -> Result<(), OutOfMemory>
+pub(crate) fn end_line(text: &mut String) -> Result<(), OutOfMemory>
     ensures { OnOk result (string_bytes text.new ≡ string_bytes text.old ++ newline) }
 {
     text.push_str("\n")?;

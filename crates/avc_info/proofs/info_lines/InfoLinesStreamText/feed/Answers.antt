@@ -1,4 +1,4 @@
-use Rattle.avc_info.proofs.Noted.{ap, sym, ◌∙◌, ◌++◌, append-nil, StreamSoFar, max_unit, left_by_feed, info_so_far, feed_keeps_end, noted_again}
+use Rattle.avc_info.proofs.Noted.{ap, sym, ◌∙◌, ◌++◌, append-nil, rules, counted_piece, StreamSoFar, max_unit, left_by_feed, info_so_far, feed_keeps_end, noted_again}
 use Rattle.avc_info.proofs.Noted.{nothing_yet, open_still, stays_by_piece}
 use Rattle.avc_info.proofs.info_lines.InfoLinesStreamText.feed.Goals as goal
 
@@ -8,8 +8,9 @@ invariant_of-self-2 g c =
     let fed = c.in_ok-feed.ensures.ok in
     let left = left_by_feed c.units_stay.ensures max_unit _ _ c.args.piece.now h.drained fed in
     λ _.
-    noted_again max_unit _ _ _ c.self.inside.ended c.self.inside.ended _ _ _ _ h left c.in_ok-note_units_left.ensures.taken c.in_ok-note_units_left.ensures.sets
-    c.in_ok-note_units_left.ensures.facts (h.end_is ∙ feed_keeps_end _ _ c.args.piece.now fed)
+    noted_again max_unit _ _ _ c.self.inside.ended c.self.inside.ended _ _ _ _ c.self.inside.bytes _ h left c.in_ok-note_units_left.ensures.taken
+    c.in_ok-note_units_left.ensures.sets c.in_ok-note_units_left.ensures.facts (h.end_is ∙ feed_keeps_end _ _ c.args.piece.now fed)
+    (counted_piece _ _ c.args.piece.now c.self.inside.bytes _ h.bytes_are fed (sym h.end_is ∙ c.if-self-2.false) (search rules))
 
 pub returns-clause-added : goal.returns-clause-added
 returns-clause-added g c =
