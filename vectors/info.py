@@ -10,6 +10,7 @@ from fractions import Fraction
 PROFILES = {66: "Baseline", 77: "Main", 88: "Extended"}
 SHAPES = "1:1 12:11 10:11 16:11 40:33 24:11 20:11 32:11 80:33 18:11 15:11 64:33 160:99 4:3 3:2 2:1".split()  # Table E-1 from 1 on
 MOST = 2**64 - 1
+MOST_SIZES = 8
 
 
 class Refused(Exception):
@@ -164,6 +165,7 @@ class Facts:
         self.first, self.last = None, None
         self.pictures = self.sequences = self.slices = self.most = 0
         self.refusals = []
+        self.sizes = []
         sets, picture_sets = {}, {}
         for index, unit in enumerate(units(stream)):
             kind = unit[0] % 32
@@ -184,6 +186,8 @@ class Facts:
 
     def take(self, fields, s):
         self.first = self.first or s
+        if size(s) not in self.sizes:
+            self.sizes.append(size(s))
         begins = fields != self.last
         self.pictures += begins
         self.sequences += begins and fields[3]
@@ -255,6 +259,9 @@ def info(f):
         primaries, transfer, matrix = s.get("colour", (None, None, None))
         lines.append(f"colour primaries {said(primaries)}, transfer {said(transfer)}, matrix {said(matrix)}")
         lines.append(f"bit rate {said(f.bit_rate())}, duration {thousandths(f.milliseconds())}")
+    if len(f.sizes) > 1:
+        others = " and others" if len(f.sizes) > MOST_SIZES else ""
+        lines.append("sizes " + " ".join(f"{width}x{height}" for width, height in f.sizes[:MOST_SIZES]) + others)
     return "".join(line + "\n" for line in lines)
 
 
@@ -288,9 +295,11 @@ def told_as_json(f):
         "coded_video_sequences": f.sequences,
         "duration_in_milliseconds": f.milliseconds(),
         "first_refusal": dict(zip(("unit", "number", "name"), f.refusals[0])) if f.refusals else None,
+        "more_sizes": len(f.sizes) > MOST_SIZES,
         "pictures": f.pictures,
         "refused_units": len(f.refusals),
         "sequence": f.first and sequence_object(f),
+        "sizes": [dict(zip(("width", "height"), one)) for one in f.sizes[:MOST_SIZES]],
         "slices_per_picture": f.most,
     }
     return json.dumps(members, sort_keys=True, separators=(",", ":")) + "\n"

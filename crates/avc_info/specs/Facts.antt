@@ -16,6 +16,7 @@ use Rattle.avc_slice.specs.Header.{is_idr}
 use Rattle.avc_slice.specs.declared.header.Header.{Header}
 use Rattle.avc_tools.specs.Lines.{shown_height, shown_width}
 use Rattle.avc_units.specs.Bringing.{sps_under}
+use Rattle.avc_info.specs.Sizes.{no_sizes, shown_size, with_size_if}
 use Rattle.avc_info.specs.declared.sequence_facts.Crop.{Crop}
 use Rattle.avc_info.specs.declared.sequence_facts.SequenceFacts.{SequenceFacts}
 use Rattle.avc_info.specs.declared.sequence_facts.Size.{Size}
@@ -109,7 +110,7 @@ no_slices = record { last = None; pictures = 0; sequences = 0; slices = 0; most_
 
 -- nothing has come
 abbrev pub no_facts : StreamFacts
-no_facts = record { sequence = None; counts = no_slices; refused = 0; first_refusal = None }
+no_facts = record { sequence = None; sizes = no_sizes; counts = no_slices; refused = 0; first_refusal = None }
 
 -- the first of two that is there
 abbrev pub first_of : {A : Type 0} → Option A → Option A → Option A
@@ -120,6 +121,7 @@ first_of None b = b
 abbrev pub after_slice : Sets → Header → StreamFacts → StreamFacts
 after_slice sets h f = record f {
   sequence = first_of f.sequence (option_map said_by (sps_under sets h));
+  sizes = with_size_if f.sizes (option_map shown_size (sps_under sets h));
   counts = with_slice f.counts h;
 }
 

@@ -1,6 +1,7 @@
 -- What is told of a stream to programs: one line of JSON (RFC 8259). The members of an object stand in the order of their names.
-use Rattle.std.specs.Prelude.{ℕ, Bool, List, ◌++◌, Option, Some, None, codes, option_and_then}
-use Rattle.serde_json.specs.Data.{Data, boolean, member, no_members, null, number, object, string, unsigned}
+use Rattle.std.specs.Prelude.{ℕ, Bool, List, ◌++◌, map, Option, Some, None, codes, option_and_then}
+use Rattle.serde_json.specs.Data.{Data, array, boolean, member, no_members, null, number, object, string, unsigned}
+use Rattle.serde_json.specs.View.{items_of}
 use Rattle.serde_json.specs.Written.{compact_text}
 use Rattle.avc_types.specs.Faults.{number_of, name_of}
 use Rattle.avc_formats.specs.declared.ratio.Ratio.{Ratio}
@@ -87,6 +88,10 @@ refusal_data (Some r) =
     (member (codes "number") (count (number_of r.fault))
     (member (codes "unit") (count r.unit) no_members)))
 
+-- sizes, in their order
+abbrev pub sizes_data : List Size → Data
+sizes_data sizes = array (items_of (map size_data sizes))
+
 -- the clock, where there is one (E.2.1)
 abbrev pub clock_of : Option SequenceFacts → Option Timing
 clock_of s = option_and_then (λ x. x.timing) s
@@ -98,10 +103,12 @@ facts_data f bytes =
     (member (codes "coded_video_sequences") (count f.counts.sequences)
     (member (codes "duration_in_milliseconds") (count_if_given (duration (clock_of f.sequence) f.counts.pictures))
     (member (codes "first_refusal") (refusal_data f.first_refusal)
+    (member (codes "more_sizes") (boolean f.sizes.others)
     (member (codes "pictures") (count f.counts.pictures)
     (member (codes "refused_units") (count f.refused)
     (member (codes "sequence") (sequence_if_given f.sequence)
-    (member (codes "slices_per_picture") (count f.counts.most_slices) no_members))))))))
+    (member (codes "sizes") (sizes_data f.sizes.first)
+    (member (codes "slices_per_picture") (count f.counts.most_slices) no_members))))))))))
 
 -- in one line
 abbrev pub json_line : StreamFacts → (bytes : ℕ) → List ℕ

@@ -1,3 +1,4 @@
+pub mod Sizes
 pub mod Facts
 pub mod Rates
 pub mod Text

@@ -1,8 +1,8 @@
-ghost use Rattle.std.specs.Prelude.{◌≡◌, IfOk, OnOk, codes, string_bytes};
+ghost use Rattle.std.specs.Prelude.{◌≡◌, IfOk, OnOk, codes, map, string_bytes};
 ghost use Rattle.serde_json.specs.Data.{put as with_member, string};
 ghost use Rattle.serde_json.specs.View.{members_view, view};
 ghost use Rattle.avc_info.specs.Json.{clock_of, colour_data, count as count_data, count_if_given, crop_data, facts_data, flag_data, json_line};
-ghost use Rattle.avc_info.specs.Json.{ratio_data, refusal_data, sequence_data, sequence_if_given, size_data};
+ghost use Rattle.avc_info.specs.Json.{ratio_data, refusal_data, sequence_data, sequence_if_given, size_data, sizes_data};
 ghost use Rattle.avc_info.specs.Text.{level_name, profile_name};
 
 use crate::rates::{bit_rate, duration, rate_ratio};
@@ -43,10 +43,14 @@ fn facts_value(alloc: Global, facts: &StreamFacts, bytes: u64) -> Result<Value, 
     put(&mut map, alloc, "duration_in_milliseconds", lasts)?;
     let first_refusal = refusal_value(alloc, facts.first_refusal)?;
     put(&mut map, alloc, "first_refusal", first_refusal)?;
+    let others = Value::from(facts.sizes.others);
+    put(&mut map, alloc, "more_sizes", others)?;
     put_count(&mut map, alloc, "pictures", pictures)?;
     put_count(&mut map, alloc, "refused_units", facts.refused)?;
     let sequence = sequence_if_given(alloc, &facts.sequence)?;
     put(&mut map, alloc, "sequence", sequence)?;
+    let sizes = sizes_value(alloc, facts.sizes.first.as_slice())?;
+    put(&mut map, alloc, "sizes", sizes)?;
     put_count(
         &mut map,
         alloc,
@@ -160,6 +164,23 @@ fn size_value(alloc: Global, size: Size) -> Result<Value, OutOfMemory>
     ensures { IfOk result (λ value. view value ≡ size_data size) }
 {
     Ok(json!(in alloc; { "height": size.height, "width": size.width })?)
+}
+
+fn sizes_value(alloc: Global, sizes: &[Size]) -> Result<Value, OutOfMemory>
+    ensures { IfOk result (λ value. view value ≡ sizes_data sizes.now) }
+{
+    let values = size_values(alloc, sizes)?;
+    Ok(Value::from(values))
+}
+
+fn size_values(alloc: Global, sizes: &[Size]) -> Result<Vec<Value>, OutOfMemory>
+    ensures { IfOk result (λ values. map view values.items ≡ map size_data sizes.now) }
+{
+    let mut values = Vec::new(alloc);
+    for size in sizes {
+        values.push(size_value(alloc, *size)?)?;
+    }
+    Ok(values)
 }
 
 fn crop_value(alloc: Global, crop: Crop) -> Result<Value, OutOfMemory>

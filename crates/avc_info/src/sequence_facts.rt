@@ -5,7 +5,7 @@ use avc_formats::{Presentation, Ratio};
 use avc_params::{Colour, Cropping, Sps, Timing};
 
 /// A width and a height, in luma samples.
-#[derive(Clone, Copy, Debug, PartialEq, Eq)]
+#[derive(Clone, Copy, Debug, Default, PartialEq, Eq)]
 pub struct Size {
     pub width: u64,
     pub height: u64,

@@ -3,10 +3,13 @@ ghost use Rattle.std.specs.Option.{option_map};
 ghost use Rattle.avc_params.specs.Tables.{sets_after};
 ghost use Rattle.avc_units.specs.Bringing.{sps_under};
 ghost use Rattle.avc_info.specs.Facts.{after_refusal, after_slice, no_facts, said_by};
+ghost use Rattle.avc_info.specs.Sizes.{shown_size};
 
-use crate::sequence_facts::SequenceFacts;
+use crate::sequence_facts::{SequenceFacts, Size};
+use crate::sizes::Sizes;
 use crate::slice_counts::SliceCounts;
 use avc_slice::Header;
+use avc_tools::{shown_height, shown_width};
 use avc_types::Fault;
 use avc_units::HeaderReader;
 
@@ -25,6 +28,9 @@ pub struct StreamFacts {
     /// What the sequence parameter set of the first slice says.
     pub sequence: Option<SequenceFacts>,
 
+    /// Of all sequences with a slice.
+    pub sizes: Sizes,
+
     pub counts: SliceCounts,
 
     /// How many units have a set or header that is refused.
@@ -41,6 +47,7 @@ impl StreamFacts {
     {
         StreamFacts {
             sequence: None,
+            sizes: Sizes::new(),
             counts: SliceCounts::new(),
             refused: 0,
             first_refusal: None,
@@ -54,6 +61,7 @@ impl StreamFacts {
         if self.sequence.is_none() {
             self.sequence = said_under(reader, &header);
         }
+        self.sizes.add(size_under(reader, &header));
         self.counts.count(header);
     }
 
@@ -74,6 +82,19 @@ fn said_under(reader: &HeaderReader, header: &Header) -> Option<SequenceFacts>
 {
     match reader.sps_under(header) {
         Some(sps) => Some(SequenceFacts::of(sps)),
+        None => None,
+    }
+}
+
+/// The size after cropping by the slice's sequence parameter set.
+fn size_under(reader: &HeaderReader, header: &Header) -> Option<Size>
+    ensures { result ≡ option_map shown_size (sps_under (sets_after reader.now) header.now) }
+{
+    match reader.sps_under(header) {
+        Some(sps) => Some(Size {
+            width: shown_width(sps),
+            height: shown_height(sps),
+        }),
         None => None,
     }
 }

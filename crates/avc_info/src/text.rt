@@ -7,6 +7,7 @@ ghost use Rattle.avc_info.specs.Text.{sequence_text, shape_line, size_text, stre
 
 use crate::picture_text::add_picture;
 use crate::sequence_facts::SequenceFacts;
+use crate::sizes::add_sizes;
 use crate::slice_counts::SliceCounts;
 use crate::stream_facts::{Refusal, StreamFacts};
 use avc_params::Timing;
@@ -20,6 +21,7 @@ pub fn info_text(alloc: Global, facts: &StreamFacts, bytes: u64) -> Result<Strin
     let mut text = String::new(alloc);
     add_stream(&mut text, facts)?;
     add_picture(&mut text, bytes, facts.counts.pictures, &facts.sequence)?;
+    add_sizes(&mut text, &facts.sizes)?;
     Ok(text)
 }
 

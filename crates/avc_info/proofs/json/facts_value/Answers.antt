@@ -1,4 +1,4 @@
-use Rattle.avc_info.proofs.Noted.{◌∙◌, ap, refl, serde_json_on_literals, view-Object, object, members_view, bit_rate, count_if_given, duration, with_one}
+use Rattle.avc_info.proofs.Noted.{◌∙◌, ap, refl, serde_json_on_literals, view-Object, object, members_view, bit_rate, count_if_given, duration, sizes_data, with_one}
 use Rattle.avc_info.proofs.json.facts_value.Goals as goal
 
 pub returns : goal.returns
@@ -14,8 +14,11 @@ returns c =
     with_one _ _ _ _ _ _ c.in_ok-put-2.ensures.ok
     (c.count_if_given-lasts.ensures ∙ ap count_if_given (c.duration.ensures ∙ ap (λ t. duration t f.counts.pictures) c.clock_of-timing.ensures)) sequences in
     let refusal = with_one _ _ _ _ _ _ c.in_ok-put-3.ensures.ok c.in_ok-first_refusal.ensures lasts in
-    let pictures = with_one _ _ _ _ _ _ c.in_ok-put_count-2.ensures refl refusal in
+    let others = with_one _ _ _ _ _ _ c.in_ok-put-4.ensures.ok c.from-others.ensures refusal in
+    let pictures = with_one _ _ _ _ _ _ c.in_ok-put_count-2.ensures refl others in
     let refused = with_one _ _ _ _ _ _ c.in_ok-put_count-3.ensures refl pictures in
-    let sequence = with_one _ _ _ _ _ _ c.in_ok-put-4.ensures.ok c.in_ok-sequence.ensures refused in
-    let slices = with_one _ _ _ _ _ _ c.in_ok-put_count-4.ensures refl sequence in
+    let sequence = with_one _ _ _ _ _ _ c.in_ok-put-5.ensures.ok c.in_ok-sequence.ensures refused in
+    let sizes =
+    with_one _ _ _ _ _ _ c.in_ok-put-6.ensures.ok (c.in_ok-sizes.ensures ∙ ap sizes_data c.as_slice.ensures) sequence in
+    let slices = with_one _ _ _ _ _ _ c.in_ok-put_count-4.ensures refl sizes in
     view-Object c.put_count-4.new.map ∙ ap object slices
