@@ -82,6 +82,10 @@ proof, and not make what is promised false. By what is promised, each list witho
 Beside the definitions are believed the toolchain, with its logic, its compiler and the contracts of its library and crates; the C
 library; and what C is trusted with, below.
 
+That want of memory comes from an allocator's refusal is no clause but a type: \`OutOfMemory\` (crates/avc_types/src/memory.rt) is made of one
+alone. For the kinds of error that hold no \`OutOfMemory\` it is read off the places that make them, which \`scripts/refusals.sh\` lists. That
+the growth which was refused was needed, neither shows.
+
 Two things are easier checked apart: docs/CODEWORDS.md prints the tables of codewords as the standard prints them. And
 \`scripts/pages.sh\` makes pages to be read in a browser, on which each name leads to where it is defined.
 

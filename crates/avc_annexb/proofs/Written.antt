@@ -29,8 +29,8 @@ pub next_in : (p : SplitterPhase) (max : ℕ) (s : Scanner max) (bytes : List �
     unit ≡ next_unit_of max (record { bytes = bytes; ended = has_ended p; taken = length s.ready.given.items; failed = has_failed p })
 next_in Running max s bytes unit is going first = rw (scanned_so_far bytes is.done is.current s.zeros is.scanned) (first is.done is.ready)
 next_in Ended max s bytes unit is going first = first (placed_units 0 true bytes) is
-next_in Failed max s bytes unit is (inl e) first = (cc)
-next_in Failed max s bytes unit is (inr e) first = (cc)
+next_in (Failed _) max s bytes unit is (inl e) first = (cc)
+next_in (Failed _) max s bytes unit is (inr e) first = (cc)
 
 -- one more was taken, if there was one
 pub taken_more : (s : SplitterState) (given given' : List Unit) (unit : Option Unit) → s.taken ≡ length given → given' ≡ given ++ option_to_list unit → record s { taken = length given' } ≡ after_next_unit s unit

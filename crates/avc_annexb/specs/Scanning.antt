@@ -131,7 +131,7 @@ has_ended _ = false
 
 -- memory was refused
 abbrev pub has_failed : SplitterPhase → Bool
-has_failed Failed = true
+has_failed (Failed _) = true
 has_failed _ = false
 
 -- what its fields say: all bytes so far, whether they have ended, and how many units were given out
@@ -142,7 +142,7 @@ splitter_state s = record { bytes = s.bytes.items; ended = has_ended s.progress;
 abbrev pub IsSplitterStateIn : SplitterPhase → (max : ℕ) → Scanner max → List ℕ → Type 0
 IsSplitterStateIn Running max s bytes = HasScanned max s bytes
 IsSplitterStateIn Ended max s bytes = AreReady max s.ready (placed_units 0 true bytes)
-IsSplitterStateIn Failed max s bytes = Unit {0}
+IsSplitterStateIn (Failed _) max s bytes = Unit {0}
 
 -- the same of a splitter's fields
 abbrev pub IsSplitterState : {MAX : ℕ} → Inside MAX → Type 0

@@ -1,4 +1,5 @@
 ghost use Rattle.std.specs.Prelude.{◌≡◌, ◌<◌, true, false, OnErr, OnOk, IfOk, IsOk, IfSome};
+ghost use Rattle.avc_annexb.specs.Scanning.{has_failed};
 ghost use Rattle.avc_annexb.specs.SplitterState.{new_splitter, after_feed, after_finish, after_failure, next_unit_of, after_next_unit, units_waiting, TakesUnit};
 
 use crate::scanner::Scanner;
@@ -7,11 +8,26 @@ use avc_types::{History, OutOfMemory};
 use std::alloc::Global;
 use std::marker::Model;
 
-#[derive(Clone, Copy)]
+#[derive(Drop)]
 enum SplitterPhase {
     Running,
     Ended,
-    Failed,
+    Failed(OutOfMemory),
+}
+
+/// Passes an answer on. Where it is that memory was refused, that is so from then on.
+fn keep<T>(phase: &mut SplitterPhase, answer: Result<T, OutOfMemory>) -> Result<T, OutOfMemory>
+    ensures same { result ≡ answer }
+    ensures going { OnOk result (phase.new ≡ phase.old) }
+    ensures refused { OnErr result (has_failed phase.new ≡ true) }
+{
+    match answer {
+        Ok(done) => Ok(done),
+        Err(refusal) => {
+            *phase = SplitterPhase::Failed(refusal.again());
+            Err(refusal)
+        }
+    }
 }
 
 /// Splits a byte stream (Annex B) into its units, in whatever pieces its bytes come. It keeps the unit that is not yet over,
@@ -56,16 +72,13 @@ impl<const MAX: usize> Splitter<MAX> {
         ensures err { OnErr result (self.new ≡ after_failure self.old) }
         ensures ended { self.old.ended ≡ true → self.old.failed ≡ false → IsOk result }
     {
-        match self.progress {
+        match &self.progress {
             // no memory is asked for again
-            SplitterPhase::Failed => Err(OutOfMemory),
+            SplitterPhase::Failed(refusal) => Err(refusal.again()),
             SplitterPhase::Ended => Ok(()),
             SplitterPhase::Running => {
-                // until all of it is done
-                self.progress = SplitterPhase::Failed;
-                self.scanner.take_in(piece)?;
+                keep(&mut self.progress, self.scanner.take_in(piece))?;
                 self.bytes = self.bytes.with_all(piece);
-                self.progress = SplitterPhase::Running;
                 Ok(())
             }
         }
@@ -79,16 +92,13 @@ impl<const MAX: usize> Splitter<MAX> {
         ensures err { OnErr result (self.new ≡ after_failure self.old) }
         ensures ended { self.old.ended ≡ true → self.old.failed ≡ false → IsOk result }
     {
-        match self.progress {
+        match &self.progress {
             // no memory is asked for again
-            SplitterPhase::Failed => Err(OutOfMemory),
+            SplitterPhase::Failed(refusal) => Err(refusal.again()),
             SplitterPhase::Ended => Ok(bytes.len()),
             SplitterPhase::Running => {
-                // until all of it is done
-                self.progress = SplitterPhase::Failed;
-                let used = self.scanner.take_unit(bytes)?;
+                let used = keep(&mut self.progress, self.scanner.take_unit(bytes))?;
                 self.bytes = self.bytes.with_all(&bytes[..used]);
-                self.progress = SplitterPhase::Running;
                 Ok(used)
             }
         }
@@ -102,12 +112,11 @@ impl<const MAX: usize> Splitter<MAX> {
         ensures err { OnErr result (self.new ≡ after_failure self.old) }
         ensures ended { self.old.ended ≡ true → self.old.failed ≡ false → IsOk result }
     {
-        match self.progress {
-            SplitterPhase::Failed => Err(OutOfMemory),
+        match &self.progress {
+            SplitterPhase::Failed(refusal) => Err(refusal.again()),
             SplitterPhase::Ended => Ok(()),
             SplitterPhase::Running => {
-                self.progress = SplitterPhase::Failed;
-                self.scanner.end()?;
+                keep(&mut self.progress, self.scanner.end())?;
                 self.progress = SplitterPhase::Ended;
                 Ok(())
             }
@@ -121,7 +130,7 @@ impl<const MAX: usize> Splitter<MAX> {
         ensures fewer { IfSome result (λ _. units_waiting MAX self.new < units_waiting MAX self.old) }
     {
         match self.progress {
-            SplitterPhase::Failed => None,
+            SplitterPhase::Failed(_) => None,
             SplitterPhase::Running | SplitterPhase::Ended => self.scanner.ready.next(),
         }
     }

@@ -42,7 +42,7 @@ pub extern "C" fn avcdec_open(alloc: Global, decoder: &mut DecoderHandle, early:
             decoder.insert(open);
             Status::Ok.number()
         }
-        Err(_) => Status::OutOfMemory.number(),
+        Err(refusal) => Status::from(refusal).number(),
     }
 }
 

@@ -1,8 +1,10 @@
 ghost use Rattle.std.specs.Prelude.{◌≡◌};
 ghost use Rattle.avc_c.specs.EventRecords.{call_status, take_status, unit_status};
+ghost use Rattle.avc_c.specs.declared.status.Status.TheVariants.{OutOfMemory as NoMemory};
 
 use avc_decoder::{DecodeError, Event};
 use avc_plane::SharedPicture;
+use avc_types::OutOfMemory;
 
 /// What a call answers to C.
 #[derive(Clone, Copy, Debug, PartialEq, Eq)]
@@ -65,5 +67,13 @@ impl Status {
             Err(DecodeError::OutOfMemory) => Status::OutOfMemory,
             Err(DecodeError::Ended) => Status::Ended,
         }
+    }
+}
+
+impl From<OutOfMemory> for Status {
+    ghost from_gives = { λ _ status. status ≡ NoMemory };
+
+    fn from(_refusal: OutOfMemory) -> Status {
+        Status::OutOfMemory
     }
 }

@@ -1,9 +1,10 @@
 -- What the decoder's parts keep.
-use Rattle.std.specs.Prelude.{◌≡◌, ℕ, zero, suc, ◌+◌, ◌-◌, Bool, true, false, not, List, [], ◌∷◌, ◌++◌, length, take, drop, Option, Some, None, IfSome, Result, Ok, Err, slice_get}
+use Rattle.std.specs.Prelude.{◌≡◌, ℕ, zero, suc, ◌+◌, ◌-◌, Bool, true, false, not, List, [], ◌∷◌, ◌++◌, length, take, drop, Option, Some, None, IfOk, IfSome, Result, Ok, Err, slice_get}
 use Rattle.std.specs.Option.{option_map}
 use Rattle.avc_types.specs.declared.fault.Fault.{Fault}
+use Rattle.avc_types.specs.declared.memory.OutOfMemory.{OutOfMemory}
 use Rattle.avc_types.specs.declared.picture_error.PictureError.{PictureError}
-use Rattle.avc_types.specs.declared.picture_error.PictureError.TheVariants.{Fault as Faulty}
+use Rattle.avc_types.specs.declared.picture_error.PictureError.TheVariants.{Fault as Faulty, OutOfMemory as NoMemory}
 use Rattle.avc_annexb.specs.SplitterState.{SplitterState, new_splitter}
 use Rattle.avc_annexb.specs.Units.{units, saturated}
 use Rattle.avc_annexb.specs.declared.unit.Unit.{Unit as Piece}
@@ -179,6 +180,10 @@ abbrev pub picture_answer : Result (Unit {0}) Fault → Result (Unit {0}) Pictur
 picture_answer (Ok done) = Ok done
 picture_answer (Err f) = Err (Faulty f)
 
+-- No memory was wanted.
+abbrev pub WantsNone : Result (Unit {0}) PictureError → Type 0
+WantsNone answer = (refusal : OutOfMemory) → answer ≡ Err (NoMemory refusal) → ⊥
+
 -- The picture decoder has read so many macroblocks more.
 pub record HasReadMore (d d' : Decoding 32) (read : ℕ) : Type 0 where
   pub before : ℕ
@@ -345,30 +350,34 @@ pub record Ends (max : ℕ) {P : Type 0} (old : Parts max P) (read : ℕ) (new :
   pub now : HaveDecoded max old (old.splitter).bytes true new
   pub count : read ≡ (new.stream).read
 
+-- what a decoder has: its parts, or what a call was refused
+abbrev pub PartsOrRefusal : (max : ℕ) → Type 0 → Type 0
+PartsOrRefusal max P = Result (Parts max P) OutOfMemory
+
 -- the same where there is a decoder that goes on
-abbrev pub FeedsIn : (max : ℕ) → {P : Type 0} → Option (Parts max P) → (piece : List ℕ) → (read : ℕ) → Option (Parts max P) → Type 0
-FeedsIn max (Some old) piece read (Some new) = Feeds max old piece read new
+abbrev pub FeedsIn : (max : ℕ) → {P : Type 0} → PartsOrRefusal max P → (piece : List ℕ) → (read : ℕ) → PartsOrRefusal max P → Type 0
+FeedsIn max (Ok old) piece read (Ok new) = Feeds max old piece read new
 FeedsIn max old piece read new = ⊥
 
 -- the same where there is a decoder that goes on
-abbrev pub FeedsUnitIn : (max : ℕ) → {P : Type 0} → Option (Parts max P) → (bytes : List ℕ) → Fed → Option (Parts max P) → Type 0
-FeedsUnitIn max (Some old) bytes fed (Some new) = FeedsUnit max old bytes fed new
+abbrev pub FeedsUnitIn : (max : ℕ) → {P : Type 0} → PartsOrRefusal max P → (bytes : List ℕ) → Fed → PartsOrRefusal max P → Type 0
+FeedsUnitIn max (Ok old) bytes fed (Ok new) = FeedsUnit max old bytes fed new
 FeedsUnitIn max old bytes fed new = ⊥
 
 -- the same where there is a decoder that goes on
-abbrev pub EndsIn : (max : ℕ) → {P : Type 0} → Option (Parts max P) → (read : ℕ) → Option (Parts max P) → Type 0
-EndsIn max (Some old) read (Some new) = Ends max old read new
+abbrev pub EndsIn : (max : ℕ) → {P : Type 0} → PartsOrRefusal max P → (read : ℕ) → PartsOrRefusal max P → Type 0
+EndsIn max (Ok old) read (Ok new) = Ends max old read new
 EndsIn max old read new = ⊥
 
 -- the event that comes next
-abbrev pub next_event_in : (max : ℕ) → {P : Type 0} → Option (Parts max P) → Option Event
-next_event_in max None = None
-next_event_in max (Some p) = slice_get (p.outgoing).events (p.outgoing).taken
+abbrev pub next_event_in : (max : ℕ) → {P : Type 0} → PartsOrRefusal max P → Option Event
+next_event_in max (Err refusal) = None
+next_event_in max (Ok p) = slice_get (p.outgoing).events (p.outgoing).taken
 
 -- after it was taken, if there was one
-abbrev pub after_take_in : (max : ℕ) → {P : Type 0} → Option Event → Option (Parts max P) → Option (Parts max P)
-after_take_in max event None = None
-after_take_in max event (Some p) = Some (record p { outgoing = after_queue_take event p.outgoing })
+abbrev pub after_take_in : (max : ℕ) → {P : Type 0} → Option Event → PartsOrRefusal max P → PartsOrRefusal max P
+after_take_in max event (Err refusal) = Err refusal
+after_take_in max event (Ok p) = Ok (record p { outgoing = after_queue_take event p.outgoing })
 
 -- Memory was not refused, and the parts have all of the machine.
 pub record AreParts (max : ℕ) (m : Machine) {P : Type 0} (p : Parts max P) : Type 0 where
@@ -379,6 +388,6 @@ pub record AreParts (max : ℕ) (m : Machine) {P : Type 0} (p : Parts max P) : T
   pub taken : (p.outgoing).taken ≡ m.taken
 
 -- What a decoder keeps of the machine: the macroblocks that are counted, and as long as memory was not refused, all of it.
-pub record IsDecoderState (max : ℕ) (m : Machine) {P : Type 0} (running : Option (Parts max P)) (count : ℕ) : Type 0 where
+pub record IsDecoderState (max : ℕ) (m : Machine) {P : Type 0} (running : PartsOrRefusal max P) (count : ℕ) : Type 0 where
   pub count_is : IsCount max m count
-  pub parts : IfSome running (AreParts max m)
+  pub parts : IfOk running (AreParts max m)

@@ -42,7 +42,7 @@ fn close_picture(stream: &mut Stream, current: CurrentPicture) -> Result<(), Out
             fail(stream, last_unit, fault)?;
             return Ok(());
         }
-        Err(PictureError::OutOfMemory) => return Err(OutOfMemory),
+        Err(PictureError::OutOfMemory(refusal)) => return Err(refusal),
     };
     let shared = SharedPlanes::new(stream.alloc, planes)?;
     match stream.sequence.close(shared) {
@@ -54,7 +54,7 @@ fn close_picture(stream: &mut Stream, current: CurrentPicture) -> Result<(), Out
             fail(stream, last_unit, fault)?;
             Ok(())
         }
-        Err(PictureError::OutOfMemory) => Err(OutOfMemory),
+        Err(PictureError::OutOfMemory(refusal)) => Err(refusal),
     }
 }
 

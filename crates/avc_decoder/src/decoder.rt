@@ -5,10 +5,10 @@ ghost use Rattle.avc_decoder.specs.SeenEvents.{seen_answer};
 
 use crate::error::DecodeError;
 use crate::event::Event;
-use crate::parts::{Parts, feed, feed_unit, finish, stop_at_refusal, take_event};
+use crate::parts::{Parts, check, feed, feed_unit, finish, stop_at_refusal, take_event};
 use avc_decoder_core::Output;
 use avc_plane::{OutputPicture, SharedPicture};
-use avc_types::{History, Picture};
+use avc_types::{History, OutOfMemory, Picture};
 use std::alloc::Global;
 use std::marker::Model;
 
@@ -19,8 +19,8 @@ use std::marker::Model;
 pub struct Decoder<const MAX: usize, P: OutputPicture = Picture> {
     alloc: Global,
     output: Output,
-    // none once a call was refused memory
-    running: Option<Parts<MAX, P>>,
+    // or what a call was refused
+    running: Result<Parts<MAX, P>, OutOfMemory>,
     // how many macroblocks were read when a call was last carried out
     read: u64,
     ended: bool,
@@ -29,16 +29,16 @@ pub struct Decoder<const MAX: usize, P: OutputPicture = Picture> {
 }
 
 impl<const MAX: usize, P: OutputPicture> Model for Decoder<MAX, P> {
-    ghost use Rattle.std.specs.Prelude.{is_none, length};
+    ghost use Rattle.std.specs.Prelude.{is_err, length};
     ghost use Rattle.avc_decoder.specs.States.{IsDecoderState};
     ghost use Rattle.avc_decoder.specs.Machine.{Machine};
 
     ghost Value = { Machine };
 
-    ghost view = { λ d. record { output = d.output; bytes = d.bytes.items; ended = d.ended; taken = length d.taken.items; failed = is_none d.running } };
+    ghost view = { λ d. record { output = d.output; bytes = d.bytes.items; ended = d.ended; taken = length d.taken.items; failed = is_err d.running } };
 
     ghost invariant = { λ d.
-        let m : Machine = record { output = d.output; bytes = d.bytes.items; ended = d.ended; taken = length d.taken.items; failed = is_none d.running } in
+        let m : Machine = record { output = d.output; bytes = d.bytes.items; ended = d.ended; taken = length d.taken.items; failed = is_err d.running } in
         IsDecoderState MAX m d.running d.read };
 }
 
@@ -83,7 +83,7 @@ impl<const MAX: usize, P: OutputPicture> Decoder<MAX, P> {
         Decoder {
             alloc,
             output,
-            running: Some(Parts::new(alloc, output)),
+            running: Ok(Parts::new(alloc, output)),
             read: 0,
             ended: false,
             bytes: History::new(),
@@ -95,9 +95,7 @@ impl<const MAX: usize, P: OutputPicture> Decoder<MAX, P> {
     pub fn feed(&mut self, piece: &[u8]) -> Result<(), DecodeError>
         ensures { IsFeedAnswer self.old (after_feed piece.now self.old) result self.new }
     {
-        if self.running.is_none() {
-            return Err(DecodeError::OutOfMemory);
-        }
+        check(&self.running)?;
         if self.ended {
             return Err(DecodeError::Ended);
         }
@@ -115,9 +113,7 @@ impl<const MAX: usize, P: OutputPicture> Decoder<MAX, P> {
     pub fn feed_unit(&mut self, bytes: &[u8]) -> Result<usize, DecodeError>
         ensures { IsFeedUnitAnswer MAX self.old bytes.now result self.new }
     {
-        if self.running.is_none() {
-            return Err(DecodeError::OutOfMemory);
-        }
+        check(&self.running)?;
         if self.ended {
             return Err(DecodeError::Ended);
         }
@@ -142,9 +138,7 @@ impl<const MAX: usize, P: OutputPicture> Decoder<MAX, P> {
     fn take_any(&mut self) -> Result<Option<Event<P>>, DecodeError>
         ensures { IsTakeAnswer MAX self.old (seen_answer P.picture result) self.new }
     {
-        if self.running.is_none() {
-            return Err(DecodeError::OutOfMemory);
-        }
+        check(&self.running)?;
         let Some(event) = take_event(&mut self.running) else {
             return Ok(None);
         };
@@ -156,9 +150,7 @@ impl<const MAX: usize, P: OutputPicture> Decoder<MAX, P> {
     pub fn flush(&mut self) -> Result<(), DecodeError>
         ensures { IsFeedAnswer self.old (after_flush self.old) result self.new }
     {
-        if self.running.is_none() {
-            return Err(DecodeError::OutOfMemory);
-        }
+        check(&self.running)?;
         if self.ended {
             return Err(DecodeError::Ended);
         }
@@ -172,7 +164,7 @@ impl<const MAX: usize, P: OutputPicture> Decoder<MAX, P> {
     pub fn reset(&mut self)
         ensures { self.new ≡ new_machine self.old.output }
     {
-        self.running = Some(Parts::new(self.alloc, self.output));
+        self.running = Ok(Parts::new(self.alloc, self.output));
         self.read = 0;
         self.ended = false;
         self.bytes = History::new();

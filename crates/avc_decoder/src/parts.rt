@@ -1,4 +1,4 @@
-ghost use Rattle.std.specs.Prelude.{◌≡◌, false, IfOk, IfSome, None, OnErr, OnOk};
+ghost use Rattle.std.specs.Prelude.{◌≡◌, false, true, is_err, IfOk, OnErr, OnOk};
 ghost use Rattle.avc_decoder.specs.SeenEvents.{seen_if_any};
 ghost use Rattle.avc_decoder.specs.States.{after_take_in, next_event_in, stream_state};
 ghost use Rattle.avc_decoder.specs.States.{Ends, EndsIn, Feeds, FeedsIn, FeedsUnit, FeedsUnitIn, HandlesAll, IsNew, IsStream, IsWorking};
@@ -94,67 +94,83 @@ impl<const MAX: usize, P: OutputPicture> Parts<MAX, P> {
 
 /// Takes the next bytes of the stream, where it goes on. Answers how many macroblocks of slices have been read.
 pub fn feed<const MAX: usize, P: OutputPicture>(
-    running: &mut Option<Parts<MAX, P>>,
+    running: &mut Result<Parts<MAX, P>, OutOfMemory>,
     piece: &[u8],
 ) -> Result<u64, OutOfMemory>
-    requires { IfSome running.old (IsWorking MAX) }
+    requires { IfOk running.old (IsWorking MAX) }
     ensures { IfOk result (λ read. FeedsIn MAX running.old piece.now read running.new) }
 {
     match running {
-        Some(parts) => parts.feed(piece),
-        None => Err(OutOfMemory),
+        Ok(parts) => parts.feed(piece),
+        Err(refusal) => Err(refusal.again()),
     }
 }
 
 /// Takes the next bytes of the stream up to where a unit has ended, or all where none ends, where the stream goes on.
 pub fn feed_unit<const MAX: usize, P: OutputPicture>(
-    running: &mut Option<Parts<MAX, P>>,
+    running: &mut Result<Parts<MAX, P>, OutOfMemory>,
     bytes: &[u8],
 ) -> Result<Fed, OutOfMemory>
-    requires { IfSome running.old (IsWorking MAX) }
+    requires { IfOk running.old (IsWorking MAX) }
     ensures { IfOk result (λ fed. FeedsUnitIn MAX running.old bytes.now fed running.new) }
 {
     match running {
-        Some(parts) => parts.feed_unit(bytes),
-        None => Err(OutOfMemory),
+        Ok(parts) => parts.feed_unit(bytes),
+        Err(refusal) => Err(refusal.again()),
     }
 }
 
 /// Takes the end of the stream, where it goes on. Answers how many macroblocks of slices were read.
 pub fn finish<const MAX: usize, P: OutputPicture>(
-    running: &mut Option<Parts<MAX, P>>,
+    running: &mut Result<Parts<MAX, P>, OutOfMemory>,
 ) -> Result<u64, OutOfMemory>
-    requires { IfSome running.old (IsWorking MAX) }
+    requires { IfOk running.old (IsWorking MAX) }
     ensures { IfOk result (λ read. EndsIn MAX running.old read running.new) }
 {
     match running {
-        Some(parts) => parts.finish(),
-        None => Err(OutOfMemory),
+        Ok(parts) => parts.finish(),
+        Err(refusal) => Err(refusal.again()),
     }
 }
 
-/// Nothing is left. What is dropped takes much room, which answers without a refusal don't clear then.
-#[cold]
-#[inline(never)]
-fn stop<const MAX: usize, P: OutputPicture>(running: &mut Option<Parts<MAX, P>>)
-    ensures { running.new ≡ None }
+/// An `Err` where a call was refused memory.
+pub fn check<const MAX: usize, P: OutputPicture>(
+    running: &Result<Parts<MAX, P>, OutOfMemory>,
+) -> Result<(), OutOfMemory>
+    ensures going { OnOk result (is_err running.now ≡ false) }
+    ensures refused { OnErr result (is_err running.now ≡ true) }
 {
-    *running = None;
+    match running {
+        Ok(_) => Ok(()),
+        Err(refusal) => Err(refusal.again()),
+    }
 }
 
-/// Where memory was refused nothing is left.
+/// Nothing is left but what was refused. What is dropped takes much room, which answers without a refusal don't clear then.
+#[cold]
+#[inline(never)]
+fn stop<const MAX: usize, P: OutputPicture>(
+    running: &mut Result<Parts<MAX, P>, OutOfMemory>,
+    refusal: &OutOfMemory,
+)
+    ensures { is_err running.new ≡ true }
+{
+    *running = Err(refusal.again());
+}
+
+/// Where memory was refused nothing else is left.
 pub fn stop_at_refusal<const MAX: usize, P: OutputPicture, T: Copy>(
-    running: &mut Option<Parts<MAX, P>>,
+    running: &mut Result<Parts<MAX, P>, OutOfMemory>,
     answer: Result<T, OutOfMemory>,
 ) -> Result<T, OutOfMemory>
     ensures answer { result ≡ answer }
     ensures kept { OnOk result (running.new ≡ running.old) }
-    ensures stopped { OnErr result (running.new ≡ None) }
+    ensures stopped { OnErr result (is_err running.new ≡ true) }
 {
     match answer {
         Ok(done) => Ok(done),
         Err(refused) => {
-            stop(running);
+            stop(running, &refused);
             Err(refused)
         }
     }
@@ -162,14 +178,14 @@ pub fn stop_at_refusal<const MAX: usize, P: OutputPicture, T: Copy>(
 
 /// Takes the first event that was not taken, if there is one.
 pub fn take_event<const MAX: usize, P: OutputPicture>(
-    running: &mut Option<Parts<MAX, P>>,
+    running: &mut Result<Parts<MAX, P>, OutOfMemory>,
 ) -> Option<Event<P>>
     ensures event { seen_if_any P.picture result ≡ next_event_in MAX running.old }
     ensures taken { running.new ≡ after_take_in MAX (seen_if_any P.picture result) running.old }
 {
     match running {
-        Some(parts) => parts.outgoing.take(),
-        None => None,
+        Ok(parts) => parts.outgoing.take(),
+        Err(_) => None,
     }
 }
 

@@ -1,8 +1,8 @@
-ghost use Rattle.std.specs.Prelude.{◌≡◌, false, Err, None, IfSome, OnOk, Some};
+ghost use Rattle.std.specs.Prelude.{◌≡◌, false, None, IfSome, OnOk, Some};
 ghost use Rattle.avc_decoder.specs.Events.{after_first_slice, after_next_slice, base_in, sets_named};
 ghost use Rattle.avc_decoder.specs.PictureFrames.{frames_for, CanHave};
 ghost use Rattle.avc_decoder.specs.States.{current_in, more_read, phase_of, picture_answer};
-ghost use Rattle.avc_decoder.specs.States.{DecodesIn, HasAnswered, HasOutcome, IsAnswerIn, IsPhase, IsStream};
+ghost use Rattle.avc_decoder.specs.States.{DecodesIn, HasAnswered, HasOutcome, IsAnswerIn, IsPhase, IsStream, WantsNone};
 ghost use Rattle.avc_decoder_core.specs.SequenceState.{current_history, AreFramesIn, AreStoredIn};
 ghost use Rattle.avc_params.specs.Tables.{sets_after};
 ghost use Rattle.avc_params.specs.Within.{IsPps, IsSps};
@@ -10,7 +10,6 @@ ghost use Rattle.avc_slice.specs.Begins.{begins};
 ghost use Rattle.avc_slice.specs.Header.{is_idr};
 ghost use Rattle.avc_picture.specs.Decoding.{HasNoFault};
 ghost use Rattle.avc_slice.specs.Within.{IsHeader};
-ghost use Rattle.avc_types.specs.declared.picture_error.PictureError.TheVariants.{OutOfMemory as NoMemory};
 ghost use Rattle.avc_units.specs.GrouperState.{IsSliceUnder};
 
 use crate::close::fail;
@@ -82,7 +81,7 @@ pub fn first_slice(stream: &mut Stream, slice: &Slice) -> Result<(), OutOfMemory
             fail(stream, slice.unit, fault)?;
             Ok(())
         }
-        Err(PictureError::OutOfMemory) => Err(OutOfMemory),
+        Err(PictureError::OutOfMemory(refusal)) => Err(refusal),
     }
 }
 
@@ -193,13 +192,13 @@ fn answer_in(current: &mut CurrentPicture, slice: &Slice, frames: &[Frame<PADDIN
 
 /// The same with the fault alone, where no memory was wanted.
 fn fault_of(answer: Result<(), PictureError>) -> Result<(), Fault>
-    requires { answer ≡ Err NoMemory → ⊥ }
+    requires { WantsNone answer }
     ensures { answer ≡ picture_answer result }
 {
     match answer {
         Ok(()) => Ok(()),
         Err(PictureError::Fault(fault)) => Err(fault),
-        Err(PictureError::OutOfMemory) => unreachable!(),
+        Err(PictureError::OutOfMemory(_)) => unreachable!(),
     }
 }
 

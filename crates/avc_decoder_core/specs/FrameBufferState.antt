@@ -53,7 +53,7 @@ pub record BeginsSequence (old : FrameBufferState) (h : Header) (out : List Pict
 -- The entry could not be marked, and nothing changed, or memory was refused.
 abbrev pub Refuses : (old : FrameBufferState) → Result Marks Fault → PictureError → (new : FrameBufferState) → Type 0
 Refuses old marked (Faulty f) new = (old.failed ≡ false) × (new ≡ old) × (marked ≡ Err f)
-Refuses old marked OutOfMemory new = new.failed ≡ true
+Refuses old marked (OutOfMemory _) new = new.failed ≡ true
 
 -- All pictures needed for output go out, and the history is forgotten.
 pub record IsEmptied (old : FrameBufferState) (out : List Picture) (new : FrameBufferState) : Type 0 where

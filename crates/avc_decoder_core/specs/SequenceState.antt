@@ -63,7 +63,12 @@ pub record IsClosed (old : SequenceState) (o : OpenPictureStart) (planes : Plane
 -- A call failed: with the fault in place of a history, and nothing changed, or for want of memory.
 abbrev pub Fails : (old : SequenceState) → Result History Fault → PictureError → (new : SequenceState) → Type 0
 Fails old what (Faulty f) new = (old.failed ≡ false) × (new ≡ old) × (what ≡ Err f)
-Fails old what OutOfMemory new = new.failed ≡ true
+Fails old what (OutOfMemory _) new = new.failed ≡ true
+
+-- Memory was refused.
+abbrev pub WantsMemory : {A : Type 0} → Result A PictureError → Type 0
+WantsMemory (Err (OutOfMemory _)) = Unit {0}
+WantsMemory _ = ⊥
 
 -- All that was needed for output goes out, and the history is forgotten.
 pub record IsCleared (old : SequenceState) (out : List Picture) (new : SequenceState) : Type 0 where

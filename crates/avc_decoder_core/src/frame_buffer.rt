@@ -33,6 +33,7 @@ use avc_plane::{Frame, PADDING, SharedPicture, SharedPlanes};
 use avc_slice::Header;
 use avc_types::{
     CurrentFrameNum, Fault, History, Mark, MarkedFrame, Marking, OutOfMemory, PictureError,
+    WantOfMemory,
 };
 use std::alloc::Global;
 use std::marker::Model;
@@ -51,7 +52,7 @@ pub struct FrameBuffer {
     // PrevRefFrameNum (7.4.3)
     prev_ref_frame_num: u32,
 
-    failed: bool,
+    failed: WantOfMemory,
 
     history: History<HistoryEntry>,
 }
@@ -221,7 +222,7 @@ impl FrameBuffer {
             dpb: Dpb::new(alloc, output),
             max_long_term_frame_idx: None,
             prev_ref_frame_num: 0,
-            failed: false,
+            failed: WantOfMemory::none(),
             history: History::new(),
         }
     }
@@ -279,7 +280,6 @@ impl FrameBuffer {
         let Ok(()) = sliding_window(&mut marked, new_frame(sps, frame_num, false)) else {
             unreachable!()
         };
-        self.failed = true;
         set_marks(&mut self.dpb, marked.as_slice());
         let entry = HistoryEntry::MissingFrame {
             sps: sps.copied(),
@@ -294,10 +294,9 @@ impl FrameBuffer {
             capacity: sps.dpb_size() as usize,
             max_num_reorder_frames: None,
         };
-        let out = self.dpb.store(frame, &arriving)?;
+        let out = self.failed.keep(self.dpb.store(frame, &arriving))?;
         self.history = history;
         self.prev_ref_frame_num = frame_num;
-        self.failed = false;
         Ok(out)
     }
 
@@ -408,9 +407,10 @@ impl FrameBuffer {
             new,
             &header.marking,
         )?;
-        self.failed = true;
         set_marks(&mut self.dpb, marked.as_slice());
-        let prior = output_prior_pictures(self.alloc, &mut self.dpb, header)?;
+        let prior = self
+            .failed
+            .keep(output_prior_pictures(self.alloc, &mut self.dpb, header))?;
         let frame_num = frame_num_after_marking(new, &header.marking);
         let entry = HistoryEntry::Picture {
             sps: sps.copied(),
@@ -427,8 +427,8 @@ impl FrameBuffer {
             capacity: sps.dpb_size() as usize,
             max_num_reorder_frames: reorder_limit(sps),
         };
-        let more = self.dpb.store(frame, &arriving)?;
-        let out = joined(prior, more)?;
+        let more = self.failed.keep(self.dpb.store(frame, &arriving))?;
+        let out = self.failed.keep(joined(prior, more))?;
         self.history = history;
         *closed = with_picture;
         self.prev_ref_frame_num = prev_ref_frame_num_after(
@@ -437,7 +437,6 @@ impl FrameBuffer {
             header,
         );
         self.max_long_term_frame_idx = max_long_term_frame_idx;
-        self.failed = false;
         Ok(out)
     }
 
@@ -447,15 +446,11 @@ impl FrameBuffer {
         ensures err { OnErr result (self.new.failed ≡ true) }
         ensures memory { self.old.failed ≡ false → OnErr result (held_pictures self.old.output self.old.history ≢ []) }
     {
-        if self.failed {
-            return Err(OutOfMemory);
-        }
-        self.failed = true;
-        let out = self.dpb.empty()?;
+        self.failed.check()?;
+        let out = self.failed.keep(self.dpb.empty())?;
         self.max_long_term_frame_idx = None;
         self.prev_ref_frame_num = 0;
         self.history = History::new();
-        self.failed = false;
         Ok(out)
     }
 

@@ -1,10 +1,9 @@
-ghost use Rattle.std.specs.Prelude.{◌≡◌, true, false, IfOk, IfErr, OnErr, Err, None, Some, is_some};
-ghost use Rattle.avc_types.specs.declared.picture_error.PictureError.TheVariants.{OutOfMemory as NoMemory};
+ghost use Rattle.std.specs.Prelude.{◌≡◌, true, false, IfOk, IfErr, OnErr, None, Some, is_some};
 ghost use Rattle.avc_decoder_core.specs.History.{history_after_closing, history_at_opening};
 ghost use Rattle.avc_decoder_core.specs.Opening.{set_with, Finds};
 ghost use Rattle.avc_decoder_core.specs.SequenceState.{empty_sequence, current_history, Fails, AreFramesIn};
 ghost use Rattle.avc_decoder_core.specs.SequenceState.{AreSizedAs, AreStoredIn, HoldsPictures, IsCleared, IsClosed};
-ghost use Rattle.avc_decoder_core.specs.SequenceState.{IsOpened, OpenPictureStart};
+ghost use Rattle.avc_decoder_core.specs.SequenceState.{IsOpened, OpenPictureStart, WantsMemory};
 ghost use Rattle.avc_params.specs.Within.{IsSps};
 ghost use Rattle.avc_slice.specs.Header.{has_idr_marking, is_idr, is_reference};
 
@@ -18,7 +17,7 @@ use avc_params::Sps;
 use avc_plane::{Frame, PADDING, SharedPicture, SharedPlanes};
 use avc_poc::Poc;
 use avc_slice::Header;
-use avc_types::{Fault, History, OutOfMemory, PictureError};
+use avc_types::{Fault, History, OutOfMemory, PictureError, WantOfMemory};
 use std::alloc::Global;
 use std::marker::Model;
 
@@ -39,7 +38,7 @@ pub struct Sequence {
 
     open_picture: Option<OpenPicture>,
 
-    failed: bool,
+    failed: WantOfMemory,
 
     /// The history without the missing numbers before the open picture.
     closed: History<HistoryEntry>,
@@ -79,7 +78,7 @@ impl Sequence {
             poc: Poc::new(),
             sps: None,
             open_picture: None,
-            failed: false,
+            failed: WantOfMemory::none(),
             closed: History::new(),
         }
     }
@@ -94,19 +93,16 @@ impl Sequence {
         ensures ok { IfOk result (λ out. IsOpened self.old sps.now header.now out.items self.new) }
         ensures err { IfErr result (λ error. Fails self.old (history_at_opening sps.now header.now self.old.history) error self.new) }
     {
-        if self.failed {
-            return Err(PictureError::OutOfMemory);
-        }
+        self.failed.check()?;
         let opening = self.opening(header, sps)?;
-        self.failed = true;
-        let out = store_missing(self.alloc, &mut self.buffer, opening.missing, sps)?;
+        let stored = store_missing(self.alloc, &mut self.buffer, opening.missing, sps);
+        let out = self.failed.keep(stored)?;
         self.poc = opening.poc;
         self.open_picture = Some(OpenPicture {
             sps: sps.copied(),
             header: header.copied(),
             pic_order_cnt: opening.pic_order_cnt,
         });
-        self.failed = false;
         Ok(out)
     }
 
@@ -139,17 +135,15 @@ impl Sequence {
         ensures err { IfErr result (λ error.
             (o : OpenPictureStart) → self.old.open_picture ≡ Some o →
             Fails self.old (history_after_closing o.sps o.header planes (current_history self.old)) error self.new) }
-        ensures memory { self.old.failed ≡ true → result ≡ Err NoMemory }
+        ensures memory { self.old.failed ≡ true → WantsMemory result }
         ensures stays { self.old.failed ≡ true → self.new ≡ self.old }
     {
-        if self.failed {
-            return Err(PictureError::OutOfMemory);
-        }
+        self.failed.check()?;
         let Some(open_picture) = self.open_picture.take() else {
             unreachable!()
         };
-        self.failed = true;
-        let prior = self.buffer.begin_sequence(&open_picture.header)?;
+        let begun = self.buffer.begin_sequence(&open_picture.header);
+        let prior = self.failed.keep(begun)?;
         match self.buffer.store_picture(
             &open_picture.sps,
             &open_picture.header,
@@ -158,17 +152,15 @@ impl Sequence {
             &mut self.closed,
         ) {
             Ok(more) => {
-                let out = joined(prior, more)?;
+                let out = self.failed.keep(joined(prior, more))?;
                 self.sps = set_after(self.sps.take(), open_picture);
-                self.failed = false;
                 Ok(out)
             }
             Err(PictureError::Fault(fault)) => {
                 self.open_picture = Some(open_picture);
-                self.failed = false;
                 Err(PictureError::Fault(fault))
             }
-            Err(PictureError::OutOfMemory) => Err(PictureError::OutOfMemory),
+            Err(PictureError::OutOfMemory(refusal)) => Ok(self.failed.keep(Err(refusal))?),
         }
     }
 
@@ -179,16 +171,12 @@ impl Sequence {
         ensures err { OnErr result (self.new.failed ≡ true) }
         ensures memory { self.old.failed ≡ false → OnErr result (HoldsPictures self.old) }
     {
-        if self.failed {
-            return Err(OutOfMemory);
-        }
-        self.failed = true;
-        let out = self.buffer.empty()?;
+        self.failed.check()?;
+        let out = self.failed.keep(self.buffer.empty())?;
         self.poc = Poc::new();
         self.sps = None;
         self.open_picture = None;
         self.closed = History::new();
-        self.failed = false;
         Ok(out)
     }
 

@@ -12,7 +12,7 @@ use crate::stored_frame::push_picture;
 use crate::waiting::{Bumping, Slot, is_full};
 use arrayvec::ArrayVec;
 use avc_plane::{Frame, PADDING, SharedPicture};
-use avc_types::{Mark, OutOfMemory};
+use avc_types::{Mark, OutOfMemory, WantOfMemory};
 use std::alloc::Global;
 use std::marker::Model;
 
@@ -23,7 +23,7 @@ pub struct Dpb {
     slots: ArrayVec<Slot, 16>,
     frames: Vec<Frame<PADDING>>,
     output: Output,
-    failed: bool,
+    failed: WantOfMemory,
     // those that have left it
     emptied: EmptiedFrames,
 }
@@ -51,7 +51,7 @@ impl Dpb {
             slots: ArrayVec::new(),
             frames: Vec::new(alloc),
             output,
-            failed: false,
+            failed: WantOfMemory::none(),
             emptied: EmptiedFrames::new(),
         }
     }
@@ -95,35 +95,31 @@ impl Dpb {
         ensures failed { self.old.failed ≡ true → IsErr result }
         ensures kept { self.new.output ≡ self.old.output }
     {
-        if self.failed {
-            return Err(OutOfMemory);
-        }
-        self.failed = true;
+        self.failed.check()?;
         let mut out = Vec::new(self.alloc);
         remove_needless(&mut self.slots, &mut self.frames, &mut self.emptied);
-        bump_while(
+        self.failed.keep(bump_while(
             &mut self.slots,
             &mut self.frames,
             &mut self.emptied,
             Bumping::ForRoom(*arriving),
             &mut out,
-        )?;
-        place(
+        ))?;
+        self.failed.keep(place(
             &mut self.slots,
             &mut self.frames,
             &mut self.emptied,
             frame,
             arriving,
             &mut out,
-        )?;
-        bump_while(
+        ))?;
+        self.failed.keep(bump_while(
             &mut self.slots,
             &mut self.frames,
             &mut self.emptied,
             Bumping::ForFew(self.output, *arriving),
             &mut out,
-        )?;
-        self.failed = false;
+        ))?;
         Ok(out)
     }
 
@@ -135,20 +131,16 @@ impl Dpb {
         ensures memory { self.old.failed ≡ false → OnErr result (OutputsSome self.old) }
         ensures kept { self.new.output ≡ self.old.output }
     {
-        if self.failed {
-            return Err(OutOfMemory);
-        }
-        self.failed = true;
+        self.failed.check()?;
         let mut out = Vec::new(self.alloc);
-        bump_while(
+        self.failed.keep(bump_while(
             &mut self.slots,
             &mut self.frames,
             &mut self.emptied,
             Bumping::ForNone,
             &mut out,
-        )?;
+        ))?;
         self.drop_all();
-        self.failed = false;
         Ok(out)
     }
 

@@ -10,7 +10,7 @@ use crate::stream_facts::StreamFacts;
 use avc_annexb::Splitter;
 use avc_annexb::laws::units_stay;
 use avc_tools::StreamText;
-use avc_types::OutOfMemory;
+use avc_types::{OutOfMemory, WantOfMemory};
 use avc_units::HeaderReader;
 use std::alloc::Global;
 use std::marker::Model;
@@ -29,7 +29,7 @@ pub struct InfoLines<F> {
     facts: StreamFacts,
     bytes: u64,
     ended: bool,
-    failed: bool,
+    failed: WantOfMemory,
 }
 
 impl<F> Model for InfoLines<F> {
@@ -60,7 +60,7 @@ impl<F> InfoLines<F> {
             facts: StreamFacts::new(),
             bytes: 0,
             ended: false,
-            failed: false,
+            failed: WantOfMemory::none(),
         }
     }
 
@@ -86,35 +86,28 @@ impl<F: InfoForm> StreamText for InfoLines<F> {
 
     fn feed(&mut self, piece: &[u8]) -> Result<Vec<u8>, OutOfMemory> {
         units_stay();
-        if self.failed {
-            return Err(OutOfMemory);
-        }
+        self.failed.check()?;
         if self.ended {
             return Ok(Vec::new(self.alloc));
         }
-        // until all of it is done
-        self.failed = true;
-        self.splitter.feed(piece)?;
-        note_units_left(&mut self.splitter, &mut self.reader, &mut self.facts)?;
+        self.failed.keep(self.splitter.feed(piece))?;
+        let noted = note_units_left(&mut self.splitter, &mut self.reader, &mut self.facts);
+        self.failed.keep(noted)?;
         self.bytes = self.bytes.saturating_add(piece.len() as u64);
-        self.failed = false;
         Ok(Vec::new(self.alloc))
     }
 
     fn finish(&mut self) -> Result<Vec<u8>, OutOfMemory> {
         units_stay();
-        if self.failed {
-            return Err(OutOfMemory);
-        }
+        self.failed.check()?;
         if self.ended {
             return Ok(Vec::new(self.alloc));
         }
-        self.failed = true;
-        self.splitter.finish()?;
-        note_units_left(&mut self.splitter, &mut self.reader, &mut self.facts)?;
-        let text = self.form.tell(self.alloc, &self.facts, self.bytes)?;
+        self.failed.keep(self.splitter.finish())?;
+        let noted = note_units_left(&mut self.splitter, &mut self.reader, &mut self.facts);
+        self.failed.keep(noted)?;
+        let text = self.failed.keep(self.form.tell(self.alloc, &self.facts, self.bytes))?;
         self.ended = true;
-        self.failed = false;
         Ok(text.into_bytes())
     }
 

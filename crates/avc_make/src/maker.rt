@@ -1,10 +1,10 @@
 ghost use Rattle.std.specs.Prelude.{◌≡◌, ◌-◌, ◌/◌, ◌%◌, ◌*◌, ◌^◌, ◌<◌, ◌≤◌, ◌<ℤ◌, ℕ, Bool, List, pos, neg_ℤ};
-ghost use Rattle.std.specs.Prelude.{true, false, [], ◌∷◌, ◌++◌, ◌==◌, length, replicate, IfOk};
+ghost use Rattle.std.specs.Prelude.{true, false, [], ◌∷◌, ◌++◌, ◌==◌, length, replicate, IfOk, OnErr, OnOk};
 ghost use Rattle.avc_bits.specs.Bits.{bits_of};
 ghost use Rattle.avc_make.specs.Made.{nothing, IsFilled, Puts};
 ghost use Rattle.avc_make.specs.Words.{bits_after_one, se_word, signed_index, te_word, ue_word};
 
-use avc_types::OutOfMemory;
+use avc_types::{OutOfMemory, WantOfMemory};
 use smallvec::SmallVec;
 use std::alloc::Global;
 use std::marker::Model;
@@ -17,7 +17,7 @@ pub struct BitMaker {
     bytes: SmallVec<u8, 32>,
     // how many bits of the last byte are still to come
     free: u8,
-    failed: bool,
+    failed: WantOfMemory,
 }
 
 impl Model for BitMaker {
@@ -40,7 +40,7 @@ impl BitMaker {
         BitMaker {
             bytes: SmallVec::new(alloc),
             free: 0,
-            failed: false,
+            failed: WantOfMemory::none(),
         }
     }
 
@@ -48,12 +48,9 @@ impl BitMaker {
     pub fn flag(&mut self, bit: bool) -> Result<(), OutOfMemory>
         ensures { Puts result (bit ∷ []) self.old self.new }
     {
-        if self.failed {
-            return Err(OutOfMemory);
-        }
-        self.failed = true;
-        self.free = add_bit(&mut self.bytes, self.free, bit)?;
-        self.failed = false;
+        self.failed.check()?;
+        let added = add_bit(&mut self.bytes, self.free, bit);
+        self.free = self.failed.keep(added)?;
         Ok(())
     }
 
@@ -62,9 +59,7 @@ impl BitMaker {
         requires { count ≤ 32 }
         ensures { Puts result (bits_of count value) self.old self.new }
     {
-        if self.failed() {
-            return Err(OutOfMemory);
-        }
+        self.check()?;
         let mut left = count;
         while left > 0 {
             left -= 1;
@@ -125,10 +120,12 @@ impl BitMaker {
         8 * self.bytes.len() as u128 - self.free as u128
     }
 
-    fn failed(&self) -> bool
-        ensures { result ≡ self.now.failed }
+    /// An `Err` where memory was refused.
+    fn check(&self) -> Result<(), OutOfMemory>
+        ensures going { OnOk result (self.now.failed ≡ false) }
+        ensures refused { OnErr result (self.now.failed ≡ true) }
     {
-        self.failed
+        self.failed.check()
     }
 }
 

@@ -28,7 +28,7 @@ const QP_AT_FIRST: i32 = 26;
 pub(crate) fn row_before(alloc: Global, slice: &CodedSlice) -> Result<Row, OutOfMemory>
     ensures { IfOk result (λ row. AreInfoOf (own_start slice.now).width (earlier_mbs slice.now) row) }
 {
-    let mut row = Row::new(alloc, slice.sps.width_in_mbs() as usize)?;
+    let mut row = Row::new(alloc, slice.sps.width_in_mbs())?;
     let earlier = info(EARLIER_SLICE, all_total_coeffs(0));
     'earlier: for _ in 0..slice.header.first_mb_in_slice.get() {
         row.put(&earlier);

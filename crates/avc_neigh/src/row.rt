@@ -94,15 +94,13 @@ impl Row {
     ghost use Rattle.avc_neigh.specs.Around.{around, info_of};
 
     /// A row for a picture of this width in macroblocks, at least 1, before its first macroblock. Only this call takes memory.
-    pub fn new(alloc: Global, width: usize) -> Result<Row, OutOfMemory>
+    pub fn new(alloc: Global, width: u32) -> Result<Row, OutOfMemory>
         requires { 0 < width }
         ensures { IfOk result (λ row. row ≡ no_info width) }
     {
-        let Some(count) = width.checked_add(width) else {
-            return Err(OutOfMemory);
-        };
+        let width = width as usize;
         Ok(Row {
-            entries: vec![in alloc; None; count]?,
+            entries: vec![in alloc; None; 2 * width]?,
             width,
             next: Place {
                 column: 0,

@@ -60,7 +60,7 @@ pub record Refuses {PAD : ℕ} (old : Decoding PAD) (s : Slice) (f : Fault) (new
 abbrev pub IsSliceAnswer : {PAD : ℕ} → Decoding PAD → Slice → Result (Unit {0}) PictureError → (new : Decoding PAD) → Type 0
 IsSliceAnswer old s (Ok done) new = (new ≡ with_slice_more s old) × HasNoFault new
 IsSliceAnswer old s (Err (Faulty f)) new = (new ≡ with_slice_more s old) × Refuses old s f new
-IsSliceAnswer old s (Err OutOfMemory) new = ⊥
+IsSliceAnswer old s (Err (OutOfMemory _)) new = ⊥
 
 -- The next expected address is the number of macroblocks.
 abbrev pub IsFull : {PAD : ℕ} → (full : Bool) → Decoding PAD → Type 0
@@ -86,4 +86,4 @@ IsFinishAnswer d (Ok planes) =
     ((indices : List ℕ) → CanStandAt indices d → end_fault indices d ≡ None)
     × ((indices : List ℕ) → CanStandAt indices d → padded_planes_of planes ≡ planes_after_slices (start_at indices d) d.slices)
 IsFinishAnswer d (Err (Faulty f)) = (indices : List ℕ) → CanStandAt indices d → end_fault indices d ≡ Some f
-IsFinishAnswer d (Err OutOfMemory) = ⊥
+IsFinishAnswer d (Err (OutOfMemory _)) = ⊥

@@ -18,9 +18,6 @@ use avc_types::{Fault, History, OutOfMemory, PictureError};
 use std::alloc::Global;
 use std::marker::Model;
 
-/// More padding than this leaves no room for a picture in the memory that can be addressed.
-const MAX_PADDING: usize = 0x1fff_ffff;
-
 /// Decodes the slices of one picture.
 #[derive(Drop)]
 pub struct PictureDecoder<const PAD: usize> {
@@ -68,14 +65,12 @@ impl<const PAD: usize> PictureDecoder<PAD> {
         frames: &[Frame<PAD>],
         memory: &mut PictureMemory<PAD>,
     ) -> Result<Self, OutOfMemory>
+        requires padding { PAD < 2 ^ 29 }
         requires sps { IsSps sps.now }
         requires pps { IsPps pps.now }
         requires frames { AreFramesOf sps.now frames.now }
         ensures { IfOk result (λ d. d ≡ no_slice_yet sps.now pps.now frames.now) }
     {
-        if PAD > MAX_PADDING {
-            return Err(OutOfMemory);
-        }
         let macroblocks = Macroblocks::new(alloc, sps, pps, memory)?;
         Ok(PictureDecoder {
             sps: sps.copied(),

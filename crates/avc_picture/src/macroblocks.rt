@@ -115,7 +115,7 @@ impl<const PAD: usize> Macroblocks<PAD> {
         planes.luma.holds_bytes();
         planes.cb.holds_bytes();
         planes.cr.holds_bytes();
-        let info = memory.info(alloc, width)?;
+        let info = memory.info(alloc, sps.width_in_mbs())?;
         Ok(Macroblocks {
             canvas: Canvas {
                 width,

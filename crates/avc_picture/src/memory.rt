@@ -19,14 +19,14 @@ pub(crate) struct FactRows {
 
 impl FactRows {
     /// For a picture of this width in macroblocks, before its first macroblock.
-    fn new(alloc: Global, width: usize) -> Result<Self, OutOfMemory>
+    fn new(alloc: Global, width: u32) -> Result<Self, OutOfMemory>
         requires { 0 < width }
         ensures row { IfOk result (λ info. info.row ≡ no_info width) }
         ensures filter_rows { IfOk result (λ info. info.filter_rows ≡ record { width = width; info = [] }) }
     {
         Ok(FactRows {
             row: Row::new(alloc, width)?,
-            filter_rows: FilterRows::new(alloc, width)?,
+            filter_rows: FilterRows::new(alloc, width as usize)?,
         })
     }
 }
@@ -78,13 +78,14 @@ impl<const PAD: usize> PictureMemory<PAD> {
     }
 
     /// The info of a picture of this width in macroblocks, before its first macroblock.
-    pub(crate) fn info(&mut self, alloc: Global, width: usize) -> Result<FactRows, OutOfMemory>
+    pub(crate) fn info(&mut self, alloc: Global, width: u32) -> Result<FactRows, OutOfMemory>
         requires { 0 < width }
         ensures row { IfOk result (λ info. info.row ≡ no_info width) }
         ensures filter_rows { IfOk result (λ info. info.filter_rows ≡ record { width = width; info = [] }) }
     {
+        let columns = width as usize;
         match self.info.take() {
-            Some(info) if info.row.width() == width && info.filter_rows.width() == width => {
+            Some(info) if info.row.width() == columns && info.filter_rows.width() == columns => {
                 let mut info = info;
                 info.row.restart();
                 info.filter_rows.restart();

@@ -4,7 +4,7 @@
 use crate::limited_writer::{LimitedWriter, Refusal};
 use avc_decoder::{DecodeError, Decoder, Event, Output};
 use avc_run::{RunFault, run};
-use avc_types::{OutOfMemory, Picture};
+use avc_types::Picture;
 use std::alloc::{AllocError, Global};
 use std::test::Fail;
 
@@ -46,7 +46,7 @@ fn run_into(
     room: usize,
     piece: usize,
     refusal: Refusal,
-) -> Result<(Option<RunFault>, usize), OutOfMemory> {
+) -> Result<(Option<RunFault>, usize), RunFault> {
     let mut writer = LimitedWriter {
         piece,
         room,
@@ -57,7 +57,7 @@ fn run_into(
     let mut reader = bytes;
     match run(alloc, Output::Full, &mut reader, &mut writer) {
         Ok(_) => Ok((None, writer.room)),
-        Err(RunFault::Memory) => Err(OutOfMemory),
+        Err(RunFault::Memory) => Err(RunFault::Memory),
         Err(fault) => Ok((Some(fault), writer.room)),
     }
 }

@@ -319,7 +319,7 @@ fn run_from<R: Read>(
     alloc: Global,
     reader: &mut R,
     room: usize,
-) -> Result<(Option<RunFault>, usize, usize), OutOfMemory> {
+) -> Result<(Option<RunFault>, usize, usize), RunFault> {
     let mut writer = LimitedWriter {
         piece: 65_536,
         room,
@@ -329,7 +329,7 @@ fn run_from<R: Read>(
     };
     match run(alloc, Output::Full, reader, &mut writer) {
         Ok(_) => Ok((None, writer.room, writer.grey)),
-        Err(RunFault::Memory) => Err(OutOfMemory),
+        Err(RunFault::Memory) => Err(RunFault::Memory),
         Err(fault) => Ok((Some(fault), writer.room, writer.grey)),
     }
 }

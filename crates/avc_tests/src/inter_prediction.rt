@@ -43,7 +43,9 @@ fn plane_of(
     height: usize,
     picture: Picture,
 ) -> Result<PaddedPlane<32>, OutOfMemory>
+    requires some { 0 < width }
     requires narrow { width ≤ 1000 }
+    requires rows { 0 < height }
     requires low { height ≤ 1000 }
 {
     let mut plane = Plane::<32>::new(alloc, width, height)?;
@@ -53,9 +55,6 @@ fn plane_of(
                 plane.set(x, y, picture.sample(x, y));
             }
         }
-    }
-    if plane.width() == 0 || plane.height() == 0 {
-        return Err(OutOfMemory);
     }
     Ok(plane.pad())
 }

@@ -150,7 +150,7 @@ fn has_macroblocks(
     rbsp: &[u8],
     macroblocks: &[Mb],
 ) -> Result<bool, Fail> {
-    let mut row = Row::new(alloc, usize::from(WIDTH))?;
+    let mut row = Row::new(alloc, u32::from(WIDTH))?;
     let earlier = TotalCoeffs {
         luma: [9; 16],
         cb: [9; 4],

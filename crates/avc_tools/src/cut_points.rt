@@ -8,7 +8,7 @@ use crate::stream_text::StreamText;
 use crate::units::MAX_UNIT;
 use avc_annexb::laws::units_stay;
 use avc_annexb::{Splitter, Unit};
-use avc_types::OutOfMemory;
+use avc_types::{OutOfMemory, WantOfMemory};
 use avc_units::is_start;
 use std::alloc::Global;
 use std::marker::Model;
@@ -22,7 +22,7 @@ pub struct CutPointLines {
     splitter: Splitter<MAX_UNIT>,
     // of the next piece
     number: u64,
-    failed: bool,
+    failed: WantOfMemory,
 }
 
 impl Model for CutPointLines {
@@ -48,7 +48,7 @@ impl CutPointLines {
             alloc,
             splitter: Splitter::new(alloc),
             number: 0,
-            failed: false,
+            failed: WantOfMemory::none(),
         }
     }
 }
@@ -67,26 +67,19 @@ impl StreamText for CutPointLines {
 
     fn feed(&mut self, piece: &[u8]) -> Result<Vec<u8>, OutOfMemory> {
         units_stay();
-        if self.failed {
-            return Err(OutOfMemory);
-        }
-        // until all of it is done
-        self.failed = true;
-        self.splitter.feed(piece)?;
-        let lines = lines_of_units_left(self.alloc, &mut self.splitter, &mut self.number)?;
-        self.failed = false;
+        self.failed.check()?;
+        self.failed.keep(self.splitter.feed(piece))?;
+        let lines = lines_of_units_left(self.alloc, &mut self.splitter, &mut self.number);
+        let lines = self.failed.keep(lines)?;
         Ok(lines.into_bytes())
     }
 
     fn finish(&mut self) -> Result<Vec<u8>, OutOfMemory> {
         units_stay();
-        if self.failed {
-            return Err(OutOfMemory);
-        }
-        self.failed = true;
-        self.splitter.finish()?;
-        let lines = lines_of_units_left(self.alloc, &mut self.splitter, &mut self.number)?;
-        self.failed = false;
+        self.failed.check()?;
+        self.failed.keep(self.splitter.finish())?;
+        let lines = lines_of_units_left(self.alloc, &mut self.splitter, &mut self.number);
+        let lines = self.failed.keep(lines)?;
         Ok(lines.into_bytes())
     }
 

@@ -19,7 +19,7 @@ use avc_annexb::laws::units_stay;
 use avc_annexb::{Splitter, Unit};
 use avc_params::{OrderCount, Pps, Sps};
 use avc_slice::Header;
-use avc_types::{Fault, OutOfMemory};
+use avc_types::{Fault, OutOfMemory, WantOfMemory};
 use avc_units::{Brought, HeaderReader, ParameterSet};
 use std::alloc::Global;
 use std::marker::Model;
@@ -44,7 +44,7 @@ pub struct HeaderLines {
     alloc: Global,
     splitter: Splitter<MAX_UNIT>,
     reader: HeaderReader,
-    failed: bool,
+    failed: WantOfMemory,
 }
 
 impl Model for HeaderLines {
@@ -70,7 +70,7 @@ impl HeaderLines {
             alloc,
             splitter: Splitter::new(alloc),
             reader: HeaderReader::new(alloc),
-            failed: false,
+            failed: WantOfMemory::none(),
         }
     }
 }
@@ -89,26 +89,19 @@ impl StreamText for HeaderLines {
 
     fn feed(&mut self, piece: &[u8]) -> Result<Vec<u8>, OutOfMemory> {
         units_stay();
-        if self.failed {
-            return Err(OutOfMemory);
-        }
-        // until all of it is done
-        self.failed = true;
-        self.splitter.feed(piece)?;
-        let lines = lines_of_headers_left(self.alloc, &mut self.splitter, &mut self.reader)?;
-        self.failed = false;
+        self.failed.check()?;
+        self.failed.keep(self.splitter.feed(piece))?;
+        let lines = lines_of_headers_left(self.alloc, &mut self.splitter, &mut self.reader);
+        let lines = self.failed.keep(lines)?;
         Ok(lines.into_bytes())
     }
 
     fn finish(&mut self) -> Result<Vec<u8>, OutOfMemory> {
         units_stay();
-        if self.failed {
-            return Err(OutOfMemory);
-        }
-        self.failed = true;
-        self.splitter.finish()?;
-        let lines = lines_of_headers_left(self.alloc, &mut self.splitter, &mut self.reader)?;
-        self.failed = false;
+        self.failed.check()?;
+        self.failed.keep(self.splitter.finish())?;
+        let lines = lines_of_headers_left(self.alloc, &mut self.splitter, &mut self.reader);
+        let lines = self.failed.keep(lines)?;
         Ok(lines.into_bytes())
     }
 

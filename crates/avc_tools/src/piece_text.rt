@@ -7,7 +7,7 @@ use crate::stream_text::StreamText;
 use crate::units::MAX_UNIT;
 use avc_annexb::Splitter;
 use avc_annexb::laws::units_stay;
-use avc_types::OutOfMemory;
+use avc_types::{OutOfMemory, WantOfMemory};
 use std::alloc::Global;
 use std::marker::Model;
 
@@ -21,7 +21,7 @@ pub struct PieceText {
     splitter: Splitter<MAX_UNIT>,
     cutter: Cutter,
     ended: bool,
-    failed: bool,
+    failed: WantOfMemory,
 }
 
 impl Model for PieceText {
@@ -55,7 +55,7 @@ impl PieceText {
             splitter: Splitter::new(alloc),
             cutter: Cutter::new(alloc, number)?,
             ended: false,
-            failed: false,
+            failed: WantOfMemory::none(),
         })
     }
 
@@ -84,34 +84,27 @@ impl StreamText for PieceText {
 
     fn feed(&mut self, piece: &[u8]) -> Result<Vec<u8>, OutOfMemory> {
         units_stay();
-        if self.failed {
-            return Err(OutOfMemory);
-        }
+        self.failed.check()?;
         if self.ended {
             return Ok(Vec::new(self.alloc));
         }
-        // until all of it is done
-        self.failed = true;
-        self.splitter.feed(piece)?;
-        let added = cut_units_left(self.alloc, &mut self.splitter, &mut self.cutter)?;
-        self.failed = false;
+        self.failed.keep(self.splitter.feed(piece))?;
+        let added = cut_units_left(self.alloc, &mut self.splitter, &mut self.cutter);
+        let added = self.failed.keep(added)?;
         Ok(added)
     }
 
     fn finish(&mut self) -> Result<Vec<u8>, OutOfMemory> {
         units_stay();
-        if self.failed {
-            return Err(OutOfMemory);
-        }
+        self.failed.check()?;
         if self.ended {
             return Ok(Vec::new(self.alloc));
         }
-        self.failed = true;
-        self.splitter.finish()?;
-        let mut added = cut_units_left(self.alloc, &mut self.splitter, &mut self.cutter)?;
-        self.cutter.write_held(&mut added)?;
+        self.failed.keep(self.splitter.finish())?;
+        let added = cut_units_left(self.alloc, &mut self.splitter, &mut self.cutter);
+        let mut added = self.failed.keep(added)?;
+        self.failed.keep(self.cutter.write_held(&mut added))?;
         self.ended = true;
-        self.failed = false;
         Ok(added)
     }
 

@@ -7,7 +7,7 @@ ghost use Rattle.avc_tools.specs.Streams.{after_units_left, units_left};
 use crate::stream_text::StreamText;
 use avc_annexb::laws::units_stay;
 use avc_annexb::{Splitter, Unit};
-use avc_types::OutOfMemory;
+use avc_types::{OutOfMemory, WantOfMemory};
 use std::alloc::Global;
 use std::marker::Model;
 
@@ -32,7 +32,7 @@ pub struct UnitLines {
     alloc: Global,
     // no line tells of a unit's body, so none is kept
     splitter: Splitter<1>,
-    failed: bool,
+    failed: WantOfMemory,
 }
 
 impl Model for UnitLines {
@@ -56,7 +56,7 @@ impl UnitLines {
         UnitLines {
             alloc,
             splitter: Splitter::new(alloc),
-            failed: false,
+            failed: WantOfMemory::none(),
         }
     }
 }
@@ -75,26 +75,21 @@ impl StreamText for UnitLines {
 
     fn feed(&mut self, piece: &[u8]) -> Result<Vec<u8>, OutOfMemory> {
         units_stay();
-        if self.failed {
-            return Err(OutOfMemory);
-        }
-        // until all of it is done
-        self.failed = true;
-        self.splitter.feed(piece)?;
-        let lines = lines_of_units_left(self.alloc, &mut self.splitter)?;
-        self.failed = false;
+        self.failed.check()?;
+        self.failed.keep(self.splitter.feed(piece))?;
+        let lines = self
+            .failed
+            .keep(lines_of_units_left(self.alloc, &mut self.splitter))?;
         Ok(lines.into_bytes())
     }
 
     fn finish(&mut self) -> Result<Vec<u8>, OutOfMemory> {
         units_stay();
-        if self.failed {
-            return Err(OutOfMemory);
-        }
-        self.failed = true;
-        self.splitter.finish()?;
-        let lines = lines_of_units_left(self.alloc, &mut self.splitter)?;
-        self.failed = false;
+        self.failed.check()?;
+        self.failed.keep(self.splitter.finish())?;
+        let lines = self
+            .failed
+            .keep(lines_of_units_left(self.alloc, &mut self.splitter))?;
         Ok(lines.into_bytes())
     }
 

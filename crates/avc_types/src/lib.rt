@@ -34,7 +34,7 @@ pub use marked_frame::{
     MarkedFrame, has_long_term_frame_idx, long_term_place, marks_are_seen, short_term_place,
 };
 pub use mb::{BlockLevels, Mb, Syntax};
-pub use memory::OutOfMemory;
+pub use memory::{OutOfMemory, WantOfMemory};
 pub use picture::{Crop, Picture};
 pub use picture_error::PictureError;
 pub use references::{Mark, Marking, Modification, Operation};

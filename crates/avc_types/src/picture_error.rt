@@ -4,13 +4,13 @@ ghost use Rattle.avc_types.specs.declared.picture_error.PictureError.TheVariants
 use crate::{Fault, OutOfMemory};
 
 /// Why a picture is not decoded.
-#[derive(Clone, Copy)]
+#[derive(Drop)]
 pub enum PictureError {
     /// The picture has a fault.
     Fault(Fault),
 
     /// The system gave no memory.
-    OutOfMemory,
+    OutOfMemory(OutOfMemory),
 }
 
 impl From<Fault> for PictureError {
@@ -22,9 +22,9 @@ impl From<Fault> for PictureError {
 }
 
 impl From<OutOfMemory> for PictureError {
-    ghost from_gives = { λ _ error. error ≡ NoMemory };
+    ghost from_gives = { λ refusal error. error ≡ NoMemory refusal };
 
-    fn from(_error: OutOfMemory) -> PictureError {
-        PictureError::OutOfMemory
+    fn from(refusal: OutOfMemory) -> PictureError {
+        PictureError::OutOfMemory(refusal)
     }
 }

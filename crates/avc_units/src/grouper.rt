@@ -11,7 +11,7 @@ use crate::step_cases::UnitContext;
 use crate::units::step_of;
 use avc_annexb::Unit;
 use avc_params::ParamTable;
-use avc_types::OutOfMemory;
+use avc_types::{OutOfMemory, WantOfMemory};
 use std::alloc::Global;
 use std::marker::Model;
 
@@ -25,7 +25,7 @@ pub struct Grouper {
     last: Option<LastHeader>,
     // whether the last unit begins a picture also where closing was a fault
     restarts: bool,
-    failed: bool,
+    failed: WantOfMemory,
     // a slice that is over, in whose place the next one is read
     over: Option<HeapSlice>,
 }
@@ -71,7 +71,7 @@ impl Grouper {
             running: false,
             last: None,
             restarts: false,
-            failed: false,
+            failed: WantOfMemory::none(),
             over: None,
         }
     }
@@ -87,21 +87,17 @@ impl Grouper {
         ensures err { OnErr result (self.new.failed ≡ true) }
         ensures memory { self.old.failed ≡ false → OnErr result (MayWantMemory unit.now) }
     {
-        if self.failed {
-            return Err(OutOfMemory);
-        }
-        // until all of it is done
-        self.failed = true;
+        self.failed.check()?;
         let context = UnitContext {
             running: self.running,
             last: self.last.as_ref(),
             full,
         };
-        let step = step_of(self.alloc, &mut self.table, &mut self.over, context, unit)?;
+        let step = step_of(self.alloc, &mut self.table, &mut self.over, context, unit);
+        let step = self.failed.keep(step)?;
         keep_last_header(&mut self.last, step.closes, &step.next);
         self.running = self.running | begins_a_picture(&step.next);
         self.restarts = step.even_after_fault & begins_a_picture(&step.next);
-        self.failed = false;
         Ok(step)
     }
 

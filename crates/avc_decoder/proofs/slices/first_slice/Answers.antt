@@ -11,7 +11,7 @@ begin-requires c =
     let fit = frames_fit t.sequence c.keep_emptied.new.sequence sets.result.sps.now c.args.slice.now.header
     c.in-Ok.out.items c.frames_for-frames.result.now opened c.frames_for-frames.ensures.value
     c.frames_for-frames.ensures.sized in
-    (omega arith, (omega arith, (omega arith, (sets.ensures.sps, (sets.ensures.pps, fit)))))
+    (omega arith, (omega arith, (omega arith, (omega arith, (sets.ensures.sps, (sets.ensures.pps, fit))))))
 
 pub returns-in_ok-decode_slice-in-Ok : goal.returns-in_ok-decode_slice-in-Ok
 returns-in_ok-decode_slice-in-Ok c =

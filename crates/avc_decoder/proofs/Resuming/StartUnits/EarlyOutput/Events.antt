@@ -422,20 +422,16 @@ fed_more {old = old} piece place used a f =
 abbrev pub machine_of : Output → List ℕ → (ended : Bool) → (taken : ℕ) → (failed : Bool) → Machine
 machine_of output bytes ended taken failed = record { output = output; bytes = bytes; ended = ended; taken = taken; failed = failed }
 
--- no call was refused memory
-pub going_on : {A : Type 0} (o : Option A) (none : Bool) → is_some o ≡ not none → none ≡ false → is_none o ≡ false
-going_on o none e off = ap not e ∙ ap (λ b. not (not b)) off
-
 -- what the answer says
 pub ok_so : {A : Type 0} (P : A → Type 0) (answer answer' : Result A OutOfMemory) (read : A) → IfOk answer P → answer' ≡ answer
     → answer' ≡ Ok read → P read
 ok_so P answer answer' read is same e = rw (sym same ∙ e) at is
 
 -- until its end the decoder's parts take bytes
-pub can_go_on : {max : ℕ} {P : Type 0} (m : Machine) (running : Option (Parts max P)) {read : ℕ} → IsDecoderState max m running read → m.ended ≡ false
-    → IfSome running (IsWorking max)
-can_go_on m None i unended = tt
-can_go_on m (Some p) i unended = record {
+pub can_go_on : {max : ℕ} {P : Type 0} (m : Machine) (running : PartsOrRefusal max P) {read : ℕ} → IsDecoderState max m running read → m.ended ≡ false
+    → IfOk running (IsWorking max)
+can_go_on m (Err refusal) i unended = tt
+can_go_on m (Ok p) i unended = record {
   going = i.parts.decoded.going;
   unended = i.parts.decoded.ends ∙ unended;
   stream = i.parts.works;
@@ -446,7 +442,7 @@ can_go_on m (Some p) i unended = record {
 kept : {output : Output} {max : ℕ} {bytes : List ℕ} {ended : Bool} {taken : ℕ} {P : Type 0} (bytes' : List ℕ) (ended' : Bool)
     (p p' : Parts max P) {failed : Bool} {read : ℕ} → AreParts max (machine_of output bytes ended taken failed) p → ended ≡ false
     → HaveDecoded max p bytes' ended' p' → read ≡ p'.stream.read
-    → IsDecoderState max (machine_of output bytes' ended' taken false) (Some p') read
+    → IsDecoderState max (machine_of output bytes' ended' taken false) (Ok p') read
 kept {output} {max} bytes' ended' p p' i unended n count =
     let d = n.decoded output (subst (λ e. IsDecoded output max p.splitter e (stream_state p.stream)) unended i.decoded) in
     record {
@@ -456,52 +452,52 @@ kept {output} {max} bytes' ended' p p' i unended n count =
 
 -- a piece more was handled
 pub kept_fed : {output : Output} {max : ℕ} {bytes : List ℕ} {P : Type 0} (bytes' piece : List ℕ) {ended : Bool} {taken : ℕ}
-    (running running' : Option (Parts max P)) {read read' : ℕ}
-    → IsDecoderState max (machine_of output bytes ended taken (is_none running)) running read
+    (running running' : PartsOrRefusal max P) {read read' : ℕ}
+    → IsDecoderState max (machine_of output bytes ended taken (is_err running)) running read
     → ended ≡ false → bytes' ≡ bytes ++ piece → FeedsIn max running piece read' running'
-    → IsDecoderState max (machine_of output bytes' ended taken (is_none running')) running' read'
-kept_fed bytes' piece (Some p) (Some p') i unended given f =
+    → IsDecoderState max (machine_of output bytes' ended taken (is_err running')) running' read'
+kept_fed bytes' piece (Ok p) (Ok p') i unended given f =
     let same = ap (λ bs. bs ++ piece) i.parts.bytes ∙ sym given in
     rw unended (kept bytes' false p p' i.parts unended (subst (λ bs. HaveDecoded _ p bs false p') same f.now) f.count)
 kept_fed bytes' piece _ _ i unended given f = absurd f
 
 -- bytes up to a unit were handled
 pub kept_fed_unit : {output : Output} {max : ℕ} {bytes : List ℕ} {P : Type 0} (bytes' all : List ℕ) {ended : Bool} {taken : ℕ}
-    (running running' : Option (Parts max P)) {read : ℕ} (fed : Fed)
-    → IsDecoderState max (machine_of output bytes ended taken (is_none running)) running read
+    (running running' : PartsOrRefusal max P) {read : ℕ} (fed : Fed)
+    → IsDecoderState max (machine_of output bytes ended taken (is_err running)) running read
     → ended ≡ false → bytes' ≡ bytes ++ take fed.used all → FeedsUnitIn max running all fed running'
-    → IsDecoderState max (machine_of output bytes' ended taken (is_none running')) running' fed.read
-kept_fed_unit bytes' all (Some p) (Some p') fed i unended given f = kept_fed bytes' (take fed.used all) (Some p) (Some p') i unended given f.feeds
+    → IsDecoderState max (machine_of output bytes' ended taken (is_err running')) running' fed.read
+kept_fed_unit bytes' all (Ok p) (Ok p') fed i unended given f = kept_fed bytes' (take fed.used all) (Ok p) (Ok p') i unended given f.feeds
 kept_fed_unit bytes' all _ _ fed i unended given f = absurd f
 
 -- and how many they were
-pub fed_up_to : {max : ℕ} {P : Type 0} {m : Machine} (all : List ℕ) (running running' : Option (Parts max P)) {read : ℕ} (fed : Fed)
+pub fed_up_to : {max : ℕ} {P : Type 0} {m : Machine} (all : List ℕ) (running running' : PartsOrRefusal max P) {read : ℕ} (fed : Fed)
     → IsDecoderState max m running read → FeedsUnitIn max running all fed running' → IsUpToUnit max m.bytes all fed.used
-fed_up_to {max} all (Some p) (Some p') fed i f = subst (λ bs. IsUpToUnit max bs all fed.used) i.parts.bytes f.used
+fed_up_to {max} all (Ok p) (Ok p') fed i f = subst (λ bs. IsUpToUnit max bs all fed.used) i.parts.bytes f.used
 fed_up_to all _ _ fed i f = absurd f
 
 -- the end was handled
 pub kept_flushed : {output : Output} {max : ℕ} {bytes : List ℕ} {P : Type 0} {ended : Bool} {taken : ℕ}
-    (running running' : Option (Parts max P)) {read read' : ℕ}
-    → IsDecoderState max (machine_of output bytes ended taken (is_none running)) running read
+    (running running' : PartsOrRefusal max P) {read read' : ℕ}
+    → IsDecoderState max (machine_of output bytes ended taken (is_err running)) running read
     → ended ≡ false → EndsIn max running read' running'
-    → IsDecoderState max (machine_of output bytes true taken (is_none running')) running' read'
-kept_flushed {bytes = bytes} (Some p) (Some p') i unended f =
+    → IsDecoderState max (machine_of output bytes true taken (is_err running')) running' read'
+kept_flushed {bytes = bytes} (Ok p) (Ok p') i unended f =
     kept bytes true p p' i.parts unended (subst (λ bs. HaveDecoded _ p bs true p') i.parts.bytes f.now) f.count
 kept_flushed _ _ i unended f = absurd f
 
 -- memory was refused to a call with these bytes: the count is that before it
 pub kept_refused : {output : Output} {max : ℕ} {bytes : List ℕ} {P : Type 0} (bytes' piece : List ℕ) (ended ended' : Bool) {taken : ℕ}
-    (running running' : Option (Parts max P)) {read : ℕ}
-    → IsDecoderState max (machine_of output bytes ended taken (is_none running)) running read
-    → is_none running ≡ false → ended ≡ false → bytes' ≡ bytes ++ piece → running' ≡ None
-    → IsDecoderState max (machine_of output bytes' ended' taken (is_none running')) running' read
-kept_refused {output} {max} {bytes} bytes' piece false ended' (Some p) running' i going unended given none =
-    rw (none, given) (record {
+    (running running' : PartsOrRefusal max P) {read : ℕ}
+    → IsDecoderState max (machine_of output bytes ended taken (is_err running)) running read
+    → is_err running ≡ false → ended ≡ false → bytes' ≡ bytes ++ piece → is_err running' ≡ true
+    → IsDecoderState max (machine_of output bytes' ended' taken (is_err running')) running' read
+kept_refused {output} {max} {bytes} bytes' piece false ended' (Ok p) (Err refusal) i going unended given err =
+    rw given (record {
       count_is = le_trans (le_of_eq i.count_is) (turns_grow output max bytes piece ended');
       parts = tt;
     })
-kept_refused bytes' piece _ ended' _ running' i going unended given none = cc
+kept_refused bytes' piece _ ended' _ _ i going unended given err = cc
 
 -- ---- what calls and replies tell of the stream
 

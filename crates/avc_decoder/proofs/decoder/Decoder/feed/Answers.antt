@@ -1,5 +1,5 @@
-use Rattle.avc_decoder.proofs.Resuming.{◌≡◌, ◌++◌, Err, List, ℕ, true, length, ap, refl, rules, subst, sym, ◌∙◌, is_none, Machine, IsFeedAnswer}
-use Rattle.avc_decoder.proofs.Resuming.{NoMemory, FeedsIn, going_on, kept_fed, kept_refused, machine_of, ok_so, refused_to, some_bytes}
+use Rattle.avc_decoder.proofs.Resuming.{◌≡◌, ◌++◌, Err, List, ℕ, true, length, ap, refl, rules, subst, sym, ◌∙◌, is_err, Machine, IsFeedAnswer}
+use Rattle.avc_decoder.proofs.Resuming.{NoMemory, FeedsIn, kept_fed, kept_refused, machine_of, ok_so, refused_to, some_bytes}
 use Rattle.avc_decoder.specs.Machine.{after_feed}
 use Rattle.avc_decoder.proofs.decoder.Decoder.feed.Goals as goal
 
@@ -7,7 +7,7 @@ pub invariant_of-self : goal.invariant_of-self
 invariant_of-self g c =
     let d = c.self.inside in
     kept_refused c.with_all-self-inside.result.items c.args.piece.now d.ended d.ended d.running c.stop_at_refusal.new.running
-    c.self.invariant (going_on d.running c.is_none.result c.is_none.ensures c.if-is_none.false) c.if-self.false
+    c.self.invariant c.in_ok-check.ensures.going c.if-self.false
     c.with_all-self-inside.ensures c.in_err-self-inside.ensures.stopped
 
 pub invariant_of-self-2 : goal.invariant_of-self-2
@@ -27,14 +27,14 @@ returns-in_err-self-inside g c =
     let bytes = c.with_all-self-inside.result.items in
     let taken = length d.taken.items in
     let running = c.stop_at_refusal.new.running in
-    let old : Machine = machine_of d.output d.bytes.items d.ended taken (is_none d.running) in
-    let new : Machine = machine_of d.output bytes d.ended taken (is_none running) in
-    let e : c.from_residual.result ≡ Err NoMemory = search rules in
-    let going = going_on d.running c.is_none.result c.is_none.ensures c.if-is_none.false in
+    let old : Machine = machine_of d.output d.bytes.items d.ended taken (is_err d.running) in
+    let new : Machine = machine_of d.output bytes d.ended taken (is_err running) in
+    let e : c.from_residual-in_err-self-inside.result ≡ Err NoMemory = search rules in
+    let going = c.in_ok-check.ensures.going in
     let some = sym c.is_empty.ensures ∙ c.if-is_empty.false in
-    let failed : is_none running ≡ true = ap is_none c.in_err-self-inside.ensures.stopped in
-    subst (λ (m : Machine). IsFeedAnswer m (after_feed c.args.piece.now m) c.from_residual.result new) c.self.view_is
-    (refused_to old (after_feed c.args.piece.now old) new c.from_residual.result going c.if-self.false
+    let failed : is_err running ≡ true = c.in_err-self-inside.ensures.stopped in
+    subst (λ (m : Machine). IsFeedAnswer m (after_feed c.args.piece.now m) c.from_residual-in_err-self-inside.result new) c.self.view_is
+    (refused_to old (after_feed c.args.piece.now old) new c.from_residual-in_err-self-inside.result going c.if-self.false
     (some_bytes old c.args.piece.now some) refl e
-    (ap (λ (bs : List ℕ). machine_of d.output bs d.ended taken (is_none running)) c.with_all-self-inside.ensures
+    (ap (λ (bs : List ℕ). machine_of d.output bs d.ended taken (is_err running)) c.with_all-self-inside.ensures
     ∙ ap (machine_of d.output (d.bytes.items ++ c.args.piece.now) d.ended taken) failed))

@@ -1,11 +1,11 @@
-use Rattle.avc_decoder.proofs.Resuming.{[], true, append-nil, subst, sym, EndsIn, going_on, kept_flushed, kept_refused, ok_so}
+use Rattle.avc_decoder.proofs.Resuming.{[], true, append-nil, subst, sym, EndsIn, kept_flushed, kept_refused, ok_so}
 use Rattle.avc_decoder.proofs.decoder.Decoder.flush.Goals as goal
 
 pub invariant_of-self : goal.invariant_of-self
 invariant_of-self g c =
     let d = c.self.inside in
     kept_refused d.bytes.items [] d.ended true d.running c.stop_at_refusal.new.running c.self.invariant
-    (going_on d.running c.is_none.result c.is_none.ensures c.if-is_none.false) c.if-self.false
+    c.in_ok-check.ensures.going c.if-self.false
     (sym (append-nil d.bytes.items)) c.in_err-self-inside.ensures.stopped
 
 pub invariant_of-self-2 : goal.invariant_of-self-2

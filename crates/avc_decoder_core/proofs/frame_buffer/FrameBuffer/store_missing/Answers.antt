@@ -22,17 +22,17 @@ unreachable-requires c =
     false≢true (sym (ap is_ok then) ∙ ap (λ v. is_ok (marks_of (e ∷ v.history))) c.self.view_is ∙ c.requires.marked)
 
 -- the entry
-abbrev entry : goal.After-self-3-1 → Entry
+abbrev entry : goal.After-self-1 → Entry
 entry c = missing_frame c.args.sps.now c.args.frame_num
 
 -- It has come to the history.
-record IsStored (c : goal.After-self-3-1) : Type 0 where
+record IsStored (c : goal.After-self-1) : Type 0 where
   history : history_of c.with_newest-history.result.items ≡ entry c ∷ history_of c.self.inside.history.items
   taken :
       IsTaken c.self.inside.dpb.output (entry c) (history_of c.self.inside.history.items)
       c.store.new.self c.self.inside.max_long_term_frame_idx c.args.frame_num [] c.in_ok-out.out.items
 
-stored : (c : goal.After-self-3-1) → IsStored c
+stored : (c : goal.After-self-1) → IsStored c
 stored c =
     let i = c.self.inside in
     let h = history_of i.history.items in
@@ -59,7 +59,7 @@ stored c =
           [] c.in_ok-out.out.items (outputs_none c.set_marks.new.dpb) refl
           c.entry_frame-frame.result (c.len.result - 1) _ last made
           (arrival_of_missing c.dpb_size.result) (missing_arrives sps frame_num h c.dpb_size.result c.dpb_size.ensures)
-          c.in_ok-out.ensures.ok c.in_ok-out.ensures.kept frame_num refl;
+          (rw (← c.in_ok-out.ensures.same) at c.store.ensures.ok) c.store.ensures.kept frame_num refl;
     }
 
 pub invariant_of-self-2 : goal.invariant_of-self-2
@@ -69,7 +69,7 @@ invariant_of-self-2 c = λ going.
 pub returns-clause-ok : goal.returns-clause-ok
 returns-clause-ok c =
     let s = stored c in
-    rw (← c.self.view_is) (record {
+    rw (c.in_ok-out.ensures.going, ap (λ v. v.failed) c.self.view_is ∙ c.requires.going, ← c.self.view_is) (record {
       going = ap (λ v. v.failed) c.self.view_is ∙ c.requires.going;
       state = ap₂ (λ h o. record { history = h; frames = (c.store.new.self).frames; output = o; failed = false }) s.history (s.taken).kept;
       marked = (s.taken).ok;

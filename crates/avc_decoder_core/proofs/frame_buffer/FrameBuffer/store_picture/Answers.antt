@@ -34,22 +34,22 @@ returns-in_err-mark-clause-err c =
 pub returns-in_err-more-clause-closed : goal.returns-in_err-more-clause-closed
 returns-in_err-more-clause-closed c =
     let f = c.in_err-more.field-0.0 in
-    let is : c.from_residual-in_err-more.result ≡ Err NoMemory = search rules in
+    let is : c.from_residual-in_err-more.result ≡ Err (NoMemory f) = search rules in
     subst (λ r. OnOk r (history_of c.args.closed.now.items ≡ history_of c.self.inside.history.items)) (sym is) tt
 
 -- the entry
-abbrev entry : goal.After-self-4-1 → Entry
+abbrev entry : goal.After-self-2-1 → Entry
 entry c = decoded_picture c.args.sps.now c.args.header.now c.args.planes
 
 -- It has come to the history.
-record IsStored (c : goal.After-self-4-1) : Type 0 where
+record IsStored (c : goal.After-self-2-1) : Type 0 where
   history : history_of c.with_newest-history.result.items ≡ entry c ∷ history_of c.self.inside.history.items
   taken :
       IsTaken c.self.inside.dpb.output (entry c) (history_of c.self.inside.history.items)
       c.store.new.self c.mark.new.max_long_term_frame_idx c.prev_ref_frame_num_after-self-inside.result
       c.in_ok-prior.prior.items c.in_ok-more.more.items
 
-stored : (c : goal.After-self-4-1) → IsStored c
+stored : (c : goal.After-self-2-1) → IsStored c
 stored c =
     let i = c.self.inside in
     let h = history_of i.history.items in
@@ -85,12 +85,12 @@ stored c =
           taken e h i.dpb idx i.prev_ref_frame_num state (follows, c.requires.sized, λ idr. before ∙ c.requires.first idr) c.requires.sps old new new_idx
           (c.marked_frames-marked.ensures ∙ ap (map marked_frame) c.frames.ensures) c.in_ok-mark.ensures.length marks
           c.set_marks.new.dpb c.output_prior_pictures.new.dpb c.store.new.self set
-          c.in_ok-prior.prior.items c.in_ok-more.more.items c.in_ok-prior.ensures.ok c.in_ok-prior.ensures.kept
+          c.in_ok-prior.prior.items c.in_ok-more.more.items (rw (← c.in_ok-prior.ensures.same) at c.output_prior_pictures.ensures.ok) c.output_prior_pictures.ensures.kept
           c.entry_frame-frame.result (c.len.result - 1) _ last made
           (picture_arrival count c.is_reference.result c.dpb_size.result c.reorder_limit.result)
           (picture_arrives sps header planes h count c.is_reference.result c.dpb_size.result c.reorder_limit.result
           order c.is_reference.ensures c.dpb_size.ensures c.reorder_limit.ensures)
-          c.in_ok-more.ensures.ok c.in_ok-more.ensures.kept c.prev_ref_frame_num_after-self-inside.result
+          (rw (← c.in_ok-more.ensures.same) at c.store.ensures.ok) c.store.ensures.kept c.prev_ref_frame_num_after-self-inside.result
           (picture_previous sps header planes h i.prev_ref_frame_num
           c.frame_num_after_marking-frame_num.result c.prev_ref_frame_num_after-self-inside.result
           state.previous_is number c.prev_ref_frame_num_after-self-inside.ensures);
@@ -103,9 +103,15 @@ invariant_of-self-2 c = λ going.
 pub returns-clause-ok : goal.returns-clause-ok
 returns-clause-ok c =
     let s = stored c in
-    rw (← c.self.view_is) (record {
+    rw (
+      c.in_ok-out.ensures.going,
+      c.in_ok-more.ensures.going,
+      c.in_ok-prior.ensures.going,
+      ap (λ v. v.failed) c.self.view_is ∙ c.requires.going,
+      ← c.self.view_is,
+    ) (record {
       going = ap (λ v. v.failed) c.self.view_is ∙ c.requires.going;
       state = ap₂ (λ h o. record { history = h; frames = (c.store.new.self).frames; output = o; failed = false }) s.history (s.taken).kept;
       marked = (s.taken).ok;
-      pictures = c.in_ok-out.ensures ∙ (s.taken).pictures;
+      pictures = (rw (← c.in_ok-out.ensures.same) at c.joined.ensures) ∙ (s.taken).pictures;
     })

@@ -15,8 +15,8 @@ store_picture-requires c =
     let s = c.self.inside in
     let p = c.in-Some.open_picture in
     let opened : s.open_picture ≡ Some p = sym c.take.ensures.value ∙ c.in-Some.is in
-    let state = kept s p c.self.invariant c.if-self.false opened in
-    let can = can_store (history_of s.closed.items) p s.buffer c.begin_sequence.new.self c.in_ok-prior.prior.items state.going state.stands c.in_ok-prior.ensures.ok in
+    let state = kept s p c.self.invariant c.in_ok-check.ensures.going opened in
+    let can = can_store (history_of s.closed.items) p s.buffer c.begin_sequence-begun.new.self c.in_ok-prior.prior.items state.going state.stands (rw (← c.in_ok-prior.ensures.same) at c.begin_sequence-begun.ensures.ok) in
     let back : to_z w32 (of_z w32 p.pic_order_cnt) ≡ p.pic_order_cnt = search rules in
     record {
       going = can.going;
@@ -27,14 +27,14 @@ store_picture-requires c =
       sized = c.requires.sized (open_picture_of p) (sym (ap (λ (v : SequenceState). v.open_picture) c.self.view_is) ∙ ap (option_map open_picture_of) opened);
     }
 
-stored : (c : goal.After-self-in-Ok-2-1) → IsStoredOn c.in-Some.open_picture.sps c.in-Some.open_picture.header c.args.planes c.self.inside.buffer c.in_ok-out-in-Ok.out.items c.store_picture.new.self
-stored c = stored_on _ _ _ _ _ _ _ _ _ c.in_ok-prior.ensures.ok c.in-Ok.ensures.ok c.in_ok-out-in-Ok.ensures
+stored : (c : goal.After-self-1) → IsStoredOn c.in-Some.open_picture.sps c.in-Some.open_picture.header c.args.planes c.self.inside.buffer c.in_ok-out-in-Ok.out.items c.store_picture.new.self
+stored c = stored_on _ _ _ _ _ _ _ _ _ (rw (← c.in_ok-prior.ensures.same) at c.begin_sequence-begun.ensures.ok) c.in-Ok.ensures.ok (rw (← c.in_ok-out-in-Ok.ensures.same) at c.joined.ensures)
 
 pub invariant_of-self-in-Ok : goal.invariant_of-self-in-Ok
 invariant_of-self-in-Ok c = λ going.
     let s = c.self.inside in
     let p = c.in-Some.open_picture in
-    let state = kept s p c.self.invariant c.if-self.false (sym c.take.ensures.value ∙ c.in-Some.is) in
+    let state = kept s p c.self.invariant c.in_ok-check.ensures.going (sym c.take.ensures.value ∙ c.in-Some.is) in
     let done = stored c in
     subst (λ o. IsStateOf (history_of c.store_picture.new.closed.items) o c.store_picture.new.self s.poc c.set_after-self-inside.result) (sym c.take.ensures.after)
     (record {
@@ -56,12 +56,12 @@ returns-in-Ok-clause-ok c o told =
     let opened : s.open_picture ≡ Some picture = sym c.take.ensures.value ∙ c.in-Some.is in
     let done = stored c in
     let output : s.buffer.output ≡ old.output = ap (λ (v : SequenceState). v.output) c.self.view_is in
-    let current = current_is (history_of s.closed.items) s.buffer.history s.open_picture s.buffer.frames s.buffer.output s.failed old (c.self.invariant c.if-self.false).stands c.self.view_is in
+    let current = current_is (history_of s.closed.items) s.buffer.history s.open_picture s.buffer.frames s.buffer.output s.failed old (c.self.invariant c.in_ok-check.ensures.going).stands c.self.view_is in
     let same = open_is picture s.open_picture o old opened (ap (λ (v : SequenceState). v.open_picture) c.self.view_is) told in
     let after = with_picture picture.sps picture.header planes s.buffer.history in
-    rw (← same)
+    rw (c.in_ok-out-in-Ok.ensures.going, c.in_ok-prior.ensures.going, c.in_ok-check.ensures.going, ← same)
     (is_closed old _ (open_picture_of picture) planes c.store_picture.new.self.frames s.buffer.history c.in_ok-out-in-Ok.out.items
-    (sym (ap (λ (v : SequenceState). v.failed) c.self.view_is) ∙ c.if-self.false) current done.marked
+    (sym (ap (λ (v : SequenceState). v.failed) c.self.view_is) ∙ c.in_ok-check.ensures.going) current done.marked
     (ap₂ (λ (h : History) (p : Option OpenPicture). record { history = h; open_picture = option_map open_picture_of p; frames = c.store_picture.new.self.frames; output = c.store_picture.new.self.output; failed = false })
     (c.in-Ok.ensures.closed ∙ done.history) c.take.ensures.after
     ∙ ap (λ (m : Output). record { history = after; open_picture = None; frames = c.store_picture.new.self.frames; output = m; failed = false }) (done.output ∙ output))
@@ -70,14 +70,14 @@ returns-in-Ok-clause-ok c o told =
 not_stored : (c : goal.After-drop-prior) → IsRefusedOn c.in-Some.open_picture.sps c.in-Some.open_picture.header c.args.planes c.self.inside.buffer c.in-Err-Fault.fault c.store_picture.new.self
 not_stored c =
     let p = c.in-Some.open_picture in
-    let state = kept c.self.inside p c.self.invariant c.if-self.false (sym c.take.ensures.value ∙ c.in-Some.is) in
+    let state = kept c.self.inside p c.self.invariant c.in_ok-check.ensures.going (sym c.take.ensures.value ∙ c.in-Some.is) in
     let refuses = rw (c.in-Err-Fault.field-0-is) at c.in-Err-Fault.ensures.err in
-    refused_on _ _ _ _ c.begin_sequence.new.self _ c.in_ok-prior.prior.items _ (state.stands.follows).idr c.in_ok-prior.ensures.ok refuses.1 refuses.2
+    refused_on _ _ _ _ c.begin_sequence-begun.new.self _ c.in_ok-prior.prior.items _ (state.stands.follows).idr (rw (← c.in_ok-prior.ensures.same) at c.begin_sequence-begun.ensures.ok) refuses.1 refuses.2
 
 pub invariant_of-self-in-Err-Fault : goal.invariant_of-self-in-Err-Fault
 invariant_of-self-in-Err-Fault c = λ going.
     rw (c.in-Err-Fault.ensures.kept, (not_stored c).same)
-    (kept c.self.inside c.in-Some.open_picture c.self.invariant c.if-self.false (sym c.take.ensures.value ∙ c.in-Some.is))
+    (kept c.self.inside c.in-Some.open_picture c.self.invariant c.in_ok-check.ensures.going (sym c.take.ensures.value ∙ c.in-Some.is))
 
 pub returns-in-Err-Fault-clause-err : goal.returns-in-Err-Fault-clause-err
 returns-in-Err-Fault-clause-err c o told =
@@ -87,11 +87,12 @@ returns-in-Err-Fault-clause-err c o told =
     let planes = c.args.planes in
     let opened : s.open_picture ≡ Some picture = sym c.take.ensures.value ∙ c.in-Some.is in
     let refused = not_stored c in
-    let current = current_is (history_of s.closed.items) s.buffer.history s.open_picture s.buffer.frames s.buffer.output s.failed old (c.self.invariant c.if-self.false).stands c.self.view_is in
-    let same = open_is picture s.open_picture o old opened (ap (λ (v : SequenceState). v.open_picture) c.self.view_is) told in (
-      sym (ap (λ (v : SequenceState). v.failed) c.self.view_is) ∙ c.if-self.false,
+    let current = current_is (history_of s.closed.items) s.buffer.history s.open_picture s.buffer.frames s.buffer.output s.failed old (c.self.invariant c.in_ok-check.ensures.going).stands c.self.view_is in
+    let same = open_is picture s.open_picture o old opened (ap (λ (v : SequenceState). v.open_picture) c.self.view_is) told in
+    rw (c.in_ok-prior.ensures.going, c.in_ok-check.ensures.going) (
+      sym (ap (λ (v : SequenceState). v.failed) c.self.view_is) ∙ c.in_ok-check.ensures.going,
       ap (λ (items : List HistoryEntry). record { history = history_of items; open_picture = Some (open_picture_of picture); frames = c.store_picture.new.self.frames; output = c.store_picture.new.self.output; failed = false }) c.in-Err-Fault.ensures.kept
-          ∙ unchanged (history_of s.closed.items) s.open_picture (Some picture) s.buffer.frames c.store_picture.new.self.frames s.buffer.output c.store_picture.new.self.output s.failed old opened (ap (λ (b : FrameBufferState). b.frames) refused.same) (ap (λ (b : FrameBufferState). b.output) refused.same) c.if-self.false c.self.view_is,
+          ∙ unchanged (history_of s.closed.items) s.open_picture (Some picture) s.buffer.frames c.store_picture.new.self.frames s.buffer.output c.store_picture.new.self.output s.failed old opened (ap (λ (b : FrameBufferState). b.frames) refused.same) (ap (λ (b : FrameBufferState). b.output) refused.same) c.in_ok-check.ensures.going c.self.view_is,
       closing_refused o planes old s.buffer.history c.in-Err-Fault.fault current
           (subst (λ (p : OpenPictureStart). marks_of (with_picture p.sps p.header planes s.buffer.history) ≡ Err c.in-Err-Fault.fault) same refused.refused),
     )

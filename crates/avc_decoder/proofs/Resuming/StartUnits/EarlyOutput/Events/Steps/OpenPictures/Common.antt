@@ -15,7 +15,7 @@ pub use Rattle.std.specs.List.{range_with_len, list_all}
 pub use Rattle.std.specs.List.Sorted.{IsStrictlyIncreasing}
 pub use Rattle.std.specs.Option.{option_map}
 pub use Rattle.std.specs.Prelude.{◌≡◌, ℕ, ◌+◌, ◌/◌, ◌%◌, Bool, true, false, not, ◌==◌, ◌&&◌, ◌||◌, nat_lt, List, Option, Some, None, Result, Ok, Err, is_some}
-pub use Rattle.std.specs.Prelude.{refl, if◌then◌else◌, zero, suc, [], map, All, ◌-◌, IfSome, ◌∷◌, ◌++◌, ◌<◌, length, ◌≤◌, IfOk, is_none, slice_get, replicate}
+pub use Rattle.std.specs.Prelude.{refl, if◌then◌else◌, zero, suc, [], map, All, ◌-◌, IfSome, ◌∷◌, ◌++◌, ◌<◌, length, ◌≤◌, IfOk, is_err, slice_get, replicate}
 pub use Rattle.std.specs.Prelude.{slice_index, take, flat_map, ◌*◌, IsTrue}
 pub use Rattle.std.specs.Result.{is_ok}
 pub use Rattle.avc_annexb.proofs.Written.{units_stay_first}
@@ -109,7 +109,7 @@ pub use Rattle.avc_decoder.specs.States.{ComesTo, HasOutcome, IsOpenIn, Stops, W
 pub use Rattle.avc_decoder.specs.States.{DecodesAs, IsNamed, Works, current_in, HasAnswered, IsAnswerIn, picture_answer, with_last, IsPhase, is_waiting_in}
 pub use Rattle.avc_decoder.specs.States.{last_header_in, FitsPhase, HasStep, StreamState, after_stream_end, after_unit_in_stream, stream_state, EndsIn, FeedsIn}
 pub use Rattle.avc_decoder.specs.States.{HandlesAll, IsDecoded, IsDecoderState, after_units_in_stream, IsStream, queue_in, ArePassedOn, AreParts, IsWorking, HaveDecoded}
-pub use Rattle.avc_decoder.specs.States.{Feeds, FeedsUnit, FeedsUnitIn, Ends}
+pub use Rattle.avc_decoder.specs.States.{Feeds, FeedsUnit, FeedsUnitIn, Ends, PartsOrRefusal, WantsNone}
 pub use Rattle.avc_decoder.specs.declared.parts.Fed.{Fed}
 pub use Rattle.avc_decoder.specs.declared.calls.Call.{Call}
 pub use Rattle.avc_decoder.specs.declared.calls.Call.TheVariants.{Feed, Take, Flush, Reset}
