@@ -106,7 +106,9 @@ impl<F: InfoForm> StreamText for InfoLines<F> {
         self.failed.keep(self.splitter.finish())?;
         let noted = note_units_left(&mut self.splitter, &mut self.reader, &mut self.facts);
         self.failed.keep(noted)?;
-        let text = self.failed.keep(self.form.tell(self.alloc, &self.facts, self.bytes))?;
+        let text = self
+            .failed
+            .keep(self.form.tell(self.alloc, &self.facts, self.bytes))?;
         self.ended = true;
         Ok(text.into_bytes())
     }

@@ -8,7 +8,7 @@ use crate::units::MAX_UNIT;
 use crate::writing::write_unit;
 use avc_annexb::laws::units_stay;
 use avc_annexb::{Splitter, Unit};
-use avc_types::OutOfMemory;
+use avc_types::{OutOfMemory, WantOfMemory};
 use std::alloc::Global;
 use std::marker::Model;
 
@@ -22,7 +22,7 @@ pub struct TailText {
     number: u32,
     splitter: Splitter<MAX_UNIT>,
     cutter: Cutter,
-    failed: bool,
+    failed: WantOfMemory,
 }
 
 impl Model for TailText {
@@ -53,7 +53,7 @@ impl TailText {
             number,
             splitter: Splitter::new(alloc),
             cutter: Cutter::new(alloc, number)?,
-            failed: false,
+            failed: WantOfMemory::none(),
         })
     }
 }
@@ -72,26 +72,19 @@ impl StreamText for TailText {
 
     fn feed(&mut self, piece: &[u8]) -> Result<Vec<u8>, OutOfMemory> {
         units_stay();
-        if self.failed {
-            return Err(OutOfMemory);
-        }
-        // until all of it is done
-        self.failed = true;
-        self.splitter.feed(piece)?;
-        let added = tail_units_left(self.alloc, &mut self.splitter, &mut self.cutter)?;
-        self.failed = false;
+        self.failed.check()?;
+        self.failed.keep(self.splitter.feed(piece))?;
+        let added = tail_units_left(self.alloc, &mut self.splitter, &mut self.cutter);
+        let added = self.failed.keep(added)?;
         Ok(added)
     }
 
     fn finish(&mut self) -> Result<Vec<u8>, OutOfMemory> {
         units_stay();
-        if self.failed {
-            return Err(OutOfMemory);
-        }
-        self.failed = true;
-        self.splitter.finish()?;
-        let added = tail_units_left(self.alloc, &mut self.splitter, &mut self.cutter)?;
-        self.failed = false;
+        self.failed.check()?;
+        self.failed.keep(self.splitter.finish())?;
+        let added = tail_units_left(self.alloc, &mut self.splitter, &mut self.cutter);
+        let added = self.failed.keep(added)?;
         Ok(added)
     }
 
