@@ -17,6 +17,10 @@ avc_c/src/status.rt: Status::OutOfMemory
 # the words of the command line: clap tells of a refusal by its kind
 avc_cli/src/main.rt: if error.kind() == ErrorKind::OutOfMemory {
 avc_cli/src/main.rt: return Err(RunFault::Memory);
+# of OutOfMemory, through what reads a stream and what writes it
+avc_cli/src/from_piece.rt: Err(io::Error::from(ErrorKind::OutOfMemory))
+avc_cli/src/main.rt: fault_status(RunFault::Memory)
+avc_cli/src/output.rt: Err(_) => return Err(io::Error::from(ErrorKind::OutOfMemory)),
 # of OutOfMemory, and of what an allocator answers
 avc_console/src/fault.rt: RunFault::Memory
 avc_console/src/fault.rt: RunFault::Memory

@@ -231,8 +231,8 @@ fn write_out_from<R: Read, E: Write, V: Watch>(
                 },
             }
         }
-        Err(_) => Written {
-            status: fail(RunFault::Memory, &console.names, &mut console.errors).status,
+        Err(refused) => Written {
+            status: fail(RunFault::from(refused), &console.names, &mut console.errors).status,
             fault: None,
             missing: None,
         },
