@@ -7,7 +7,7 @@ unfoldable pub use Events.*
 told : (es : List Event) → report_with no_report es ≡ report_of es
 told es = reported_is 0 [] es ∙ ap (λ n. record { pictures = saturated n; refused = refusals_in es }) (omega arith)
 
-report_more : (a b : List Event) → report_with (report_of a) b ≡ report_of (a ++ b)
+pub report_more : (a b : List Event) → report_with (report_of a) b ≡ report_of (a ++ b)
 report_more a b = ap (λ r. report_with r b) (sym (told a)) ∙ sym (report_with-append no_report a b) ∙ told (a ++ b)
 
 -- a report's number of pictures, as they are counted from 0

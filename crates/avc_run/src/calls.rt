@@ -13,7 +13,7 @@ use avc_plane::SharedPicture;
 pub const MAX_UNIT: usize = 134_217_728;
 
 /// Feeds bytes up to where a unit has ended. Answers how many they are.
-pub(crate) fn feed_unit(
+pub fn feed_unit(
     decoder: &mut Decoder<MAX_UNIT, SharedPicture>,
     bytes: &[u8],
 ) -> Result<usize, RunFault>
@@ -28,7 +28,7 @@ pub(crate) fn feed_unit(
 }
 
 /// Ends the stream.
-pub(crate) fn flush(decoder: &mut Decoder<MAX_UNIT, SharedPicture>) -> Result<(), RunFault>
+pub fn flush(decoder: &mut Decoder<MAX_UNIT, SharedPicture>) -> Result<(), RunFault>
     ensures ok { OnOk result (decoder.new ≡ after_flush decoder.old) }
     ensures err { IfErr result (λ fault. fault ≡ faults.Memory) }
 {
@@ -39,7 +39,7 @@ pub(crate) fn flush(decoder: &mut Decoder<MAX_UNIT, SharedPicture>) -> Result<()
 }
 
 /// Takes the next event, where one waits.
-pub(crate) fn next_event(
+pub fn next_event(
     decoder: &mut Decoder<MAX_UNIT, SharedPicture>,
 ) -> Result<Option<Event<SharedPicture>>, RunFault>
     ensures event { IfOk result (λ event. event ≡ next_event max_unit decoder.old) }

@@ -15,7 +15,7 @@ pub use avc_console::{
 pub use avc_decoder::Output;
 pub use avc_formats::{I420, PictureFormat};
 pub use by_set::decode_headed;
-pub use calls::MAX_UNIT;
+pub use calls::{MAX_UNIT, feed_unit, flush, next_event};
 pub use decoding::{run, run_behind, run_watched};
 pub use digest::{decode_md5, verify};
 pub use program::{decode, decode_as};

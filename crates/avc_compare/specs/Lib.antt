@@ -1,0 +1,5 @@
+pub mod Kept
+pub mod Reading
+pub mod Comparing
+pub mod Running
+pub mod Told

@@ -1,0 +1,81 @@
+-- What is told of a comparison, and how the command ends.
+use Rattle.std.specs.Prelude.{◌≡◌, ℕ, Bool, true, false, if◌then◌else◌, List, [], ◌++◌, length, Option, Result, Ok, Err, codes}
+use Rattle.std.specs.Fmt.{decimal}
+use Rattle.std.specs.Borrow.{Bor}
+use Rattle.std.specs.Io.KnownBytes.{Appends}
+use Rattle.avc_difference.specs.Places.{macroblocks}
+use Rattle.avc_difference.specs.Text.{difference_text, newline}
+use Rattle.avc_decoder.specs.Output.{Output}
+use Rattle.avc_console.specs.Program.{TellsRun}
+use Rattle.avc_console.specs.declared.console.Names.{Names}
+use Rattle.avc_console.specs.declared.exit.Ending.{Ending}
+use Rattle.avc_console.specs.declared.fault.RunFault.{RunFault}
+use Rattle.avc_console.specs.declared.fault.RunFault.TheVariants.{Read}
+use Rattle.avc_console.specs.declared.report.Report.{Report}
+use Rattle.avc_formats.specs.Formats.{StopsPicture}
+use Rattle.avc_run.specs.Digesting.{other_status}
+use Rattle.avc_compare.specs.Comparing.{Compares}
+use Rattle.avc_compare.specs.declared.verdict.CompareFault.{CompareFault}
+use Rattle.avc_compare.specs.declared.verdict.CompareFault.TheVariants.{Ours, Theirs}
+use Rattle.avc_compare.specs.declared.verdict.Verdict.{Verdict}
+use Rattle.avc_compare.specs.declared.verdict.Verdict.TheVariants.{Differs, Fewer, More, Same}
+
+-- that the other ends before the picture of this number is whole
+abbrev pub fewer_line : (number : ℕ) → List ℕ
+fewer_line number = codes "the other has fewer pictures: it ends before picture " ++ decimal number ++ codes " is whole" ++ newline
+
+-- that all of so many pictures are the other's, and more bytes follow there
+abbrev pub more_line : (number : ℕ) → List ℕ
+more_line number = codes "the other has more pictures: it goes on behind all " ++ decimal number ++ newline
+
+-- what is written of a comparison
+abbrev pub verdict_text : Verdict → List ℕ
+verdict_text Same = []
+verdict_text (Differs d) = difference_text d.number d.shape d.difference
+verdict_text (Fewer number) = fewer_line number
+verdict_text (More number) = more_line number
+
+-- A difference has a mark for each macroblock of its picture.
+abbrev pub HasMarks : Verdict → Type 0
+HasMarks (Differs d) = length (d.difference).marks.items ≡ macroblocks d.shape
+HasMarks _ = Unit {0}
+
+-- This text was written; after a write fault less than all of it, and after want of memory none of it.
+abbrev pub WritesText : List ℕ → (held holds : Option (List ℕ)) → Result (Unit {0}) RunFault → Type 0
+WritesText text held holds (Ok _) = Appends held holds text
+WritesText text held holds (Err fault) = StopsPicture fault true held holds text
+
+-- nothing differs
+abbrev pub is_same : Verdict → Bool
+is_same Same = true
+is_same _ = false
+
+-- the exit status, by that of the run: 1 in place of 0 where something differs
+abbrev pub verdict_status : Verdict → (status : ℕ) → ℕ
+verdict_status verdict status = if is_same verdict then status else other_status status
+
+-- what ended a comparison, as a run's fault
+abbrev pub run_fault : CompareFault → RunFault
+run_fault (Ours fault) = fault
+run_fault Theirs = Read
+
+-- the files' names at such a fault: where the other can't be read, it is the one that is read
+abbrev pub fault_names : Names → (other : Option (Bor (List ℕ))) → CompareFault → Names
+fault_names names other (Ours fault) = names
+fault_names names other Theirs = record names { input = other }
+
+-- A verdict is written, and the exit status and what is told are those of a run that ended as the writing did. Where the run was broken off
+-- they are those of its fault, which names the other's file where that can't be read.
+abbrev pub TellsVerdict : Names → (other : Option (Bor (List ℕ))) → (explained : Bool) → Report → Result Verdict CompareFault → (held holds before now : Option (List ℕ)) → Ending → Type 0
+TellsVerdict names other explained report (Ok verdict) held holds before now ending =
+    (written : Result (Unit {0}) RunFault) × (decoded : Ending) × WritesText (verdict_text verdict) held holds written
+    × TellsRun names explained report written before now decoded × (ending.told ≡ decoded.told) × (ending.status ≡ verdict_status verdict decoded.status)
+TellsVerdict names other explained report (Err fault) held holds before now ending =
+    Appends held holds [] × TellsRun (fault_names names other fault) explained report (Err (run_fault fault)) before now ending
+
+-- `compare` was such a comparison, which came to this report.
+pub record EndsComparing (names : Names) (other_name : Option (Bor (List ℕ))) (explained : Bool) (most : ℕ) (output : Output) (unread left other rest held holds before now : Option (List ℕ)) (ending : Ending) : Type 0 where
+  pub report : Report
+  pub run : Result Verdict CompareFault
+  pub compares : Compares most output unread left other rest report run
+  pub tells : TellsVerdict names other_name explained report run held holds before now ending

@@ -1,0 +1,113 @@
+//! One picture beside the other's.
+
+ghost use Rattle.std.specs.Prelude.{◌≡◌, ℕ, ◌<◌, ◌≤◌, List, length, take, IfErr, IfOk, OnErr, OnOk};
+ghost use Rattle.std.specs.Io.KnownBytes.{Consumes, IsAtEnd};
+ghost use Rattle.avc_types.specs.Whole.{IsWhole};
+ghost use Rattle.avc_yuv.specs.I420.{i420};
+ghost use Rattle.avc_difference.specs.Places.{sample_count, shape_of};
+ghost use Rattle.avc_console.specs.declared.fault.RunFault.TheVariants as faults;
+ghost use Rattle.avc_compare.specs.Running.{ComparesPicture, FindsIn};
+ghost use Rattle.avc_compare.specs.declared.verdict.CompareFault.TheVariants as ends;
+
+use crate::verdict::{CompareFault, Differing, Verdict};
+use avc_console::{RunFault, read_once};
+use avc_difference::{Shape, find_difference};
+use avc_plane::{PictureRows, SharedPicture};
+use avc_yuv::{copy_i420, i420_len};
+use std::alloc::Global;
+use std::io::Read;
+
+/// Compares a picture with the other's next bytes, as many as it has as I420. Answers None where it is the same, and else how the
+/// comparison ends.
+pub(crate) fn compare_picture<O: Read>(
+    alloc: Global,
+    most: u8,
+    number: u64,
+    picture: &SharedPicture,
+    other: &mut O,
+) -> Result<Option<Verdict>, CompareFault>
+    requires { IsWhole picture.now }
+    ensures { ComparesPicture most number picture.now (O.remaining other.old) (O.remaining other.new) result }
+{
+    let ours = i420_of(alloc, picture)?;
+    let mut theirs = zeros(alloc, ours.len())?;
+    let count = read_other(&mut theirs, other)?;
+    if count < ours.len() {
+        return Ok(Some(Verdict::Fewer(number)));
+    }
+    Ok(judge(alloc, most, number, shape_of(picture), &ours, &theirs)?)
+}
+
+// What is shown of a picture, as I420.
+fn i420_of(alloc: Global, picture: &SharedPicture) -> Result<Vec<u8>, RunFault>
+    requires { IsWhole picture.now }
+    ensures ok { IfOk result (λ samples. samples.items ≡ i420 picture.now) }
+    ensures err { IfErr result (λ fault. fault ≡ faults.Memory) }
+{
+    // no room has more bytes than the greatest number
+    let len = i420_len(picture).min(usize::MAX as u128) as usize;
+    let mut samples = zeros(alloc, len)?;
+    copy_i420(picture, &mut samples);
+    Ok(samples)
+}
+
+fn zeros(alloc: Global, count: usize) -> Result<Vec<u8>, RunFault>
+    ensures ok { IfOk result (λ bytes. length bytes.items ≡ count) }
+    ensures err { IfErr result (λ fault. fault ≡ faults.Memory) }
+{
+    Ok(vec![in alloc; 0; count]?)
+}
+
+fn shape_of(picture: &SharedPicture) -> Shape
+    ensures { result ≡ shape_of picture.now }
+{
+    Shape {
+        width: picture.width(),
+        height: picture.height(),
+        crop: picture.crop(),
+    }
+}
+
+// Reads until all is filled, or the other ends. Answers how many bytes came.
+pub(crate) fn read_other<O: Read>(bytes: &mut [u8], other: &mut O) -> Result<usize, CompareFault>
+    ensures length { length bytes.new ≡ length bytes.old }
+    ensures within { IfOk result (λ count. count ≤ length bytes.new) }
+    ensures ok { IfOk result (λ count. Consumes (O.remaining other.old) (O.remaining other.new) (take count bytes.new)) }
+    ensures last { IfOk result (λ count. count < length bytes.new → IsAtEnd (O.remaining other.new)) }
+    ensures fault { IfErr result (λ fault. fault ≡ ends.Theirs) }
+    ensures err { OnErr result ((here : List ℕ) × Consumes (O.remaining other.old) (O.remaining other.new) here) }
+{
+    let mut count = 0;
+    'reads: while count < bytes.len() {
+        match read_once(other, &mut bytes[count..]) {
+            Ok(0) => return Ok(count),
+            Ok(len) => count += len,
+            Err(_) => return Err(CompareFault::Theirs),
+        }
+    }
+    Ok(count)
+}
+
+// Where the samples of two pictures differ.
+fn judge(
+    alloc: Global,
+    most: u8,
+    number: u64,
+    shape: Shape,
+    ours: &[u8],
+    theirs: &[u8],
+) -> Result<Option<Verdict>, RunFault>
+    requires same { length theirs.now ≡ length ours.now }
+    requires whole { length ours.now ≡ sample_count shape }
+    ensures ok { IfOk result (λ found. FindsIn most number shape ours.now theirs.now found) }
+    ensures err { IfErr result (λ fault. fault ≡ faults.Memory) }
+{
+    match find_difference(alloc, shape, most, ours, theirs)? {
+        Some(difference) => Ok(Some(Verdict::Differs(Differing {
+            number,
+            shape,
+            difference,
+        }))),
+        None => Ok(None),
+    }
+}

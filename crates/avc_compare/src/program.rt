@@ -1,0 +1,114 @@
+//! The command `compare`.
+
+ghost use Rattle.std.specs.Prelude.{◌≡◌, ℕ, true, if◌then◌else◌, List, Option, Err, IfErr, OnOk};
+ghost use Rattle.std.specs.Io.KnownBytes.{Appends};
+ghost use Rattle.avc_console.specs.Program.{TellsRun};
+ghost use Rattle.avc_console.specs.Reporting.{report_in, reported_by, IsTold};
+ghost use Rattle.avc_formats.specs.Formats.{StopsPicture};
+ghost use Rattle.avc_run.specs.Digesting.{other_status};
+ghost use Rattle.avc_compare.specs.Told.{fault_names, is_same, run_fault, verdict_status, verdict_text, EndsComparing, HasMarks};
+
+use crate::comparison::{Comparison, run_comparison};
+use crate::text::add_verdict;
+use crate::verdict::{CompareFault, Verdict};
+use avc_console::{Console, Ending, Names, Reporter, RunFault, Tally, Watch, tell, write_text};
+use std::alloc::Global;
+use std::io::{Read, Write};
+
+/// The command `compare`: compares the pictures of a byte stream (Annex B) with another decoder's, as I420, from a file of this name,
+/// and writes where they differ first, or nothing. It tells on the console of each refusal when it comes, and of the fault that ended the run.
+/// The status is 1 where something differs.
+pub fn compare<R: Read, O: Read, W: Write, E: Write, V: Watch>(
+    alloc: Global,
+    how: Comparison,
+    reader: &mut R,
+    other: &mut O,
+    other_name: Option<&str>,
+    writer: &mut W,
+    console: &mut Console<'_, E, V>,
+) -> Ending
+    ensures { EndsComparing console.old.names other_name.entry console.old.is_explained how.most how.output (R.remaining reader.old) (R.remaining reader.new)
+        (O.remaining other.old) (O.remaining other.new) (W.contents writer.old) (W.contents writer.new)
+        (E.contents console.old.errors) (E.contents console.new.errors) result }
+{
+    let mut tally = Tally::new(console.is_explained);
+    let run = run_comparison(alloc, how, &mut tally, &mut console.errors, reader, other);
+    match run {
+        Ok(verdict) => {
+            let written = write_verdict(alloc, &verdict, writer);
+            console.watch.end(tally.counts(), written);
+            let decoded = tell(written, &tally, &console.names, &mut console.errors);
+            end_with(&verdict, decoded)
+        }
+        Err(fault) => tell_fault(
+            fault,
+            other_name,
+            &tally,
+            &console.names,
+            &mut console.errors,
+        ),
+    }
+}
+
+// Tells of what ended the comparison before its end.
+fn tell_fault<E: Write>(
+    fault: CompareFault,
+    other_name: Option<&str>,
+    tally: &Tally,
+    names: &Names<'_>,
+    errors: &mut E,
+) -> Ending
+    ensures { (start : Option (List ℕ)) → IsTold start (E.contents errors.old) (reported_by tally.now)
+        → TellsRun (fault_names names.now other_name.entry fault) tally.now.explained (report_in tally.now) (Err (run_fault fault))
+        start (E.contents errors.new) result }
+{
+    match fault {
+        CompareFault::Ours(fault) => tell(Err(fault), tally, names, errors),
+        CompareFault::Theirs => {
+            let named = Names {
+                input: other_name,
+                output: names.output,
+            };
+            tell(Err(RunFault::Read), tally, &named, errors)
+        }
+    }
+}
+
+// Writes what is told of the comparison.
+fn write_verdict<W: Write>(alloc: Global, verdict: &Verdict, writer: &mut W) -> Result<(), RunFault>
+    requires { HasMarks verdict.now }
+    ensures ok { OnOk result (Appends (W.contents writer.old) (W.contents writer.new) (verdict_text verdict.now)) }
+    ensures err { IfErr result (λ fault. StopsPicture fault true (W.contents writer.old) (W.contents writer.new) (verdict_text verdict.now)) }
+{
+    let mut text = String::new(alloc);
+    add_verdict(&mut text, verdict)?;
+    write_text(&text, writer)
+}
+
+// How it ends where the run told of ended so.
+fn end_with(verdict: &Verdict, decoded: Ending) -> Ending
+    ensures told { result.told ≡ decoded.told }
+    ensures status { result.status ≡ verdict_status verdict.now decoded.status }
+{
+    Ending {
+        status: verdict_status(is_same(verdict), decoded.status),
+        told: decoded.told,
+    }
+}
+
+// Whether nothing differs.
+fn is_same(verdict: &Verdict) -> bool
+    ensures { result ≡ is_same verdict.now }
+{
+    match verdict {
+        Verdict::Same => true,
+        Verdict::Differs(_) | Verdict::Fewer(_) | Verdict::More(_) => false,
+    }
+}
+
+// The exit status, by that of the run.
+fn verdict_status(is_same: bool, status: u8) -> u8
+    ensures { result ≡ (if is_same then status else other_status status) }
+{
+    if is_same || status != 0 { status } else { 1 }
+}

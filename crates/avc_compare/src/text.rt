@@ -1,0 +1,46 @@
+//! What is told of a comparison.
+
+ghost use Rattle.std.specs.Prelude.{◌≡◌, ◌++◌, OnOk, string_bytes};
+ghost use Rattle.avc_compare.specs.Told.{fewer_line, more_line, verdict_text, HasMarks};
+
+use crate::verdict::Verdict;
+use avc_difference::add_difference;
+use avc_types::OutOfMemory;
+
+/// Adds what is written of a comparison: nothing where all is the same.
+pub fn add_verdict(text: &mut String, verdict: &Verdict) -> Result<(), OutOfMemory>
+    requires { HasMarks verdict.now }
+    ensures { OnOk result (string_bytes text.new ≡ string_bytes text.old ++ verdict_text verdict.now) }
+{
+    match verdict {
+        Verdict::Same => Ok(()),
+        Verdict::Differs(differing) => add_difference(
+            text,
+            differing.number,
+            differing.shape,
+            &differing.difference,
+        ),
+        Verdict::Fewer(number) => add_fewer(text, *number),
+        Verdict::More(number) => add_more(text, *number),
+    }
+}
+
+fn add_fewer(text: &mut String, number: u64) -> Result<(), OutOfMemory>
+    ensures { OnOk result (string_bytes text.new ≡ string_bytes text.old ++ fewer_line number) }
+{
+    writeln!(
+        text,
+        "the other has fewer pictures: it ends before picture {number} is whole"
+    )?;
+    Ok(())
+}
+
+fn add_more(text: &mut String, number: u64) -> Result<(), OutOfMemory>
+    ensures { OnOk result (string_bytes text.new ≡ string_bytes text.old ++ more_line number) }
+{
+    writeln!(
+        text,
+        "the other has more pictures: it goes on behind all {number}"
+    )?;
+    Ok(())
+}

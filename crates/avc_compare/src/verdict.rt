@@ -1,0 +1,55 @@
+//! How a comparison ends.
+
+ghost use Rattle.std.specs.Prelude.{◌≡◌};
+ghost use Rattle.avc_compare.specs.declared.verdict.CompareFault.TheVariants.{Ours as OfOurs};
+
+use avc_console::RunFault;
+use avc_difference::{Difference, Shape};
+use thiserror::Error;
+
+/// What becomes of the comparison of a stream's pictures with another decoder's.
+#[derive(Debug, Drop)]
+pub enum Verdict {
+    /// All pictures are the same.
+    Same,
+
+    /// This picture is the first that differs.
+    Differs(Differing),
+
+    /// The other's bytes end before the picture of this number is whole, and those before it are the same.
+    Fewer(u64),
+
+    /// All of so many pictures are the same, and the other has more bytes.
+    More(u64),
+}
+
+/// A picture that differs.
+#[derive(Debug, Drop)]
+pub struct Differing {
+    /// Its number in output order, from 0; the greatest number, once there.
+    pub number: u64,
+
+    pub shape: Shape,
+
+    pub difference: Difference,
+}
+
+/// What ended a comparison before its end.
+#[derive(Clone, Copy, Debug, PartialEq, Eq, Error)]
+pub enum CompareFault {
+    /// A fault of decoding the stream, or want of memory.
+    #[error("{0}")]
+    Ours(RunFault),
+
+    /// A read of the other's pictures answered an error.
+    #[error("read fault of the other's pictures")]
+    Theirs,
+}
+
+impl From<RunFault> for CompareFault {
+    ghost from_gives = { λ fault made. made ≡ OfOurs fault };
+
+    fn from(fault: RunFault) -> CompareFault {
+        CompareFault::Ours(fault)
+    }
+}
