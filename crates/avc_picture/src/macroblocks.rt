@@ -109,13 +109,14 @@ impl<const PAD: usize> Macroblocks<PAD> {
         ensures width { IfOk result (λ m. m.canvas.width ≡ width_in_mbs sps.now) }
         ensures height { IfOk result (λ m. m.canvas.height ≡ height_in_mbs sps.now) }
     {
-        let width = sps.width_in_mbs() as usize;
+        let columns = sps.width_in_mbs();
+        let width = columns as usize;
         let height = sps.height_in_mbs() as usize;
         let planes = memory.planes(alloc, width, height)?;
         planes.luma.holds_bytes();
         planes.cb.holds_bytes();
         planes.cr.holds_bytes();
-        let info = memory.info(alloc, sps.width_in_mbs())?;
+        let info = memory.info(alloc, columns)?;
         Ok(Macroblocks {
             canvas: Canvas {
                 width,

@@ -4,21 +4,21 @@ use Rattle.avc_picture.proofs.macroblocks.Macroblocks.new.Goals as goal
 
 pub invariant_of-result : goal.invariant_of-result
 invariant_of-result g c =
-    let w = c.width_in_mbs-width.result in
+    let w = c.width_in_mbs-columns.result in
     let h = c.height_in_mbs-height.result in
     let offset = to_z w8 (of_z w8 (to_z w32 (of_z w32 c.args.pps.now.chroma_qp_index_offset))) in
-    let size : w * h ≤ max_macroblocks = rw (c.width_in_mbs-width.ensures, c.height_in_mbs-height.ensures) c.requires.sps.size in
+    let size : w * h ≤ max_macroblocks = rw (c.width_in_mbs-columns.ensures, c.height_in_mbs-height.ensures) c.requires.sps.size in
     record {
       sized = c.in_ok-planes.ensures;
       filter_width = ap (λ (f : FilterInfo). f.width) c.in_ok-info.ensures.filter_rows;
       kept = rw (c.in_ok-info.ensures.row, c.in_ok-info.ensures.filter_rows)
-          (kept_none w h offset c.args.pps.now.constrained_intra_pred_flag (planes_of c.in_ok-planes.planes) (omega (arith, c.width_in_mbs-width.ensures))
+          (kept_none w h offset c.args.pps.now.constrained_intra_pred_flag (planes_of c.in_ok-planes.planes) (omega (arith, c.width_in_mbs-columns.ensures))
           (omega (arith, c.height_in_mbs-height.ensures)) size);
     }
 
 pub returns-clause-holds : goal.returns-clause-holds
 returns-clause-holds g c = λ coded names sets.
-    let w = c.width_in_mbs-width.result in
+    let w = c.width_in_mbs-columns.result in
     let h = c.height_in_mbs-height.result in
     let x = c.args.pps.now.chroma_qp_index_offset in
     let p = c.requires.pps in
@@ -31,5 +31,5 @@ returns-clause-holds g c = λ coded names sets.
       cr = whole_plane (8 * w) (8 * h) planes.cr size.cr_width size.cr_height c.holds_bytes-3.ensures.all;
     } in
     rw (c.in_ok-info.ensures.row, c.in_ok-info.ensures.filter_rows)
-    (holds_none w h _ c.args.pps.now.constrained_intra_pred_flag planes coded names whole (sets.width ∙ sym c.width_in_mbs-width.ensures)
+    (holds_none w h _ c.args.pps.now.constrained_intra_pred_flag planes coded names whole (sets.width ∙ sym c.width_in_mbs-columns.ensures)
     (sets.height ∙ sym c.height_in_mbs-height.ensures) (sets.offset ∙ sym cast) sets.constrained)
