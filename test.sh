@@ -9,6 +9,7 @@ scripts/documents.sh check
 scripts/refusals.sh
 rt ci
 vectors/run.sh
+vectors/compare.sh
 vectors/growths.sh
 scripts/test-library.sh
 bindings/gstreamer/test.sh --short

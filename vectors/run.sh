@@ -402,7 +402,7 @@ judge 'help to a full device' $? 3 'avcdec: write fault
 holds 'version as Cargo has it' grep -qx 'avcdec [0-9]*\.[0-9]*\.[0-9]*' "$work/written"
 "$program" --help >"$work/written"
 holds 'exit statuses in the help' grep -q '^Exit status: 0 ' "$work/written"
-for command in decode units headers info cut; do
+for command in decode units headers info cut compare; do
     "$program" "$command" --help >"$work/written"
     holds "an example in the help of $command" grep -q "^Example: avcdec $command " "$work/written"
 done
@@ -948,7 +948,7 @@ END
     completes() {
         bash "$work/complete" "$here/../docs/avcdec.bash" "$@"
     }
-    for command in decode units headers info cut; do
+    for command in decode units headers info cut compare; do
         completes avcdec '' | grep -qx "$command"
         holds "$command is completed" [ $? = 0 ]
         "$program" "$command" --help >"$work/help"

@@ -28,6 +28,7 @@ is_verified tasks.Pieces = false
 is_verified tasks.Info = false
 is_verified tasks.InfoJson = false
 is_verified (tasks.Cut number) = false
+is_verified (tasks.Compare most) = true
 
 -- how many of so many pictures are shown: so many at most behind those that are skipped
 abbrev pub shown_by : Task → (pictures : ℕ) → ℕ
@@ -40,6 +41,7 @@ shown_by tasks.Pieces pictures = pictures
 shown_by tasks.Info pictures = pictures
 shown_by tasks.InfoJson pictures = pictures
 shown_by (tasks.Cut number) pictures = pictures
+shown_by (tasks.Compare most) pictures = pictures
 
 -- after a run of so many pictures that ended with this status
 abbrev pub ended_status : (is_strict : Bool) → Task → (pictures status : ℕ) → ℕ

@@ -32,6 +32,7 @@ fn is_verified(task: &Task) -> bool
             Form::Verify(_) => true,
             Form::I420 | Form::Null | Form::Md5 | Form::Y4m | Form::FrameMd5 => false,
         },
+        Task::Compare(_) => true,
         Task::Decode(_)
         | Task::Check(_)
         | Task::Units
@@ -56,6 +57,7 @@ fn shown_by(task: &Task, pictures: u64) -> u64
         | Task::Pieces
         | Task::Info
         | Task::InfoJson
-        | Task::Cut(_) => pictures,
+        | Task::Cut(_)
+        | Task::Compare(_) => pictures,
     }
 }

@@ -1,6 +1,7 @@
 //! `avcdec`: decodes a byte stream of H.264 (Annex B), shows what is in it, and cuts it, on the command line.
 #![tactic(auto)]
 
+mod comparing;
 mod ending;
 mod errors;
 mod frame_times;
@@ -24,6 +25,7 @@ use avc_info::{ForPeople, ForPrograms, info};
 use avc_request::{Form, Request, Showing, Task, Telling, requested, words_of};
 use avc_run::{decode, decode_as, decode_headed, decode_md5, verify};
 use clap::error::ErrorKind;
+use comparing::compare_files;
 use ending::ended_status;
 use errors::Errors;
 use frame_times::FrameTimes;
@@ -247,11 +249,10 @@ fn write_out<R: Read, E: Write, V: Watch>(
     noted: Noted<'_>,
     console: &mut Console<'_, E, V>,
 ) -> Written {
-    let alloc = rt.alloc();
     if let Some(name) = request.numbered {
         let files = PictureFiles::new(rt, name, request.input, noted.pictures);
         let mut output = Output::new(files, noted.has_left);
-        let status = carry_out_between(alloc, request, reader, &mut output, console);
+        let status = carry_out_between(rt, request, reader, &mut output, console);
         return Written {
             status,
             fault: output.fault(),
@@ -261,7 +262,7 @@ fn write_out<R: Read, E: Write, V: Watch>(
     match request.output {
         Some(name) => {
             let mut output = Output::new(OutputFile::new(rt, name), noted.has_left);
-            let status = carry_out_between(alloc, request, reader, &mut output, console);
+            let status = carry_out_between(rt, request, reader, &mut output, console);
             Written {
                 status,
                 fault: output.fault(),
@@ -270,7 +271,7 @@ fn write_out<R: Read, E: Write, V: Watch>(
         }
         None => {
             let mut output = Output::new(io::writer(rt), noted.has_left);
-            let status = carry_out_between(alloc, request, reader, &mut output, console);
+            let status = carry_out_between(rt, request, reader, &mut output, console);
             Written {
                 status,
                 fault: output.fault(),
@@ -282,12 +283,13 @@ fn write_out<R: Read, E: Write, V: Watch>(
 
 // The same from this input to this output.
 fn carry_out_between<R: Read, W: Write, E: Write, V: Watch>(
-    alloc: Global,
+    rt: &HostRuntime,
     request: &Request<'_>,
     reader: &mut R,
     writer: &mut W,
     console: &mut Console<'_, E, V>,
 ) -> u8 {
+    let alloc = rt.alloc();
     let ending = match request.task {
         Task::Decode(output) => decode(alloc, output, reader, writer, console),
         Task::Check(output) => decode(alloc, output, reader, &mut io::sink(), console),
@@ -307,6 +309,7 @@ fn carry_out_between<R: Read, W: Write, E: Write, V: Watch>(
         Task::Info => info(alloc, ForPeople, reader, writer, console),
         Task::InfoJson => info(alloc, ForPrograms, reader, writer, console),
         Task::Cut(number) => cut(alloc, number, reader, writer, console),
+        Task::Compare(most) => compare_files(rt, request, most, reader, writer, console),
     };
     ending.status
 }

@@ -14,11 +14,17 @@ pub(crate) const INFO: &str = "info";
 
 pub(crate) const CUT: &str = "cut";
 
+pub(crate) const COMPARE: &str = "compare";
+
 pub(crate) const EARLY: &str = "early";
 
 pub(crate) const NUMBER: &str = "N";
 
 pub(crate) const INPUT: &str = "INPUT";
+
+pub(crate) const OTHER: &str = "OTHER";
+
+pub(crate) const MAX_DIFF: &str = "max-diff";
 
 pub(crate) const OUTPUT: &str = "output";
 
@@ -58,7 +64,7 @@ pub(crate) const JSON: &str = "json";
 
 const STATUSES: &str = concat!(
     "Exit status: 0 all well, 1 decode refused something, found another MD5 or, with --strict, no picture, ",
-    "or a stream has no such piece, 2 wrong words, ",
+    "compare found a difference, or a stream has no such piece, 2 wrong words, ",
     "3 reading or writing failed, 4 out of memory"
 );
 
@@ -91,6 +97,12 @@ enum Kind {
 
     /// The number of a piece.
     Piece,
+
+    /// An option with how far samples may be apart.
+    Distance,
+
+    /// The file that is compared.
+    Other,
 }
 
 /// A word that a command takes.
@@ -125,6 +137,14 @@ const OUTPUT_WORD: Word = Word {
     short: Some('o'),
     kind: Kind::Output,
     help: "The file to write, which is emptied first; standard output where none is named, and for -, which may be a terminal; by decode one file a picture, where %d, or %05d, stands for its number",
+    conflicts: &[],
+};
+
+const EXPLAIN_WORD: Word = Word {
+    name: EXPLAIN,
+    short: None,
+    kind: Kind::Flag,
+    help: "Tells on standard error what each refusal means, how many pictures and refusals there are, and what a stream without a picture is",
     conflicts: &[],
 };
 
@@ -252,6 +272,29 @@ const COMMANDS: &[CommandWords] = &[
         ],
     },
     CommandWords {
+        name: COMPARE,
+        about: "Says where the pictures of another decoder, as I420, differ first; nothing where they are the same",
+        example: "Example: avcdec compare other.yuv in.264",
+        words: &[
+            Word {
+                name: MAX_DIFF,
+                short: None,
+                kind: Kind::Distance,
+                help: "Samples that are at most N apart do not differ",
+                conflicts: &[],
+            },
+            EXPLAIN_WORD,
+            Word {
+                name: OTHER,
+                short: None,
+                kind: Kind::Other,
+                help: "The file with the other decoder's pictures; - is standard input",
+                conflicts: &[],
+            },
+            INPUT_WORD,
+        ],
+    },
+    CommandWords {
         name: CUT,
         about: "Writes one of the pieces that can be decoded by themselves, each from an IDR picture on",
         example: "Example: avcdec cut 2 in.264 | avcdec decode -o piece.yuv",
@@ -324,6 +367,8 @@ fn taking<'a>(arg: Arg<'a>, name: &'static str, kind: Kind) -> Arg<'a> {
             .required(true)
             .action(ArgAction::Set)
             .value_parser(clap::value_parser!(u32)),
+        Kind::Distance => option(arg, name, NUMBER).value_parser(clap::value_parser!(u8)),
+        Kind::Other => arg.required(true).action(ArgAction::Set),
     }
 }
 

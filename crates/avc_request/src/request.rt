@@ -12,6 +12,9 @@ pub struct Request<'a> {
     /// The file that is read, where it is not the standard input.
     pub input: Option<&'a str>,
 
+    /// The file whose pictures are compared, where it is not the standard input, if any are.
+    pub other: Option<&'a str>,
+
     /// The file that is written, where it is not the standard output.
     pub output: Option<&'a str>,
 
@@ -85,6 +88,9 @@ pub enum Task {
 
     /// The piece of this number.
     Cut(u32),
+
+    /// The pictures are compared with another decoder's, where samples that are at most so far apart are the same.
+    Compare(u8),
 }
 
 impl Task {
@@ -100,7 +106,8 @@ impl Task {
             | Task::Headers
             | Task::Pieces
             | Task::Info
-            | Task::InfoJson => false,
+            | Task::InfoJson
+            | Task::Compare(_) => false,
         }
     }
 }

@@ -3,9 +3,9 @@ ghost use Rattle.avc_request.specs.Commands.{form_by_name, mode_of, progress_of,
 
 use crate::file_kind::{FileKind, file_kind};
 use crate::grammar::{
-    CUT, DECODE, EARLY, EXPLAIN, FORMAT, FRAME_MD5, FRAME_TIMES, FROM, HEADERS, I420, INFO, INPUT,
-    JSON, LIMIT, MD5, NULL, NUMBER, OUTPUT, PIECES, PROGRESS, QUIET, SKIP, STRICT, UNITS, VERIFY,
-    Y4M, grammar,
+    COMPARE, CUT, DECODE, EARLY, EXPLAIN, FORMAT, FRAME_MD5, FRAME_TIMES, FROM, HEADERS, I420, INFO,
+    INPUT, JSON, LIMIT, MAX_DIFF, MD5, NULL, NUMBER, OTHER, OUTPUT, PIECES, PROGRESS, QUIET, SKIP,
+    STRICT, UNITS, VERIFY, Y4M, grammar,
 };
 use crate::numbered::{Naming, Numbered, naming_of};
 use crate::request::{Form, Manner, Request, Showing, Task, Telling};
@@ -24,6 +24,7 @@ enum Command {
     Pieces,
     Info,
     Cut,
+    Compare,
 }
 
 /// Why words that the grammar takes name nothing to do.
@@ -37,6 +38,9 @@ enum Misuse {
 
     /// The output's name has a `%` that stands for no number, or that of a picture where none are written.
     Numbering,
+
+    /// Two files are to be the standard input.
+    SameInput,
 }
 
 /// The limit where all pictures are wanted.
@@ -56,6 +60,7 @@ fn command_named(name: &str) -> Option<Command>
         PIECES => Some(Command::Pieces),
         INFO => Some(Command::Info),
         CUT => Some(Command::Cut),
+        COMPARE => Some(Command::Compare),
         _ => None,
     }
 }
@@ -83,6 +88,7 @@ fn task_of(command: Command, matches: &ArgMatches<'_>, kind: FileKind) -> Option
             let number = matches.get_one::<u32>(NUMBER)?;
             Some(Task::Cut(number))
         }
+        Command::Compare => Some(Task::Compare(matches.get_one::<u8>(MAX_DIFF).unwrap_or(0))),
     }
 }
 
@@ -187,9 +193,15 @@ fn request_of<'a>(
     };
     let output = output_word(command, matches);
     let numbered = numbered_of(command, &task, output)?;
+    let input = file_named(word(matches, INPUT));
+    let other = other_word(command, matches);
+    if input.is_none() && other == Some(STANDARD) {
+        return Err(Misuse::SameInput);
+    }
     Ok(Request {
         task,
-        input: file_named(word(matches, INPUT)),
+        input,
+        other: file_named(other),
         output: file_named(output),
         numbered,
         is_standard_output_named: output == Some(STANDARD),
@@ -203,7 +215,21 @@ fn request_of<'a>(
 fn output_word<'a>(command: Command, matches: &ArgMatches<'a>) -> Option<&'a str> {
     match command {
         Command::Decode | Command::Cut => word(matches, OUTPUT),
-        Command::Units | Command::Headers | Command::Pieces | Command::Info => None,
+        Command::Units | Command::Headers | Command::Pieces | Command::Info | Command::Compare =>
+            None,
+    }
+}
+
+// What stands for the file that is compared.
+fn other_word<'a>(command: Command, matches: &ArgMatches<'a>) -> Option<&'a str> {
+    match command {
+        Command::Compare => word(matches, OTHER),
+        Command::Decode
+        | Command::Units
+        | Command::Headers
+        | Command::Pieces
+        | Command::Info
+        | Command::Cut => None,
     }
 }
 
@@ -245,6 +271,12 @@ fn manner_of(command: Command, matches: &ArgMatches<'_>) -> Manner {
             progress: progress_of(matches.get_flag(PROGRESS), matches.get_flag(QUIET)),
             is_quiet: matches.get_flag(QUIET),
             is_strict: matches.get_flag(STRICT),
+            is_explained: matches.get_flag(EXPLAIN),
+        },
+        Command::Compare => Manner {
+            progress: Telling::Never,
+            is_quiet: false,
+            is_strict: false,
             is_explained: matches.get_flag(EXPLAIN),
         },
         Command::Units | Command::Headers | Command::Pieces | Command::Info | Command::Cut =>
@@ -303,6 +335,7 @@ fn misuse_text(misuse: Misuse) -> &'static str {
         Misuse::Numbering => {
             "--output takes one %d in the name, or %01d to %09d, for one file a picture, with the formats i420 and y4m, and no other %"
         }
+        Misuse::SameInput => "OTHER and INPUT can't both be standard input",
         Misuse::Container => {
             "--output takes no container, nor a picture of another format: FILE.yuv or FILE.y4m is written, and FILE.264 by cut"
         }

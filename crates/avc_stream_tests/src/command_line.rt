@@ -45,6 +45,7 @@ fn named(
     Ok(Request {
         task,
         input,
+        other: None,
         output,
         is_standard_output_named: false,
         manner: usual_manner(task),
@@ -61,6 +62,7 @@ fn to_standard_output(task: Task) -> Result<Request<'static>, (ErrorKind, i32)> 
     Ok(Request {
         task,
         input: None,
+        other: None,
         output: None,
         is_standard_output_named: true,
         manner: usual_manner(task),
@@ -72,6 +74,7 @@ fn in_manner(task: Task, manner: Manner) -> Result<Request<'static>, (ErrorKind,
     Ok(Request {
         task,
         input: None,
+        other: None,
         output: None,
         is_standard_output_named: false,
         manner,

@@ -1,0 +1,54 @@
+//! The command `compare`, with the file that is compared.
+
+use crate::input::Input;
+use crate::told::tell_reason;
+use avc_compare::{Comparison, compare};
+use avc_console::{Console, Ending, Names, RunFault, Watch, fail};
+use avc_request::Request;
+use avc_run::Output;
+use std::fs::File;
+use std::io::{Read, Write};
+
+/// Compares the stream with the pictures of the other file, where samples that are at most so far apart are the same.
+pub fn compare_files<R: Read, W: Write, E: Write, V: Watch>(
+    rt: &HostRuntime,
+    request: &Request<'_>,
+    most: u8,
+    reader: &mut R,
+    writer: &mut W,
+    console: &mut Console<'_, E, V>,
+) -> Ending {
+    let how = Comparison {
+        output: Output::Full,
+        most,
+    };
+    let name = request.other;
+    match name {
+        Some(file) => match File::open(rt, file) {
+            Ok(file) => {
+                let mut other = Input::new(file);
+                let ending = compare(rt.alloc(), how, reader, &mut other, name, writer, console);
+                tell_reason(rt, name, other.fault());
+                ending
+            }
+            Err(error) => {
+                let names = Names {
+                    input: name,
+                    output: None,
+                };
+                let ending = fail(RunFault::Read, &names, &mut console.errors);
+                tell_reason(rt, name, Some(error.kind()));
+                ending
+            }
+        },
+        None => compare(
+            rt.alloc(),
+            how,
+            reader,
+            &mut rt.stdin(),
+            None,
+            writer,
+            console,
+        ),
+    }
+}

@@ -1,0 +1,250 @@
+#!/bin/sh
+# Plants differences in pictures, and compares what `avcdec compare` writes of them, its standard error and its status with what must come.
+# The pictures are those of streams whose md5 other decoders gave; what is planted where, and what must be told of it, is worked out by
+# the python below. Wants python3, and for the last rows ffmpeg. The last line is 'N passed, M failed'.
+set -u
+here=$(cd "$(dirname "$0")" && pwd)
+program=$here/../avcdec
+work=$(mktemp -d)
+trap 'rm -rf "$work"' EXIT
+trap 'exit 130' INT TERM
+passed=0
+failed=0
+
+# judges the last run: its name, its status, and the one that is wanted; the texts that are wanted stand in two files
+judge() {
+    if [ "$2" = "$3" ] && cmp -s "$work/wanted" "$work/written" && cmp -s "$work/wanted_told" "$work/told"; then
+        passed=$((passed + 1))
+    else
+        failed=$((failed + 1))
+        echo "failed: $1: status $2"
+        diff "$work/wanted" "$work/written"
+        diff "$work/wanted_told" "$work/told"
+    fi
+}
+
+cat >"$work/plant.py" <<'END'
+import sys
+
+
+class Pictures:
+    """Pictures of one size as I420: width and height as coded, and what the crop leaves out, in luma samples."""
+
+    def __init__(self, name, width, height, left, right, top, bottom):
+        self.columns, self.rows = width // 16, height // 16
+        self.left, self.top = left, top
+        self.width, self.height = width - left - right, height - top - bottom
+        self.size = self.width * self.height * 3 // 2
+        with open(name, "rb") as file:
+            self.bytes = bytearray(file.read())
+
+    def plane(self, component):
+        """Where a component begins in a picture, and how many columns and rows of it are shown."""
+        luma, half = self.width * self.height, (self.width // 2, self.height // 2)
+        return {"luma": (0, self.width, self.height), "Cb": (luma, *half), "Cr": (luma + half[0] * half[1], *half)}[component]
+
+    def coded(self, component, column, row):
+        part = 1 if component == "luma" else 2
+        return column + self.left // part, row + self.top // part
+
+    def macroblock(self, component, column, row):
+        side = 16 if component == "luma" else 8
+        x, y = self.coded(component, column, row)
+        return x // side, y // side
+
+    def change(self, picture, component, column, row, by):
+        start, columns, _ = self.plane(component)
+        place = picture * self.size + start + row * columns + column
+        value = self.bytes[place]
+        self.bytes[place] = value + by if value + by < 256 else max(value - by, 0)
+        return value, self.bytes[place]
+
+    def text_of(self, picture, ours, theirs, most):
+        """What is told of two pictures, sample by sample."""
+        count, first, marks = 0, None, {}
+        for component in ("luma", "Cb", "Cr"):
+            start, columns, rows = self.plane(component)
+            for row in range(rows):
+                for column in range(columns):
+                    place = start + row * columns + column
+                    if abs(ours[place] - theirs[place]) > most:
+                        count += 1
+                        where = self.macroblock(component, column, row)
+                        first = first or (component, column, row, ours[place], theirs[place])
+                        marks.setdefault(where, set()).add("L" if component == "luma" else "C")
+        return self.text(picture, count, first, marks) if count else ""
+
+    def text(self, picture, count, first, marks):
+        component, column, row, our, their = first
+        x, y = self.coded(component, column, row)
+        mb_x, mb_y = self.macroblock(component, column, row)
+        letters = {frozenset(): ".", frozenset("L"): "L", frozenset("C"): "C", frozenset("LC"): "B"}
+        lines = [
+            f"picture {picture}: {count} of {self.size} samples differ, in {len(marks)} of {self.columns * self.rows} macroblocks",
+            f"first: macroblock {mb_y * self.columns + mb_x} (column {mb_x}, row {mb_y}), {component} sample at column {column}, row {row}"
+            f" (coded column {x}, row {y}): {our}, the other's {their}",
+        ]
+        for mb_row in range(self.rows):
+            lines.append("".join(letters[frozenset(marks.get((column, mb_row), ()))] for column in range(self.columns)))
+        return "\n".join(lines) + "\n"
+
+
+def main():
+    name, other, wanted = sys.argv[1:4]
+    pictures = Pictures(name, *(int(word) for word in sys.argv[4:10]))
+    size, all_bytes = pictures.size, pictures.bytes
+    count = len(all_bytes) // size
+    kind, words = sys.argv[10], sys.argv[11:]
+    ours = bytes(all_bytes)
+    text = ""
+    if kind == "change":  # PICTURE COMPONENT COLUMN ROW BY: one sample
+        picture, component, column, row, by = int(words[0]), words[1], int(words[2]), int(words[3]), int(words[4])
+        our, their = pictures.change(picture, component, column, row, by)
+        letter = "L" if component == "luma" else "C"
+        text = pictures.text(picture, 1, (component, column, row, our, their), {pictures.macroblock(component, column, row): {letter}})
+    elif kind == "exchange":  # PICTURE PICTURE
+        a, b = int(words[0]), int(words[1])
+        all_bytes[a * size:(a + 1) * size] = ours[b * size:(b + 1) * size]
+        all_bytes[b * size:(b + 1) * size] = ours[a * size:(a + 1) * size]
+    elif kind == "without":  # PICTURE
+        a = int(words[0])
+        del all_bytes[a * size:(a + 1) * size]
+    elif kind == "cut":  # BYTES: so many less
+        cut = len(ours) - int(words[0])
+        del all_bytes[cut:]
+        text = f"the other has fewer pictures: it ends before picture {cut // size} is whole\n"
+    elif kind == "more":  # BYTES: so many more
+        all_bytes += bytes(int(words[0]))
+        text = f"the other has more pictures: it goes on behind all {count}\n"
+    elif kind == "against":  # FILE MOST: the pictures of this file
+        with open(words[0], "rb") as file:
+            all_bytes[:] = file.read()
+    most = int(words[1]) if kind == "against" else 0
+    if not text:
+        for picture in range(count):
+            if len(all_bytes) < (picture + 1) * size:
+                text = f"the other has fewer pictures: it ends before picture {picture} is whole\n"
+                break
+            text = pictures.text_of(picture, ours[picture * size:(picture + 1) * size], all_bytes[picture * size:(picture + 1) * size], most)
+            if text:
+                break
+    with open(other, "wb") as file:
+        file.write(all_bytes)
+    with open(wanted, "w", encoding="ascii") as file:
+        file.write(text)
+
+
+main()
+END
+
+# NAME WIDTH HEIGHT LEFT RIGHT TOP BOTTOM: the stream that the rows below are about, and its pictures, by their md5
+about() {
+    stream=$here/encoder/$1.264
+    shift
+    shape=$*
+    "$program" decode "$stream" -o "$work/ours"
+    [ "$(md5sum <"$work/ours" | cut -d ' ' -f 1)" = "$(cut -d ' ' -f 1 <"${stream%.264}.md5")" ] || { echo "failed: the pictures of $stream"; failed=$((failed + 1)); }
+    : >"$work/wanted_told"
+}
+
+# NAME STATUS WORD.. -- PLANTED..: a comparison with these words beside what is planted
+row() {
+    name=$1
+    status=$2
+    shift 2
+    words=
+    while [ "$1" != -- ]; do
+        words="$words $1"
+        shift
+    done
+    shift
+    # shellcheck disable=SC2086
+    python3 "$work/plant.py" "$work/ours" "$work/other" "$work/wanted" $shape "$@" || { echo "failed: $name"; failed=$((failed + 1)); return; }
+    [ "$status" = 0 ] && : >"$work/wanted"
+    # shellcheck disable=SC2086
+    "$program" compare $words "$work/other" "$stream" >"$work/written" 2>"$work/told"
+    judge "$name" $? "$status"
+}
+
+# ten pictures of 150x90 of 160x96
+about pub_o_crop_150x90 160 96 0 10 0 6
+row 'the same' 0 -- more 0
+row 'a luma sample of the first macroblock' 1 -- change 0 luma 0 0 1
+row 'a luma sample' 1 -- change 3 luma 77 41 5
+row 'the last luma sample' 1 -- change 9 luma 149 89 200
+row 'a Cb sample' 1 -- change 7 Cb 40 17 1
+row 'a Cr sample' 1 -- change 2 Cr 8 8 255
+row 'the last Cr sample' 1 -- change 9 Cr 74 44 1
+row 'two pictures exchanged' 1 -- exchange 4 6
+row 'a picture left out' 1 -- without 5
+row 'the last picture left out' 1 -- without 9
+row 'all left out' 1 -- cut 202500
+row 'the last byte left out' 1 -- cut 1
+row 'a picture and a byte left out' 1 -- cut 20251
+row 'one more' 1 -- more 20250
+row 'a byte more' 1 -- more 1
+row 'samples that are at most one apart' 0 --max-diff 1 -- change 3 luma 77 41 1
+row 'at most four apart' 1 --max-diff 4 -- change 3 luma 77 41 5
+row 'at most five apart' 0 --max-diff 5 -- change 3 luma 77 41 5
+
+# one of the two by standard input
+: >"$work/wanted"
+"$program" compare "$work/ours" - <"$stream" >"$work/written" 2>"$work/told"
+judge 'the stream by standard input' $? 0
+"$program" compare "$work/ours" <"$stream" >"$work/written" 2>"$work/told"
+judge 'the same, not named' $? 0
+"$program" compare - "$stream" <"$work/ours" >"$work/written" 2>"$work/told"
+judge 'the other by standard input' $? 0
+dd if="$work/ours" bs=997 2>/dev/null | "$program" compare - "$stream" >"$work/written" 2>"$work/told"
+judge 'the other in small reads' $? 0
+
+# what cannot be read, and nothing
+printf 'avcdec: read fault: %s\navcdec: %s: there is no such file\n' "$work/nothing" "$work/nothing" >"$work/wanted_told"
+"$program" compare "$work/nothing" "$stream" >"$work/written" 2>"$work/told"
+judge 'the other is no file' $? 3
+"$program" compare "$work/ours" "$work/nothing" >"$work/written" 2>"$work/told"
+judge 'the stream is no file' $? 3
+printf 'avcdec: read fault: %s\navcdec: %s: it is a folder\n' "$work" "$work" >"$work/wanted_told"
+"$program" compare "$work" "$stream" >"$work/written" 2>"$work/told"
+judge 'the other is a folder' $? 3
+printf 'avcdec: write fault\n' >"$work/wanted_told"
+: >"$work/written"
+"$program" compare /dev/null "$stream" >/dev/full 2>"$work/told"
+judge 'a difference to a full device' $? 3
+: >"$work/wanted_told"
+"$program" compare /dev/null - </dev/null >"$work/written" 2>"$work/told"
+judge 'nothing beside nothing' $? 1
+for words in compare 'compare -' 'compare - -' "compare --max-diff 256 $work/ours $stream"; do
+    # shellcheck disable=SC2086
+    "$program" $words <"$stream" >"$work/written" 2>"$work/told"
+    status=$?
+    [ -s "$work/told" ] && : >"$work/told"
+    judge "wrong words: $words" "$status" 2
+done
+
+# 168x130 of 176x144, cropped on all sides: the last sample of a macroblock, and the first of the next
+about pub_f_cropleft 176 144 6 2 10 4
+row 'the last luma sample of the first macroblock' 1 -- change 1 luma 9 5 3
+row 'the first of another' 1 -- change 1 luma 10 6 3
+row 'the last Cb sample of the first macroblock' 1 -- change 4 Cb 4 2 1
+row 'the first Cr sample of another' 1 -- change 19 Cr 5 3 1
+row 'two cropped pictures exchanged' 1 -- exchange 3 11
+row 'the same, cropped' 0 -- more 0
+
+# a refusal is told, and the pictures around it are compared
+refusing=$here/cases/held_before_refusal
+"$program" decode "$refusing.264" >"$work/around" 2>"$work/told"
+cp "$refusing.refused" "$work/wanted_told"
+"$program" compare "$work/around" "$refusing.264" >"$work/written" 2>"$work/told"
+judge 'the same, and a refusal' $? 1
+
+if command -v ffmpeg >/dev/null; then
+    # the deblocking filter left out: the first picture has another sample
+    ffmpeg -v error -nostdin -skip_loop_filter all -flags unaligned -i "$stream" -fps_mode passthrough -f rawvideo "$work/unfiltered"
+    : >"$work/wanted_told"
+    row 'without the filter' 1 -- against "$work/unfiltered" 0
+    row 'without the filter, at most three apart' 1 --max-diff 3 -- against "$work/unfiltered" 3
+fi
+
+echo "$passed passed, $failed failed"
+[ "$failed" = 0 ]
