@@ -81,6 +81,23 @@ fn in_manner(task: Task, manner: Manner) -> Result<Request<'static>, (ErrorKind,
     })
 }
 
+// A comparison with this file of this one.
+fn compared(
+    most: u8,
+    other: Option<&'static str>,
+    input: Option<&'static str>,
+) -> Result<Request<'static>, (ErrorKind, i32)> {
+    let task = Task::Compare(most);
+    Ok(Request {
+        task,
+        input,
+        other,
+        output: None,
+        is_standard_output_named: false,
+        manner: usual_manner(task),
+    })
+}
+
 // The same where progress is told so.
 fn telling(
     task: Task,
@@ -214,6 +231,24 @@ fn takes_words(rt: HostRuntime) -> Result<(), Fail> {
         ),
         ("avcdec units --early", Err((ErrorKind::UnknownArgument, 2))),
         ("avcdec units", plain(Task::Units)),
+        (
+            "avcdec compare a.yuv in.264",
+            compared(0, Some("a.yuv"), Some("in.264")),
+        ),
+        (
+            "avcdec compare --max-diff 3 - in.264",
+            compared(3, None, Some("in.264")),
+        ),
+        ("avcdec compare a.yuv", compared(0, Some("a.yuv"), None)),
+        ("avcdec compare -", Err((ErrorKind::ValueValidation, 2))),
+        (
+            "avcdec compare --max-diff 256 a.yuv in.264",
+            Err((ErrorKind::ValueValidation, 2)),
+        ),
+        (
+            "avcdec compare",
+            Err((ErrorKind::MissingRequiredArgument, 2)),
+        ),
         ("avcdec info", plain(Task::Info)),
         ("avcdec info --json", plain(Task::InfoJson)),
         ("avcdec decode --json", Err((ErrorKind::UnknownArgument, 2))),
