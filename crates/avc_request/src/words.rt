@@ -3,9 +3,9 @@ ghost use Rattle.avc_request.specs.Commands.{form_by_name, mode_of, progress_of,
 
 use crate::file_kind::{FileKind, file_kind};
 use crate::grammar::{
-    COMPARE, CUT, DECODE, EARLY, EXPLAIN, FORMAT, FRAME_MD5, FRAME_TIMES, FROM, HEADERS, I420, INFO,
-    INPUT, JSON, LIMIT, MAX_DIFF, MD5, NULL, NUMBER, OTHER, OUTPUT, PIECES, PROGRESS, QUIET, SKIP,
-    STRICT, UNITS, VERIFY, Y4M, grammar,
+    COMPARE, CUT, DECODE, EARLY, EXPLAIN, FORMAT, FRAME_MD5, FRAME_TIMES, FROM, HEADERS, I420,
+    INFO, INPUT, JSON, LIMIT, MAX_DIFF, MD5, NULL, NUMBER, OTHER, OUTPUT, PIECES, PROGRESS, QUIET,
+    SKIP, STRICT, UNITS, VERIFY, Y4M, grammar,
 };
 use crate::numbered::{Naming, Numbered, naming_of};
 use crate::request::{Form, Manner, Request, Showing, Task, Telling};
@@ -253,7 +253,12 @@ fn numbered_of<'a>(
 fn start_of(command: Command, matches: &ArgMatches<'_>) -> Option<u32> {
     match command {
         Command::Decode => matches.get_one::<u32>(FROM),
-        Command::Units | Command::Headers | Command::Pieces | Command::Info | Command::Cut => None,
+        Command::Units
+        | Command::Headers
+        | Command::Pieces
+        | Command::Info
+        | Command::Compare
+        | Command::Cut => None,
     }
 }
 
@@ -261,7 +266,12 @@ fn start_of(command: Command, matches: &ArgMatches<'_>) -> Option<u32> {
 fn times_word<'a>(command: Command, matches: &ArgMatches<'a>) -> Option<&'a str> {
     match command {
         Command::Decode => word(matches, FRAME_TIMES),
-        Command::Units | Command::Headers | Command::Pieces | Command::Info | Command::Cut => None,
+        Command::Units
+        | Command::Headers
+        | Command::Pieces
+        | Command::Info
+        | Command::Compare
+        | Command::Cut => None,
     }
 }
 
