@@ -185,7 +185,7 @@ abbrev pub WantsNone : Result (Unit {0}) PictureError → Type 0
 WantsNone answer = (refusal : OutOfMemory) → answer ≡ Err (NoMemory refusal) → ⊥
 
 -- The picture decoder has read so many macroblocks more.
-pub record HasReadMore (d d' : Decoding 32) (read : ℕ) : Type 0 where
+pub record HasReadMore (d d' : Decoding 16) (read : ℕ) : Type 0 where
   pub before : ℕ
   pub after : ℕ
   pub has_before : HasRead before d

@@ -225,7 +225,7 @@ counted_at_rest history o e = grind (arith, none-some)
 
 -- ---- the history that the open picture stands on
 
-pub current_is : (closed history : History) (o : Option OpenPicture) (frames : List (Frame 32)) (output : Output) (failed : Bool) (s : SequenceState) → StandsOnIf closed history o
+pub current_is : (closed history : History) (o : Option OpenPicture) (frames : List (Frame 16)) (output : Output) (failed : Bool) (s : SequenceState) → StandsOnIf closed history o
     → record { history = closed; open_picture = option_map open_picture_of o; frames = frames; output = output; failed = failed } ≡ s → current_history s ≡ history
 current_is closed history o frames output failed s stands e = grind arith
 
@@ -296,7 +296,7 @@ pub set_then : (sps : Sps) (h : Header) (planes : Planes) (before : History) (se
     → set_with sps h set ≡ sequence_sps (with_picture sps h planes before)
 set_then sps h planes before set is = grind arith
 
-pub is_closed : (old new : SequenceState) (o : OpenPictureStart) (planes : Planes) (frames : List (Frame 32)) (history : History) (out : List Picture) → old.failed ≡ false
+pub is_closed : (old new : SequenceState) (o : OpenPictureStart) (planes : Planes) (frames : List (Frame 16)) (history : History) (out : List Picture) → old.failed ≡ false
     → current_history old ≡ history → is_ok (marks_of (with_picture o.sps o.header planes history)) ≡ true
     → new ≡ record { history = with_picture o.sps o.header planes history; open_picture = None; frames = frames; output = old.output; failed = false }
     → out ≡ output_at_closing old.output o.header history (with_picture o.sps o.header planes history) → IsClosed old o planes out new
@@ -312,7 +312,7 @@ pub closing_refused : (o : OpenPictureStart) (planes : Planes) (s : SequenceStat
     → marks_of (with_picture o.sps o.header planes history) ≡ Err f → history_after_closing o.sps o.header planes (current_history s) ≡ Err f
 closing_refused o planes s history f current told = grind (arith, fault_stays)
 
-pub unchanged : (closed : History) (o o' : Option OpenPicture) (frames frames' : List (Frame 32)) (output output' : Output) (failed : Bool) (s : SequenceState) → o ≡ o' → frames' ≡ frames → output' ≡ output → failed ≡ false
+pub unchanged : (closed : History) (o o' : Option OpenPicture) (frames frames' : List (Frame 16)) (output output' : Output) (failed : Bool) (s : SequenceState) → o ≡ o' → frames' ≡ frames → output' ≡ output → failed ≡ false
     → record { history = closed; open_picture = option_map open_picture_of o; frames = frames; output = output; failed = failed } ≡ s
     → record { history = closed; open_picture = option_map open_picture_of o'; frames = frames'; output = output'; failed = false } ≡ s
 unchanged closed o o' frames frames' output output' failed s same_open same_frames same_output going seen = cc

@@ -84,7 +84,7 @@ IsFrameBufferState b = b.failed ≡ false → IsStateAfter (history_of b.history
 -- ---- what a call makes of the buffer
 
 -- the frames with other marks
-abbrev pub with_marks : List (Frame 32) → List MarkedFrame → List (Frame 32)
+abbrev pub with_marks : List (Frame 16) → List MarkedFrame → List (Frame 16)
 with_marks [] marked = []
 with_marks (f ∷ frames) [] = f ∷ frames
 with_marks (f ∷ frames) (m ∷ marked) = record f { mark = m.mark } ∷ with_marks frames marked
@@ -96,5 +96,5 @@ with_all_marks c marked = record c { frames = with_marks c.frames marked }
 -- The pictures before have gone out, or remain (C.4.4).
 abbrev pub OutputsPrior : PriorPictures → (old : Contents) (out : List Picture) (new : Contents) → Type 0
 OutputsPrior prior old out new =
-    (b : Buffer) (next : ℕ) (frame_of : ℕ → Frame 32) → IsBuffer old b next frame_of →
+    (b : Buffer) (next : ℕ) (frame_of : ℕ → Frame 16) → IsBuffer old b next frame_of →
     HasBuffer new out b (after_prior_pictures prior b) next frame_of

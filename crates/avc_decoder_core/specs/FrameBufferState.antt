@@ -18,7 +18,7 @@ use Rattle.avc_decoder_core.specs.Pictures.{output_pictures, held_pictures, prio
 -- and whether memory was refused.
 pub record FrameBufferState : Type 0 where
   pub history : History
-  pub frames : List (Frame 32)
+  pub frames : List (Frame 16)
   pub output : Output
   pub failed : Bool
 

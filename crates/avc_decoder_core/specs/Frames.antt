@@ -16,7 +16,7 @@ abbrev pub mark_in : List Reference → (index : ℕ) → Option Mark
 mark_in references index = option_map (λ r. r.mark) (find (λ r. r.decoding_index == index) references)
 
 -- a frame with the cropping that its parameter set gives
-abbrev pub coded_frame : Sps → Option Planes → (frame_num : ℕ) → Option Mark → Frame 32
+abbrev pub coded_frame : Sps → Option Planes → (frame_num : ℕ) → Option Mark → Frame 16
 coded_frame sps planes frame_num mark = record {
   planes = planes;
   frame_num = frame_num;
@@ -25,11 +25,11 @@ coded_frame sps planes frame_num mark = record {
 }
 
 -- the frame of an entry, with this mark; a missing number's has no planes (8.2.5.2)
-abbrev pub frame_of : Option Entry → Option Mark → Frame 32
+abbrev pub frame_of : Option Entry → Option Mark → Frame 16
 frame_of (Some (decoded_picture sps h planes)) mark = coded_frame sps (Some planes) (frame_num_after_marking (picture_entry sps h)) mark
 frame_of (Some (missing_frame sps frame_num)) mark = coded_frame sps None frame_num mark
 frame_of None mark = record { planes = None; frame_num = 0; mark = mark; crop = crop_of None }
 
 -- the frame of the entry with this decoding index, where these are the reference frames
-abbrev pub frame_at : History → List Reference → (index : ℕ) → Frame 32
+abbrev pub frame_at : History → List Reference → (index : ℕ) → Frame 16
 frame_at history references index = frame_of (entry_at history index) (mark_in references index)

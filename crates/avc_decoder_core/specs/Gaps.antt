@@ -96,7 +96,7 @@ is_leaving needed_for_output (Some Short) = not needed_for_output
 is_leaving needed_for_output (Some (Long index)) = false
 
 -- The frame at a place of the buffer stays if that is before `first`; from there on it leaves, and numbers go on from `low`.
-abbrev pub has_its_place : (first low max place : ℕ) → (needed_for_output : Bool) → Frame 32 → Bool
+abbrev pub has_its_place : (first low max place : ℕ) → (needed_for_output : Bool) → Frame 16 → Bool
 has_its_place first low max place needed_for_output f =
     if nat_lt place first then is_staying needed_for_output f.mark else is_leaving needed_for_output f.mark && f.frame_num == (low + (place - first)) % max
 

@@ -25,7 +25,7 @@ pub record OpenPictureStart : Type 0 where
 pub record SequenceState : Type 0 where
   pub history : History
   pub open_picture : Option OpenPictureStart
-  pub frames : List (Frame 32)
+  pub frames : List (Frame 16)
   pub output : Output
   pub failed : Bool
 
@@ -34,7 +34,7 @@ abbrev pub empty_sequence : Output → SequenceState
 empty_sequence output = record { history = []; open_picture = None; frames = []; output = output; failed = false }
 
 -- the picture of this first slice is open, and these are the stored frames
-abbrev pub with_open_picture : Sps → Header → List (Frame 32) → SequenceState → SequenceState
+abbrev pub with_open_picture : Sps → Header → List (Frame 16) → SequenceState → SequenceState
 with_open_picture sps h frames s = record s { open_picture = Some (record { sps = sps; header = h }); frames = frames }
 
 -- the history, or at a fault that before
@@ -87,7 +87,7 @@ pub record AreStoredIn {PAD : ℕ} (history : History) (frames : List (Frame PAD
   pub stored : stored_at indices frames ≡ stored_frames history
 
 -- At most 16 frames, those that are pictures of the size that the sequence's parameter set gives.
-abbrev pub AreFramesIn : History → List (Frame 32) → Type 0
+abbrev pub AreFramesIn : History → List (Frame 16) → Type 0
 AreFramesIn history frames = IfSome (sequence_sps history) (λ sps. AreFrames (width_in_mbs sps) (height_in_mbs sps) frames)
 
 -- The planes have the size of the open picture.

@@ -14,7 +14,7 @@ use Rattle.avc_dpb.specs.StoredFrame.{is_used_for_reference, shown_frame}
 -- refused
 pub record Contents : Type 0 where
   pub slots : List Slot
-  pub frames : List (Frame 32)
+  pub frames : List (Frame 16)
   pub output : Output
   pub failed : Bool
 
@@ -30,14 +30,14 @@ slot_of s = record { pic_order_cnt = s.pic_order_cnt; needed_for_output = s.need
 
 -- The contents stand for the buffer b before the history's entry whose decoding index is `next`: they have its frames with their order counts, and
 -- know which are needed for output. `frame_of` is the frame of each entry.
-pub record IsBuffer (c : Contents) (b : Buffer) (next : ℕ) (frame_of : ℕ → Frame 32) : Type 0 where
+pub record IsBuffer (c : Contents) (b : Buffer) (next : ℕ) (frame_of : ℕ → Frame 16) : Type 0 where
   pub works : c.failed ≡ false
   pub slots : c.slots ≡ map slot_of b.frames
   pub frames : c.frames ≡ map (λ s. frame_of s.decoding_index) b.frames
   pub rising : IsRising b.frames next
 
 -- The marks of the frames say which are among these reference frames.
-abbrev pub AreReferences : List (Frame 32) → List ℕ → Buffer → Type 0
+abbrev pub AreReferences : List (Frame 16) → List ℕ → Buffer → Type 0
 AreReferences frames references b = map is_used_for_reference frames ≡ map (is_reference_in references) b.frames
 
 -- An arriving frame as an entry of the history, with the decoding indices of the reference frames once it is marked. What becomes of the pictures
@@ -54,11 +54,11 @@ arrival_of a references = record {
 }
 
 -- The mark of the frame of an entry says whether it is among these reference frames.
-abbrev pub IsReferenceAmong : Frame 32 → (index : ℕ) → List ℕ → Type 0
+abbrev pub IsReferenceAmong : Frame 16 → (index : ℕ) → List ℕ → Type 0
 IsReferenceAmong frame index references = is_used_for_reference frame ≡ list_any (λ r. r == index) references
 
 -- The buffer b became the buffer b', for which the contents stand, and what b' has put out was handed out.
-pub record HasBuffer (new : Contents) (out : List Picture) (b b' : Buffer) (next : ℕ) (frame_of : ℕ → Frame 32) : Type 0 where
+pub record HasBuffer (new : Contents) (out : List Picture) (b b' : Buffer) (next : ℕ) (frame_of : ℕ → Frame 16) : Type 0 where
   pub buffer : IsBuffer new b' next frame_of
   pub pictures : out ≡ filter_map (λ index. shown_frame (frame_of index)) (new_output b b')
 
@@ -66,21 +66,21 @@ pub record HasBuffer (new : Contents) (out : List Picture) (b b' : Buffer) (next
 
 -- A frame is stored, or its picture goes out where there is no room, and then no more are needed for output than may stay so (C.4.5); the
 -- contents' frames and this one have the marks that they have once this frame is marked.
-abbrev pub Stores : (old : Contents) (frame : Frame 32) → ArrivingFrame → (out : List Picture) (new : Contents) → Type 0
+abbrev pub Stores : (old : Contents) (frame : Frame 16) → ArrivingFrame → (out : List Picture) (new : Contents) → Type 0
 Stores old frame arriving out new =
-    (b : Buffer) (next : ℕ) (frame_of : ℕ → Frame 32) (references : List ℕ) → IsBuffer old b next frame_of →
+    (b : Buffer) (next : ℕ) (frame_of : ℕ → Frame 16) (references : List ℕ) → IsBuffer old b next frame_of →
     AreReferences old.frames references b → frame_of next ≡ frame → IsReferenceAmong frame next references →
     HasBuffer new out b (after_frame old.output next (arrival_of arriving references) b) (next + 1) frame_of
 
 -- All pictures needed for output go out (C.4.4).
 abbrev pub OutputsAll : (old : Contents) (out : List Picture) (new : Contents) → Type 0
 OutputsAll old out new =
-    (b : Buffer) (next : ℕ) (frame_of : ℕ → Frame 32) → IsBuffer old b next frame_of → HasBuffer new out b (with_all_output b) next frame_of
+    (b : Buffer) (next : ℕ) (frame_of : ℕ → Frame 16) → IsBuffer old b next frame_of → HasBuffer new out b (with_all_output b) next frame_of
 
 -- Some picture goes out with them.
 abbrev pub OutputsSome : (old : Contents) → Type 0
 OutputsSome old =
-    (b : Buffer) (next : ℕ) (frame_of : ℕ → Frame 32) → IsBuffer old b next frame_of →
+    (b : Buffer) (next : ℕ) (frame_of : ℕ → Frame 16) → IsBuffer old b next frame_of →
     filter_map (λ index. shown_frame (frame_of index)) (new_output b (with_all_output b)) ≢ []
 
 -- the frame at a place is needed for output

@@ -44,7 +44,7 @@ impl Dpb {
     /// With no frame.
     pub fn new(alloc: Global, output: Output) -> Dpb
         ensures value { result ≡ record { slots = []; frames = []; output = output; failed = false } }
-        ensures buffer { (frame_of : ℕ → StoredFrame 32) → IsBuffer result empty_buffer 0 frame_of }
+        ensures buffer { (frame_of : ℕ → StoredFrame 16) → IsBuffer result empty_buffer 0 frame_of }
     {
         Dpb {
             alloc,

@@ -48,6 +48,9 @@ fn named(
         other: None,
         output,
         is_standard_output_named: false,
+        numbered: None,
+        from: None,
+        frame_times: None,
         manner: usual_manner(task),
     })
 }
@@ -65,6 +68,9 @@ fn to_standard_output(task: Task) -> Result<Request<'static>, (ErrorKind, i32)> 
         other: None,
         output: None,
         is_standard_output_named: true,
+        numbered: None,
+        from: None,
+        frame_times: None,
         manner: usual_manner(task),
     })
 }
@@ -77,6 +83,9 @@ fn in_manner(task: Task, manner: Manner) -> Result<Request<'static>, (ErrorKind,
         other: None,
         output: None,
         is_standard_output_named: false,
+        numbered: None,
+        from: None,
+        frame_times: None,
         manner,
     })
 }
@@ -94,6 +103,9 @@ fn compared(
         other,
         output: None,
         is_standard_output_named: false,
+        numbered: None,
+        from: None,
+        frame_times: None,
         manner: usual_manner(task),
     })
 }

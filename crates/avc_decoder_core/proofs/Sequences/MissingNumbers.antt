@@ -582,7 +582,7 @@ missing_marked max a index (suc n) (suc i) low = grind (arith, nat_tests, missin
 -- ---- the frames
 
 -- a frame for a missing number
-abbrev missing_of : Sps → ℕ → Frame 32
+abbrev missing_of : Sps → ℕ → Frame 16
 missing_of sps n = coded_frame sps None n (Some Short)
 
 -- what the frames of the missing numbers show, and what those before show
@@ -719,10 +719,10 @@ same_state sps h S L t qs qf w index stays c idx previous shorter longer within 
         ∙ ap₂ (λ l r. l ++ r) (at_before (entry_at H) (entry_at h) index stays.frames x.before (x.settled).before)
         (at_missing (entry_at H) (λ n. Some (missing_frame sps n)) max w t q x.last)
 
-    stayed : List (Frame 32)
+    stayed : List (Frame 16)
     stayed = map (λ s. frame_of (entry_at h s.decoding_index) (mark_in stays.longs s.decoding_index)) stays.frames
 
-    came : List (Frame 32)
+    came : List (Frame 16)
     came = map (missing_of sps) (frame_nums_from max t w)
 
     frames_of : (H : History) (q : ℕ) → EndsIn c.output sps h H t q w index stays →

@@ -6,36 +6,36 @@ use Rattle.avc_dpb.specs.Steps.{Bumps}
 
 -- ---- what slots and frames stand for while a frame is stored, or all pictures go out: the marks of all frames
 
-abbrev Tells : (frame_of : ℕ → Frame 32) (references : List ℕ) → ℕ → Type 0
+abbrev Tells : (frame_of : ℕ → Frame 16) (references : List ℕ) → ℕ → Type 0
 Tells frame_of references index = IsReferenceAmong (frame_of index) index references
 
-tells_each : (frame_of : ℕ → Frame 32) (references : List ℕ) (frames : List Stored)
+tells_each : (frame_of : ℕ → Frame 16) (references : List ℕ) (frames : List Stored)
     → map is_used_for_reference (map (λ s. frame_of s.decoding_index) frames) ≡ map (is_reference_in references) frames → Each (Tells frame_of references) frames
 tells_each frame_of references [] e = tt
 tells_each frame_of references (s ∷ frames) e = (same_head _ _ _ _ e, tells_each frame_of references frames (same_tail _ _ _ _ e))
 
-each_tells : (frame_of : ℕ → Frame 32) (references : List ℕ) (frames : List Stored)
+each_tells : (frame_of : ℕ → Frame 16) (references : List ℕ) (frames : List Stored)
     → Each (Tells frame_of references) frames → map is_used_for_reference (map (λ s. frame_of s.decoding_index) frames) ≡ map (is_reference_in references) frames
 each_tells frame_of references [] h = refl
 each_tells frame_of references (s ∷ frames) h = ap₂ (λ x l. x ∷ l) h.0 (each_tells frame_of references frames h.1)
 
-told : {slots : List Slot} {frames : List (Frame 32)} {references : List ℕ} {b : Buffer} {next : ℕ} {frame_of : ℕ → Frame 32}
+told : {slots : List Slot} {frames : List (Frame 16)} {references : List ℕ} {b : Buffer} {next : ℕ} {frame_of : ℕ → Frame 16}
     → StandFor slots frames references b next frame_of → Each (Tells frame_of references) b.frames
 told {frames = frames} {references = references} {b = b} {frame_of = frame_of} h = grind (arith, tells_each)
 
-stand_for : (slots : List Slot) (frames : List (Frame 32)) (references : List ℕ) (b : Buffer) (next : ℕ) (frame_of : ℕ → Frame 32)
+stand_for : (slots : List Slot) (frames : List (Frame 16)) (references : List ℕ) (b : Buffer) (next : ℕ) (frame_of : ℕ → Frame 16)
     → slots ≡ map slot_of b.frames → frames ≡ map (λ s. frame_of s.decoding_index) b.frames → Each (Tells frame_of references) b.frames → IsRising b.frames next
     → StandFor slots frames references b next frame_of
 stand_for slots frames references b next frame_of slots_are frames_are tells rising = grind (arith, each_tells)
 
 -- one after the other
-in_turn : {slots slots' : List Slot} {frames frames' : List (Frame 32)} {references : List ℕ} {b c d : Buffer} {next next' : ℕ} {frame_of : ℕ → Frame 32}
+in_turn : {slots slots' : List Slot} {frames frames' : List (Frame 16)} {references : List ℕ} {b c d : Buffer} {next next' : ℕ} {frame_of : ℕ → Frame 16}
     {out out' out'' : List Picture} → Become slots frames references b c next frame_of out out' → Become slots' frames' references c d next' frame_of out' out''
     → Become slots' frames' references b d next' frame_of out out''
 in_turn {b = b} {frame_of = frame_of} {out = out} h k = grind (arith, append_assoc, filter_map-append)
 
 -- nothing goes out
-same_buffer : {slots : List Slot} {frames : List (Frame 32)} {references : List ℕ} {b : Buffer} {next : ℕ} {frame_of : ℕ → Frame 32} (c : Buffer) (out : List Picture)
+same_buffer : {slots : List Slot} {frames : List (Frame 16)} {references : List ℕ} {b : Buffer} {next : ℕ} {frame_of : ℕ → Frame 16} (c : Buffer) (out : List Picture)
     → c ≡ b → StandFor slots frames references b next frame_of → Become slots frames references b c next frame_of out out
 same_buffer {slots} {frames} {references} {b} {next} {frame_of} c out is h = grind (arith, append-nil)
 
@@ -45,13 +45,13 @@ chosen_map : {A : Type 0} (p : Stored → Bool) (f : Stored → A) (fs : List St
 chosen_map p f [] = refl
 chosen_map {A} p f (x ∷ fs) = grind (arith, (chosen_map p f fs))
 
-needed_are : (references : List ℕ) (frame_of : ℕ → Frame 32) (fs : List Stored) → Each (Tells frame_of references) fs
+needed_are : (references : List ℕ) (frame_of : ℕ → Frame 16) (fs : List Stored) → Each (Tells frame_of references) fs
     → are_needed (map slot_of fs) (map (λ s. frame_of s.decoding_index) fs) ≡ map (keep references) fs
 needed_are references frame_of [] h = refl
 needed_are references frame_of (s ∷ fs) h = ap₂ (λ (r : Bool) (l : List Bool). (s.needed_for_output || r) ∷ l) h.0 (needed_are references frame_of fs h.1)
 
-pub needless_leave : {slots : List Slot} {frames : List (Frame 32)} {references : List ℕ} {b : Buffer} {next : ℕ} {frame_of : ℕ → Frame 32}
-    (slots' : List Slot) (frames' : List (Frame 32)) → StandFor slots frames references b next frame_of
+pub needless_leave : {slots : List Slot} {frames : List (Frame 16)} {references : List ℕ} {b : Buffer} {next : ℕ} {frame_of : ℕ → Frame 16}
+    (slots' : List Slot) (frames' : List (Frame 16)) → StandFor slots frames references b next frame_of
     → slots' ≡ chosen (are_needed slots frames) slots → frames' ≡ chosen (are_needed slots frames) frames
     → StandFor slots' frames' references (record b { frames = needed_frames references b.frames }) next frame_of
 needless_leave {slots} {frames} {references} {b} {next} {frame_of} slots' frames' h slots_is frames_is =
@@ -87,13 +87,13 @@ changed_there change (y ∷ xs) zero x e = ap (λ z. change z ∷ xs) (same_Some
 changed_there change (y ∷ xs) (suc k) x e = ap (λ l. y ∷ l) (changed_there change xs k x e)
 
 -- the frame that goes first, and the buffer after it
-record IsFound (frames : List (Frame 32)) (k : ℕ) (references : List ℕ) (b : Buffer) (frame_of : ℕ → Frame 32) : Type 0 where
+record IsFound (frames : List (Frame 16)) (k : ℕ) (references : List ℕ) (b : Buffer) (frame_of : ℕ → Frame 16) : Type 0 where
   first : Stored
   there : slice_get b.frames k ≡ Some first
   after : after_bumping references b ≡ record { frames = needed_frames references (map (no_longer_needed first) b.frames); out = b.out ++ first.decoding_index ∷ [] }
-  frame : (d : Frame 32) → get_or frames k d ≡ frame_of first.decoding_index
+  frame : (d : Frame 16) → get_or frames k d ≡ frame_of first.decoding_index
 
-found : (slots : List Slot) (frames : List (Frame 32)) (k : ℕ) (references : List ℕ) (b : Buffer) (next : ℕ) (frame_of : ℕ → Frame 32)
+found : (slots : List Slot) (frames : List (Frame 16)) (k : ℕ) (references : List ℕ) (b : Buffer) (next : ℕ) (frame_of : ℕ → Frame 16)
     → Some k ≡ option_map (λ (p : ℕ × ℤ). p.0) (first_output_from 0 slots) → StandFor slots frames references b next frame_of → IsFound frames k references b frame_of
 found slots frames k references b next frame_of is h =
     let f = find_by b.frames k (first_needed b.frames) (first_output_from 0 (map slot_of b.frames)) (agree b.frames 0 next h.rising)
@@ -106,7 +106,7 @@ found slots frames k references b next frame_of is h =
           (ap (λ l. slice_get l k) h.frames_are ∙ slice_get-map (λ s. frame_of s.decoding_index) b.frames k ∙ ap (option_map (λ s. frame_of s.decoding_index)) f.2);
     }
 
-pub slot_bumped : (slots slots1 slots' : List Slot) (frames frames' : List (Frame 32)) (out out' : List Picture) (k : ℕ) (f : Frame 32)
+pub slot_bumped : (slots slots1 slots' : List Slot) (frames frames' : List (Frame 16)) (out out' : List Picture) (k : ℕ) (f : Frame 16)
     → Some k ≡ option_map (λ (p : ℕ × ℤ). p.0) (first_output_from 0 slots) → f ≡ get_or frames k f → slots1 ≡ slot_changed_at slot_let_go slots k
     → slots' ≡ chosen (are_needed slots1 frames) slots1 → frames' ≡ chosen (are_needed slots1 frames) frames
     → out' ≡ out ++ filter_map shown_frame (f ∷ []) → Bumps slots frames out slots' frames' out'
@@ -129,14 +129,14 @@ slot_bumped slots slots1 slots' frames frames' out out' k f is f_is set slots_is
       pictures = out_is ∙ ap (λ z. out ++ filter_map shown_frame (z ∷ [])) (f_is ∙ o.frame f);
     }
 
-pub none_bumped : (slots : List Slot) (frames : List (Frame 32)) (out : List Picture) → None ≡ option_map (λ (p : ℕ × ℤ). p.0) (first_output_from 0 slots)
+pub none_bumped : (slots : List Slot) (frames : List (Frame 16)) (out : List Picture) → None ≡ option_map (λ (p : ℕ × ℤ). p.0) (first_output_from 0 slots)
     → Bumps slots frames out slots frames out
 none_bumped slots frames out is = λ b next frame_of references h.
     let none = find_none b.frames (first_needed b.frames) (first_output_from 0 (map slot_of b.frames)) (agree b.frames 0 next h.rising)
     (is ∙ ap (λ l. option_map (λ (p : ℕ × ℤ). p.0) (first_output_from 0 l)) h.slots_are) in
     same_buffer (after_bumping references b) out (bumped_none references b (head_needed b.frames ∙ none)) h
 
-pub shows_first : (slots : List Slot) (frames : List (Frame 32)) (k : ℕ) (f : Frame 32)
+pub shows_first : (slots : List Slot) (frames : List (Frame 16)) (k : ℕ) (f : Frame 16)
     → Some k ≡ option_map (λ (p : ℕ × ℤ). p.0) (first_output_from 0 slots) → f ≡ get_or frames k f → filter_map shown_frame (f ∷ []) ≢ []
     → ShowsFirst slots frames
 shows_first slots frames k f is f_is some = λ b next frame_of references h.
@@ -164,19 +164,19 @@ same_test : (bumping : Bumping) (references : List ℕ) (slots : List Slot) (b :
 same_test bumping references slots b is = grind (arith, ℕ, nat_le, length-map, first_slots, count_slots)
 
 -- So many bumpings were made of those that may be; `now` is the buffer after them.
-pub record IsSoFar (bumping : Bumping) (needed_for_output turn : ℕ) (slots : List Slot) (frames : List (Frame 32)) (references : List ℕ) (b : Buffer) (next : ℕ)
-    (frame_of : ℕ → Frame 32) (out out' : List Picture) : Type 0 where
+pub record IsSoFar (bumping : Bumping) (needed_for_output turn : ℕ) (slots : List Slot) (frames : List (Frame 16)) (references : List ℕ) (b : Buffer) (next : ℕ)
+    (frame_of : ℕ → Frame 16) (out out' : List Picture) : Type 0 where
   pub now : Buffer
   pub become : Become slots frames references b now next frame_of out out'
   pub left : after_bumping_while (goes_on_in bumping references) references (needed_for_output - turn) now ≡ after_bumping_while (goes_on_in bumping references) references needed_for_output b
 
-abbrev pub SoFar : Bumping → (needed_for_output turn : ℕ) (slots : List Slot) (frames : List (Frame 32)) (out : List Picture) (slots' : List Slot) (frames' : List (Frame 32))
+abbrev pub SoFar : Bumping → (needed_for_output turn : ℕ) (slots : List Slot) (frames : List (Frame 16)) (out : List Picture) (slots' : List Slot) (frames' : List (Frame 16))
     (out' : List Picture) → Type 0
 SoFar bumping needed_for_output turn slots frames out slots' frames' out' =
-    (b : Buffer) (next : ℕ) (frame_of : ℕ → Frame 32) (references : List ℕ) → StandFor slots frames references b next frame_of
+    (b : Buffer) (next : ℕ) (frame_of : ℕ → Frame 16) (references : List ℕ) → StandFor slots frames references b next frame_of
     → IsSoFar bumping needed_for_output turn slots' frames' references b next frame_of out out'
 
-pub at_start : (bumping : Bumping) (needed_for_output : ℕ) (slots : List Slot) (frames : List (Frame 32)) (out : List Picture) → SoFar bumping needed_for_output 0 slots frames out slots frames out
+pub at_start : (bumping : Bumping) (needed_for_output : ℕ) (slots : List Slot) (frames : List (Frame 16)) (out : List Picture) → SoFar bumping needed_for_output 0 slots frames out slots frames out
 at_start bumping needed_for_output slots frames out = grind (arith, same_buffer)
 
 goes_more : (bumping : Bumping) (references : List ℕ) (needed_for_output turn : ℕ) (slots : List Slot) (b : Buffer) → turn < needed_for_output → goes_on bumping slots ≡ true → slots ≡ map slot_of b.frames
@@ -187,7 +187,7 @@ goes_more bumping references needed_for_output turn slots b low goes is =
     sym (one_more (goes_on_in bumping references) references (needed_for_output - (turn + 1)) b (sym (same_test bumping references slots b is) ∙ goes))
     ∙ ap (λ n. after_bumping_while (goes_on_in bumping references) references n b) count
 
-pub one_so_far : (bumping : Bumping) (needed_for_output turn : ℕ) (slots0 slots slots' : List Slot) (frames0 frames frames' : List (Frame 32)) (out0 out out' : List Picture)
+pub one_so_far : (bumping : Bumping) (needed_for_output turn : ℕ) (slots0 slots slots' : List Slot) (frames0 frames frames' : List (Frame 16)) (out0 out out' : List Picture)
     → turn < needed_for_output → goes_on bumping slots ≡ true → SoFar bumping needed_for_output turn slots0 frames0 out0 slots frames out → Bumps slots frames out slots' frames' out'
     → SoFar bumping needed_for_output (turn + 1) slots0 frames0 out0 slots' frames' out'
 one_so_far bumping needed_for_output turn slots0 slots slots' frames0 frames frames' out0 out out' low goes so_far bumps = λ b next frame_of references h.
@@ -203,7 +203,7 @@ all_are : (bumping : Bumping) (references : List ℕ) (needed_for_output : ℕ) 
     → after_bumping_while (goes_on_in bumping references) references needed_for_output b ≡ after_making_room (goes_on_in bumping references) references b
 all_are bumping references needed_for_output slots b count is = grind (arith, count_slots)
 
-ended : (bumping : Bumping) (needed_for_output turn : ℕ) (slots0 slots : List Slot) (frames0 frames : List (Frame 32)) (out0 out : List Picture)
+ended : (bumping : Bumping) (needed_for_output turn : ℕ) (slots0 slots : List Slot) (frames0 frames : List (Frame 16)) (out0 out : List Picture)
     → needed_for_output ≡ count_by (λ s. s.needed_for_output) slots0 → SoFar bumping needed_for_output turn slots0 frames0 out0 slots frames out
     → ((references : List ℕ) (b : Buffer) → slots ≡ map slot_of b.frames → after_bumping_while (goes_on_in bumping references) references (needed_for_output - turn) b ≡ b)
     → BumpsWhile bumping slots0 frames0 out0 slots frames out
@@ -212,14 +212,14 @@ ended bumping needed_for_output turn slots0 slots frames0 frames out0 out count 
     subst (λ c. Become slots frames references b c next frame_of out0 out)
     (sym (end references f.now f.become.stand.slots_are) ∙ f.left ∙ all_are bumping references needed_for_output slots0 b count h.slots_are) f.become
 
-pub stopped : (bumping : Bumping) (needed_for_output turn : ℕ) (slots0 slots : List Slot) (frames0 frames : List (Frame 32)) (out0 out : List Picture)
+pub stopped : (bumping : Bumping) (needed_for_output turn : ℕ) (slots0 slots : List Slot) (frames0 frames : List (Frame 16)) (out0 out : List Picture)
     → needed_for_output ≡ count_by (λ s. s.needed_for_output) slots0 → goes_on bumping slots ≡ false → SoFar bumping needed_for_output turn slots0 frames0 out0 slots frames out
     → BumpsWhile bumping slots0 frames0 out0 slots frames out
 stopped bumping needed_for_output turn slots0 slots frames0 frames out0 out count stop so_far =
     ended bumping needed_for_output turn slots0 slots frames0 frames out0 out count so_far
     (λ references b is. stops (goes_on_in bumping references) references (needed_for_output - turn) b (sym (same_test bumping references slots b is) ∙ stop))
 
-pub all_turns : (bumping : Bumping) (needed_for_output turn : ℕ) (slots0 slots : List Slot) (frames0 frames : List (Frame 32)) (out0 out : List Picture)
+pub all_turns : (bumping : Bumping) (needed_for_output turn : ℕ) (slots0 slots : List Slot) (frames0 frames : List (Frame 16)) (out0 out : List Picture)
     → needed_for_output ≡ count_by (λ s. s.needed_for_output) slots0 → needed_for_output - turn ≡ 0 → SoFar bumping needed_for_output turn slots0 frames0 out0 slots frames out
     → BumpsWhile bumping slots0 frames0 out0 slots frames out
 all_turns bumping needed_for_output turn slots0 slots frames0 frames out0 out count none so_far =
@@ -227,7 +227,7 @@ all_turns bumping needed_for_output turn slots0 slots frames0 frames out0 out co
     (λ references b is. ap (λ n. after_bumping_while (goes_on_in bumping references) references n b) none)
 
 -- a picture that could not be added is one of those that go out
-pub shows_while : (bumping : Bumping) (needed_for_output turn : ℕ) (slots0 slots : List Slot) (frames0 frames : List (Frame 32)) (out0 out : List Picture)
+pub shows_while : (bumping : Bumping) (needed_for_output turn : ℕ) (slots0 slots : List Slot) (frames0 frames : List (Frame 16)) (out0 out : List Picture)
     → needed_for_output ≡ count_by (λ s. s.needed_for_output) slots0 → turn < needed_for_output → goes_on bumping slots ≡ true → SoFar bumping needed_for_output turn slots0 frames0 out0 slots frames out
     → ShowsFirst slots frames → ShowsWhile bumping slots0 frames0
 shows_while bumping needed_for_output turn slots0 slots frames0 frames out0 out count low goes so_far shows = λ b next frame_of references h.
@@ -245,19 +245,19 @@ shows_while bumping needed_for_output turn slots0 slots frames0 frames out0 out 
 
 -- ---- the arriving frame finds its place
 
-shown_if : (frame_of : ℕ → Frame 32) (next : ℕ) (frame : Frame 32) (b : Bool) → frame_of next ≡ frame
+shown_if : (frame_of : ℕ → Frame 16) (next : ℕ) (frame : Frame 16) (b : Bool) → frame_of next ≡ frame
     → (if b then filter_map shown_frame (frame ∷ []) else []) ≡ filter_map (λ e. shown_frame (frame_of e)) (if b then next ∷ [] else [])
 shown_if frame_of next frame b is = grind arith
 
 full_is : (capacity : ℕ) (slots : List Slot) (b : Buffer) → slots ≡ map slot_of b.frames → nat_le capacity (length slots) ≡ is_full capacity b
 full_is capacity slots b is = ap (nat_le capacity) (ap length is ∙ length-map b.frames slot_of)
 
-pub goes_at_once : (slots : List Slot) (frames : List (Frame 32)) (out out' : List Picture) (frame : Frame 32) (a : ArrivingFrame)
+pub goes_at_once : (slots : List Slot) (frames : List (Frame 16)) (out out' : List Picture) (frame : Frame 16) (a : ArrivingFrame)
     → nat_le a.capacity (length slots) ≡ true → out' ≡ out ++ (if a.existing then filter_map shown_frame (frame ∷ []) else [])
     → PlacesFrame slots frames out frame a slots frames out'
 goes_at_once slots frames out out' frame a full out_is = grind (arith, full_is, rising_more, shown_if)
 
-pub is_stored : (slots slots' : List Slot) (frames frames' : List (Frame 32)) (out : List Picture) (frame : Frame 32) (a : ArrivingFrame)
+pub is_stored : (slots slots' : List Slot) (frames frames' : List (Frame 16)) (out : List Picture) (frame : Frame 16) (a : ArrivingFrame)
     → nat_le a.capacity (length slots) ≡ false → slots' ≡ slots ++ record { pic_order_cnt = a.pic_order_cnt; needed_for_output = a.existing } ∷ [] → frames' ≡ frames ++ frame ∷ []
     → PlacesFrame slots frames out frame a slots' frames' out
 is_stored slots slots' frames frames' out frame a full slots_is frames_is =
@@ -265,7 +265,7 @@ is_stored slots slots' frames frames' out frame a full slots_is frames_is =
 
 -- ---- a frame is stored
 
-pub stored : (c new : Contents) (a : ArrivingFrame) (frame : Frame 32) (slots1 slots2 slots3 slots4 : List Slot) (frames1 frames2 frames3 frames4 : List (Frame 32))
+pub stored : (c new : Contents) (a : ArrivingFrame) (frame : Frame 16) (slots1 slots2 slots3 slots4 : List Slot) (frames1 frames2 frames3 frames4 : List (Frame 16))
     (out2 out3 out4 : List Picture) → slots1 ≡ chosen (are_needed c.slots c.frames) c.slots → frames1 ≡ chosen (are_needed c.slots c.frames) c.frames
     → BumpsWhile (ForRoom a) slots1 frames1 [] slots2 frames2 out2 → PlacesFrame slots2 frames2 out2 frame a slots3 frames3 out3
     → BumpsWhile (ForFew c.output a) slots3 frames3 out3 slots4 frames4 out4
@@ -303,11 +303,11 @@ each_among es (s ∷ frames) up =
     grind (arith, or_left, or_right, eq-eqb, (each_among es frames (λ e h. up e (or_right (s.decoding_index == e) (stands_in (map (λ s. s.decoding_index) frames) e) h))))
 
 -- the reference frames that the marks tell of
-record HasReferences (c : Contents) (b : Buffer) (next : ℕ) (frame_of : ℕ → Frame 32) : Type 0 where
+record HasReferences (c : Contents) (b : Buffer) (next : ℕ) (frame_of : ℕ → Frame 16) : Type 0 where
   references : List ℕ
   stand : StandFor c.slots c.frames references b next frame_of
 
-has_references : (c : Contents) (b : Buffer) (next : ℕ) (frame_of : ℕ → Frame 32) → IsBuffer c b next frame_of → HasReferences c b next frame_of
+has_references : (c : Contents) (b : Buffer) (next : ℕ) (frame_of : ℕ → Frame 16) → IsBuffer c b next frame_of → HasReferences c b next frame_of
 has_references c b next frame_of h =
     let indices : List ℕ = map (λ s. s.decoding_index) b.frames in
     let p : ℕ → Bool = λ e. is_used_for_reference (frame_of e) in
@@ -318,7 +318,7 @@ has_references c b next frame_of h =
           (each_among indices b.frames (λ e among. among))) h.rising;
     }
 
-pub all_slots_out : (c new : Contents) (slots : List Slot) (frames : List (Frame 32)) (out : List Picture) → BumpsWhile ForNone c.slots c.frames [] slots frames out
+pub all_slots_out : (c new : Contents) (slots : List Slot) (frames : List (Frame 16)) (out : List Picture) → BumpsWhile ForNone c.slots c.frames [] slots frames out
     → new ≡ record { slots = []; frames = []; output = c.output; failed = false } → OutputsAll c out new
 all_slots_out c new slots frames out bumps new_is = λ b next frame_of h.
     let has = has_references c b next frame_of h in

@@ -187,7 +187,7 @@ buffer_is output e h arriving m arrives =
     ∙ ap (λ n. after_frame output n (arrival e h) (emptied output e h)) (sym (length-arrivals h))
 
 pub stored_buffer : (output : Output) (e : Entry) (h : History) (arriving : ArrivingFrame) (m : Marks) → Arrives e h arriving m →
-    (old new : Contents) (frame : Frame 32) (out : List Picture) → IsBuffer old (emptied output e h) (length h) (frame_at (e ∷ h) m.references) → old.output ≡ output →
+    (old new : Contents) (frame : Frame 16) (out : List Picture) → IsBuffer old (emptied output e h) (length h) (frame_at (e ∷ h) m.references) → old.output ≡ output →
     frame_at (e ∷ h) m.references (length h) ≡ frame → Stores old frame arriving out new →
     HasBuffer new out (emptied output e h) (buffer_of output (e ∷ h)) (length h + 1) (frame_at (e ∷ h) m.references)
 stored_buffer output e h arriving m arrives old new frame out is same own stores =
@@ -375,7 +375,7 @@ few_frames h c idx previous s = grind (arith, length-map, holds_at_most)
 pub few_needed : (i : FrameBuffer) → IsFrameBufferState i → i.failed ≡ false → length i.dpb.frames ≤ 16
 few_needed i invariant on = few_frames (history_of i.history.items) i.dpb i.max_long_term_frame_idx i.prev_ref_frame_num (invariant on)
 
-pub few_marked : (i : FrameBuffer) (frames : List (Frame 32)) (marked : List MarkedFrame) → IsFrameBufferState i → i.failed ≡ false → frames ≡ i.dpb.frames →
+pub few_marked : (i : FrameBuffer) (frames : List (Frame 16)) (marked : List MarkedFrame) → IsFrameBufferState i → i.failed ≡ false → frames ≡ i.dpb.frames →
     marked ≡ map marked_frame frames → (length frames ≤ 16) × (length marked ≤ 16)
 few_marked i frames marked invariant on is marked_is = rw (marked_is, length-map, is) (few_needed i invariant on, few_needed i invariant on)
 
@@ -405,7 +405,7 @@ are_frames h c idx previous s =
     let rs = (s.marks).references in
     if_some (λ sps. Each (IsSizedAt h sps) ps) (λ sps. AreFrames (width_in_mbs sps) (height_in_mbs sps) c.frames) (sequence_sps h)
     (λ sps is sized.
-    let P : Frame 32 → Type 0 = λ f. IfSome f.planes (AreSized (width_in_mbs sps) (height_in_mbs sps)) in
+    let P : Frame 16 → Type 0 = λ f. IfSome f.planes (AreSized (width_in_mbs sps) (height_in_mbs sps)) in
     record {
       few = few_frames h c idx previous s;
       sized = each_all P c.frames (subst (Each P) (sym (frames_are h c idx previous s))
@@ -468,7 +468,7 @@ pub taken : (e : Entry) (h : History) (c : Contents) (idx : Option ℕ) (previou
     MarksFrame (λ index. marks_after (marking_entry e) index (marking_entry e).marking) old idx (Ok tt) new new_idx →
     (after_marks after_prior after_store : Contents) → after_marks ≡ with_all_marks c new →
     (prior out : List Picture) → OutputsPrior (arrival e h).prior_pictures after_marks prior after_prior → after_prior.output ≡ after_marks.output →
-    (frame : Frame 32) (k : ℕ) (d : MarkedFrame) → k + 1 ≡ length new → frame ≡ frame_of (Some e) (slice_index_or new k d).mark →
+    (frame : Frame 16) (k : ℕ) (d : MarkedFrame) → k + 1 ≡ length new → frame ≡ frame_of (Some e) (slice_index_or new k d).mark →
     (arriving : ArrivingFrame) → ((m : Marks) → marks_of (e ∷ h) ≡ Ok m → Arrives e h arriving m) →
     Stores after_prior frame arriving out after_store → after_store.output ≡ after_prior.output →
     (new_previous : ℕ) → new_previous ≡ prev_ref_frame_num (marking_entries (e ∷ h)) → IsTaken c.output e h after_store new_idx new_previous prior out
@@ -520,7 +520,7 @@ taken e h c idx previous s follows limits old new new_idx old_is long marks afte
 -- ---- no history
 
 pub empty_state : (output : Output) (items : List HistoryEntry) (c : Contents) → items ≡ [] → c ≡ record { slots = []; frames = []; output = output; failed = false } →
-    ((frame_of : ℕ → Frame 32) → IsBuffer c empty_buffer 0 frame_of) → IsStateAfter (history_of items) c None 0
+    ((frame_of : ℕ → Frame 16) → IsBuffer c empty_buffer 0 frame_of) → IsStateAfter (history_of items) c None 0
 empty_state output items c none is buffer =
     let there : IsStateAfter [] c None 0 = record {
       marks = no_marks;
@@ -561,7 +561,7 @@ holds_some h c idx previous s some =
     λ none. some b (length h) (frame_at h rs) s.buffer
     (ap (filter_map (λ p. shown_frame (frame_at h rs p))) (all_held_go_out b) ∙ pictures_are h rs (all_held c.output h) ∙ none)
 
-pub no_buffer : (output : Output) (c : Contents) → c ≡ record { slots = []; frames = []; output = output; failed = false } → (frame_of : ℕ → Frame 32) → IsBuffer c empty_buffer 0 frame_of
+pub no_buffer : (output : Output) (c : Contents) → c ≡ record { slots = []; frames = []; output = output; failed = false } → (frame_of : ℕ → Frame 16) → IsBuffer c empty_buffer 0 frame_of
 no_buffer output c is frame_of = subst (λ c. IsBuffer c empty_buffer 0 frame_of) (sym is) (record { works = refl; slots = refl; frames = refl; rising = tt })
 
 -- ---- what calls answer
@@ -576,7 +576,7 @@ refused old new marked f r is going same fault = subst (λ r. IfErr r (λ error.
 -- ---- an entry's frame is marked and stored, in the terms of the calls that do it
 
 -- the frame that was made of the entry and its mark
-pub frame_made : (e made_of : Entry) (marked there : List MarkedFrame) (frame : Frame 32) (k : ℕ) (d : MarkedFrame) → made_of ≡ e → there ≡ marked →
+pub frame_made : (e made_of : Entry) (marked there : List MarkedFrame) (frame : Frame 16) (k : ℕ) (d : MarkedFrame) → made_of ≡ e → there ≡ marked →
     frame ≡ frame_of (Some made_of) (slice_index_or there k d).mark → frame ≡ frame_of (Some e) (slice_index_or marked k d).mark
 frame_made e made_of marked there frame k d same is made = made ∙ ap₂ (λ e ms. frame_of (Some e) (slice_index_or ms k d).mark) same is
 

@@ -237,7 +237,7 @@ last_mark new (p ∷ ps) n (suc k) (m ∷ marked) d last marks = last_mark new p
 pub marks_then : (e : Entry) (h : History) (m : Marks) → marks_of h ≡ Ok m → marks_of (e ∷ h) ≡ marks_after (marking_entry e) (length h) (marking_entry e).marking m
 marks_then e h m is = grind (arith, length-map)
 
-stand_before : (h : History) (c : Contents) (b : Buffer) (frame : ℕ → Frame 32) (old : List MarkedFrame) → IsBuffer c b (length h) frame →
+stand_before : (h : History) (c : Contents) (b : Buffer) (frame : ℕ → Frame 16) (old : List MarkedFrame) → IsBuffer c b (length h) frame →
     old ≡ map marked_frame c.frames → StandBefore (indices_in b) (length h) old
 stand_before h c b frame old buffer is = record {
   each = length-map b.frames (λ s. s.decoding_index) ∙ sym (ap length is ∙ length-map c.frames marked_frame ∙ ap length buffer.frames ∙ length-map b.frames (λ s. frame s.decoding_index));
@@ -350,22 +350,22 @@ each_prior P are_output b h = tt
 
 -- ---- each frame gets its new mark
 
-abbrev pub frame_marked : Frame 32 → Option Mark → Frame 32
+abbrev pub frame_marked : Frame 16 → Option Mark → Frame 16
 frame_marked f mark = record f { mark = mark }
 
-pub length-with_marks : (fs : List (Frame 32)) (ms : List MarkedFrame) → length (with_marks fs ms) ≡ length fs
+pub length-with_marks : (fs : List (Frame 16)) (ms : List MarkedFrame) → length (with_marks fs ms) ≡ length fs
 length-with_marks [] ms = refl
 length-with_marks (f ∷ fs) [] = refl
 length-with_marks (f ∷ fs) (m ∷ ms) = ap suc (length-with_marks fs ms)
 
-with_no_marks : (fs : List (Frame 32)) → with_marks fs [] ≡ fs
+with_no_marks : (fs : List (Frame 16)) → with_marks fs [] ≡ fs
 with_no_marks [] = refl
 with_no_marks (f ∷ fs) = refl
 
 pub no_marks_set : (c : Contents) → c ≡ with_all_marks c []
 no_marks_set c = ap (λ fs. record c { frames = fs }) (sym (with_no_marks c.frames))
 
-one_more : (fs : List (Frame 32)) (ms : List MarkedFrame) (i : ℕ) (d : MarkedFrame) → i < length fs → i < length ms →
+one_more : (fs : List (Frame 16)) (ms : List MarkedFrame) (i : ℕ) (d : MarkedFrame) → i < length fs → i < length ms →
     changed_at (λ f. frame_marked f (slice_index_or ms i d).mark) (with_marks fs (take i ms)) i ≡ with_marks fs (take (suc i) ms)
 one_more [] ms i d low low' = absurd (omega (arith, low))
 one_more (f ∷ fs) [] i d low low' = absurd (omega (arith, low'))
@@ -379,7 +379,7 @@ marks_more c ms i d now new low low' is set =
     set ∙ ap (λ v. with_mark v i (slice_index_or ms i d).mark) is
     ∙ ap (λ fs. record c { frames = fs }) (one_more c.frames ms i d low low' ∙ ap (λ n. with_marks c.frames (take n ms)) next)
 
-all_marks : (fs : List (Frame 32)) (ms : List MarkedFrame) (n : ℕ) → length fs ≤ n → with_marks fs (take n ms) ≡ with_marks fs ms
+all_marks : (fs : List (Frame 16)) (ms : List MarkedFrame) (n : ℕ) → length fs ≤ n → with_marks fs (take n ms) ≡ with_marks fs ms
 all_marks [] ms n all = refl
 all_marks (f ∷ fs) ms zero all = absurd (omega (arith, all))
 all_marks (f ∷ fs) [] (suc n) all = refl
@@ -394,35 +394,35 @@ length-all_marks c now ms is = ap (λ v. length v.frames) is ∙ length-with_mar
 -- ---- where the buffer's frames pass the test for a settled window: the reference frames among the buffer's frames
 
 -- those of these frames, where `at` is the frame of each decoding index
-abbrev references_in : (at : ℕ → Frame 32) → List Stored → List Reference
+abbrev references_in : (at : ℕ → Frame 16) → List Stored → List Reference
 references_in at ts = references_at (map (λ s. s.decoding_index) ts) (map (λ s. marked_frame (at s.decoding_index)) ts)
 
-references_apart : (at : ℕ → Frame 32) (ts us : List Stored) → references_in at (ts ++ us) ≡ references_in at ts ++ references_in at us
+references_apart : (at : ℕ → Frame 16) (ts us : List Stored) → references_in at (ts ++ us) ≡ references_in at ts ++ references_in at us
 references_apart at [] us = refl
 references_apart at (s ∷ ts) us = grind (arith, references_apart at ts us)
 
 -- ---- what the test says of each frame
 
-abbrev test_of : (at : ℕ → Frame 32) → (first low max place : ℕ) → Option Stored → Bool
+abbrev test_of : (at : ℕ → Frame 16) → (first low max place : ℕ) → Option Stored → Bool
 test_of at first low max place o = elim o [ None ↦ false | Some s ↦ has_its_place first low max place s.needed_for_output (at s.decoding_index) ]
 
-abbrev AllPass : (at : ℕ → Frame 32) → (first low max : ℕ) → List Stored → Type 0
+abbrev AllPass : (at : ℕ → Frame 16) → (first low max : ℕ) → List Stored → Type 0
 AllPass at first low max ts = (p : ℕ) → p < length ts → test_of at first low max p (slice_get ts p) ≡ true
 
 -- a frame that leaves
-record IsLeaving (low max : ℕ) (needed_for_output : Bool) (f : Frame 32) : Type 0 where
+record IsLeaving (low max : ℕ) (needed_for_output : Bool) (f : Frame 16) : Type 0 where
   short : f.mark ≡ Some Short
   not_needed : needed_for_output ≡ false
   number : f.frame_num ≡ low % max
 
-leaving : (low max : ℕ) (needed_for_output : Bool) (f : Frame 32) → has_its_place 0 low max 0 needed_for_output f ≡ true → IsLeaving low max needed_for_output f
+leaving : (low max : ℕ) (needed_for_output : Bool) (f : Frame 16) → has_its_place 0 low max 0 needed_for_output f ≡ true → IsLeaving low max needed_for_output f
 leaving low max needed_for_output f e = grind (arith, nat_tests)
 
 -- the others
-rest_leaving : (at : ℕ → Frame 32) (low max : ℕ) (s : Stored) (ts : List Stored) → AllPass at 0 low max (s ∷ ts) → AllPass at 0 (low + 1) max ts
+rest_leaving : (at : ℕ → Frame 16) (low max : ℕ) (s : Stored) (ts : List Stored) → AllPass at 0 low max (s ∷ ts) → AllPass at 0 (low + 1) max ts
 rest_leaving at low max s ts all = λ p within. let h = all (suc p) (omega (arith, within)) in grind (arith, nat_tests, h)
 
-rest_staying : (at : ℕ → Frame 32) (first low max : ℕ) (s : Stored) (ts : List Stored) → AllPass at (suc first) low max (s ∷ ts) → AllPass at first low max ts
+rest_staying : (at : ℕ → Frame 16) (first low max : ℕ) (s : Stored) (ts : List Stored) → AllPass at (suc first) low max (s ∷ ts) → AllPass at first low max ts
 rest_staying at first low max s ts all = λ p within. let h = all (suc p) (omega (arith, within)) in grind (arith, nat_tests, h)
 
 -- ---- the frames that leave
@@ -433,7 +433,7 @@ record AreLeaving (max low number index next : ℕ) (shorts : List Reference) (t
   not_needed : AreNotNeeded shorts ts
   many : length shorts ≡ length ts
 
-are_leaving : (at : ℕ → Frame 32) (max low number index next : ℕ) (ts : List Stored) → low + length ts ≡ number → index ≤ next →
+are_leaving : (at : ℕ → Frame 16) (max low number index next : ℕ) (ts : List Stored) → low + length ts ≡ number → index ≤ next →
     Each (λ p. index ≤ p) (map (λ s. s.decoding_index) ts) → Rise (map (λ s. s.decoding_index) ts) next →
     AllPass at 0 low max ts → AreLeaving max low number index next (references_in at ts) ts
 are_leaving at max low number index next [] last less above rises all = record { indices = less; counts = omega arith; not_needed = tt; many = refl }
@@ -452,19 +452,19 @@ are_leaving at max low number index next (s ∷ ts) last less above rises all =
 
 -- ---- the frames that stay
 
-abbrev AreStaying : (at : ℕ → Frame 32) → List Stored → Type 0
+abbrev AreStaying : (at : ℕ → Frame 16) → List Stored → Type 0
 AreStaying at ts = Each (λ s. is_staying s.needed_for_output (at s.decoding_index).mark ≡ true) ts
 
-no_shorts : (at : ℕ → Frame 32) (ts : List Stored) → AreStaying at ts → filter is_short (references_in at ts) ≡ []
+no_shorts : (at : ℕ → Frame 16) (ts : List Stored) → AreStaying at ts → filter is_short (references_in at ts) ≡ []
 no_shorts at [] h = refl
 no_shorts at (s ∷ ts) h = grind (arith, no_shorts at ts h.1)
 
-longs_before : (at : ℕ → Frame 32) (index : ℕ) (ts : List Stored) → AreBefore index ts → StandBelow index (references_in at ts)
+longs_before : (at : ℕ → Frame 16) (index : ℕ) (ts : List Stored) → AreBefore index ts → StandBelow index (references_in at ts)
 longs_before at index [] h = tt
 longs_before at index (s ∷ ts) h = grind (arith, longs_before at index ts h.1)
 
 -- they are needed for output, or among these reference frames
-all_needed : (at : ℕ → Frame 32) (longs : List Reference) (ts : List Stored) → AreStaying at ts →
+all_needed : (at : ℕ → Frame 16) (longs : List Reference) (ts : List Stored) → AreStaying at ts →
     ((p : ℕ) → is_index_of (references_in at ts) p ≡ true → is_index_of longs p ≡ true) → needed_frames (indices_of longs) ts ≡ ts
 all_needed at longs [] h among = refl
 all_needed at longs (s ∷ ts) h among =
@@ -474,7 +474,7 @@ all_needed at longs (s ∷ ts) h among =
 
 -- ---- all frames
 
-record AreParts (at : ℕ → Frame 32) (max low first next : ℕ) (ts : List Stored) : Type 0 where
+record AreParts (at : ℕ → Frame 16) (max low first next : ℕ) (ts : List Stored) : Type 0 where
   index : ℕ
   frames : List Stored
   lasts : List Stored
@@ -485,7 +485,7 @@ record AreParts (at : ℕ → Frame 32) (max low first next : ℕ) (ts : List St
   leave : AreLeaving max low (low + length lasts) index next (references_in at lasts) lasts
   many : length lasts + first ≡ length ts
 
-are_parts : (at : ℕ → Frame 32) (max low first next : ℕ) (ts : List Stored) → first < length ts → Rise (map (λ s. s.decoding_index) ts) next → AllPass at first low max ts → AreParts at max low first next ts
+are_parts : (at : ℕ → Frame 16) (max low first next : ℕ) (ts : List Stored) → first < length ts → Rise (map (λ s. s.decoding_index) ts) next → AllPass at first low max ts → AreParts at max low first next ts
 are_parts at max low first next [] some rises all = absurd (omega (arith, some))
 are_parts at max low zero next (s ∷ ts) some rises all = record {
   index = s.decoding_index;
@@ -516,7 +516,7 @@ are_parts at max low (suc first) next (s ∷ ts) some rises all =
 
 -- ---- from the contents
 
-passes : (at : ℕ → Frame 32) (first low max : ℕ) (c : Contents) (ts : List Stored) → c.frames ≡ map (λ s. at s.decoding_index) ts → c.slots ≡ map slot_of ts →
+passes : (at : ℕ → Frame 16) (first low max : ℕ) (c : Contents) (ts : List Stored) → c.frames ≡ map (λ s. at s.decoding_index) ts → c.slots ≡ map slot_of ts →
     ((p : ℕ) → p < length c.frames → settles_at c first low max p ≡ true) → AllPass at first low max ts
 passes at first low max c ts frames slots all = λ p within.
     let frame = ap (λ l. slice_get l p) frames ∙ slice_get-map (λ s. at s.decoding_index) ts p in
@@ -565,7 +565,7 @@ long_gap h c idx previous state sps numbers number shorts first low count from' 
     ts : List Stored
     ts = (buffer_of c.output h).frames
 
-    at : ℕ → Frame 32
+    at : ℕ → Frame 16
     at = frame_at h (state.marks).references
 
     long : length c.frames ≡ length ts

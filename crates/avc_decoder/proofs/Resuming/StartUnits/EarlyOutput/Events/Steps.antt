@@ -380,7 +380,7 @@ within_named sets slice pps sps t ep es =
     rw (p, s) at t.within
 
 -- a picture's sets are those that its first slice names
-pub named_first : (sets : Sets) (slice : Slice) (sps : Sps) (pps : Pps) (frames : List (Frame 32))
+pub named_first : (sets : Sets) (slice : Slice) (sps : Sps) (pps : Pps) (frames : List (Frame 16))
     → IsSliceUnder sets slice → sets_named sets slice.header ≡ Some (pps, sps)
     → IsNamed sets (begun_with_slice sps pps frames slice)
 named_first sets slice sps pps frames t e =

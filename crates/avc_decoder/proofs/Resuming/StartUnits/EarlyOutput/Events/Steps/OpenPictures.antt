@@ -231,7 +231,7 @@ closes_by o h (Err g) s e f c = cc (s.first, s.stands, e, f, c)
 -- ---- what a picture decoder says holds on the history of the sequence, and the frames have the picture's size: the history's frames
 
 -- Places at which the frames can stand; the picture is decoded there as on the history.
-pub record StandsOn (history : History) (d : Decoding 32) : Type 0 where
+pub record StandsOn (history : History) (d : Decoding 16) : Type 0 where
   pub indices : List ℕ
   pub stand : CanStandAt indices d
   pub same : progress_at indices d ≡ progress_on_history history d
@@ -239,36 +239,36 @@ pub record StandsOn (history : History) (d : Decoding 32) : Type 0 where
 none_rises : IsStrictlyIncreasing []
 none_rises k below = search arith
 
-stands_by : (idr : Bool) (s : SequenceState) (d : Decoding 32) → d.frames ≡ elim idr [ true ↦ [] | false ↦ s.frames ] → (idr ≡ true → All IsISlice d.slices) → (idr ≡ false → AreStoredIn (current_history s) s.frames)
+stands_by : (idr : Bool) (s : SequenceState) (d : Decoding 16) → d.frames ≡ elim idr [ true ↦ [] | false ↦ s.frames ] → (idr ≡ true → All IsISlice d.slices) → (idr ≡ false → AreStoredIn (current_history s) s.frames)
     → StandsOn (current_history s) d
 stands_by true s d e intra stored = record { indices = []; stand = rw e (record { each = refl; rising = none_rises }); same = progress-other (start_at [] d) (stored_frames (current_history s)) d.slices (intra refl) }
 stands_by false s d e intra stored =
     let a = stored refl in
     record {
       indices = a.indices;
-      stand = subst (λ (fs : List (Frame 32)). StandAt a.indices (map marked_frame fs)) (sym e) a.stand;
+      stand = subst (λ (fs : List (Frame 16)). StandAt a.indices (map marked_frame fs)) (sym e) a.stand;
       same = ap (λ fs. progress (start_with fs d) d.slices) (ap (stored_at a.indices) e ∙ a.stored);
     }
 
 -- ---- what the picture decoder says
 
 -- wherever it can stand, holds on the history
-pub on_history : (s : SequenceState) (h : Header) (d : Decoding 32) → HasItsFrames s h d → (Says : Progress → Type 0)
+pub on_history : (s : SequenceState) (h : Header) (d : Decoding 16) → HasItsFrames s h d → (Says : Progress → Type 0)
     → ((indices : List ℕ) → CanStandAt indices d → Says (progress_at indices d)) → Says (progress_on_history (current_history s) d)
 on_history s h d f Says says = let k = stands_by (is_idr h) s d f.frames f.intra f.stored in subst Says k.same (says k.indices k.stand)
 
-pub with_one_more : (s : SequenceState) (d : Decoding 32) (slice : Slice) → CanHave s d slice → HasItsFrames s slice.header (with_slice_more slice d)
+pub with_one_more : (s : SequenceState) (d : Decoding 16) (slice : Slice) → CanHave s d slice → HasItsFrames s slice.header (with_slice_more slice d)
 with_one_more s d slice can = record {
   frames = can.frames.frames;
   intra = λ idr. All-cons IsISlice slice d.slices (can.within.intra idr) (can.frames.intra idr);
   stored = can.frames.stored;
 }
 
-pub refused : (s : SequenceState) (d : Decoding 32) (slice : Slice) (f : Fault) → CanHave s d slice → HasNoFault d → Refuses d slice f (with_slice_more slice d) → IsRefused (current_history s) (with_slice_more slice d) slice f
+pub refused : (s : SequenceState) (d : Decoding 16) (slice : Slice) (f : Fault) → CanHave s d slice → HasNoFault d → Refuses d slice f (with_slice_more slice d) → IsRefused (current_history s) (with_slice_more slice d) slice f
 refused s d slice f can well r =
     on_history s slice.header (with_slice_more slice d) (with_one_more s d slice can) (λ g. g.fault ≡ Some (slice.unit, f)) (r.unit well)
 
-pub slice_read : (s : SequenceState) (d d' : Decoding 32) (slice : Slice) (before after read : ℕ) → CanHave s d slice → d' ≡ with_slice_more slice d → HasRead before d → HasRead after d' → read ≡ after - before
+pub slice_read : (s : SequenceState) (d d' : Decoding 16) (slice : Slice) (before after read : ℕ) → CanHave s d slice → d' ≡ with_slice_more slice d → HasRead before d → HasRead after d' → read ≡ after - before
     → read ≡ read_of_slice (current_history s) d slice
 slice_read s d d' slice before after read can e so_far then' is =
     let b = on_history s slice.header d can.frames (λ g. g.read ≡ before) so_far in
@@ -277,9 +277,9 @@ slice_read s d d' slice before after read can e so_far then' is =
     is ∙ ap₂ (λ m n. m - n) (sym a) (sym b)
 
 -- a slice more of a picture of the same kind
-pub same_frames : (s : SequenceState) (g h : Header) (d : Decoding 32) → is_idr g ≡ is_idr h → HasItsFrames s g d → HasItsFrames s h d
+pub same_frames : (s : SequenceState) (g h : Header) (d : Decoding 16) → is_idr g ≡ is_idr h → HasItsFrames s g d → HasItsFrames s h d
 same_frames s g h d e f = record {
-  frames = f.frames ∙ ap (λ (b : Bool). elim b as (λ _. List (Frame 32)) [ true ↦ [] | false ↦ s.frames ]) e;
+  frames = f.frames ∙ ap (λ (b : Bool). elim b as (λ _. List (Frame 16)) [ true ↦ [] | false ↦ s.frames ]) e;
   intra = λ idr. f.intra (e ∙ idr);
   stored = λ other. f.stored (e ∙ other);
 }
@@ -293,14 +293,14 @@ same_size a b e = (
   ap (λ n. n + 1) (eqb-true a.pic_height_in_map_units_minus1 b.pic_height_in_map_units_minus1 (search (first_so, second_so) depth 16)),
 )
 
-fit_set : (sps : Sps) (set : Option Sps) (frames : List (Frame 32)) → is_same_sps set sps ≡ true → IfSome set (λ before. AreFrames (width_in_mbs before) (height_in_mbs before) frames) → AreFramesOf sps frames
+fit_set : (sps : Sps) (set : Option Sps) (frames : List (Frame 16)) → is_same_sps set sps ≡ true → IfSome set (λ before. AreFrames (width_in_mbs before) (height_in_mbs before) frames) → AreFramesOf sps frames
 fit_set sps None frames same fit = cc
 fit_set sps (Some before) frames same fit =
     let size = same_size before sps same in
     rw (← size.0, ← size.1) fit
 
 -- the frames have the size of the picture that is opened
-pub frames_fit : (s s1 : SequenceState) (sps : Sps) (h : Header) (out : List Decoded) (frames : List (Frame 32)) → IsOpened s sps h out s1 → frames ≡ frames_for h s1
+pub frames_fit : (s s1 : SequenceState) (sps : Sps) (h : Header) (out : List Decoded) (frames : List (Frame 16)) → IsOpened s sps h out s1 → frames ≡ frames_for h s1
     → (is_idr h ≡ false → s1.failed ≡ false → AreFramesIn (current_history s1) s1.frames) → AreFramesOf sps frames
 frames_fit s s1 sps h out frames i is sized = by_idr (is_idr h) refl is
   where
@@ -319,7 +319,7 @@ some_is x y e = cc
 -- ---- the open picture
 
 -- of a sequence and a picture decoder with these slices
-abbrev pub opened_as : SequenceState → Decoding 32 → Slice → List Slice → OpenPicture
+abbrev pub opened_as : SequenceState → Decoding 16 → Slice → List Slice → OpenPicture
 opened_as s d last earlier = record { before = s.history; sps = d.sps; pps = d.pps; last = last; earlier = earlier }
 
 pub stands_as : (s : SequenceState) (c : CurrentPicture) (w : IsOpenIn s c)
@@ -401,7 +401,7 @@ closes_short t t' c {f} w is answer stops =
     fails t t' c f w (not_full o h (stands_as s c w) well short.0 ∙ rw (w.unit, short.1) refl) stops
 
 -- it was finished, and the sequence says what comes of it
-finished : (s : SequenceState) (c : CurrentPicture) (w : IsOpenIn s c) (planes : PaddedPlanes 32) (r : Result History Fault)
+finished : (s : SequenceState) (c : CurrentPicture) (w : IsOpenIn s c) (planes : PaddedPlanes 16) (r : Result History Fault)
     → IsFinishAnswer c.decoder (Ok planes)
     → history_after_closing (c.decoder).sps (oldest w.last w.earlier).header (padded_planes_of planes) (current_history s) ≡ r
     → let o = opened_as s c.decoder w.last w.earlier in closing_result o ≡ at_last_slice o r
@@ -417,7 +417,7 @@ finished s c w planes r answer closes =
     (ap (λ ps. history_after_closing o.sps (first_header o) ps h) (sym made) ∙ closes)
 
 pub closes_done : {s s' : SequenceState} {q q' : QueueState} {n : ℕ} {table : List SetUnit} (c : CurrentPicture)
-    (planes : PaddedPlanes 32) (shared : Planes) (out : List Decoded) → IsOpenIn s c → IsFinishAnswer c.decoder (Ok planes)
+    (planes : PaddedPlanes 16) (shared : Planes) (out : List Decoded) → IsOpenIn s c → IsFinishAnswer c.decoder (Ok planes)
     → shared ≡ padded_planes_of planes
     → ((p : OpenPictureStart) → s.open_picture ≡ Some p → IsClosed s p shared out s')
     → q' ≡ with_events (pictures out) q
@@ -443,7 +443,7 @@ closes_done {s} {s'} {q} {q'} {n} {table} c planes shared out w answer same clos
     })
 
 -- it could not be marked
-pub closes_unmarked : (t t' : Stream) (between : SequenceState) (c : CurrentPicture) (planes : PaddedPlanes 32) (shared : Planes) {f : Fault}
+pub closes_unmarked : (t t' : Stream) (between : SequenceState) (c : CurrentPicture) (planes : PaddedPlanes 16) (shared : Planes) {f : Fault}
     {e : PictureError} → IsOpenIn t.sequence c → IsFinishAnswer c.decoder (Ok planes)
     → shared ≡ padded_planes_of planes
     → ((p : OpenPictureStart) → t.sequence.open_picture ≡ Some p
@@ -583,7 +583,7 @@ next_slice_comes s s' q q' n n' table table' slice p p' w named k same = rw (sam
 -- ---- the first slice
 
 -- a picture with its first slice
-abbrev pub begun_with_slice : Sps → Pps → List (Frame 32) → Slice → CurrentPicture
+abbrev pub begun_with_slice : Sps → Pps → List (Frame 16) → Slice → CurrentPicture
 begun_with_slice sps pps frames slice = record {
   decoder = with_slice_more slice
       (no_slice_yet sps pps frames);
@@ -621,7 +621,7 @@ first_unopened t t' between sps pps slice h {f} base none first fails is stops n
     rw (names, base, faulty) (stops_at _ refl w.0 w.1 w.2)
 
 pub first_slice_more : MissingNumbersKeepTheOrder → (s s1 s' : SequenceState) (q q1 q' : QueueState) (n n' : ℕ)
-    (table table' : List SetUnit) (sps : Sps) (pps : Pps) (frames : List (Frame 32)) (slice : Slice)
+    (table table' : List SetUnit) (sps : Sps) (pps : Pps) (frames : List (Frame 16)) (slice : Slice)
     (out : List Decoded) (h : History) (c : CurrentPicture) (p' : PhaseHere)
     → h ≡ s.history → (slice.header).first_mb_in_slice ≡ 0 → IsOpened s sps slice.header out s1
     → q1 ≡ with_events (pictures out) q → c.decoder ≡ no_slice_yet sps pps frames → Decodes c slice s1 q1 p' s' q'
@@ -656,7 +656,7 @@ read_more s c c' slice a n n' can is e counts =
     counts ∙ ap (more_read n) (slice_read s c.decoder c'.decoder slice r.before r.after a.read can e r.has_before
     r.has_after r.more)
 
-last_is : (c : CurrentPicture) (d : Decoding 32) (h : Header) (unit : ℕ) → c.decoder ≡ d → c.last_header ≡ h
+last_is : (c : CurrentPicture) (d : Decoding 16) (h : Header) (unit : ℕ) → c.decoder ≡ d → c.last_header ≡ h
     → c.last_unit ≡ unit → c ≡ record { decoder = d; last_header = h; last_unit = unit }
 last_is c d h unit a b e = rw (← a, ← b, ← e) refl
 
