@@ -18,10 +18,9 @@ _avcdec_files() {
 _avcdec_options() {
     case $1 in
     decode) echo '--early --format -f --verify --from --skip -s --limit -l --frametimes --progress --quiet -q --strict --explain --output -o --help -h' ;;
-    info) echo '--json --help -h' ;;
     cut) echo '--output -o --help -h' ;;
     compare) echo '--max-diff --explain --help -h' ;;
-    units | headers | pieces) echo '--help -h' ;;
+    units | headers | pieces | info) echo '--json --help -h' ;;
     esac
 }
 

@@ -219,6 +219,8 @@ in_type {
     if (group > 0 && (crate, owner) in exported) roots[++root_count] = group SUBSEP FILENAME SUBSEP $0
 }
 /^[ \t]*ghost / && is_trait && group > 0 && (crate, owner) in exported { roots[++root_count] = group SUBSEP FILENAME SUBSEP $0 }
+# what a public type gives for the words of a trait
+/^[ \t]*ghost / && is_impl_of_trait && !is_model && !is_trait && group > 0 && (crate, owner) in exported { roots[++root_count] = group SUBSEP FILENAME SUBSEP $0 }
 /^[ \t]*(pub )?(unsafe )?(const )?(extern "C" )?fn / {
     line = $0
     sub(/.*fn /, "", line)

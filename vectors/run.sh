@@ -120,6 +120,30 @@ pieces_decode_alike() {
     [ "$number" -gt 1 ] && cmp -s "$work/joined" "$work/whole"
 }
 
+# The plain lines of a command, by lines of JSON that are each what python writes of the same members in the order of their names.
+cat >"$work/plain.py" <<'END'
+import json, sys
+
+PLAIN = {
+    "units": "{unit} {first_byte} {bytes} {nal_unit_type} {nal_ref_idc}",
+    "pieces": "{piece} {unit} {first_byte}",
+    "sps": "{unit} sps {seq_parameter_set_id} profile {profile_idc} level {level_idc} size {width}x{height} "
+    "refs {max_num_ref_frames} poc {pic_order_cnt_type} dpb {dpb_size}",
+    "pps": "{unit} pps {pic_parameter_set_id} sps {seq_parameter_set_id} qp {qp} refs {refs} "
+    "control {deblocking_filter_control_present_flag} constrained {constrained_intra_pred_flag}",
+    "slice": "{unit} slice {first_mb_in_slice} type {slice_type} pps {pic_parameter_set_id} frame {frame_num} qp {SliceQPY} "
+    "idr {IdrPicFlag}",
+    "refused": "{unit} refused {number} {name}",
+}
+for line in sys.stdin:
+    told = json.loads(line)
+    if json.dumps(told, sort_keys=True, separators=(",", ":")) + "\n" != line:
+        sys.exit(f"not as python writes it: {line}")
+    if told.get("kind") == "pps":
+        told |= {"qp": 26 + told["pic_init_qp_minus26"], "refs": told["num_ref_idx_l0_default_active_minus1"] + 1}
+    print(PLAIN[told.get("kind", sys.argv[1])].format(**told))
+END
+
 for stream in "$here"/*/*.264; do
     name=${stream%.264}
     wanted=0
@@ -143,6 +167,14 @@ for stream in "$here"/*/*.264; do
             "$program" "$command" <"$stream" >"$work/lines" 2>"$work/told"
             judge "$command of ${name#"$here"/}" $? 0 ''
             holds "lines of ${name#"$here"/}" cmp -s "$work/lines" "$name.$command"
+        fi
+    done
+    for command in units headers; do
+        if [ -f "$name.$command" ] && command -v python3 >/dev/null; then
+            "$program" "$command" --json <"$stream" >"$work/lines" 2>"$work/told"
+            judge "$command --json of ${name#"$here"/}" $? 0 ''
+            python3 "$work/plain.py" "$command" <"$work/lines" >"$work/written"
+            holds "JSON of $command of ${name#"$here"/}" cmp -s "$work/written" "$name.$command"
         fi
     done
     if [ -f "$name.json" ]; then
@@ -349,6 +381,18 @@ pieces=$here/encoder/pub_x_keyint3.264
 judge 'pieces' $? 0 ''
 holds 'lines of pieces' cmp -s "$work/lines" "$work/expected"
 holds 'more than one' [ "$(wc -l <"$work/lines")" -gt 1 ]
+# the JSON of listings says what the plain lines do: of pieces, of refusals, of a pic_init_qp_minus26 of -5
+if command -v python3 >/dev/null; then
+    for stream in "$pieces" "$here/cases/gap_and_resumed.264" "$here/cases/sps_truncated.264" "$here/corners/i_pcm_in_p_e0.264"; do
+        for command in units headers pieces; do
+            "$program" "$command" "$stream" >"$work/expected"
+            "$program" "$command" --json "$stream" >"$work/lines" 2>"$work/told"
+            judge "$command --json of ${stream#"$here"/}" $? 0 ''
+            python3 "$work/plain.py" "$command" <"$work/lines" >"$work/written"
+            holds "JSON of $command of ${stream#"$here"/}" cmp -s "$work/written" "$work/expected"
+        done
+    done
+fi
 # a slice of type 5 that is not the first of its picture begins no piece
 "$program" units "$picture" | awk '$4 == 5 { print number++, $1, $2 }' >"$work/expected"
 { cat "$picture" && printf '\000\000\001\145\100\200'; } | "$program" pieces >"$work/lines" 2>"$work/told"
@@ -381,7 +425,7 @@ done
 
 some_md5=d41d8cd98f00b204e9800998ecf8427e
 # wrong words have a text on the standard error, and help that is asked for on the standard output
-for words in '' unit 'units in more' 'decode --fast' 'decode --format png' 'decode --limit x' 'decode --skip' 'units --skip 1' \
+for words in '' unit 'units in more' 'decode --fast' 'decode --format png' 'decode --limit x' 'decode --skip' 'units --skip 1' 'cut 0 --json' \
     'decode --verify 0' "decode --verify $some_md5 --format md5" "decode --verify $some_md5 -o $work/out"; do
     # shellcheck disable=SC2086
     "$program" $words <"$picture" >"$work/written" 2>"$work/told"

@@ -22,11 +22,7 @@ abbrev pub is_verified : Task → Bool
 is_verified (tasks.Show showing) = is_verifying showing.form
 is_verified (tasks.Decode mode) = false
 is_verified (tasks.Check mode) = false
-is_verified tasks.Units = false
-is_verified tasks.Headers = false
-is_verified tasks.Pieces = false
-is_verified tasks.Info = false
-is_verified tasks.InfoJson = false
+is_verified (tasks.Tell subject wording) = false
 is_verified (tasks.Cut number) = false
 is_verified (tasks.Compare most) = true
 
@@ -35,11 +31,7 @@ abbrev pub shown_by : Task → (pictures : ℕ) → ℕ
 shown_by (tasks.Show showing) pictures = min (pictures - showing.skip) showing.limit
 shown_by (tasks.Decode mode) pictures = pictures
 shown_by (tasks.Check mode) pictures = pictures
-shown_by tasks.Units pictures = pictures
-shown_by tasks.Headers pictures = pictures
-shown_by tasks.Pieces pictures = pictures
-shown_by tasks.Info pictures = pictures
-shown_by tasks.InfoJson pictures = pictures
+shown_by (tasks.Tell subject wording) pictures = pictures
 shown_by (tasks.Cut number) pictures = pictures
 shown_by (tasks.Compare most) pictures = pictures
 

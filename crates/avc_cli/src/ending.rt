@@ -33,14 +33,7 @@ fn is_verified(task: &Task) -> bool
             Form::I420 | Form::Null | Form::Md5 | Form::Y4m | Form::FrameMd5 => false,
         },
         Task::Compare(_) => true,
-        Task::Decode(_)
-        | Task::Check(_)
-        | Task::Units
-        | Task::Headers
-        | Task::Pieces
-        | Task::Info
-        | Task::InfoJson
-        | Task::Cut(_) => false,
+        Task::Decode(_) | Task::Check(_) | Task::Tell(..) | Task::Cut(_) => false,
     }
 }
 
@@ -50,14 +43,8 @@ fn shown_by(task: &Task, pictures: u64) -> u64
 {
     match task {
         Task::Show(showing) => pictures.saturating_sub(showing.skip).min(showing.limit),
-        Task::Decode(_)
-        | Task::Check(_)
-        | Task::Units
-        | Task::Headers
-        | Task::Pieces
-        | Task::Info
-        | Task::InfoJson
-        | Task::Cut(_)
-        | Task::Compare(_) => pictures,
+        Task::Decode(_) | Task::Check(_) | Task::Tell(..) | Task::Cut(_) | Task::Compare(_) => {
+            pictures
+        }
     }
 }

@@ -21,9 +21,10 @@ use avc_console::{
     fault_status, headers, pieces, units,
 };
 use avc_formats::{HeadedFormat, I420, Selected};
-use avc_info::{ForPeople, ForPrograms, info};
-use avc_request::{Form, Request, Showing, Task, Telling, requested, words_of};
+use avc_info::{ForPrograms, InfoForm, info};
+use avc_request::{Form, Request, Showing, Subject, Task, Telling, Wording, requested, words_of};
 use avc_run::{decode, decode_as, decode_headed, decode_md5, verify};
+use avc_tools::{ForPeople, ListingForm};
 use clap::error::ErrorKind;
 use comparing::compare_files;
 use ending::ended_status;
@@ -303,15 +304,33 @@ fn carry_out_between<R: Read, W: Write, E: Write, V: Watch>(
                 console,
             )
         }
-        Task::Units => units(alloc, reader, writer, console),
-        Task::Headers => headers(alloc, reader, writer, console),
-        Task::Pieces => pieces(alloc, reader, writer, console),
-        Task::Info => info(alloc, ForPeople, reader, writer, console),
-        Task::InfoJson => info(alloc, ForPrograms, reader, writer, console),
+        Task::Tell(subject, Wording::Plain) => {
+            tell(alloc, subject, ForPeople, reader, writer, console)
+        }
+        Task::Tell(subject, Wording::Json) => {
+            tell(alloc, subject, ForPrograms, reader, writer, console)
+        }
         Task::Cut(number) => cut(alloc, number, reader, writer, console),
         Task::Compare(most) => compare_files(rt, request, most, reader, writer, console),
     };
     ending.status
+}
+
+// Tells something of a stream in this form.
+fn tell<F: ListingForm + InfoForm + Drop, R: Read, W: Write, E: Write, V: Watch>(
+    alloc: Global,
+    subject: Subject,
+    form: F,
+    reader: &mut R,
+    writer: &mut W,
+    console: &mut Console<'_, E, V>,
+) -> Ending {
+    match subject {
+        Subject::Units => units(alloc, form, reader, writer, console),
+        Subject::Headers => headers(alloc, form, reader, writer, console),
+        Subject::Pieces => pieces(alloc, form, reader, writer, console),
+        Subject::Info => info(alloc, form, reader, writer, console),
+    }
 }
 
 // Shows some of the pictures, each in a file of its own or not, or their MD5.

@@ -1,8 +1,8 @@
 ghost use Rattle.std.specs.Prelude.{◌≡◌, ◌⊎◌, ◌++◌, [], length, None, Some, false};
 ghost use Rattle.avc_cli.specs.Rates.{looked, rate_of, IsGoingOn, Looks};
 
-use avc_info::{ForPeople, InfoLines, SequenceFacts, frame_rate};
-use avc_tools::StreamText;
+use avc_info::{InfoLines, SequenceFacts, frame_rate};
+use avc_tools::{ForPeople, StreamText};
 use std::alloc::Global;
 use std::marker::Model;
 

@@ -4,7 +4,7 @@ use crate::reason::reason_line;
 use avc_console::{Counts, no_piece_line};
 use avc_container::{container_line, container_of, no_picture_line};
 use avc_explain::counts_line;
-use avc_request::{Manner, Task};
+use avc_request::{Manner, Subject, Task};
 use std::io::{ErrorKind, IsTerminal, Write};
 
 /// Tells why a file could not be read or written, where it has a name and that is known.
@@ -37,7 +37,7 @@ pub fn is_told_more(rt: &HostRuntime, manner: &Manner) -> bool {
 
 /// Tells of a stream of which facts were wanted that it is a container or a picture, by its first bytes.
 pub fn tell_container(rt: &HostRuntime, task: &Task, first: &[u8]) {
-    if let Task::Info | Task::InfoJson = task {
+    if let Task::Tell(Subject::Info, _) = task {
         if let Some(container) = container_of(first) {
             if let Ok(line) = container_line(rt.alloc(), container) {
                 tell(rt, &line);

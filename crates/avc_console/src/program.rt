@@ -18,6 +18,7 @@ use crate::messages::{no_piece_line, write_fault};
 use crate::reporter::Reporter;
 use crate::tally::Tally;
 use crate::telling::write_what_is_taken;
+use avc_tools::ListingForm;
 use std::alloc::Global;
 use std::io::{Read, Write};
 
@@ -75,46 +76,50 @@ pub fn fail<E: Write>(fault: RunFault, names: &Names<'_>, errors: &mut E) -> End
     }
 }
 
-/// The command `units`: writes a line for each unit of a byte stream (Annex B), and tells of a fault on the console.
-pub fn units<R: Read, W: Write, E: Write, V>(
+/// The command `units`: writes a line of this form for each unit of a byte stream (Annex B), and tells of a fault on the console.
+pub fn units<F: ListingForm + Drop, R: Read, W: Write, E: Write, V>(
     alloc: Global,
+    form: F,
     reader: &mut R,
     writer: &mut W,
     console: &mut Console<'_, E, V>,
 ) -> Ending
-    ensures { EndsListing console.old.names unit_lines_so_far (R.remaining reader.old) (R.remaining reader.new) (W.contents writer.old)
+    ensures { EndsListing console.old.names (unit_lines_so_far F.of_unit) (R.remaining reader.old) (R.remaining reader.new) (W.contents writer.old)
         (W.contents writer.new) (E.contents console.old.errors) (E.contents console.new.errors) result }
 {
-    let run = run_units(alloc, reader, writer);
+    let run = run_units(alloc, form, reader, writer);
     end_listing(run, &console.names, &mut console.errors)
 }
 
-/// The command `headers`: writes a line for each parameter set and slice of a byte stream (Annex B), and tells of a fault on
-/// the console.
-pub fn headers<R: Read, W: Write, E: Write, V>(
+/// The command `headers`: writes a line of this form for each parameter set and slice of a byte stream (Annex B), and tells of a
+/// fault on the console.
+pub fn headers<F: ListingForm + Drop, R: Read, W: Write, E: Write, V>(
     alloc: Global,
+    form: F,
     reader: &mut R,
     writer: &mut W,
     console: &mut Console<'_, E, V>,
 ) -> Ending
-    ensures { EndsListing console.old.names header_lines_so_far (R.remaining reader.old) (R.remaining reader.new) (W.contents writer.old)
+    ensures { EndsListing console.old.names (header_lines_so_far F.of_header) (R.remaining reader.old) (R.remaining reader.new) (W.contents writer.old)
         (W.contents writer.new) (E.contents console.old.errors) (E.contents console.new.errors) result }
 {
-    let run = run_headers(alloc, reader, writer);
+    let run = run_headers(alloc, form, reader, writer);
     end_listing(run, &console.names, &mut console.errors)
 }
 
-/// The command `pieces`: writes a line for each piece that `cut` can write of a byte stream (Annex B), and tells of a fault on the console.
-pub fn pieces<R: Read, W: Write, E: Write, V>(
+/// The command `pieces`: writes a line of this form for each piece that `cut` can write of a byte stream (Annex B), and tells of a
+/// fault on the console.
+pub fn pieces<F: ListingForm + Drop, R: Read, W: Write, E: Write, V>(
     alloc: Global,
+    form: F,
     reader: &mut R,
     writer: &mut W,
     console: &mut Console<'_, E, V>,
 ) -> Ending
-    ensures { EndsListing console.old.names cut_point_lines_so_far (R.remaining reader.old) (R.remaining reader.new) (W.contents writer.old)
+    ensures { EndsListing console.old.names (cut_point_lines_so_far F.of_piece) (R.remaining reader.old) (R.remaining reader.new) (W.contents writer.old)
         (W.contents writer.new) (E.contents console.old.errors) (E.contents console.new.errors) result }
 {
-    let run = run_pieces(alloc, reader, writer);
+    let run = run_pieces(alloc, form, reader, writer);
     end_listing(run, &console.names, &mut console.errors)
 }
 

@@ -6,3 +6,4 @@ pub mod PictureText
 pub mod Json
 pub mod Noting
 pub mod Info
+pub mod ListingJson

@@ -6,6 +6,7 @@ ghost use Rattle.avc_info.specs.declared.stream_facts.StreamFacts.{StreamFacts};
 use crate::json::info_json;
 use crate::stream_facts::StreamFacts;
 use crate::text::info_text;
+use avc_tools::ForPeople;
 use avc_types::OutOfMemory;
 use std::alloc::Global;
 
@@ -19,11 +20,7 @@ pub trait InfoForm {
         ensures { IfOk result (λ told. string_bytes told ≡ text facts.now bytes) };
 }
 
-/// Some lines of words and numbers.
-#[derive(Clone, Copy, Debug)]
-pub struct ForPeople;
-
-/// A line of JSON (RFC 8259).
+/// Lines of JSON (RFC 8259).
 #[derive(Clone, Copy, Debug)]
 pub struct ForPrograms;
 

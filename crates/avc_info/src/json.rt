@@ -69,7 +69,8 @@ fn clock_of(sequence: &Option<SequenceFacts>) -> Option<Timing>
     }
 }
 
-fn put_count(
+/// Puts a number under a name.
+pub(crate) fn put_count(
     map: &mut Map<String, Value>,
     alloc: Global,
     name: &str,
@@ -78,6 +79,20 @@ fn put_count(
     ensures { OnOk result (members_view map.new.entries ≡ with_member name.now (count_data count) (members_view map.old.entries)) }
 {
     put(map, alloc, name, Value::from(count))?;
+    Ok(())
+}
+
+/// Puts a text under a name.
+pub(crate) fn put_text(
+    map: &mut Map<String, Value>,
+    alloc: Global,
+    name: &str,
+    text: &str,
+) -> Result<(), OutOfMemory>
+    ensures { OnOk result (members_view map.new.entries ≡ with_member name.now (string text.now) (members_view map.old.entries)) }
+{
+    let text = Value::try_from_str(alloc, text)?;
+    put(map, alloc, name, text)?;
     Ok(())
 }
 

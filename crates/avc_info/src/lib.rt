@@ -4,6 +4,7 @@
 mod form;
 mod info_lines;
 mod json;
+mod listing_json;
 mod noting;
 mod picture_text;
 mod program;
@@ -14,7 +15,7 @@ mod slice_counts;
 mod stream_facts;
 mod text;
 
-pub use form::{ForPeople, ForPrograms, InfoForm};
+pub use form::{ForPrograms, InfoForm};
 pub use info_lines::InfoLines;
 pub use json::info_json;
 pub use program::{info, run_info};

@@ -13,6 +13,8 @@ use Rattle.avc_request.specs.declared.request.Task.{Task}
 use Rattle.avc_request.specs.declared.request.Task.TheVariants as tasks
 use Rattle.avc_request.specs.declared.request.Telling.{Telling}
 use Rattle.avc_request.specs.declared.request.Telling.TheVariants.{Always, Never, ToTerminals}
+use Rattle.avc_request.specs.declared.request.Wording.{Wording}
+use Rattle.avc_request.specs.declared.request.Wording.TheVariants.{Json, Plain}
 
 -- the word that names a command
 abbrev pub word_of : Command → List ℕ
@@ -39,6 +41,11 @@ abbrev pub progress_of : (is_wanted is_quiet : Bool) → Telling
 progress_of is_wanted true = Never
 progress_of true false = Always
 progress_of false false = ToTerminals
+
+-- the wording of what is told, by whether `--json` is among the words
+abbrev pub wording_of : (json : Bool) → Wording
+wording_of true = Json
+wording_of false = Plain
 
 -- The word names this form: any other than these is that of I420.
 abbrev pub IsForm : (word : List ℕ) → Form → Type 0
@@ -85,9 +92,5 @@ is_raw (tasks.Decode mode) = true
 is_raw (tasks.Cut number) = true
 is_raw (tasks.Show showing) = is_raw_form showing.form
 is_raw (tasks.Check mode) = false
-is_raw tasks.Units = false
-is_raw tasks.Headers = false
-is_raw tasks.Pieces = false
-is_raw tasks.Info = false
-is_raw tasks.InfoJson = false
+is_raw (tasks.Tell subject wording) = false
 is_raw (tasks.Compare most) = false

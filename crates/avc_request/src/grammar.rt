@@ -148,6 +148,14 @@ const EXPLAIN_WORD: Word = Word {
     conflicts: &[],
 };
 
+const JSON_WORD: Word = Word {
+    name: JSON,
+    short: None,
+    kind: Kind::Flag,
+    help: "Prints each line as an object of JSON, for programs; info prints one object in all",
+    conflicts: &[],
+};
+
 const COMMANDS: &[CommandWords] = &[
     CommandWords {
         name: DECODE,
@@ -242,34 +250,28 @@ const COMMANDS: &[CommandWords] = &[
         name: UNITS,
         about: "Prints a line for each unit: INDEX OFFSET LENGTH TYPE REFIDC",
         example: "Example: avcdec units in.264 | head -3",
-        words: &[INPUT_WORD],
+        words: &[JSON_WORD, INPUT_WORD],
     },
     CommandWords {
         name: HEADERS,
         about: "Prints a line for each parameter set and slice",
-        example: "Example: avcdec headers in.264 | grep sps",
-        words: &[INPUT_WORD],
+        example: concat!(
+            "Example: avcdec headers in.264 | grep sps\n",
+            "         avcdec headers --json in.264 | jq 'select(.kind == \"slice\").SliceQPY'"
+        ),
+        words: &[JSON_WORD, INPUT_WORD],
     },
     CommandWords {
         name: PIECES,
         about: "Prints a line for each piece that cut can write: N INDEX OFFSET, of the unit with which it begins",
         example: "Example: avcdec pieces in.264 | tail -1",
-        words: &[INPUT_WORD],
+        words: &[JSON_WORD, INPUT_WORD],
     },
     CommandWords {
         name: INFO,
         about: "Prints the size, profile, level and frame rate, and counts of pictures and slices, without decoding",
         example: "Example: avcdec info in.264",
-        words: &[
-            Word {
-                name: JSON,
-                short: None,
-                kind: Kind::Flag,
-                help: "Prints one line of JSON, for programs",
-                conflicts: &[],
-            },
-            INPUT_WORD,
-        ],
+        words: &[JSON_WORD, INPUT_WORD],
     },
     CommandWords {
         name: COMPARE,

@@ -10,5 +10,5 @@ mod words;
 
 pub use numbered::Numbered;
 pub use reading::words_of;
-pub use request::{Form, Manner, Request, Showing, Task, Telling};
+pub use request::{Form, Manner, Request, Showing, Subject, Task, Telling, Wording};
 pub use words::requested;

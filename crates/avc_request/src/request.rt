@@ -71,20 +71,8 @@ pub enum Task {
     /// Some of the pictures are decoded so, and written or compared in another way.
     Show(Showing),
 
-    /// A line for each unit.
-    Units,
-
-    /// A line for each parameter set and slice.
-    Headers,
-
-    /// A line for each piece.
-    Pieces,
-
-    /// What the headers say of the stream.
-    Info,
-
-    /// The same for programs.
-    InfoJson,
+    /// This is told of the stream in this form, without decoding it.
+    Tell(Subject, Wording),
 
     /// The piece of this number.
     Cut(u32),
@@ -101,15 +89,35 @@ impl Task {
         match self {
             Task::Decode(_) | Task::Cut(_) => true,
             Task::Show(showing) => is_raw_form(&showing.form),
-            Task::Check(_)
-            | Task::Units
-            | Task::Headers
-            | Task::Pieces
-            | Task::Info
-            | Task::InfoJson
-            | Task::Compare(_) => false,
+            Task::Check(_) | Task::Tell(..) | Task::Compare(_) => false,
         }
     }
+}
+
+/// What is told of a stream.
+#[derive(Clone, Copy, Debug, PartialEq, Eq)]
+pub enum Subject {
+    /// A line for each unit.
+    Units,
+
+    /// A line for each parameter set and slice.
+    Headers,
+
+    /// A line for each piece.
+    Pieces,
+
+    /// What the headers say of the stream.
+    Info,
+}
+
+/// How it is told.
+#[derive(Clone, Copy, Debug, PartialEq, Eq)]
+pub enum Wording {
+    /// In words and numbers, for people.
+    Plain,
+
+    /// In JSON, for programs.
+    Json,
 }
 
 /// Which pictures, and what becomes of them.

@@ -1,5 +1,5 @@
 ghost use Rattle.std.specs.Prelude.{◌≡◌};
-ghost use Rattle.avc_request.specs.Commands.{form_by_name, mode_of, progress_of, task_of_all, task_showing, IsForm, IsNamed};
+ghost use Rattle.avc_request.specs.Commands.{form_by_name, mode_of, progress_of, task_of_all, task_showing, wording_of, IsForm, IsNamed};
 
 use crate::file_kind::{FileKind, file_kind};
 use crate::grammar::{
@@ -8,7 +8,7 @@ use crate::grammar::{
     SKIP, STRICT, UNITS, VERIFY, Y4M, grammar,
 };
 use crate::numbered::{Naming, Numbered, naming_of};
-use crate::request::{Form, Manner, Request, Showing, Task, Telling};
+use crate::request::{Form, Manner, Request, Showing, Subject, Task, Telling, Wording};
 use avc_dpb::Output;
 use clap::error::ErrorKind;
 use clap::{ArgMatches, Error};
@@ -76,20 +76,28 @@ fn mode_of(early: bool) -> Output
 fn task_of(command: Command, matches: &ArgMatches<'_>, kind: FileKind) -> Option<Task> {
     match command {
         Command::Decode => showing_of(matches, kind).map(task_of_showing),
-        Command::Units => Some(Task::Units),
-        Command::Headers => Some(Task::Headers),
-        Command::Pieces => Some(Task::Pieces),
-        Command::Info => Some(if matches.get_flag(JSON) {
-            Task::InfoJson
-        } else {
-            Task::Info
-        }),
+        Command::Units => Some(telling_of(Subject::Units, matches)),
+        Command::Headers => Some(telling_of(Subject::Headers, matches)),
+        Command::Pieces => Some(telling_of(Subject::Pieces, matches)),
+        Command::Info => Some(telling_of(Subject::Info, matches)),
         Command::Cut => {
             let number = matches.get_one::<u32>(NUMBER)?;
             Some(Task::Cut(number))
         }
         Command::Compare => Some(Task::Compare(matches.get_one::<u8>(MAX_DIFF).unwrap_or(0))),
     }
+}
+
+// The task of telling this.
+fn telling_of(subject: Subject, matches: &ArgMatches<'_>) -> Task {
+    Task::Tell(subject, wording_of(matches.get_flag(JSON)))
+}
+
+// The wording, by whether `--json` is among the words.
+fn wording_of(json: bool) -> Wording
+    ensures { result ≡ wording_of json }
+{
+    if json { Wording::Json } else { Wording::Plain }
 }
 
 // What is shown, if the words are there.

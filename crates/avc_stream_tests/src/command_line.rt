@@ -1,6 +1,6 @@
 // What no contract says: what the words of the command line mean. Where an allocation is refused
 // (`rt try --test --fail-alloc N`), a test ends in that error, and not at an assertion.
-use avc_request::{Form, Manner, Request, Showing, Task, Telling, requested};
+use avc_request::{Form, Manner, Request, Showing, Subject, Task, Telling, Wording, requested};
 use avc_run::Output;
 use clap::error::ErrorKind;
 use std::alloc::Global;
@@ -58,6 +58,11 @@ fn named(
 // From standard input to standard output.
 fn plain(task: Task) -> Result<Request<'static>, (ErrorKind, i32)> {
     named(task, None, None)
+}
+
+// This is told of the standard input.
+fn telling_of(subject: Subject, wording: Wording) -> Result<Request<'static>, (ErrorKind, i32)> {
+    plain(Task::Tell(subject, wording))
 }
 
 // The same where the standard output is named.
@@ -242,7 +247,6 @@ fn takes_words(rt: HostRuntime) -> Result<(), Fail> {
             Err((ErrorKind::InvalidValue, 2)),
         ),
         ("avcdec units --early", Err((ErrorKind::UnknownArgument, 2))),
-        ("avcdec units", plain(Task::Units)),
         (
             "avcdec compare a.yuv in.264",
             compared(0, Some("a.yuv"), Some("in.264")),
@@ -261,9 +265,27 @@ fn takes_words(rt: HostRuntime) -> Result<(), Fail> {
             "avcdec compare",
             Err((ErrorKind::MissingRequiredArgument, 2)),
         ),
-        ("avcdec info", plain(Task::Info)),
-        ("avcdec info --json", plain(Task::InfoJson)),
+        ("avcdec units", telling_of(Subject::Units, Wording::Plain)),
+        (
+            "avcdec units --json",
+            telling_of(Subject::Units, Wording::Json),
+        ),
+        (
+            "avcdec headers --json",
+            telling_of(Subject::Headers, Wording::Json),
+        ),
+        ("avcdec pieces", telling_of(Subject::Pieces, Wording::Plain)),
+        (
+            "avcdec pieces --json",
+            telling_of(Subject::Pieces, Wording::Json),
+        ),
+        ("avcdec info", telling_of(Subject::Info, Wording::Plain)),
+        (
+            "avcdec info --json",
+            telling_of(Subject::Info, Wording::Json),
+        ),
         ("avcdec decode --json", Err((ErrorKind::UnknownArgument, 2))),
+        ("avcdec cut 0 --json", Err((ErrorKind::UnknownArgument, 2))),
         (
             "avcdec decode --progress",
             telling(full, Telling::Always, false),
@@ -308,7 +330,11 @@ fn takes_words(rt: HostRuntime) -> Result<(), Fail> {
         ("avcdec cut 0 --quiet", Err((ErrorKind::UnknownArgument, 2))),
         (
             "avcdec headers in.264",
-            named(Task::Headers, Some("in.264"), None),
+            named(
+                Task::Tell(Subject::Headers, Wording::Plain),
+                Some("in.264"),
+                None,
+            ),
         ),
         (
             "avcdec cut 0 --output piece.264 in.264",

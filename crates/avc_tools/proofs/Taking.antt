@@ -304,33 +304,39 @@ either_not_over x h = grind arith
 
 -- ---- headers, one line after the other
 
-under-append : (sets : List SetUnit) (us vs : List Unit) → header_lines_under sets (us ++ vs) ≡ header_lines_under sets us ++ header_lines_under (sets ++ set_units us) vs
-under-append sets [] vs = rw (append-nil sets) refl
-under-append sets (u ∷ us) vs = rw (under-append (sets ++ set_units (u ∷ [])) us vs, sets_then sets u us) (simp append_assoc)
+-- a form of the lines of headers
+abbrev pub HeaderForm : Type 0
+HeaderForm = Sets → Unit → List ℕ
 
-from_under : (before us : List Unit) → header_lines_under (set_units before) us ≡ header_lines_from before us
-from_under before [] = refl
-from_under before (u ∷ us) =
-    ap (λ l. header_line (sets_after (set_units before)) u ++ l)
-    (ap (λ l. header_lines_under l us) (sym (set_units-append before (u ∷ []))) ∙ from_under (before ++ u ∷ []) us)
+under-append : (form : HeaderForm) (sets : List SetUnit) (us vs : List Unit) → header_lines_under form sets (us ++ vs) ≡ header_lines_under form sets us ++ header_lines_under form (sets ++ set_units us) vs
+under-append form sets [] vs = rw (append-nil sets) refl
+under-append form sets (u ∷ us) vs = rw (under-append form (sets ++ set_units (u ∷ [])) us vs, sets_then sets u us) (simp append_assoc)
+
+from_under : (form : HeaderForm) (before us : List Unit) → header_lines_under form (set_units before) us ≡ header_lines_from form before us
+from_under form before [] = refl
+from_under form before (u ∷ us) =
+    ap (λ l. form (sets_after (set_units before)) u ++ l)
+    (ap (λ l. header_lines_under form l us) (sym (set_units-append before (u ∷ []))) ∙ from_under form (before ++ u ∷ []) us)
 
 -- The lines of these units are there, and the sets that these brought.
-pub record IsShown (before now : List SetUnit) (text : List ℕ) (done : List Unit) : Type 0 where
+pub record IsShown (form : HeaderForm) (before now : List SetUnit) (text : List ℕ) (done : List Unit) : Type 0 where
   pub sets : now ≡ before ++ set_units done
-  pub lines : text ≡ header_lines_under before done
+  pub lines : text ≡ header_lines_under form before done
 
-pub shown_more : (before old new : List SetUnit) (text more : List ℕ) (u : Unit) → new ≡ old ++ set_units (u ∷ []) → more ≡ text ++ header_line (sets_after old) u
-    → (done : List Unit) → IsShown before old text done → IsShown before new more (done ++ u ∷ [])
-shown_more before old new text more u put added done h =
-    let here : header_line (sets_after old) u ≡ header_lines_under (before ++ set_units done) (u ∷ []) =
-    ap (λ ss. header_line (sets_after ss) u) h.sets ∙ sym (append-nil (header_line (sets_after (before ++ set_units done)) u)) in
+pub shown_more : (form : HeaderForm) (before old new : List SetUnit) (text more : List ℕ) (u : Unit) → new ≡ old ++ set_units (u ∷ []) → more ≡ text ++ form (sets_after old) u
+    → (done : List Unit) → IsShown form before old text done → IsShown form before new more (done ++ u ∷ [])
+shown_more form before old new text more u put added done h =
+    let here : form (sets_after old) u ≡ header_lines_under form (before ++ set_units done) (u ∷ []) =
+    ap (λ ss. form (sets_after ss) u) h.sets ∙ sym (append-nil (form (sets_after (before ++ set_units done)) u)) in
     record {
       sets = set_units_more before old new u done put h.sets;
-      lines = added ∙ ap (λ l. l ++ header_line (sets_after old) u) h.lines ∙ ap (λ l. header_lines_under before done ++ l) here ∙ sym (under-append before done (u ∷ []));
+      lines =
+          added ∙ ap (λ l. l ++ form (sets_after old) u) h.lines ∙ ap (λ l. header_lines_under form before done ++ l) here
+          ∙ sym (under-append form before done (u ∷ []));
     }
 
-pub header_lines_are : (max : ℕ) (bytes : List ℕ) (ended : Bool) → length bytes ≤ max → header_lines_under [] (units max bytes ended) ≡ header_lines_so_far bytes ended
-header_lines_are max bytes ended short = ap (λ us. header_lines_under [] us) (whole_units max bytes ended short) ∙ from_under [] (units (length bytes) bytes ended)
+pub header_lines_are : (form : HeaderForm) (max : ℕ) (bytes : List ℕ) (ended : Bool) → length bytes ≤ max → header_lines_under form [] (units max bytes ended) ≡ header_lines_so_far form bytes ended
+header_lines_are form max bytes ended short = ap (λ us. header_lines_under form [] us) (whole_units max bytes ended short) ∙ from_under form [] (units (length bytes) bytes ended)
 
 -- once more has come
 pub sets_again : (max : ℕ) (old mid new : SplitterState) (sets now : List SetUnit) → sets ≡ set_units (units max old.bytes old.ended) → AreLeft max old mid
@@ -349,50 +355,56 @@ shown_again max old mid new sets now h left is put = record {
 }
 
 -- The lines of units that come to others come behind theirs.
-header_lines_behind : (max : ℕ) (bytes front : List ℕ) (ended front_ended : Bool) (others : List Unit) → length bytes ≤ max → length front ≤ max
+header_lines_behind : (form : HeaderForm) (max : ℕ) (bytes front : List ℕ) (ended front_ended : Bool) (others : List Unit) → length bytes ≤ max → length front ≤ max
     → units max bytes ended ≡ units max front front_ended ++ others
-    → header_lines_so_far bytes ended ≡ header_lines_so_far front front_ended ++ header_lines_under (set_units (units max front front_ended)) others
-header_lines_behind max bytes front ended front_ended others short front_short is =
-    sym (header_lines_are max bytes ended short) ∙ ap (header_lines_under []) is ∙ under-append [] (units max front front_ended) others
-    ∙ ap (λ l. l ++ header_lines_under (set_units (units max front front_ended)) others) (header_lines_are max front front_ended front_short)
+    → header_lines_so_far form bytes ended ≡ header_lines_so_far form front front_ended ++ header_lines_under form (set_units (units max front front_ended)) others
+header_lines_behind form max bytes front ended front_ended others short front_short is =
+    sym (header_lines_are form max bytes ended short) ∙ ap (header_lines_under form []) is ∙ under-append form [] (units max front front_ended) others
+    ∙ ap (λ l. l ++ header_lines_under form (set_units (units max front front_ended)) others) (header_lines_are form max front front_ended front_short)
 
-pub header_lines_added : (max : ℕ) (old mid new : SplitterState) (sets : List SetUnit) (added : List ℕ) → AreShown max old sets → AreLeft max old mid
-    → new ≡ after_units_left max mid → added ≡ header_lines_under sets (units_left max mid) → length new.bytes ≤ max
-    → header_lines_so_far new.bytes new.ended ≡ header_lines_so_far old.bytes old.ended ++ added
-header_lines_added max old mid new sets added h left is lines short = search (rules, header_lines_behind)
+pub header_lines_added : (form : HeaderForm) (max : ℕ) (old mid new : SplitterState) (sets : List SetUnit) (added : List ℕ) → AreShown max old sets → AreLeft max old mid
+    → new ≡ after_units_left max mid → added ≡ header_lines_under form sets (units_left max mid) → length new.bytes ≤ max
+    → header_lines_so_far form new.bytes new.ended ≡ header_lines_so_far form old.bytes old.ended ++ added
+header_lines_added form max old mid new sets added h left is lines short = search (rules, header_lines_behind)
 
-pub header_lines_grow : UnitsStay → OnlyGrows header_lines_so_far
-header_lines_grow stay bytes more ended short =
+pub header_lines_grow : (form : HeaderForm) → UnitsStay → OnlyGrows (header_lines_so_far form)
+header_lines_grow form stay bytes more ended short =
     let later = stay (2 ^ 64) bytes more ended in
-    (_, header_lines_behind (2 ^ 64) (bytes ++ more) bytes ended false later.0 (omega (arith, short)) (omega (arith, short, length-append bytes more)) later.1)
+    (_, header_lines_behind form (2 ^ 64) (bytes ++ more) bytes ended false later.0 (omega (arith, short)) (omega (arith, short, length-append bytes more)) later.1)
 
 -- ---- cut points, one line after the other
 
-cut_points-append : (number : ℕ) (us vs : List Unit) → cut_point_lines number (us ++ vs) ≡ cut_point_lines number us ++ cut_point_lines (number_behind_all number us) vs
-cut_points-append number [] vs = refl
-cut_points-append number (u ∷ us) vs = rw (cut_points-append (number_behind number u) us vs) (simp append_assoc)
+-- a form of the lines of pieces
+abbrev pub PieceForm : Type 0
+PieceForm = ℕ → Unit → List ℕ
+
+cut_points-append : (form : PieceForm) (number : ℕ) (us vs : List Unit) → cut_point_lines form number (us ++ vs) ≡ cut_point_lines form number us ++ cut_point_lines form (number_behind_all number us) vs
+cut_points-append form number [] vs = refl
+cut_points-append form number (u ∷ us) vs = rw (cut_points-append form (number_behind number u) us vs) (simp append_assoc)
 
 number_behind-append : (number : ℕ) (us vs : List Unit) → number_behind_all number (us ++ vs) ≡ number_behind_all (number_behind_all number us) vs
 number_behind-append number [] vs = refl
 number_behind-append number (u ∷ us) vs = number_behind-append (number_behind number u) us vs
 
 -- The lines of these units are there, and they are counted.
-pub record IsCounted (before now : ℕ) (text : List ℕ) (done : List Unit) : Type 0 where
+pub record IsCounted (form : PieceForm) (before now : ℕ) (text : List ℕ) (done : List Unit) : Type 0 where
   pub number : now ≡ number_behind_all before done
-  pub lines : text ≡ cut_point_lines before done
+  pub lines : text ≡ cut_point_lines form before done
 
-pub counted_more : (before old new : ℕ) (text more : List ℕ) (u : Unit) → new ≡ number_behind old u → more ≡ text ++ line_if_start old u
-    → (done : List Unit) → IsCounted before old text done → IsCounted before new more (done ++ u ∷ [])
-counted_more before old new text more u counted added done h =
-    let here : line_if_start old u ≡ cut_point_lines (number_behind_all before done) (u ∷ []) =
-    ap (λ n. line_if_start n u) h.number ∙ sym (append-nil (line_if_start (number_behind_all before done) u)) in
+pub counted_more : (form : PieceForm) (before old new : ℕ) (text more : List ℕ) (u : Unit) → new ≡ number_behind old u → more ≡ text ++ line_if_start form old u
+    → (done : List Unit) → IsCounted form before old text done → IsCounted form before new more (done ++ u ∷ [])
+counted_more form before old new text more u counted added done h =
+    let here : line_if_start form old u ≡ cut_point_lines form (number_behind_all before done) (u ∷ []) =
+    ap (λ n. line_if_start form n u) h.number ∙ sym (append-nil (line_if_start form (number_behind_all before done) u)) in
     record {
       number = counted ∙ ap (λ n. number_behind n u) h.number ∙ sym (number_behind-append before done (u ∷ []));
-      lines = added ∙ ap (λ l. l ++ line_if_start old u) h.lines ∙ ap (λ l. cut_point_lines before done ++ l) here ∙ sym (cut_points-append before done (u ∷ []));
+      lines =
+          added ∙ ap (λ l. l ++ line_if_start form old u) h.lines ∙ ap (λ l. cut_point_lines form before done ++ l) here
+          ∙ sym (cut_points-append form before done (u ∷ []));
     }
 
-cut_point_lines_are : (max : ℕ) (bytes : List ℕ) (ended : Bool) → length bytes ≤ max → cut_point_lines 0 (units max bytes ended) ≡ cut_point_lines_so_far bytes ended
-cut_point_lines_are max bytes ended short = ap (cut_point_lines 0) (whole_units max bytes ended short)
+cut_point_lines_are : (form : PieceForm) (max : ℕ) (bytes : List ℕ) (ended : Bool) → length bytes ≤ max → cut_point_lines form 0 (units max bytes ended) ≡ cut_point_lines_so_far form bytes ended
+cut_point_lines_are form max bytes ended short = ap (cut_point_lines form 0) (whole_units max bytes ended short)
 
 -- once more has come
 pub counted_again : (max : ℕ) (old mid new : SplitterState) (number now : ℕ) → AreCounted max old number → AreLeft max old mid → new ≡ after_units_left max mid
@@ -407,22 +419,22 @@ counted_again max old mid new number now h left is counted = record {
 }
 
 -- The lines of units that come to others come behind theirs.
-cut_point_lines_behind : (max : ℕ) (bytes front : List ℕ) (ended front_ended : Bool) (others : List Unit) → length bytes ≤ max → length front ≤ max
+cut_point_lines_behind : (form : PieceForm) (max : ℕ) (bytes front : List ℕ) (ended front_ended : Bool) (others : List Unit) → length bytes ≤ max → length front ≤ max
     → units max bytes ended ≡ units max front front_ended ++ others
-    → cut_point_lines_so_far bytes ended ≡ cut_point_lines_so_far front front_ended ++ cut_point_lines (number_behind_all 0 (units max front front_ended)) others
-cut_point_lines_behind max bytes front ended front_ended others short front_short is =
-    sym (cut_point_lines_are max bytes ended short) ∙ ap (cut_point_lines 0) is ∙ cut_points-append 0 (units max front front_ended) others
-    ∙ ap (λ l. l ++ cut_point_lines (number_behind_all 0 (units max front front_ended)) others) (cut_point_lines_are max front front_ended front_short)
+    → cut_point_lines_so_far form bytes ended ≡ cut_point_lines_so_far form front front_ended ++ cut_point_lines form (number_behind_all 0 (units max front front_ended)) others
+cut_point_lines_behind form max bytes front ended front_ended others short front_short is =
+    sym (cut_point_lines_are form max bytes ended short) ∙ ap (cut_point_lines form 0) is ∙ cut_points-append form 0 (units max front front_ended) others
+    ∙ ap (λ l. l ++ cut_point_lines form (number_behind_all 0 (units max front front_ended)) others) (cut_point_lines_are form max front front_ended front_short)
 
-pub cut_point_lines_added : (max : ℕ) (old mid new : SplitterState) (number : ℕ) (added : List ℕ) → AreCounted max old number → AreLeft max old mid
-    → new ≡ after_units_left max mid → added ≡ cut_point_lines number (units_left max mid) → length new.bytes ≤ max
-    → cut_point_lines_so_far new.bytes new.ended ≡ cut_point_lines_so_far old.bytes old.ended ++ added
-cut_point_lines_added max old mid new number added h left is lines short = search (rules, cut_point_lines_behind)
+pub cut_point_lines_added : (form : PieceForm) (max : ℕ) (old mid new : SplitterState) (number : ℕ) (added : List ℕ) → AreCounted max old number → AreLeft max old mid
+    → new ≡ after_units_left max mid → added ≡ cut_point_lines form number (units_left max mid) → length new.bytes ≤ max
+    → cut_point_lines_so_far form new.bytes new.ended ≡ cut_point_lines_so_far form old.bytes old.ended ++ added
+cut_point_lines_added form max old mid new number added h left is lines short = search (rules, cut_point_lines_behind)
 
-pub cut_point_lines_grow : UnitsStay → OnlyGrows cut_point_lines_so_far
-cut_point_lines_grow stay bytes more ended short =
+pub cut_point_lines_grow : (form : PieceForm) → UnitsStay → OnlyGrows (cut_point_lines_so_far form)
+cut_point_lines_grow form stay bytes more ended short =
     let later = stay (2 ^ 64) bytes more ended in
-    (_, cut_point_lines_behind (2 ^ 64) (bytes ++ more) bytes ended false later.0 (omega (arith, short)) (omega (arith, short, length-append bytes more)) later.1)
+    (_, cut_point_lines_behind form (2 ^ 64) (bytes ++ more) bytes ended false later.0 (omega (arith, short)) (omega (arith, short, length-append bytes more)) later.1)
 
 -- a line of three parts, with a number in front and its end
 pub line_put : (old index a b c last s1 s2 s3 s4 s5 : List ℕ) → s1 ≡ old ++ index → s2 ≡ s1 ++ a → s3 ≡ s2 ++ b → s4 ≡ s3 ++ c → s5 ≡ s4 ++ last
@@ -469,7 +481,7 @@ two_pieces = refl
 two_lengths : map length (pieces (stream ++ second_idr)) ≡ 27 ∷ 27 ∷ []
 two_lengths = refl
 
-two_cut_points : cut_point_lines_so_far (stream ++ second_idr) true ≡ codes "0 2 21\n1 3 29\n"
+two_cut_points : cut_point_lines_so_far cut_point_line (stream ++ second_idr) true ≡ codes "0 2 21\n1 3 29\n"
 unfolding digits
 two_cut_points = refl
 

@@ -12,9 +12,9 @@ use Rattle.avc_tools.specs.Streams.{IsDrained}
 abbrev pub cut_point_line : (number : ℕ) → Unit → List ℕ
 cut_point_line number u = decimal number ++ and_number u.index ++ and_number u.offset ++ newline
 
--- what is written of a unit, where the next piece has this number
-abbrev pub line_if_start : (number : ℕ) → Unit → List ℕ
-line_if_start number u = if is_start u then cut_point_line number u else []
+-- what is written of a unit, where the next piece has this number, in a form of such lines
+abbrev pub line_if_start : (form : ℕ → Unit → List ℕ) → (number : ℕ) → Unit → List ℕ
+line_if_start form number u = if is_start u then form number u else []
 
 -- the number of the next piece behind a unit, as far as a u64 counts (this decoder's rule)
 abbrev pub number_behind : (number : ℕ) → Unit → ℕ
@@ -26,13 +26,13 @@ number_behind_all number [] = number
 number_behind_all number (u ∷ us) = number_behind_all (number_behind number u) us
 
 -- the lines of these units
-abbrev pub cut_point_lines : (number : ℕ) → List Unit → List ℕ
-cut_point_lines number [] = []
-cut_point_lines number (u ∷ us) = line_if_start number u ++ cut_point_lines (number_behind number u) us
+abbrev pub cut_point_lines : (form : ℕ → Unit → List ℕ) → (number : ℕ) → List Unit → List ℕ
+cut_point_lines form number [] = []
+cut_point_lines form number (u ∷ us) = line_if_start form number u ++ cut_point_lines form (number_behind number u) us
 
 -- those of the units whose end has been seen, whatever their length: pieces are counted from 0
-abbrev pub cut_point_lines_so_far : List ℕ → (ended : Bool) → List ℕ
-cut_point_lines_so_far bytes ended = cut_point_lines 0 (units (length bytes) bytes ended)
+abbrev pub cut_point_lines_so_far : (form : ℕ → Unit → List ℕ) → List ℕ → (ended : Bool) → List ℕ
+cut_point_lines_so_far form bytes ended = cut_point_lines form 0 (units (length bytes) bytes ended)
 
 -- All units whose end has been seen were taken, and the next piece has this number.
 pub record AreCounted (max : ℕ) (s : SplitterState) (number : ℕ) : Type 0 where

@@ -22,6 +22,7 @@ use Rattle.avc_units.specs.declared.header_reader.Brought.{Brought}
 use Rattle.avc_units.specs.declared.header_reader.Brought.TheVariants.{Nothing, Set, Slice, Refused}
 use Rattle.avc_units.specs.declared.set_reading.ParameterSet.{ParameterSet}
 use Rattle.avc_units.specs.declared.set_reading.ParameterSet.TheVariants.{OfSequence, OfPicture}
+use Rattle.avc_tools.specs.declared.unit_facts.UnitFacts.{UnitFacts}
 
 -- the end of a line
 abbrev pub newline : List ℕ
@@ -37,19 +38,33 @@ flag_number b = if b then 1 else 0
 
 -- ---- units
 
--- number, offset, length, nal_unit_type and nal_ref_idc of a unit
-abbrev pub unit_line : Unit → List ℕ
-unit_line u =
-    decimal u.index ++ and_number u.offset ++ and_number u.length
-    ++ and_number (nal_unit_type u.header) ++ and_number (nal_ref_idc u.header) ++ newline
+-- what is told of a unit: its number, the place of its first byte, how many bytes it has, nal_unit_type and nal_ref_idc (7.3.1)
+abbrev pub facts_of : Unit → UnitFacts
+facts_of u = record {
+  unit = u.index;
+  first_byte = u.offset;
+  bytes = u.length;
+  nal_unit_type = nal_unit_type u.header;
+  nal_ref_idc = nal_ref_idc u.header;
+}
+
+-- in decimal, with one space between two numbers
+abbrev pub unit_line : UnitFacts → List ℕ
+unit_line f =
+    decimal f.unit ++ and_number f.first_byte ++ and_number f.bytes
+    ++ and_number f.nal_unit_type ++ and_number f.nal_ref_idc ++ newline
+
+-- the line of a unit, in a form of such lines
+abbrev pub line_of_unit : (form : UnitFacts → List ℕ) → Unit → List ℕ
+line_of_unit form u = form (facts_of u)
 
 -- a line for each unit whose end has been seen, whatever its length
-abbrev pub unit_lines_so_far : List ℕ → (ended : Bool) → List ℕ
-unit_lines_so_far bytes ended = flat_map unit_line (units (length bytes) bytes ended)
+abbrev pub unit_lines_so_far : (form : UnitFacts → List ℕ) → List ℕ → (ended : Bool) → List ℕ
+unit_lines_so_far form bytes ended = flat_map (line_of_unit form) (units (length bytes) bytes ended)
 
 -- a line for each unit of the stream
 abbrev pub unit_lines : List ℕ → List ℕ
-unit_lines bytes = unit_lines_so_far bytes true
+unit_lines bytes = unit_lines_so_far unit_line bytes true
 
 -- ---- headers
 
@@ -181,15 +196,15 @@ line_of index (Some text) = decimal index ++ text ++ newline
 abbrev pub header_line : Sets → Unit → List ℕ
 header_line sets u = line_of u.index (text_of sets (brought sets u))
 
--- the lines of these units, after those before them
-abbrev pub header_lines_from : (before after : List Unit) → List ℕ
-header_lines_from before [] = []
-header_lines_from before (u ∷ after) = header_line (tables before) u ++ header_lines_from (before ++ u ∷ []) after
+-- the lines of these units, after those before them, in a form of such lines
+abbrev pub header_lines_from : (form : Sets → Unit → List ℕ) → (before after : List Unit) → List ℕ
+header_lines_from form before [] = []
+header_lines_from form before (u ∷ after) = form (tables before) u ++ header_lines_from form (before ++ u ∷ []) after
 
 -- a line for each parameter set and each slice whose unit's end has been seen
-abbrev pub header_lines_so_far : List ℕ → (ended : Bool) → List ℕ
-header_lines_so_far bytes ended = header_lines_from [] (units (length bytes) bytes ended)
+abbrev pub header_lines_so_far : (form : Sets → Unit → List ℕ) → List ℕ → (ended : Bool) → List ℕ
+header_lines_so_far form bytes ended = header_lines_from form [] (units (length bytes) bytes ended)
 
 -- a line for each parameter set and each slice of the stream
 abbrev pub header_lines : List ℕ → List ℕ
-header_lines bytes = header_lines_so_far bytes true
+header_lines bytes = header_lines_so_far header_line bytes true

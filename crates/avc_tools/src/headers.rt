@@ -13,6 +13,7 @@ ghost use Rattle.avc_tools.specs.Lines.{shown_height, shown_width, slice_fields,
 ghost use Rattle.avc_tools.specs.Lines.{slice_qp_under, slice_text, sps_frames, sps_identity, sps_size};
 ghost use Rattle.avc_tools.specs.Lines.{sps_text, text_of, type_name};
 
+use crate::listing_form::{ForPeople, ListingForm};
 use crate::stream_text::StreamText;
 use crate::units::MAX_UNIT;
 use avc_annexb::laws::units_stay;
@@ -34,20 +35,22 @@ pub fn show_headers(alloc: Global, bytes: &[u8]) -> Result<String, OutOfMemory>
     splitter.feed(bytes)?;
     splitter.finish()?;
     let mut reader = HeaderReader::new(alloc);
-    let text = lines_of_headers_left(alloc, &mut splitter, &mut reader)?;
+    let text = lines_of_headers_left(alloc, &ForPeople, &mut splitter, &mut reader)?;
     Ok(text)
 }
 
-/// The same lines of a stream that comes in pieces, each once its unit has ended. A contract sees what came of the stream.
+/// A line of a form for each unit that brings a parameter set or a slice, of a stream that comes in pieces, each once its unit has
+/// ended. A contract sees what came of the stream.
 #[derive(Drop)]
-pub struct HeaderLines {
+pub struct HeaderLines<F> {
     alloc: Global,
+    form: F,
     splitter: Splitter<MAX_UNIT>,
     reader: HeaderReader,
     failed: WantOfMemory,
 }
 
-impl Model for HeaderLines {
+impl<F> Model for HeaderLines<F> {
     ghost use Rattle.std.specs.Prelude.{◌≡◌, false};
     ghost use Rattle.avc_tools.specs.Streams.{StreamSoFar, max_unit};
     ghost use Rattle.avc_tools.specs.Showing.{AreShown};
@@ -59,15 +62,16 @@ impl Model for HeaderLines {
     ghost invariant = { λ l. l.failed ≡ false → AreShown max_unit l.splitter l.reader };
 }
 
-impl HeaderLines {
+impl<F> HeaderLines<F> {
     ghost use Rattle.avc_tools.specs.Streams.{new_stream};
 
     /// At the start of a stream.
-    pub fn new(alloc: Global) -> HeaderLines
+    pub fn new(alloc: Global, form: F) -> HeaderLines<F>
         ensures { result ≡ new_stream }
     {
         HeaderLines {
             alloc,
+            form,
             splitter: Splitter::new(alloc),
             reader: HeaderReader::new(alloc),
             failed: WantOfMemory::none(),
@@ -75,14 +79,14 @@ impl HeaderLines {
     }
 }
 
-impl StreamText for HeaderLines {
+impl<F: ListingForm> StreamText for HeaderLines<F> {
     ghost use Rattle.avc_tools.specs.Lines.{header_lines_so_far};
 
     ghost so_far = { λ l. l };
 
     ghost number = { λ _. 0 };
 
-    ghost text = { λ _. header_lines_so_far };
+    ghost text = { λ _. header_lines_so_far F.of_header };
 
     // a further unit may have a line
     ghost over = { λ _ _ _. false };
@@ -91,7 +95,12 @@ impl StreamText for HeaderLines {
         units_stay();
         self.failed.check()?;
         self.failed.keep(self.splitter.feed(piece))?;
-        let lines = lines_of_headers_left(self.alloc, &mut self.splitter, &mut self.reader);
+        let lines = lines_of_headers_left(
+            self.alloc,
+            &self.form,
+            &mut self.splitter,
+            &mut self.reader,
+        );
         let lines = self.failed.keep(lines)?;
         Ok(lines.into_bytes())
     }
@@ -100,7 +109,12 @@ impl StreamText for HeaderLines {
         units_stay();
         self.failed.check()?;
         self.failed.keep(self.splitter.finish())?;
-        let lines = lines_of_headers_left(self.alloc, &mut self.splitter, &mut self.reader);
+        let lines = lines_of_headers_left(
+            self.alloc,
+            &self.form,
+            &mut self.splitter,
+            &mut self.reader,
+        );
         let lines = self.failed.keep(lines)?;
         Ok(lines.into_bytes())
     }
@@ -115,25 +129,30 @@ impl StreamText for HeaderLines {
 }
 
 // Takes all units whose end has been seen, makes their lines, and keeps their parameter sets.
-fn lines_of_headers_left(
+fn lines_of_headers_left<F: ListingForm>(
     alloc: Global,
+    form: &F,
     splitter: &mut Splitter<MAX_UNIT>,
     reader: &mut HeaderReader,
 ) -> Result<String, OutOfMemory>
     requires { splitter.old.failed ≡ false }
-    ensures text { IfOk result (λ text. string_bytes text ≡ header_lines_under reader.old (units_left max_unit splitter.old)) }
+    ensures text { IfOk result (λ text. string_bytes text ≡ header_lines_under F.of_header reader.old (units_left max_unit splitter.old)) }
     ensures sets { OnOk result (reader.new ≡ reader.old ++ set_units (units_left max_unit splitter.old)) }
     ensures taken { OnOk result (splitter.new ≡ after_units_left max_unit splitter.old) }
 {
     let mut text = String::new(alloc);
     while let Some(unit) = splitter.next_unit() {
-        add_unit(&mut text, reader, &unit)?;
+        form.add_header(alloc, &mut text, reader, &unit)?;
     }
     Ok(text)
 }
 
-// Takes the next unit, and makes its line.
-fn add_unit(text: &mut String, reader: &mut HeaderReader, unit: &Unit) -> Result<(), OutOfMemory>
+/// Takes the next unit, and adds its line for people, where it brings a parameter set or a slice.
+pub(crate) fn add_header_line(
+    text: &mut String,
+    reader: &mut HeaderReader,
+    unit: &Unit,
+) -> Result<(), OutOfMemory>
     ensures text { OnOk result (string_bytes text.new ≡ string_bytes text.old ++ header_line (sets_after reader.old) unit.now) }
     ensures sets { OnOk result (reader.new ≡ reader.old ++ set_units (unit.now ∷ [])) }
 {
@@ -261,8 +280,8 @@ fn without(size: u64, before: u16, behind: u16) -> u64
     size.saturating_sub(2 * (u64::from(before) + u64::from(behind)))
 }
 
-/// pic_order_cnt_type.
-fn order_type(order: &OrderCount) -> u8
+/// pic_order_cnt_type, 0 to 2.
+pub fn order_type(order: &OrderCount) -> u8
     ensures { result ≡ order_type order.now }
 {
     match order {
@@ -325,7 +344,8 @@ fn add_pps_constrained(text: &mut String, pps: &Pps) -> Result<(), OutOfMemory>
     Ok(())
 }
 
-fn flag_number(flag: bool) -> u8
+/// A flag as 0 or 1.
+pub fn flag_number(flag: bool) -> u8
     ensures { result ≡ flag_number flag }
 {
     u8::from(flag)
@@ -386,13 +406,15 @@ fn add_slice_fields(
     Ok(())
 }
 
-fn type_name(header: &Header) -> &'static str
+/// The name of slice_type (Table 7-6): P or I.
+pub fn type_name(header: &Header) -> &'static str
     ensures { result.now ≡ type_name header.now }
 {
     if header.is_p() { "P" } else { "I" }
 }
 
-fn slice_qp_under(pps: Option<&Pps>, header: &Header) -> u64
+/// SliceQPY (7.4.3) of a slice under this picture parameter set, which is not below 0; 0 without one.
+pub fn slice_qp_under(pps: Option<&Pps>, header: &Header) -> u64
     ensures { result ≡ slice_qp_under (option_copied pps.entry) header.now }
 {
     match pps {

@@ -1,10 +1,12 @@
 ghost use Rattle.std.specs.Prelude.{◌≡◌, ◌++◌, false, true, length, IfOk, OnOk, string_bytes};
 ghost use Rattle.std.specs.List.{flat_map};
 ghost use Rattle.avc_annexb.specs.Units.{units};
-ghost use Rattle.avc_tools.specs.Lines.{unit_line, unit_lines};
+ghost use Rattle.avc_tools.specs.Lines.{line_of_unit, unit_line, unit_lines};
 ghost use Rattle.avc_tools.specs.Streams.{after_units_left, units_left};
 
+use crate::listing_form::{ForPeople, ListingForm};
 use crate::stream_text::StreamText;
+use crate::unit_facts::UnitFacts;
 use avc_annexb::laws::units_stay;
 use avc_annexb::{Splitter, Unit};
 use avc_types::{OutOfMemory, WantOfMemory};
@@ -22,20 +24,22 @@ pub fn list_units(alloc: Global, bytes: &[u8]) -> Result<String, OutOfMemory>
     let mut splitter = Splitter::<1>::new(alloc);
     splitter.feed(bytes)?;
     splitter.finish()?;
-    let text = lines_of_units_left(alloc, &mut splitter)?;
+    let text = lines_of_units_left(alloc, &ForPeople, &mut splitter)?;
     Ok(text)
 }
 
-/// The same lines of a stream that comes in pieces, each once its unit has ended. A contract sees what came of the stream.
+/// A line of a form for each unit of a stream that comes in pieces, each once its unit has ended. A contract sees what came of the
+/// stream.
 #[derive(Drop)]
-pub struct UnitLines {
+pub struct UnitLines<F> {
     alloc: Global,
+    form: F,
     // no line tells of a unit's body, so none is kept
     splitter: Splitter<1>,
     failed: WantOfMemory,
 }
 
-impl Model for UnitLines {
+impl<F> Model for UnitLines<F> {
     ghost use Rattle.std.specs.Prelude.{◌≡◌, false};
     ghost use Rattle.avc_tools.specs.Streams.{IsDrained, StreamSoFar};
 
@@ -46,29 +50,30 @@ impl Model for UnitLines {
     ghost invariant = { λ l. l.failed ≡ false → IsDrained 1 l.splitter };
 }
 
-impl UnitLines {
+impl<F> UnitLines<F> {
     ghost use Rattle.avc_tools.specs.Streams.{new_stream};
 
     /// At the start of a stream.
-    pub fn new(alloc: Global) -> UnitLines
+    pub fn new(alloc: Global, form: F) -> UnitLines<F>
         ensures { result ≡ new_stream }
     {
         UnitLines {
             alloc,
+            form,
             splitter: Splitter::new(alloc),
             failed: WantOfMemory::none(),
         }
     }
 }
 
-impl StreamText for UnitLines {
+impl<F: ListingForm> StreamText for UnitLines<F> {
     ghost use Rattle.avc_tools.specs.Lines.{unit_lines_so_far};
 
     ghost so_far = { λ l. l };
 
     ghost number = { λ _. 0 };
 
-    ghost text = { λ _. unit_lines_so_far };
+    ghost text = { λ _. unit_lines_so_far F.of_unit };
 
     // a further unit may have a line
     ghost over = { λ _ _ _. false };
@@ -77,9 +82,8 @@ impl StreamText for UnitLines {
         units_stay();
         self.failed.check()?;
         self.failed.keep(self.splitter.feed(piece))?;
-        let lines = self
-            .failed
-            .keep(lines_of_units_left(self.alloc, &mut self.splitter))?;
+        let lines = lines_of_units_left(self.alloc, &self.form, &mut self.splitter);
+        let lines = self.failed.keep(lines)?;
         Ok(lines.into_bytes())
     }
 
@@ -87,9 +91,8 @@ impl StreamText for UnitLines {
         units_stay();
         self.failed.check()?;
         self.failed.keep(self.splitter.finish())?;
-        let lines = self
-            .failed
-            .keep(lines_of_units_left(self.alloc, &mut self.splitter))?;
+        let lines = lines_of_units_left(self.alloc, &self.form, &mut self.splitter);
+        let lines = self.failed.keep(lines)?;
         Ok(lines.into_bytes())
     }
 
@@ -103,27 +106,43 @@ impl StreamText for UnitLines {
 }
 
 // Takes all units whose end has been seen, and makes their lines.
-fn lines_of_units_left(alloc: Global, splitter: &mut Splitter<1>) -> Result<String, OutOfMemory>
+fn lines_of_units_left<F: ListingForm>(
+    alloc: Global,
+    form: &F,
+    splitter: &mut Splitter<1>,
+) -> Result<String, OutOfMemory>
     requires { splitter.old.failed ≡ false }
-    ensures text { IfOk result (λ text. string_bytes text ≡ flat_map unit_line (units_left 1 splitter.old)) }
+    ensures text { IfOk result (λ text. string_bytes text ≡ flat_map (line_of_unit F.of_unit) (units_left 1 splitter.old)) }
     ensures taken { OnOk result (splitter.new ≡ after_units_left 1 splitter.old) }
 {
     let mut text = String::new(alloc);
     while let Some(unit) = splitter.next_unit() {
-        add_line(&mut text, &unit)?;
+        add_line(alloc, form, &mut text, &unit)?;
     }
     Ok(text)
 }
 
-fn add_line(text: &mut String, unit: &Unit) -> Result<(), OutOfMemory>
-    ensures { OnOk result (string_bytes text.new ≡ string_bytes text.old ++ unit_line unit.now) }
+fn add_line<F: ListingForm>(
+    alloc: Global,
+    form: &F,
+    text: &mut String,
+    unit: &Unit,
+) -> Result<(), OutOfMemory>
+    ensures { OnOk result (string_bytes text.new ≡ string_bytes text.old ++ line_of_unit F.of_unit unit.now) }
 {
-    let index = unit.index;
-    let offset = unit.offset;
-    let length = unit.length;
-    let unit_type = unit.header % 32;
-    let ref_idc = unit.header / 32 % 4;
-    writeln!(text, "{index} {offset} {length} {unit_type} {ref_idc}")?;
+    form.add_unit(alloc, text, UnitFacts::of(unit))
+}
+
+/// Adds the line of a unit for people.
+pub(crate) fn add_unit_line(text: &mut String, facts: UnitFacts) -> Result<(), OutOfMemory>
+    ensures { OnOk result (string_bytes text.new ≡ string_bytes text.old ++ unit_line facts) }
+{
+    let unit = facts.unit;
+    let first_byte = facts.first_byte;
+    let bytes = facts.bytes;
+    let unit_type = facts.nal_unit_type;
+    let ref_idc = facts.nal_ref_idc;
+    writeln!(text, "{unit} {first_byte} {bytes} {unit_type} {ref_idc}")?;
     Ok(())
 }
 

@@ -330,12 +330,12 @@ pieces_stay stay number bytes more is =
 -- ---- the units that come with more bytes, or with the end
 
 -- No line tells of a body, so it makes no difference how long a body is kept.
-same_lines : (few many index : ℕ) (all : List PlacedUnit) → flat_map unit_line (numbered few index all) ≡ flat_map unit_line (numbered many index all)
-same_lines few many index [] = refl
-same_lines few many index (u ∷ us) = ap (λ t. unit_line (unit_of many index u) ++ t) (same_lines few many (index + 1) us)
+same_lines : (form : UnitFacts → List ℕ) (few many index : ℕ) (all : List PlacedUnit) → flat_map (line_of_unit form) (numbered few index all) ≡ flat_map (line_of_unit form) (numbered many index all)
+same_lines form few many index [] = refl
+same_lines form few many index (u ∷ us) = ap (λ t. line_of_unit form (unit_of many index u) ++ t) (same_lines form few many (index + 1) us)
 
-pub unit_lines_are : (max : ℕ) (bytes : List ℕ) (ended : Bool) → flat_map unit_line (units max bytes ended) ≡ unit_lines_so_far bytes ended
-unit_lines_are max bytes ended = same_lines max (length bytes) 0 (placed_units 0 ended bytes)
+pub unit_lines_are : (form : UnitFacts → List ℕ) (max : ℕ) (bytes : List ℕ) (ended : Bool) → flat_map (line_of_unit form) (units max bytes ended) ≡ unit_lines_so_far form bytes ended
+unit_lines_are form max bytes ended = same_lines form max (length bytes) 0 (placed_units 0 ended bytes)
 
 -- More has come where nothing was left: the units that are left now come to those before.
 pub record AreLeft (max : ℕ) (old new : SplitterState) : Type 0 where
@@ -379,19 +379,20 @@ pub drained : (max : ℕ) (old mid new : SplitterState) → AreLeft max old mid 
 drained max old mid new left is = search (rules, length-append)
 
 -- The lines of units that come to others come behind theirs.
-lines_behind : (bytes front : List ℕ) (ended front_ended : Bool) (others : List Unit) → units 1 bytes ended ≡ units 1 front front_ended ++ others
-    → unit_lines_so_far bytes ended ≡ unit_lines_so_far front front_ended ++ flat_map unit_line others
-lines_behind bytes front ended front_ended others is =
-    sym (unit_lines_are 1 bytes ended) ∙ ap (flat_map unit_line) is ∙ flat_map-append unit_line (units 1 front front_ended) others
-    ∙ ap (λ l. l ++ flat_map unit_line others) (unit_lines_are 1 front front_ended)
+lines_behind : (form : UnitFacts → List ℕ) (bytes front : List ℕ) (ended front_ended : Bool) (others : List Unit) → units 1 bytes ended ≡ units 1 front front_ended ++ others
+    → unit_lines_so_far form bytes ended ≡ unit_lines_so_far form front front_ended ++ flat_map (line_of_unit form) others
+lines_behind form bytes front ended front_ended others is =
+    let line = line_of_unit form in
+    sym (unit_lines_are form 1 bytes ended) ∙ ap (flat_map line) is ∙ flat_map-append line (units 1 front front_ended) others
+    ∙ ap (λ l. l ++ flat_map line others) (unit_lines_are form 1 front front_ended)
 
-pub unit_lines_added : (old mid new : SplitterState) (added : List ℕ) → AreLeft 1 old mid → new ≡ after_units_left 1 mid
-    → added ≡ flat_map unit_line (units_left 1 mid) → unit_lines_so_far new.bytes new.ended ≡ unit_lines_so_far old.bytes old.ended ++ added
-unit_lines_added old mid new added left is lines = rw (is, lines) (lines_behind mid.bytes old.bytes mid.ended old.ended (units_left 1 mid) left.all)
+pub unit_lines_added : (form : UnitFacts → List ℕ) (old mid new : SplitterState) (added : List ℕ) → AreLeft 1 old mid → new ≡ after_units_left 1 mid
+    → added ≡ flat_map (line_of_unit form) (units_left 1 mid) → unit_lines_so_far form new.bytes new.ended ≡ unit_lines_so_far form old.bytes old.ended ++ added
+unit_lines_added form old mid new added left is lines = rw (is, lines) (lines_behind form mid.bytes old.bytes mid.ended old.ended (units_left 1 mid) left.all)
 
-pub unit_lines_grow : UnitsStay → OnlyGrows unit_lines_so_far
-unit_lines_grow stay bytes more ended short =
-    let later = stay 1 bytes more ended in (_, lines_behind (bytes ++ more) bytes ended false later.0 later.1)
+pub unit_lines_grow : (form : UnitFacts → List ℕ) → UnitsStay → OnlyGrows (unit_lines_so_far form)
+unit_lines_grow form stay bytes more ended short =
+    let later = stay 1 bytes more ended in (_, lines_behind form (bytes ++ more) bytes ended false later.0 later.1)
 
 -- ---- the units whose parameter sets are in force, after one unit more; and pieces, one after the other: ids
 

@@ -54,10 +54,10 @@ pub use Rattle.avc_units.specs.Resuming.{sets_in_force, deciding_unit, satisfies
 pub use Rattle.avc_units.specs.declared.step.Next.{Next}
 pub use Rattle.avc_units.specs.declared.step.Next.TheVariants.{Nothing, Refusal, FaultOfOpen, FaultOfOwn}
 pub use Rattle.avc_units.specs.declared.step.Step.{Step}
-pub use Rattle.avc_tools.specs.CutPoints.{AreCounted, cut_point_lines, cut_point_lines_so_far, line_if_start, number_behind, number_behind_all}
+pub use Rattle.avc_tools.specs.CutPoints.{AreCounted, cut_point_line, cut_point_lines, cut_point_lines_so_far, line_if_start, number_behind, number_behind_all}
 pub use Rattle.avc_tools.specs.Cutting.{AreKept, AreReplaced, HasSets, kept_bytes, pps_unit, replaced, sps_unit, piece_at, piece_in, pieces_at, pieces_in}
 pub use Rattle.avc_tools.specs.Cutting.{piece_units}
-pub use Rattle.avc_tools.specs.Lines.{unit_line, unit_lines_so_far, header_line, header_lines_from, header_lines_so_far, newline, pps_fields, pps_flags}
+pub use Rattle.avc_tools.specs.Lines.{unit_line, unit_lines_so_far, line_of_unit, header_line, header_lines_from, header_lines_so_far, newline, pps_fields, pps_flags}
 pub use Rattle.avc_tools.specs.Lines.{pps_identity, slice_fields, slice_picture, slice_place, sps_frames, sps_identity, sps_size, unit_lines, header_lines}
 pub use Rattle.avc_tools.specs.Lines.{pps_constrained, pps_control, and_number}
 pub use Rattle.avc_tools.specs.PieceSoFar.{PiecesAreWhole, PiecesStay, bytes_of, numbered_piece, piece_so_far, piece_text, pieces_so_far_from, rest_so_far}
@@ -70,3 +70,4 @@ pub use Rattle.avc_tools.specs.Streams.{OnlyGrows, IsDrained, after_units_left, 
 pub use Rattle.avc_tools.specs.declared.cutter.CutPhase.{CutPhase}
 pub use Rattle.avc_tools.specs.declared.cutter.Cutter.{Cutter}
 pub use Rattle.avc_tools.specs.declared.sets_in_force.SetsInForce.{SetsInForce}
+pub use Rattle.avc_tools.specs.declared.unit_facts.UnitFacts.{UnitFacts}

@@ -1,25 +1,25 @@
 use Rattle.avc_tools.proofs.Taking.{max_unit, all_taken, one_more, shown_more}
 use Rattle.avc_tools.proofs.headers.lines_of_headers_left.Goals as goal
 
-pub loop-unit-preserved-in_ok-add_unit : goal.loop-unit-preserved-in_ok-add_unit
-loop-unit-preserved-in_ok-add_unit c = record {
+pub loop-unit-preserved-in_ok-add_header : goal.loop-unit-preserved-in_ok-add_header
+loop-unit-preserved-in_ok-add_header g c = record {
   draining =
       one_more max_unit _ _ _ _ c.in-Some.unit _ _ c.loop-unit.invariant.draining c.requires c.next_unit.ensures.unit c.next_unit.ensures.taken c.in-Some.is
-      (shown_more c.args.reader.now _ _ _ _ c.in-Some.unit c.in_ok-add_unit.ensures.sets c.in_ok-add_unit.ensures.text);
+      (shown_more g.F.ListingForm.of_header c.args.reader.now _ _ _ _ c.in-Some.unit c.in_ok-add_header.ensures.sets c.in_ok-add_header.ensures.text);
 }
 
 pub loop-unit-preserved : goal.loop-unit-preserved
-loop-unit-preserved c = record {
+loop-unit-preserved g c = record {
   draining =
       one_more max_unit _ _ _ _ c.in-Some.unit _ _ c.loop-unit.invariant.draining c.requires c.next_unit.ensures.unit c.next_unit.ensures.taken c.in-Some.is
-      (shown_more c.args.reader.now _ _ _ _ c.in-Some.unit c.in_ok-add_unit.ensures.sets c.in_ok-add_unit.ensures.text);
+      (shown_more g.F.ListingForm.of_header c.args.reader.now _ _ _ _ c.in-Some.unit c.in_ok-add_header.ensures.sets c.in_ok-add_header.ensures.text);
 }
 
 pub returns-clause-text : goal.returns-clause-text
-returns-clause-text c = (all_taken max_unit _ _ _ _ _ c.loop-unit.invariant.draining c.requires c.next_unit.ensures.unit c.next_unit.ensures.taken c.in_default.is).0.lines
+returns-clause-text g c = (all_taken max_unit _ _ _ _ _ c.loop-unit.invariant.draining c.requires c.next_unit.ensures.unit c.next_unit.ensures.taken c.in_default.is).0.lines
 
 pub returns-clause-sets : goal.returns-clause-sets
-returns-clause-sets c = (all_taken max_unit _ _ _ _ _ c.loop-unit.invariant.draining c.requires c.next_unit.ensures.unit c.next_unit.ensures.taken c.in_default.is).0.sets
+returns-clause-sets g c = (all_taken max_unit _ _ _ _ _ c.loop-unit.invariant.draining c.requires c.next_unit.ensures.unit c.next_unit.ensures.taken c.in_default.is).0.sets
 
 pub returns-clause-taken : goal.returns-clause-taken
-returns-clause-taken c = (all_taken max_unit _ _ _ _ _ c.loop-unit.invariant.draining c.requires c.next_unit.ensures.unit c.next_unit.ensures.taken c.in_default.is).1
+returns-clause-taken g c = (all_taken max_unit _ _ _ _ _ c.loop-unit.invariant.draining c.requires c.next_unit.ensures.unit c.next_unit.ensures.taken c.in_default.is).1

@@ -2,10 +2,10 @@ use Rattle.avc_tools.proofs.Taking.{arith, max_unit, left_by_feed, cut_point_lin
 use Rattle.avc_tools.proofs.cut_points.CutPointLinesStreamText.feed.Goals as goal
 
 pub invariant_of-self-2 : goal.invariant_of-self-2
-invariant_of-self-2 c =
+invariant_of-self-2 g c =
     let counted = c.self.invariant c.in_ok-check.ensures.going in
     let left = left_by_feed c.units_stay.ensures max_unit _ _ c.args.piece.now counted.drained (rw (← c.in_ok-keep.ensures.same) at c.feed.ensures.ok) in
     λ _. counted_again max_unit _ _ _ _ _ counted left (rw (← c.in_ok-lines.ensures.same) at c.lines_of_units_left-lines.ensures.taken) (rw (← c.in_ok-lines.ensures.same) at c.lines_of_units_left-lines.ensures.number)
 
 pub returns-clause-added : goal.returns-clause-added
-returns-clause-added c = grind (arith, left_by_feed, cut_point_lines_added)
+returns-clause-added g c = grind (arith, left_by_feed, cut_point_lines_added)
