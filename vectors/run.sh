@@ -892,9 +892,9 @@ passed_time=$(($(date +%s%N) - before))
 holds 'ten times' [ "$(grep -cx '[0-9][0-9]*' "$work/times")" = 10 ]
 holds 'no other line' [ "$(wc -l <"$work/times")" = 10 ]
 holds 'they are not above what was measured' [ "$(awk '{ all += $1 } END { print all }' "$work/times")" -le "$passed_time" ]
-# from a reader that waits a second before its last bytes
+# from a reader that waits a second before its last bytes; the program may begin a little later than it
 { head -c "$(($(wc -c <"$moving") - 1))" "$moving"; sleep 1; tail -c 1 "$moving"; } | "$program" decode --frametimes - >"$work/pictures" 2>"$work/told"
-holds 'times of a stream that waits' [ "$(awk '{ all += $1 } END { print (all >= 1000000000) }' "$work/told")" = 1 ]
+holds 'times of a stream that waits' [ "$(awk '{ all += $1 } END { print (all >= 900000000) }' "$work/told")" = 1 ]
 "$program" decode --frametimes "$work" "$moving" >"$work/pictures" 2>"$work/told"
 judge 'times into a folder' $? 3 "avcdec: write fault: $work
 avcdec: $work: it is a folder

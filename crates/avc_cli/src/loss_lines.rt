@@ -12,6 +12,8 @@ pub struct LossLines<'a> {
     rt: &'a HostRuntime,
     // none where they are not told, and once memory was wanting
     losses: Option<Losses<MAX_UNIT>>,
+    // the last slice among the units that were taken: it is refused, too, where its picture turns out faulty when it is closed
+    last_slice: Option<u64>,
 }
 
 impl LossLines<'_> {
@@ -22,7 +24,11 @@ impl LossLines<'_> {
         } else {
             None
         };
-        LossLines { rt, losses }
+        LossLines {
+            rt,
+            losses,
+            last_slice: None,
+        }
     }
 
     /// The next bytes of the stream.
@@ -50,7 +56,7 @@ impl LossLines<'_> {
             return;
         }
         if let Some(mut losses) = self.losses.take() {
-            if let Ok(is_lost) = lose_at(&mut losses, unit) {
+            if let Ok(is_lost) = lose_at(&mut losses, &mut self.last_slice, unit) {
                 self.losses = Some(losses);
                 let _ = tell_loss(unit, is_lost, &mut self.rt.stderr());
             }
@@ -60,7 +66,7 @@ impl LossLines<'_> {
     /// All refusals by the bytes so far were noted.
     pub fn note_units(&mut self) {
         if let Some(mut losses) = self.losses.take() {
-            if take_all(&mut losses).is_ok() {
+            if take_all(&mut losses, &mut self.last_slice).is_ok() {
                 self.losses = Some(losses);
             }
         }
@@ -75,30 +81,54 @@ impl LossLines<'_> {
     }
 }
 
-// Takes the units up to the one at this place, and answers whether it is refused with a picture.
-fn lose_at(losses: &mut Losses<MAX_UNIT>, unit: u64) -> Result<bool, OutOfMemory> {
+// Takes the units up to the one at this place, where it was not taken, and answers whether it is refused with a picture: it is a slice.
+fn lose_at(
+    losses: &mut Losses<MAX_UNIT>,
+    last_slice: &mut Option<u64>,
+    unit: u64,
+) -> Result<bool, OutOfMemory> {
+    let mut is_ahead = *last_slice != Some(unit);
     'units: for _unit in 0..u64::MAX {
-        match losses.next_unit()? {
-            Some(seen) => {
-                if seen.index == unit {
-                    if seen.is_slice {
-                        losses.lose();
-                    }
-                    return Ok(seen.is_slice);
-                }
-            }
-            None => return Ok(false),
+        if !is_ahead {
+            break;
         }
+        is_ahead = match take_next(losses, last_slice)? {
+            Some(index) => index < unit,
+            None => false,
+        };
     }
-    Ok(false)
+    let is_lost = *last_slice == Some(unit);
+    if is_lost {
+        losses.lose();
+    }
+    Ok(is_lost)
 }
 
 // Takes all units whose end has been seen.
-fn take_all(losses: &mut Losses<MAX_UNIT>) -> Result<(), OutOfMemory> {
+fn take_all(
+    losses: &mut Losses<MAX_UNIT>,
+    last_slice: &mut Option<u64>,
+) -> Result<(), OutOfMemory> {
     'units: for _unit in 0..u64::MAX {
-        if losses.next_unit()?.is_none() {
+        if take_next(losses, last_slice)?.is_none() {
             break;
         }
     }
     Ok(())
+}
+
+// Takes the next unit, and answers its place.
+fn take_next(
+    losses: &mut Losses<MAX_UNIT>,
+    last_slice: &mut Option<u64>,
+) -> Result<Option<u64>, OutOfMemory> {
+    match losses.next_unit()? {
+        Some(seen) => {
+            if seen.is_slice {
+                *last_slice = Some(seen.index);
+            }
+            Ok(Some(seen.index))
+        }
+        None => Ok(None),
+    }
 }
