@@ -1,11 +1,10 @@
 //! The command `compare`, with the file that is compared.
 
-use crate::input::Input;
-use crate::told::tell_reason;
 use avc_compare::{Comparison, compare};
 use avc_console::{Console, Ending, Names, RunFault, Watch, fail};
 use avc_request::Request;
 use avc_run::Output;
+use avc_shell::{Input, tell_reason};
 use std::fs::File;
 use std::io::{Read, Write};
 

@@ -2,19 +2,6 @@
 #![tactic(auto)]
 
 mod comparing;
-mod ending;
-mod errors;
-mod frame_times;
-mod from_piece;
-mod input;
-mod loss_lines;
-mod misuse;
-mod observer;
-mod output;
-mod progress;
-mod rate;
-mod reason;
-mod told;
 
 use avc_console::{
     Answer, Console, Ending, Names, RunFault, Watch, answer_status, cut, cut_status, fail,
@@ -24,26 +11,19 @@ use avc_formats::{HeadedFormat, I420, Selected};
 use avc_info::{ForPrograms, InfoForm, info};
 use avc_request::{Form, Request, Showing, Subject, Task, Telling, Wording, requested, words_of};
 use avc_run::{decode, decode_as, decode_headed, decode_md5, verify};
+use avc_shell::{
+    Errors, FrameTimes, FromPiece, Input, LossLines, Observer, Output, OutputFile, PictureFiles, Progress, ended_status, is_output_refused,
+    is_told_more, tell_container, tell_no_piece, tell_outcome, tell_reason,
+};
 use avc_tools::{ForPeople, ListingForm};
 use clap::error::ErrorKind;
 use comparing::compare_files;
-use ending::ended_status;
-use errors::Errors;
-use frame_times::FrameTimes;
-use from_piece::FromPiece;
-use input::Input;
-use loss_lines::LossLines;
-use misuse::is_output_refused;
-use observer::Observer;
-use output::{Output, OutputFile, PictureFiles};
-use progress::Progress;
 use std::alloc::Global;
 use std::cell::Cell;
 use std::fs::{File, metadata};
 use std::io;
 use std::io::{IsTerminal, Read, Write};
 use std::process::ExitCode;
-use told::{is_told_more, tell_container, tell_no_piece, tell_outcome, tell_reason};
 
 fn main(rt: HostRuntime) -> ExitCode {
     let ended = match words_of(&rt) {

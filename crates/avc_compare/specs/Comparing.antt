@@ -12,7 +12,7 @@ use Rattle.avc_decoder.specs.declared.event.Event.TheVariants.{Picture}
 use Rattle.avc_console.specs.Reading.{max_unit, HasRead}
 use Rattle.avc_console.specs.declared.fault.RunFault.TheVariants.{Read, Endless, Memory}
 use Rattle.avc_console.specs.declared.report.Report.{Report}
-use Rattle.avc_run.specs.Decoding.{report_of, shown}
+use Rattle.avc_events.specs.EventReports.{report_of, shown}
 use Rattle.avc_compare.specs.declared.verdict.CompareFault.{CompareFault}
 use Rattle.avc_compare.specs.declared.verdict.CompareFault.TheVariants.{Ours, Theirs}
 use Rattle.avc_compare.specs.declared.verdict.Verdict.{Verdict}

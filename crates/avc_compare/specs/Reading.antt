@@ -9,7 +9,7 @@ use Rattle.avc_types.specs.Whole.{IsWhole}
 use Rattle.avc_console.specs.Reading.{max_unit, HasRead}
 use Rattle.avc_console.specs.declared.fault.RunFault.{RunFault}
 use Rattle.avc_console.specs.declared.fault.RunFault.TheVariants.{Read, Endless, Memory}
-use Rattle.avc_run.specs.Draining.{events_defined, IfPicture}
+use Rattle.avc_events.specs.EventReports.{events_defined, IfPicture}
 use Rattle.avc_compare.specs.Kept.{Waiting}
 
 -- Of the bytes that were read some were fed, and the rest wait; of the events that the fed ones define these were taken.

@@ -12,7 +12,7 @@ use Rattle.avc_decoder.specs.SeenEvents.{Event}
 use Rattle.avc_decoder.specs.declared.event.Event.TheVariants.{Picture}
 use Rattle.avc_console.specs.declared.fault.RunFault.TheVariants.{Memory}
 use Rattle.avc_console.specs.declared.report.Report.{Report}
-use Rattle.avc_run.specs.Draining.{report_with}
+use Rattle.avc_events.specs.EventReports.{report_with}
 use Rattle.avc_compare.specs.Comparing.{IsAlike, IsSame}
 use Rattle.avc_compare.specs.Kept.{Waiting}
 use Rattle.avc_compare.specs.Reading.{IsReading}

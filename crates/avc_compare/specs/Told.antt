@@ -13,7 +13,7 @@ use Rattle.avc_console.specs.declared.fault.RunFault.{RunFault}
 use Rattle.avc_console.specs.declared.fault.RunFault.TheVariants.{Read}
 use Rattle.avc_console.specs.declared.report.Report.{Report}
 use Rattle.avc_formats.specs.Formats.{StopsPicture}
-use Rattle.avc_run.specs.Digesting.{other_status}
+use Rattle.avc_console.specs.Status.{other_status}
 use Rattle.avc_compare.specs.Comparing.{Compares}
 use Rattle.avc_compare.specs.declared.verdict.CompareFault.{CompareFault}
 use Rattle.avc_compare.specs.declared.verdict.CompareFault.TheVariants.{Ours, Theirs}

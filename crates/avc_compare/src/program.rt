@@ -5,7 +5,7 @@ ghost use Rattle.std.specs.Io.KnownBytes.{Appends};
 ghost use Rattle.avc_console.specs.Program.{TellsRun};
 ghost use Rattle.avc_console.specs.Reporting.{report_in, reported_by, IsTold};
 ghost use Rattle.avc_formats.specs.Formats.{StopsPicture};
-ghost use Rattle.avc_run.specs.Digesting.{other_status};
+ghost use Rattle.avc_console.specs.Status.{other_status};
 ghost use Rattle.avc_compare.specs.Told.{fault_names, is_same, run_fault, verdict_status, verdict_text, EndsComparing, HasMarks};
 
 use crate::comparison::{Comparison, run_comparison};

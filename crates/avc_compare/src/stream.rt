@@ -8,11 +8,11 @@ ghost use Rattle.avc_decoder.specs.Machine.{next_event};
 ghost use Rattle.avc_compare.specs.Reading.{BreaksReading, Fills, IsWholeIfAny, ReadsOn, TakesNext};
 
 use crate::ahead::Ahead;
-use avc_console::{READS, RunFault};
+use avc_console::{MAX_UNIT, READS, RunFault};
 use avc_decoder::laws::{events_only_grow, pictures_are_whole};
 use avc_decoder::{Decoder, Event};
+use avc_events::{feed_unit, flush, next_event};
 use avc_plane::SharedPicture;
-use avc_run::{MAX_UNIT, feed_unit, flush, next_event};
 use std::io::Read;
 
 /// Takes the next event of a stream. It reads and feeds only what that needs, a unit at a time, so that few pictures wait.

@@ -1,5 +1,5 @@
 -- What the program tells by its exit status.
-use Rattle.std.specs.Prelude.{ℕ, Bool, if◌then◌else◌, List, [], ◌∷◌, Result, Ok, Err}
+use Rattle.std.specs.Prelude.{ℕ, ◌==◌, Bool, if◌then◌else◌, List, [], ◌∷◌, Result, Ok, Err}
 use Rattle.avc_types.specs.declared.fault.Fault.{Fault}
 use Rattle.avc_console.specs.declared.fault.RunFault.{RunFault}
 use Rattle.avc_console.specs.declared.fault.RunFault.TheVariants.{Read, Endless, Write, Memory, Size}
@@ -29,6 +29,10 @@ status_of (Err fault) = fault_status fault
 abbrev pub run_status : Report → Result (Unit {0}) RunFault → ℕ
 run_status report (Ok _) = refused_status report.refused
 run_status report (Err fault) = fault_status fault
+
+-- after decoding that ended so, where the pictures are not those that were expected: 1 in place of 0
+abbrev pub other_status : ℕ → ℕ
+other_status status = if status == 0 then 1 else status
 
 -- after listing units or headers
 abbrev pub units_status : Result (Unit {0}) RunFault → ℕ

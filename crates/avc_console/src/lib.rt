@@ -22,7 +22,7 @@ pub use fault::RunFault;
 pub use listing::{run_headers, run_pieces, run_units};
 pub use messages::{no_piece_line, refusal_line, write_text};
 pub use program::{cut, end_listing, fail, headers, pieces, tell, units};
-pub use read::{PIECE, READS, read_once};
+pub use read::{MAX_UNIT, PIECE, READS, read_once};
 pub use report::{Refusals, Report};
 pub use reporter::{Counts, Reporter};
 pub use streaming::write_stream;

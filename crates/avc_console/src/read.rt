@@ -12,6 +12,9 @@ pub const PIECE: usize = 65_536;
 /// The most reads of one run.
 pub const READS: u64 = 4_294_967_296;
 
+/// The most bytes of a unit.
+pub const MAX_UNIT: usize = 134_217_728;
+
 const _: () = prove!(PIECE == 65_536 && READS == 4_294_967_296);
 
 pub fn zeros(alloc: Global, count: usize) -> Result<Vec<u8>, RunFault>

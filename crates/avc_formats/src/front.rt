@@ -5,13 +5,10 @@ use crate::first_set::find_set;
 use crate::presentation::Presentation;
 use avc_annexb::Splitter;
 use avc_annexb::laws::units_stay;
-use avc_console::{PIECE, RunFault, read_once};
+use avc_console::{MAX_UNIT, PIECE, RunFault, read_once};
 use avc_units::HeaderReader;
 use std::alloc::Global;
 use std::io::Read;
-
-/// The most bytes of a unit.
-pub(crate) const MAX_UNIT: usize = 134_217_728;
 
 /// So many bytes are looked at.
 const FRONT: usize = MAX_UNIT;

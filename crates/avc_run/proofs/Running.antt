@@ -4,12 +4,6 @@ unfoldable pub use Events.*
 
 -- ---- reports
 
-told : (es : List Event) → report_with no_report es ≡ report_of es
-told es = reported_is 0 [] es ∙ ap (λ n. record { pictures = saturated n; refused = refusals_in es }) (omega arith)
-
-pub report_more : (a b : List Event) → report_with (report_of a) b ≡ report_of (a ++ b)
-report_more a b = ap (λ r. report_with r b) (sym (told a)) ∙ sym (report_with-append no_report a b) ∙ told (a ++ b)
-
 -- a report's number of pictures, as they are counted from 0
 counted : (es : List Event) → (report_of es).pictures ≡ pictures_after 0 es
 counted es = ap (λ r. r.pictures) (sym (told es)) ∙ pictures_now no_report es

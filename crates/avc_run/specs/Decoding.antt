@@ -1,28 +1,18 @@
 -- What `decode` writes and reports.
 use Rattle.std.specs.Prelude.{◌≡◌, ℕ, ◌≤◌, ◌^◌, Bool, true, false, List, length, take, Option, Result, Ok, Err}
-use Rattle.std.specs.List.{flat_map}
 use Rattle.std.specs.Io.KnownBytes.{Appends}
-use Rattle.avc_annexb.specs.Units.{saturated}
-use Rattle.avc_yuv.specs.I420.{i420}
 use Rattle.avc_decoder.specs.Output.{Output}
-use Rattle.avc_decoder.specs.Events.{events, pictures_in, refusals_in}
+use Rattle.avc_decoder.specs.Events.{events}
 use Rattle.avc_decoder.specs.SeenEvents.{Event}
 use Rattle.avc_console.specs.Reading.{max_unit, HasRead, WritesFirst}
 use Rattle.avc_console.specs.declared.fault.RunFault.{RunFault}
 use Rattle.avc_console.specs.declared.fault.RunFault.TheVariants.{Read, Endless, Write, Memory, Size}
 use Rattle.avc_console.specs.declared.report.Report.{Report}
-
--- I420 of all pictures among these events, in order
-abbrev pub shown : List Event → List ℕ
-shown events = flat_map i420 (pictures_in events)
+use Rattle.avc_events.specs.EventReports.{report_of, shown}
 
 -- all that a whole stream defines
 abbrev pub defined : Output → (bytes : List ℕ) → List Event
 defined output bytes = events output max_unit bytes true
-
--- The report on these events: how many pictures there are (or the greatest number, once there), and each refusal.
-abbrev pub report_of : List Event → Report
-report_of events = record { pictures = saturated (length (pictures_in events)); refused = refusals_in events }
 
 -- Some of these events have been handled, the first ones: the pictures among them are written, each whole.
 pub record WritesPictures (old new : Option (List ℕ)) (events : List Event) : Type 0 where

@@ -1,12 +1,12 @@
 -- The MD5 of the pictures in place of the pictures.
-use Rattle.std.specs.Prelude.{◌≡◌, ℕ, Bool, ◌==◌, true, if◌then◌else◌, List, [], ◌∷◌, ◌++◌, Option, Some, Result, Ok, Err, codes}
+use Rattle.std.specs.Prelude.{◌≡◌, ℕ, Bool, true, List, [], ◌∷◌, ◌++◌, Option, Some, Result, Ok, Err, codes}
 use Rattle.std.specs.Io.KnownBytes.{Appends}
 use Rattle.hex.specs.Hex.{encode_lower}
 use Rattle.md5.specs.Md5.{md5}
 use Rattle.avc_decoder.specs.Output.{Output}
 use Rattle.avc_console.specs.Messages.{run_text}
 use Rattle.avc_console.specs.Program.{TellsRun}
-use Rattle.avc_console.specs.Status.{run_status}
+use Rattle.avc_console.specs.Status.{other_status, run_status}
 use Rattle.avc_console.specs.Telling.{Tells}
 use Rattle.avc_console.specs.declared.console.Names.{Names}
 use Rattle.avc_console.specs.declared.exit.Ending.{Ending}
@@ -52,10 +52,6 @@ other_line digest = codes "avcdec: the MD5 is " ++ encode_lower digest ++ 10 ∷
 abbrev pub other_text : Result (Unit {0}) RunFault → (digest : List ℕ) → List ℕ
 other_text (Ok _) digest = other_line digest
 other_text (Err fault) digest = []
-
--- 1 in place of 0
-abbrev pub other_status : ℕ → ℕ
-other_status status = if status == 0 then 1 else status
 
 -- The exit status and what is told are those of this run, whose digest is another one.
 pub record TellsOther (names : Names) (explained : Bool) (report : Report) (run : Result (Unit {0}) RunFault) (digest : List ℕ) (before now : Option (List ℕ)) (ending : Ending) : Type 0 where

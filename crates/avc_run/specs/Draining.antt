@@ -1,23 +1,16 @@
 -- Taking all events that have come: these words are the crate's own.
-use Rattle.std.specs.Prelude.{◌≡◌, ℕ, false, ◌+◌, ◌-◌, List, [], ◌∷◌, ◌++◌, length, drop, Option}
-use Rattle.avc_types.specs.declared.picture.Picture.{Picture as Decoded}
-use Rattle.avc_annexb.specs.Units.{saturated}
+use Rattle.std.specs.Prelude.{◌≡◌, ℕ, false, ◌+◌, ◌-◌, List, ◌++◌, length, drop, Option}
 use Rattle.avc_decoder.specs.Output.{Output}
 use Rattle.avc_decoder.specs.Events.{events}
 use Rattle.avc_decoder.specs.Machine.{Machine}
 use Rattle.avc_decoder.specs.SeenEvents.{Event}
-use Rattle.avc_decoder.specs.declared.event.Event.TheVariants.{Picture, Refused}
 use Rattle.std.specs.Io.KnownBytes.{Appends, Consumes}
-use Rattle.avc_run.specs.Decoding.{report_of}
+use Rattle.avc_events.specs.EventReports.{events_defined, report_of, report_with}
 use Rattle.avc_formats.specs.Formats.{Format}
 use Rattle.avc_run.specs.Formats.{pictures_after, written_from, StopsAt}
 use Rattle.avc_console.specs.Reading.{max_unit}
 use Rattle.avc_console.specs.declared.fault.RunFault.{RunFault}
 use Rattle.avc_console.specs.declared.report.Report.{Report}
-
--- the events that the bytes so far define
-abbrev pub events_defined : Machine → List Event
-events_defined m = events m.output max_unit m.bytes m.ended
 
 -- the events that were not taken
 abbrev pub events_left : Machine → List Event
@@ -35,17 +28,6 @@ pub record IsDrained (m : Machine) : Type 0 where
 -- how many are left
 abbrev pub count_left : Machine → ℕ
 count_left m = length (events_defined m) - m.taken
-
--- a report with these events more
-abbrev pub report_with : Report → List Event → Report
-report_with r [] = r
-report_with r (Picture p ∷ events) = report_with (record r { pictures = saturated (r.pictures + 1) }) events
-report_with r (Refused unit f ∷ events) = report_with (record r { refused = r.refused ++ (unit, f) ∷ [] }) events
-
--- of a picture this holds; of a refusal nothing is said
-abbrev pub IfPicture : Event → (Decoded → Type 0) → Type 0
-IfPicture (Picture p) holds = holds p
-IfPicture (Refused unit f) holds = Unit {0}
 
 -- From `old` all events that were due were taken, told in the report and written.
 pub record IsHandled (format : Format) (old new : Machine) (before now : Report) (held holds : Option (List ℕ)) : Type 0 where

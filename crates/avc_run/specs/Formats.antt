@@ -7,7 +7,7 @@ use Rattle.avc_decoder.specs.Output.{Output}
 use Rattle.avc_decoder.specs.Events.{events}
 use Rattle.avc_decoder.specs.SeenEvents.{Event}
 use Rattle.avc_decoder.specs.declared.event.Event.TheVariants.{Picture, Refused}
-use Rattle.avc_run.specs.Decoding.{report_of}
+use Rattle.avc_events.specs.EventReports.{report_of}
 use Rattle.avc_console.specs.Reading.{max_unit, HasRead}
 use Rattle.avc_formats.specs.Formats.{Format}
 use Rattle.avc_console.specs.declared.fault.RunFault.{RunFault}

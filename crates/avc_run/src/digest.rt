@@ -1,7 +1,8 @@
 ghost use Rattle.std.specs.Prelude.{◌≡◌, ◌==◌, if◌then◌else◌};
 ghost use Rattle.avc_console.specs.Reporting.{no_report, TellsOn};
+ghost use Rattle.avc_console.specs.Status.{other_status};
 ghost use Rattle.avc_console.specs.Telling.{TellsMore};
-ghost use Rattle.avc_run.specs.Digesting.{other_status, other_text, EndsDigesting, EndsVerifying, Sums, WritesDigest};
+ghost use Rattle.avc_run.specs.Digesting.{other_text, EndsDigesting, EndsVerifying, Sums, WritesDigest};
 ghost use Rattle.hex.specs.Hex.{encode_lower};
 
 use crate::decoding::run_watched;

@@ -2,20 +2,19 @@
 #![tactic(auto)]
 
 mod by_set;
-mod calls;
 mod decoding;
 mod digest;
 mod program;
 
 pub use avc_console::{
-    Answer, Console, Counts, Ending, Names, PIECE, Refusals, Report, Reporter, RunFault, Tally,
+    Answer, Console, Counts, Ending, MAX_UNIT, Names, PIECE, Refusals, Report, Reporter, RunFault, Tally,
     Unwatched, Watch, answer_status, cut, cut_status, end_listing, fail, fault_status, headers,
     read_once, refusal_line, run_cut, run_headers, run_units, status, tell, units, write_stream,
 };
 pub use avc_decoder::Output;
+pub use avc_events::{feed_unit, flush, next_event};
 pub use avc_formats::{I420, PictureFormat};
 pub use by_set::decode_headed;
-pub use calls::{MAX_UNIT, feed_unit, flush, next_event};
 pub use decoding::{run, run_behind, run_watched};
 pub use digest::{decode_md5, verify};
 pub use program::{decode, decode_as};

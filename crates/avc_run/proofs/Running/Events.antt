@@ -33,25 +33,6 @@ behind f r r' w0 w w' a b told before more =
     (Appends-trans w0 w w' (written_from f r.pictures a) (written_from f (pictures_after r.pictures a) b) before
     (subst (λ n. Appends w w' (written_from f n b)) (number_after r r' a told) more))
 
-pub report_with-append : (r : Report) (a b : List Event) → report_with r (a ++ b) ≡ report_with (report_with r a) b
-report_with-append r [] b = refl
-report_with-append r (Picture p ∷ a) b = report_with-append (record r { pictures = saturated (r.pictures + 1) }) a b
-report_with-append r (Refused unit f ∷ a) b = report_with-append (record r { refused = r.refused ++ (unit, f) ∷ [] }) a b
-
-held_more : (m : ℕ) → saturated (saturated m + 1) ≡ saturated (m + 1)
-held_more m = omega arith
-
-pub reported_is : (m : ℕ) (refused : List (ℕ × Fault)) (events : List Event)
-    → report_with (record { pictures = saturated m; refused = refused }) events ≡ record { pictures = saturated (m + length (pictures_in events)); refused = refused ++ refusals_in events }
-reported_is m refused [] = rw append-nil (ap (λ k. record { pictures = saturated k; refused = refused }) (omega arith))
-reported_is m refused (Picture p ∷ events) =
-    let n = length (pictures_in events) in
-    let same : m + 1 + n ≡ m + suc n = omega arith in
-    ap (λ k. report_with (record { pictures = k; refused = refused }) events) (held_more m)
-    ∙ reported_is (m + 1) refused events
-    ∙ ap (λ k. record { pictures = saturated k; refused = refused ++ refusals_in events }) same
-reported_is m refused (Refused unit f ∷ events) = reported_is m (refused ++ (unit, f) ∷ []) events ∙ rw append_assoc refl
-
 -- ---- the next one
 
 drop_none : {A : Type 0} (xs : List A) (k : ℕ) → slice_get xs k ≡ None → drop k xs ≡ []
@@ -188,17 +169,7 @@ none_handled f r r' fault w events memory same = record {
 
 -- ---- what is told meanwhile
 
--- of a run from its start on, by a tally, and then of its end
-pub run_told : (names : Names) (explained : Bool) (t0 t1 : Tallied) (run : Result (Unit {0}) RunFault) (b0 b1 b2 : Option (List ℕ)) (ending : Ending) → t0 ≡ new_tally explained
-    → TellsOn (reported_by t0) (reported_by t1) b0 b1
-    → ((start : Option (List ℕ)) → IsTold start b1 (reported_by t1) → TellsRun names t1.explained (report_in t1) run start b2 ending)
-    → TellsRun names explained (report_in t1) run b0 b2 ending
-run_told names explained t0 t1 run b0 b1 b2 ending new on tells =
-    let going = subst (λ (t : Tallied). TellsOn (reported_by t) (reported_by t1) b0 b1) new on in
-    let ends = tells b0 (going.told b0 (Appends-nil b0)) in
-    record { status_is = ends.status_is; told = subst (λ line. Tells b0 b2 (flat_map line t1.refusals ++ end_text names run) ending.told) going.line_is ends.told }
-
--- and behind that of a digest that was compared
+-- of a digest that was compared, behind a run
 pub verified : (names : Names) (explained : Bool) (format : Format) (output : Output) (expected digest : List ℕ) (unread left : Option (List ℕ)) (report : Report) (run : Result (Unit {0}) RunFault)
     (b0 b2 b3 : Option (List ℕ)) (decoded ending : Ending) → Sums format output unread left report run digest → TellsRun names explained report run b0 b2 decoded
     → (digest ≡ expected → (ending ≡ decoded) × (b3 ≡ b2)) → ((digest ≡ expected → ⊥) → ending.status ≡ other_status decoded.status)
@@ -216,17 +187,9 @@ verified names explained format output expected digest unread left report run b0
   };
 }
 
--- of nothing
-pub stays_told : (r : Reported) (w : Option (List ℕ)) → TellsOn r r w w
-stays_told r w = record { line_is = refl; told = λ start so_far. so_far }
-
 -- of a picture
 pub picture_told : (r r' : Reported) (w : Option (List ℕ)) → r' ≡ with_picture r → TellsOn r r' w w
 picture_told r r' w is = subst (λ q. TellsOn r q w w) (sym is) (record { line_is = refl; told = λ start so_far. so_far })
-
--- one after another
-pub told_then : (a b c : Reported) (x y z : Option (List ℕ)) → TellsOn a b x y → TellsOn b c y z → TellsOn a c x z
-told_then a b c x y z first second = record { line_is = second.line_is ∙ first.line_is; told = λ start so_far. second.told start (first.told start so_far) }
 
 -- ---- as the loop says it
 
@@ -235,10 +198,6 @@ smaller d d' e next taken =
     let within = slice_get_within (events_defined d) d.taken e (sym next) in
     let less : length (events_defined d) - (d.taken + 1) < length (events_defined d) - d.taken = omega (arith, within) in
     subst (λ m. count_left m < count_left d) (sym taken) less
-
-pub is_none : {A : Type 0} (o : Option A) → ((x : A) → o ≡ Some x → ⊥) → o ≡ None
-is_none None other = refl
-is_none (Some x) other = absurd (other x refl)
 
 -- ---- a piece that is fed in parts
 

@@ -31,10 +31,8 @@ pub use Rattle.avc_difference.specs.declared.place.Shape.{Shape}
 pub use Rattle.avc_difference.specs.Places.{sample_count, shape_of, shown_samples}
 pub use Rattle.avc_plane.specs.declared.component.Component.TheVariants.{Luma, Cb, Cr}
 pub use Rattle.avc_formats.specs.Formats.{StopsPicture}
-pub use Rattle.avc_run.proofs.Running.{report_more}
-pub use Rattle.avc_run.proofs.Running.Events.{is_none, run_told, stays_told, told_then}
-pub use Rattle.avc_run.specs.Decoding.{report_of, shown}
-pub use Rattle.avc_run.specs.Draining.{events_defined, report_with, IfPicture}
+pub use Rattle.avc_events.proofs.EventReports.{is_none, report_more, run_told, stays_told, told_then}
+pub use Rattle.avc_events.specs.EventReports.{events_defined, report_of, report_with, shown, IfPicture}
 pub use Rattle.avc_types.specs.Whole.{IsWhole}
 pub use Rattle.avc_types.specs.declared.fault.Fault.{Fault}
 pub use Rattle.avc_types.specs.declared.picture.Picture.{Picture as Decoded}

@@ -22,12 +22,15 @@ pub use Rattle.avc_console.specs.Reporting.{new_tally, no_report, report_in, rep
 pub use Rattle.avc_console.specs.Telling.{Tells, TellsMore}
 pub use Rattle.avc_console.specs.Messages.{end_text, run_text}
 pub use Rattle.avc_console.specs.Program.{TellsRun}
+pub use Rattle.avc_console.specs.Status.{other_status}
 pub use Rattle.avc_console.specs.declared.console.Names.{Names}
 pub use Rattle.avc_console.specs.declared.exit.Ending.{Ending}
-pub use Rattle.avc_run.specs.Digesting.{other_status, other_text, EndsVerifying, Sums}
+pub use Rattle.avc_run.specs.Digesting.{other_text, EndsVerifying, Sums}
 pub use Rattle.std.specs.List.{flat_map}
-pub use Rattle.avc_run.specs.Decoding.{shown, report_of, Decodes, defined}
-pub use Rattle.avc_run.specs.Draining.{events_defined, events_left, count_left, report_with, BreaksOffFrom, IsDraining, IsHandled, IsDrained}
+pub use Rattle.avc_events.proofs.EventReports.{is_none, report_more, report_with-append, run_told, stays_told, told, told_then}
+pub use Rattle.avc_events.specs.EventReports.{events_defined, report_of, report_with, shown}
+pub use Rattle.avc_run.specs.Decoding.{Decodes, defined}
+pub use Rattle.avc_run.specs.Draining.{events_left, count_left, BreaksOffFrom, IsDraining, IsHandled, IsDrained}
 pub use Rattle.avc_run.specs.Draining.{after_draining, IsRunning}
 pub use Rattle.avc_run.specs.Formats.{pictures_after, written_from, BreaksOff, DecodesAs, StopsAt}
 pub use Rattle.avc_formats.specs.Formats.{Format, StopsPicture, plain}

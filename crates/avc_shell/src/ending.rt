@@ -1,5 +1,5 @@
 ghost use Rattle.std.specs.Prelude.{◌≡◌};
-ghost use Rattle.avc_cli.specs.Ending.{ended_status, is_verified, shown_by, status_wanting};
+ghost use Rattle.avc_shell.specs.Ending.{ended_status, is_verified, shown_by, status_wanting};
 
 use avc_request::{Form, Task};
 

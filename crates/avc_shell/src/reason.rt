@@ -1,5 +1,5 @@
 ghost use Rattle.std.specs.Prelude.{◌≡◌, IfOk, string_bytes};
-ghost use Rattle.avc_cli.specs.Reasons.{reason_line, reason_of};
+ghost use Rattle.avc_shell.specs.Reasons.{reason_line, reason_of};
 
 use std::alloc::{AllocError, Global};
 use std::io::ErrorKind;

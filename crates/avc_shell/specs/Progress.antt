@@ -2,7 +2,7 @@
 use Rattle.std.specs.Prelude.{ℕ, ◌*◌, ◌/◌, ◌%◌, ◌-◌, min, ◌==◌, ◌||◌, if◌then◌else◌, List, [], ◌∷◌, ◌++◌, Option, Some, None, codes}
 use Rattle.std.specs.Fmt.{decimal}
 use Rattle.avc_console.specs.declared.reporter.Counts.{Counts}
-use Rattle.avc_cli.specs.declared.progress.Place.{Place}
+use Rattle.avc_shell.specs.declared.progress.Place.{Place}
 
 -- tenths, in decimal
 abbrev pub tenths_text : ℕ → List ℕ

@@ -5,12 +5,9 @@ ghost use Rattle.avc_console.specs.Reading.{max_unit};
 ghost use Rattle.avc_console.specs.declared.fault.RunFault.TheVariants as faults;
 ghost use Rattle.avc_decoder.specs.Machine.{after_feed, after_flush, after_take, next_event, IsUpToUnit};
 
-use avc_console::RunFault;
+use avc_console::{MAX_UNIT, RunFault};
 use avc_decoder::{Decoder, Event};
 use avc_plane::SharedPicture;
-
-/// The most bytes of a unit.
-pub const MAX_UNIT: usize = 134_217_728;
 
 /// Feeds bytes up to where a unit has ended. Answers how many they are.
 pub fn feed_unit(

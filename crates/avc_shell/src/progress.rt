@@ -1,6 +1,6 @@
 ghost use Rattle.std.specs.Prelude.{◌≡◌, ◌<◌, ◌++◌, IfOk, OnOk, string_bytes};
-ghost use Rattle.avc_cli.specs.Progress.{clock_text, counts_text, left_text, place_by, place_text, progress_line, speed_text};
-ghost use Rattle.avc_cli.specs.Progress.{tenths_text, times_by, times_text};
+ghost use Rattle.avc_shell.specs.Progress.{clock_text, counts_text, left_text, place_by, place_text, progress_line, speed_text};
+ghost use Rattle.avc_shell.specs.Progress.{tenths_text, times_by, times_text};
 
 use crate::rate::RateSearch;
 use avc_console::Counts;

@@ -1,7 +1,7 @@
 //! How long each picture took.
 
 ghost use Rattle.std.specs.Prelude.{◌≡◌, IfOk, string_bytes};
-ghost use Rattle.avc_cli.specs.FrameTimes.{time_line};
+ghost use Rattle.avc_shell.specs.FrameTimes.{time_line};
 
 use crate::errors::Errors;
 use std::alloc::{AllocError, Global};

@@ -1,7 +1,6 @@
 //! What is lost behind refusals, told as decoding goes on.
 
-use avc_console::tell_loss;
-use avc_run::MAX_UNIT;
+use avc_console::{MAX_UNIT, tell_loss};
 use avc_tools::Losses;
 use avc_types::{Fault, OutOfMemory};
 

@@ -1,5 +1,5 @@
 ghost use Rattle.std.specs.Prelude.{◌≡◌, ◌⊎◌, ◌++◌, [], length, None, Some, false};
-ghost use Rattle.avc_cli.specs.Rates.{looked, rate_of, IsGoingOn, Looks};
+ghost use Rattle.avc_shell.specs.Rates.{looked, rate_of, IsGoingOn, Looks};
 
 use avc_info::{InfoLines, SequenceFacts, frame_rate};
 use avc_tools::{ForPeople, StreamText};
@@ -20,7 +20,7 @@ pub struct RateSearch {
 }
 
 impl Model for RateSearch {
-    ghost use Rattle.avc_cli.specs.Rates.{bytes_of, IsSearching, Search};
+    ghost use Rattle.avc_shell.specs.Rates.{bytes_of, IsSearching, Search};
 
     ghost Value = { Search };
 

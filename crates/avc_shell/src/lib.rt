@@ -1,0 +1,28 @@
+//! What the program has around its commands: files and pipes, what is told beside them, and how that changes its exit status.
+#![tactic(auto)]
+
+mod ending;
+mod errors;
+mod frame_times;
+mod from_piece;
+mod input;
+mod loss_lines;
+mod misuse;
+mod observer;
+mod output;
+mod progress;
+mod rate;
+mod reason;
+mod told;
+
+pub use ending::ended_status;
+pub use errors::Errors;
+pub use frame_times::FrameTimes;
+pub use from_piece::FromPiece;
+pub use input::Input;
+pub use loss_lines::LossLines;
+pub use misuse::is_output_refused;
+pub use observer::Observer;
+pub use output::{Output, OutputFile, PictureFiles};
+pub use progress::Progress;
+pub use told::{is_told_more, tell_container, tell_no_piece, tell_outcome, tell_reason};
