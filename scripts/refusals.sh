@@ -18,21 +18,21 @@ avc_c/src/status.rt: Status::OutOfMemory
 avc_cli/src/main.rt: if error.kind() == ErrorKind::OutOfMemory {
 avc_cli/src/main.rt: return Err(RunFault::Memory);
 # of OutOfMemory, through what reads a stream and what writes it
-avc_cli/src/from_piece.rt: Err(io::Error::from(ErrorKind::OutOfMemory))
+avc_shell/src/from_piece.rt: Err(io::Error::from(ErrorKind::OutOfMemory))
 avc_cli/src/main.rt: fault_status(RunFault::Memory)
-avc_cli/src/output.rt: Err(_) => return Err(io::Error::from(ErrorKind::OutOfMemory)),
+avc_shell/src/output.rt: Err(_) => return Err(io::Error::from(ErrorKind::OutOfMemory)),
 # of OutOfMemory, and of what an allocator answers
 avc_console/src/fault.rt: RunFault::Memory
 avc_console/src/fault.rt: RunFault::Memory
 avc_console/src/fault.rt: RunFault::Memory
 # of OutOfMemory
 avc_decoder/src/error.rt: DecodeError::OutOfMemory
+# of what the decoder answered, which is fed nothing after the end
+avc_events/src/calls.rt: Err(_) => Err(RunFault::Memory),
+avc_events/src/calls.rt: Err(_) => Err(RunFault::Memory),
+avc_events/src/calls.rt: Err(_) => Err(RunFault::Memory),
 # the system gave no memory for the words of the command line
 avc_request/src/reading.rt: Err(error) if error.kind() == io::ErrorKind::OutOfMemory => Err(AllocError.into()),
-# of what the decoder answered, which is fed nothing after the end
-avc_run/src/calls.rt: Err(_) => Err(RunFault::Memory),
-avc_run/src/calls.rt: Err(_) => Err(RunFault::Memory),
-avc_run/src/calls.rt: Err(_) => Err(RunFault::Memory),
 LINES
 
 # without the tests, the file that makes OutOfMemory, imports under their own names, types, and what stands in patterns
