@@ -8,6 +8,8 @@ import sys
 from fractions import Fraction
 
 PROFILES = {66: "Baseline", 77: "Main", 88: "Extended"}
+OTHERS = {100: "High", 110: "High 10", 122: "High 4:2:2", 244: "High 4:4:4 Predictive", 44: "CAVLC 4:4:4 Intra"}  # A.2
+OTHERS |= {83: "Scalable Baseline", 86: "Scalable High", 118: "Multiview High", 128: "Stereo High"}  # G.10.1, H.10.1
 SHAPES = "1:1 12:11 10:11 16:11 40:33 24:11 20:11 32:11 80:33 18:11 15:11 64:33 160:99 4:3 3:2 2:1".split()  # Table E-1 from 1 on
 MOST = 2**64 - 1
 MOST_SIZES = 8
@@ -163,6 +165,7 @@ class Facts:
     def __init__(self, stream):
         self.bytes = len(stream)
         self.first, self.last = None, None
+        self.first_set, self.refused_set = None, None
         self.pictures = self.sequences = self.slices = self.most = 0
         self.refusals = []
         self.sizes = []
@@ -172,7 +175,7 @@ class Facts:
             try:
                 bits = Bits(rbsp(unit))
                 if kind == 7:
-                    number, s = sequence_set(bits)
+                    number, s = self.note_set(bits)
                     sets[number] = s
                 elif kind == 8:
                     number, p = picture_set(bits)
@@ -183,6 +186,18 @@ class Facts:
                     self.take(*slice_header(unit[0], bits, sets, picture_sets))
             except Refused as fault:
                 self.refusals.append((index, *fault.args))
+
+        self.first = self.first or self.first_set
+
+    def note_set(self, bits):
+        try:
+            number, s = sequence_set(bits)
+        except Refused:
+            if self.refused_set is None and len(bits.bits) >= 24:
+                self.refused_set = int(bits.bits[:8], 2), int(bits.bits[16:24], 2)
+            raise
+        self.first_set = self.first_set or s
+        return number, s
 
     def take(self, fields, s):
         self.first = self.first or s
@@ -248,6 +263,10 @@ def info(f):
     lines.append(f"pictures {f.pictures}, sequences {f.sequences}, slices a picture {f.most}")
     first = ", the first unit {}: {} {}".format(*f.refusals[0]) if f.refusals else ""
     lines.append(f"refused {len(f.refusals)}{first}")
+    if f.refused_set:
+        number, level_idc = f.refused_set
+        name = f" {OTHERS[number]}" if number in OTHERS else ""
+        lines.append(f"refused sequence: profile {number}{name}, level {level_idc // 10}.{level_idc % 10}")
     if s:
         left, right, top, bottom = s["crop"]
         lines.append(f"coded {s['coded'][0]}x{s['coded'][1]}, crop left {left}, right {right}, top {top}, bottom {bottom}")
@@ -297,6 +316,7 @@ def told_as_json(f):
         "first_refusal": dict(zip(("unit", "number", "name"), f.refusals[0])) if f.refusals else None,
         "more_sizes": len(f.sizes) > MOST_SIZES,
         "pictures": f.pictures,
+        "refused_sequence": f.refused_set and dict(zip(("profile_idc", "level_idc"), f.refused_set)),
         "refused_units": len(f.refusals),
         "sequence": f.first and sequence_object(f),
         "sizes": [dict(zip(("width", "height"), one)) for one in f.sizes[:MOST_SIZES]],

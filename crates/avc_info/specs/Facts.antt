@@ -21,6 +21,7 @@ use Rattle.avc_info.specs.declared.sequence_facts.Crop.{Crop}
 use Rattle.avc_info.specs.declared.sequence_facts.SequenceFacts.{SequenceFacts}
 use Rattle.avc_info.specs.declared.sequence_facts.Size.{Size}
 use Rattle.avc_info.specs.declared.slice_counts.SliceCounts.{SliceCounts}
+use Rattle.avc_info.specs.declared.stream_facts.SetHead.{SetHead}
 use Rattle.avc_info.specs.declared.stream_facts.StreamFacts.{StreamFacts}
 
 -- the clock, where it is given (E.2.1)
@@ -110,7 +111,15 @@ no_slices = record { last = None; pictures = 0; sequences = 0; slices = 0; most_
 
 -- nothing has come
 abbrev pub no_facts : StreamFacts
-no_facts = record { sequence = None; sizes = no_sizes; counts = no_slices; refused = 0; first_refusal = None }
+no_facts = record {
+  sequence = None;
+  first_set = None;
+  sizes = no_sizes;
+  counts = no_slices;
+  refused = 0;
+  first_refusal = None;
+  refused_set = None;
+}
 
 -- the first of two that is there
 abbrev pub first_of : {A : Type 0} → Option A → Option A → Option A
@@ -131,3 +140,11 @@ after_refusal unit fault f = record f {
   refused = saturated (f.refused + 1);
   first_refusal = first_of f.first_refusal (Some (record { unit = unit; fault = fault }));
 }
+
+-- with a sequence parameter set: what it says, or what it begins with where it is refused
+abbrev pub with_set : Option SequenceFacts → Option SetHead → StreamFacts → StreamFacts
+with_set said refused f = record f { first_set = first_of f.first_set said; refused_set = first_of f.refused_set refused }
+
+-- what is said of the pictures: by the set of the first slice, or without a slice that is read by the first set
+abbrev pub sequence_of : StreamFacts → Option SequenceFacts
+sequence_of f = first_of f.sequence f.first_set

@@ -7,12 +7,14 @@ use Rattle.avc_types.specs.Faults.{number_of, name_of}
 use Rattle.avc_formats.specs.declared.ratio.Ratio.{Ratio}
 use Rattle.avc_params.specs.declared.vui.Colour.{Colour}
 use Rattle.avc_params.specs.declared.vui.Timing.{Timing}
+use Rattle.avc_info.specs.Facts.{sequence_of}
 use Rattle.avc_info.specs.Rates.{bit_rate, duration, rate_ratio}
 use Rattle.avc_info.specs.Text.{level_name, newline, profile_name}
 use Rattle.avc_info.specs.declared.sequence_facts.Crop.{Crop}
 use Rattle.avc_info.specs.declared.sequence_facts.SequenceFacts.{SequenceFacts}
 use Rattle.avc_info.specs.declared.sequence_facts.Size.{Size}
 use Rattle.avc_info.specs.declared.stream_facts.Refusal.{Refusal}
+use Rattle.avc_info.specs.declared.stream_facts.SetHead.{SetHead}
 use Rattle.avc_info.specs.declared.stream_facts.StreamFacts.{StreamFacts}
 
 -- a number
@@ -88,6 +90,13 @@ refusal_data (Some r) =
     (member (codes "number") (count (number_of r.fault))
     (member (codes "unit") (count r.unit) no_members)))
 
+-- what a sequence parameter set begins with
+abbrev pub set_head_data : Option SetHead → Data
+set_head_data None = null
+set_head_data (Some h) =
+    object (member (codes "level_idc") (count h.level_idc)
+    (member (codes "profile_idc") (count h.profile_idc) no_members))
+
 -- sizes, in their order
 abbrev pub sizes_data : List Size → Data
 sizes_data sizes = array (items_of (map size_data sizes))
@@ -99,16 +108,17 @@ clock_of s = option_and_then (λ x. x.timing) s
 -- all of it, of a stream of so many bytes
 abbrev pub facts_data : StreamFacts → (bytes : ℕ) → Data
 facts_data f bytes =
-    object (member (codes "bits_per_second") (count_if_given (bit_rate (clock_of f.sequence) bytes f.counts.pictures))
+    object (member (codes "bits_per_second") (count_if_given (bit_rate (clock_of (sequence_of f)) bytes f.counts.pictures))
     (member (codes "coded_video_sequences") (count f.counts.sequences)
-    (member (codes "duration_in_milliseconds") (count_if_given (duration (clock_of f.sequence) f.counts.pictures))
+    (member (codes "duration_in_milliseconds") (count_if_given (duration (clock_of (sequence_of f)) f.counts.pictures))
     (member (codes "first_refusal") (refusal_data f.first_refusal)
     (member (codes "more_sizes") (boolean f.sizes.others)
     (member (codes "pictures") (count f.counts.pictures)
+    (member (codes "refused_sequence") (set_head_data f.refused_set)
     (member (codes "refused_units") (count f.refused)
-    (member (codes "sequence") (sequence_if_given f.sequence)
+    (member (codes "sequence") (sequence_if_given (sequence_of f))
     (member (codes "sizes") (sizes_data f.sizes.first)
-    (member (codes "slices_per_picture") (count f.counts.most_slices) no_members))))))))))
+    (member (codes "slices_per_picture") (count f.counts.most_slices) no_members)))))))))))
 
 -- in one line
 abbrev pub json_line : StreamFacts → (bytes : ℕ) → List ℕ

@@ -1,17 +1,19 @@
 -- What a stream's units say of it, one after another.
-use Rattle.std.specs.Prelude.{ℕ, true, List, [], ◌∷◌, ◌++◌, length, Result, Ok, Err}
+use Rattle.std.specs.Prelude.{ℕ, nat_lt, true, if◌then◌else◌, List, [], ◌∷◌, ◌++◌, length, slice_index, Option, Some, None, Result, Ok, Err, option_and_then}
 use Rattle.avc_annexb.specs.Units.{units}
 use Rattle.avc_annexb.specs.declared.unit.Unit.{Unit}
 use Rattle.avc_params.specs.Tables.{Sets, sets_after}
 use Rattle.avc_params.specs.declared.set_unit.SetFault.{SetFault}
 use Rattle.avc_params.specs.declared.set_unit.SetUnit.{SetUnit}
 use Rattle.avc_units.specs.Bringing.{brought}
-use Rattle.avc_units.specs.Grouping.{set_units}
+use Rattle.avc_units.specs.Grouping.{rbsp_of, set_units}
 use Rattle.avc_units.specs.declared.header_reader.Brought.{Brought}
 use Rattle.avc_units.specs.declared.header_reader.Brought.TheVariants.{Nothing, Set, Slice, Refused}
 use Rattle.avc_units.specs.declared.set_reading.ParameterSet.{ParameterSet}
 use Rattle.avc_units.specs.declared.set_reading.ParameterSet.TheVariants.{OfSequence, OfPicture}
-use Rattle.avc_info.specs.Facts.{after_refusal, after_slice, no_facts}
+use Rattle.avc_info.specs.Facts.{after_refusal, after_slice, no_facts, said_by, with_set}
+use Rattle.avc_info.specs.declared.sequence_facts.SequenceFacts.{SequenceFacts}
+use Rattle.avc_info.specs.declared.stream_facts.SetHead.{SetHead}
 use Rattle.avc_info.specs.declared.stream_facts.StreamFacts.{StreamFacts}
 
 -- a parameter set that was read, or refused
@@ -31,9 +33,25 @@ after_brought sets unit (Set set) f = after_set unit set f
 after_brought sets unit (Slice header) f = after_slice sets header f
 after_brought sets unit (Refused fault) f = after_refusal unit fault f
 
+-- what a sequence parameter set says that is not refused
+abbrev pub said_in : Brought → Option SequenceFacts
+said_in (Set (OfSequence (Ok s))) = Some (said_by s)
+said_in _ = None
+
+-- profile_idc and level_idc, between which are flags (7.3.2.1.1)
+abbrev pub set_head : (rbsp : List ℕ) → Option SetHead
+set_head rbsp =
+    if nat_lt (length rbsp) 3 then None
+    else Some (record { profile_idc = slice_index rbsp 0; level_idc = slice_index rbsp 2 })
+
+-- what a sequence parameter set begins with that is refused
+abbrev pub refused_head : Unit → Brought → Option SetHead
+refused_head u (Set (OfSequence (Err refused))) = option_and_then set_head (rbsp_of u)
+refused_head u _ = None
+
 -- a unit, under the parameter sets in force before it: what is refused is what `headers` tells as refused
 abbrev pub after_unit : Sets → Unit → StreamFacts → StreamFacts
-after_unit sets u f = after_brought sets u.index (brought sets u) f
+after_unit sets u f = with_set (said_in (brought sets u)) (refused_head u (brought sets u)) (after_brought sets u.index (brought sets u) f)
 
 -- these units, where these parameter sets came before
 abbrev pub facts_after : List SetUnit → List Unit → StreamFacts → StreamFacts

@@ -6,6 +6,7 @@ use Rattle.avc_formats.specs.declared.ratio.Ratio.{Ratio}
 use Rattle.avc_params.specs.declared.vui.Colour.{Colour}
 use Rattle.avc_params.specs.declared.vui.Timing.{Timing}
 use Rattle.avc_info.specs.Rates.{bit_rate, duration}
+use Rattle.avc_info.specs.Facts.{sequence_of}
 use Rattle.avc_info.specs.Sizes.{sizes_line}
 use Rattle.avc_info.specs.Text.{if_given, newline, stream_text, thousandths_if_given}
 use Rattle.avc_info.specs.declared.sequence_facts.Crop.{Crop}
@@ -76,4 +77,4 @@ picture_text bytes pictures (Some s) =
 
 -- all that is told of a stream of so many bytes
 abbrev pub info_text : StreamFacts → (bytes : ℕ) → List ℕ
-info_text f bytes = stream_text f ++ picture_text bytes f.counts.pictures f.sequence ++ sizes_line f.sizes
+info_text f bytes = stream_text f ++ picture_text bytes f.counts.pictures (sequence_of f) ++ sizes_line f.sizes

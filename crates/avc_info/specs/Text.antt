@@ -5,7 +5,9 @@ use Rattle.avc_types.specs.Faults.{number_of, name_of}
 use Rattle.avc_params.specs.declared.vui.Timing.{Timing}
 use Rattle.avc_info.specs.declared.sequence_facts.SequenceFacts.{SequenceFacts}
 use Rattle.avc_info.specs.declared.slice_counts.SliceCounts.{SliceCounts}
+use Rattle.avc_info.specs.Facts.{sequence_of}
 use Rattle.avc_info.specs.declared.stream_facts.Refusal.{Refusal}
+use Rattle.avc_info.specs.declared.stream_facts.SetHead.{SetHead}
 use Rattle.avc_info.specs.declared.stream_facts.StreamFacts.{StreamFacts}
 
 -- the end of a line
@@ -105,6 +107,26 @@ refusal_text (Some r) = codes ", the first unit " ++ decimal r.unit ++ codes ": 
 abbrev pub refused_line : StreamFacts → List ℕ
 refused_line f = refused_text f.refused ++ refusal_text f.first_refusal ++ newline
 
--- the four lines that say what a stream is
+-- the profiles that are not taken, by their names (A.2, G.10.1, H.10.1)
+abbrev pub other_profile_name : (profile_idc : ℕ) → List ℕ
+other_profile_name p =
+    if p == 100 then codes " High"
+    else (if p == 110 then codes " High 10"
+    else (if p == 122 then codes " High 4:2:2"
+    else (if p == 244 then codes " High 4:4:4 Predictive"
+    else (if p == 44 then codes " CAVLC 4:4:4 Intra"
+    else (if p == 83 then codes " Scalable Baseline"
+    else (if p == 86 then codes " Scalable High"
+    else (if p == 118 then codes " Multiview High"
+    else (if p == 128 then codes " Stereo High" else []))))))))
+
+-- the profile and the level of the first sequence parameter set that is refused
+abbrev pub refused_set_line : Option SetHead → List ℕ
+refused_set_line None = []
+refused_set_line (Some h) =
+    codes "refused sequence: profile " ++ decimal h.profile_idc ++ other_profile_name h.profile_idc
+    ++ codes ", level " ++ decimal (h.level_idc / 10) ++ codes "." ++ decimal (h.level_idc % 10) ++ newline
+
+-- the lines that say what a stream is
 abbrev pub stream_text : StreamFacts → List ℕ
-stream_text f = sequence_text f.sequence ++ counts_line f.counts ++ refused_line f
+stream_text f = sequence_text (sequence_of f) ++ counts_line f.counts ++ refused_line f ++ refused_set_line f.refused_set

@@ -91,7 +91,12 @@ impl<F: InfoForm> StreamText for InfoLines<F> {
             return Ok(Vec::new(self.alloc));
         }
         self.failed.keep(self.splitter.feed(piece))?;
-        let noted = note_units_left(&mut self.splitter, &mut self.reader, &mut self.facts);
+        let noted = note_units_left(
+            self.alloc,
+            &mut self.splitter,
+            &mut self.reader,
+            &mut self.facts,
+        );
         self.failed.keep(noted)?;
         self.bytes = self.bytes.saturating_add(piece.len() as u64);
         Ok(Vec::new(self.alloc))
@@ -104,7 +109,12 @@ impl<F: InfoForm> StreamText for InfoLines<F> {
             return Ok(Vec::new(self.alloc));
         }
         self.failed.keep(self.splitter.finish())?;
-        let noted = note_units_left(&mut self.splitter, &mut self.reader, &mut self.facts);
+        let noted = note_units_left(
+            self.alloc,
+            &mut self.splitter,
+            &mut self.reader,
+            &mut self.facts,
+        );
         self.failed.keep(noted)?;
         let text = self
             .failed
@@ -122,6 +132,7 @@ impl<F: InfoForm> StreamText for InfoLines<F> {
 
 // Takes all units whose end has been seen, and what they say.
 fn note_units_left(
+    alloc: Global,
     splitter: &mut Splitter<MAX_UNIT>,
     reader: &mut HeaderReader,
     facts: &mut StreamFacts,
@@ -132,7 +143,7 @@ fn note_units_left(
     ensures taken { OnOk result (splitter.new ≡ after_units_left max_unit splitter.old) }
 {
     while let Some(unit) = splitter.next_unit() {
-        note_unit(facts, reader, &unit)?;
+        note_unit(alloc, facts, reader, &unit)?;
     }
     Ok(())
 }

@@ -2,12 +2,12 @@ ghost use Rattle.std.specs.Prelude.{◌≡◌, IfOk, OnOk, codes, map, string_by
 ghost use Rattle.serde_json.specs.Data.{put as with_member, string};
 ghost use Rattle.serde_json.specs.View.{members_view, view};
 ghost use Rattle.avc_info.specs.Json.{clock_of, colour_data, count as count_data, count_if_given, crop_data, facts_data, flag_data, json_line};
-ghost use Rattle.avc_info.specs.Json.{ratio_data, refusal_data, sequence_data, sequence_if_given, size_data, sizes_data};
+ghost use Rattle.avc_info.specs.Json.{ratio_data, refusal_data, sequence_data, sequence_if_given, set_head_data, size_data, sizes_data};
 ghost use Rattle.avc_info.specs.Text.{level_name, profile_name};
 
 use crate::rates::{bit_rate, duration, rate_ratio};
 use crate::sequence_facts::{Crop, SequenceFacts, Size};
-use crate::stream_facts::{Refusal, StreamFacts};
+use crate::stream_facts::{Refusal, SetHead, StreamFacts};
 use crate::text::{add_level_name, profile_name};
 use avc_formats::Ratio;
 use avc_params::{Colour, Timing};
@@ -30,7 +30,7 @@ fn facts_value(alloc: Global, facts: &StreamFacts, bytes: u64) -> Result<Value, 
 {
     let mut map = Map::new(alloc);
     let pictures = facts.counts.pictures;
-    let timing = clock_of(&facts.sequence);
+    let timing = clock_of(facts.sequence());
     let bits = count_if_given(bit_rate(timing, bytes, pictures));
     put(&mut map, alloc, "bits_per_second", bits)?;
     put_count(
@@ -46,8 +46,10 @@ fn facts_value(alloc: Global, facts: &StreamFacts, bytes: u64) -> Result<Value, 
     let others = Value::from(facts.sizes.others);
     put(&mut map, alloc, "more_sizes", others)?;
     put_count(&mut map, alloc, "pictures", pictures)?;
+    let refused_set = set_head_value(alloc, facts.refused_set)?;
+    put(&mut map, alloc, "refused_sequence", refused_set)?;
     put_count(&mut map, alloc, "refused_units", facts.refused)?;
-    let sequence = sequence_if_given(alloc, &facts.sequence)?;
+    let sequence = sequence_if_given(alloc, facts.sequence())?;
     put(&mut map, alloc, "sequence", sequence)?;
     let sizes = sizes_value(alloc, facts.sizes.first.as_slice())?;
     put(&mut map, alloc, "sizes", sizes)?;
@@ -248,6 +250,18 @@ fn refusal_value(alloc: Global, refusal: Option<Refusal>) -> Result<Value, OutOf
             "name": refusal.fault.name(),
             "number": u64::from(refusal.fault.number()),
             "unit": refusal.unit
+        })?),
+        None => Ok(Value::Null),
+    }
+}
+
+fn set_head_value(alloc: Global, head: Option<SetHead>) -> Result<Value, OutOfMemory>
+    ensures { IfOk result (λ value. view value ≡ set_head_data head) }
+{
+    match head {
+        Some(head) => Ok(json!(in alloc; {
+            "level_idc": u64::from(head.level_idc),
+            "profile_idc": u64::from(head.profile_idc)
         })?),
         None => Ok(Value::Null),
     }

@@ -1,15 +1,18 @@
-ghost use Rattle.std.specs.Prelude.{◌≡◌, ◌++◌, ◌∷◌, [], OnOk};
+ghost use Rattle.std.specs.Prelude.{◌≡◌, ◌++◌, ◌∷◌, [], IfOk, OnOk};
 ghost use Rattle.avc_params.specs.Tables.{sets_after};
 ghost use Rattle.avc_units.specs.Grouping.{set_units};
-ghost use Rattle.avc_info.specs.Noting.{after_set, after_unit};
+ghost use Rattle.avc_info.specs.Noting.{after_brought, after_set, after_unit, refused_head, said_in, set_head};
 
-use crate::stream_facts::StreamFacts;
+use crate::sequence_facts::SequenceFacts;
+use crate::stream_facts::{SetHead, StreamFacts};
 use avc_annexb::Unit;
 use avc_types::OutOfMemory;
-use avc_units::{Brought, HeaderReader, ParameterSet};
+use avc_units::{Brought, HeaderReader, ParameterSet, rbsp_of};
+use std::alloc::Global;
 
 /// Takes what a unit says.
 pub(crate) fn note_unit(
+    alloc: Global,
     facts: &mut StreamFacts,
     reader: &mut HeaderReader,
     unit: &Unit,
@@ -17,13 +20,23 @@ pub(crate) fn note_unit(
     ensures facts { OnOk result (facts.new ≡ after_unit (sets_after reader.old) unit.now facts.old) }
     ensures sets { OnOk result (reader.new ≡ reader.old ++ set_units (unit.now ∷ [])) }
 {
-    match reader.read(unit)? {
-        Brought::Nothing => {}
-        Brought::Set(set) => note_set(facts, unit.index, &set),
-        Brought::Slice(header) => facts.add_slice(reader, header),
-        Brought::Refused(fault) => facts.add_refusal(unit.index, fault),
-    }
+    let brought = reader.read(unit)?;
+    let said = said_in(&brought);
+    let refused = refused_head(alloc, unit, &brought)?;
+    note_brought(facts, reader, unit.index, brought);
+    facts.add_set(said, refused);
     Ok(())
+}
+
+fn note_brought(facts: &mut StreamFacts, reader: &HeaderReader, unit: u64, brought: Brought)
+    ensures { facts.new ≡ after_brought (sets_after reader.now) unit brought.entry facts.old }
+{
+    match brought {
+        Brought::Nothing => {}
+        Brought::Set(set) => note_set(facts, unit, &set),
+        Brought::Slice(header) => facts.add_slice(reader, header),
+        Brought::Refused(fault) => facts.add_refusal(unit, fault),
+    }
 }
 
 fn note_set(facts: &mut StreamFacts, unit: u64, set: &ParameterSet)
@@ -34,4 +47,43 @@ fn note_set(facts: &mut StreamFacts, unit: u64, set: &ParameterSet)
             facts.add_refusal(unit, refused.fault),
         _ => {}
     }
+}
+
+// What a sequence parameter set says that is not refused.
+fn said_in(brought: &Brought) -> Option<SequenceFacts>
+    ensures { result ≡ said_in brought.now }
+{
+    match brought {
+        Brought::Set(ParameterSet::OfSequence(Ok(sps))) => Some(SequenceFacts::of(sps)),
+        _ => None,
+    }
+}
+
+// What a sequence parameter set begins with that is refused.
+fn refused_head(
+    alloc: Global,
+    unit: &Unit,
+    brought: &Brought,
+) -> Result<Option<SetHead>, OutOfMemory>
+    ensures { IfOk result (λ head. head ≡ refused_head unit.now brought.now) }
+{
+    match brought {
+        Brought::Set(ParameterSet::OfSequence(Err(_))) => match rbsp_of(alloc, unit)? {
+            Some(rbsp) => Ok(set_head(rbsp.as_slice())),
+            None => Ok(None),
+        },
+        _ => Ok(None),
+    }
+}
+
+fn set_head(rbsp: &[u8]) -> Option<SetHead>
+    ensures { result ≡ set_head rbsp.now }
+{
+    if rbsp.len() < 3 {
+        return None;
+    }
+    Some(SetHead {
+        profile_idc: rbsp[0],
+        level_idc: rbsp[2],
+    })
 }

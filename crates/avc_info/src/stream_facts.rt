@@ -2,7 +2,7 @@ ghost use Rattle.std.specs.Prelude.{◌≡◌};
 ghost use Rattle.std.specs.Option.{option_map};
 ghost use Rattle.avc_params.specs.Tables.{sets_after};
 ghost use Rattle.avc_units.specs.Bringing.{sps_under};
-ghost use Rattle.avc_info.specs.Facts.{after_refusal, after_slice, no_facts, said_by};
+ghost use Rattle.avc_info.specs.Facts.{after_refusal, after_slice, no_facts, said_by, sequence_of, with_set};
 ghost use Rattle.avc_info.specs.Sizes.{shown_size};
 
 use crate::sequence_facts::{SequenceFacts, Size};
@@ -22,11 +22,23 @@ pub struct Refusal {
     pub fault: Fault,
 }
 
+/// What a sequence parameter set begins with (7.3.2.1.1), also one of a profile that is not taken.
+#[derive(Clone, Copy, Debug, PartialEq, Eq)]
+pub struct SetHead {
+    pub profile_idc: u8,
+
+    /// Ten times the level's number.
+    pub level_idc: u8,
+}
+
 /// What a stream's parameter sets and slice headers say of it.
 #[derive(Drop)]
 pub struct StreamFacts {
     /// What the sequence parameter set of the first slice says.
     pub sequence: Option<SequenceFacts>,
+
+    /// What the first sequence parameter set says that is not refused.
+    pub first_set: Option<SequenceFacts>,
 
     /// Of all sequences with a slice.
     pub sizes: Sizes,
@@ -38,6 +50,9 @@ pub struct StreamFacts {
 
     /// The first of them.
     pub first_refusal: Option<Refusal>,
+
+    /// What the first sequence parameter set begins with that is refused.
+    pub refused_set: Option<SetHead>,
 }
 
 impl StreamFacts {
@@ -47,10 +62,23 @@ impl StreamFacts {
     {
         StreamFacts {
             sequence: None,
+            first_set: None,
             sizes: Sizes::new(),
             counts: SliceCounts::new(),
             refused: 0,
             first_refusal: None,
+            refused_set: None,
+        }
+    }
+
+    /// What the sequence parameter set of the first slice says; of a stream without a slice that is read, the first set.
+    pub fn sequence(&self) -> &Option<SequenceFacts>
+        ensures { result.now ≡ sequence_of self.now }
+    {
+        if self.sequence.is_some() {
+            &self.sequence
+        } else {
+            &self.first_set
         }
     }
 
@@ -72,6 +100,18 @@ impl StreamFacts {
         self.refused = self.refused.saturating_add(1);
         if self.first_refusal.is_none() {
             self.first_refusal = Some(Refusal { unit, fault });
+        }
+    }
+
+    /// Takes what a sequence parameter set says, or what it begins with where it is refused.
+    pub(crate) fn add_set(&mut self, said: Option<SequenceFacts>, refused: Option<SetHead>)
+        ensures { self.new ≡ with_set said refused self.old }
+    {
+        if self.first_set.is_none() {
+            self.first_set = said;
+        }
+        if self.refused_set.is_none() {
+            self.refused_set = refused;
         }
     }
 }

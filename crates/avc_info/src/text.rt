@@ -2,14 +2,14 @@ ghost use Rattle.std.specs.Prelude.{◌≡◌, ◌++◌, IfOk, OnOk, codes, stri
 ghost use Rattle.avc_info.specs.PictureText.{info_text};
 ghost use Rattle.avc_info.specs.Text.{clock_text, counts_line, frame_rate, frames_line, if_given, is_level_1b};
 ghost use Rattle.avc_info.specs.Text.{level_name, level_text, profile_name, profile_text, rate_of};
-ghost use Rattle.avc_info.specs.Text.{newline, references_text, refusal_text, refused_line, refused_text};
+ghost use Rattle.avc_info.specs.Text.{newline, other_profile_name, references_text, refusal_text, refused_line, refused_set_line, refused_text};
 ghost use Rattle.avc_info.specs.Text.{sequence_text, shape_line, size_text, stream_text, thousandths, thousandths_if_given};
 
 use crate::picture_text::add_picture;
 use crate::sequence_facts::SequenceFacts;
 use crate::sizes::add_sizes;
 use crate::slice_counts::SliceCounts;
-use crate::stream_facts::{Refusal, StreamFacts};
+use crate::stream_facts::{Refusal, SetHead, StreamFacts};
 use avc_params::Timing;
 use avc_types::OutOfMemory;
 use std::alloc::Global;
@@ -20,7 +20,7 @@ pub fn info_text(alloc: Global, facts: &StreamFacts, bytes: u64) -> Result<Strin
 {
     let mut text = String::new(alloc);
     add_stream(&mut text, facts)?;
-    add_picture(&mut text, bytes, facts.counts.pictures, &facts.sequence)?;
+    add_picture(&mut text, bytes, facts.counts.pictures, facts.sequence())?;
     add_sizes(&mut text, &facts.sizes)?;
     Ok(text)
 }
@@ -28,10 +28,10 @@ pub fn info_text(alloc: Global, facts: &StreamFacts, bytes: u64) -> Result<Strin
 fn add_stream(text: &mut String, facts: &StreamFacts) -> Result<(), OutOfMemory>
     ensures { OnOk result (string_bytes text.new ≡ string_bytes text.old ++ stream_text facts.now) }
 {
-    add_sequence(text, &facts.sequence)?;
+    add_sequence(text, facts.sequence())?;
     add_counts(text, &facts.counts)?;
     add_refused(text, facts)?;
-    Ok(())
+    add_refused_set(text, facts.refused_set)
 }
 
 fn add_sequence(text: &mut String, sequence: &Option<SequenceFacts>) -> Result<(), OutOfMemory>
@@ -249,6 +249,44 @@ fn add_first_refusal(text: &mut String, refusal: Option<Refusal>) -> Result<(), 
             Ok(())
         }
         None => Ok(()),
+    }
+}
+
+// The profile and the level of the first sequence parameter set that is refused.
+fn add_refused_set(text: &mut String, head: Option<SetHead>) -> Result<(), OutOfMemory>
+    ensures { OnOk result (string_bytes text.new ≡ string_bytes text.old ++ refused_set_line head) }
+{
+    match head {
+        Some(head) => {
+            let profile = head.profile_idc;
+            let name = other_profile_name(profile);
+            let whole = head.level_idc / 10;
+            let tenth = head.level_idc % 10;
+            writeln!(
+                text,
+                "refused sequence: profile {profile}{name}, level {whole}.{tenth}"
+            )?;
+            Ok(())
+        }
+        None => Ok(()),
+    }
+}
+
+// The name of a profile that is not taken (A.2, G.10.1, H.10.1), behind a space.
+fn other_profile_name(profile_idc: u8) -> &'static str
+    ensures { result.now ≡ other_profile_name profile_idc }
+{
+    match profile_idc {
+        100 => " High",
+        110 => " High 10",
+        122 => " High 4:2:2",
+        244 => " High 4:4:4 Predictive",
+        44 => " CAVLC 4:4:4 Intra",
+        83 => " Scalable Baseline",
+        86 => " Scalable High",
+        118 => " Multiview High",
+        128 => " Stereo High",
+        _ => "",
     }
 }
 

@@ -16,9 +16,11 @@ returns c =
     let refusal = with_one _ _ _ _ _ _ c.in_ok-put-3.ensures.ok c.in_ok-first_refusal.ensures lasts in
     let others = with_one _ _ _ _ _ _ c.in_ok-put-4.ensures.ok c.from-others.ensures refusal in
     let pictures = with_one _ _ _ _ _ _ c.in_ok-put_count-2.ensures refl others in
-    let refused = with_one _ _ _ _ _ _ c.in_ok-put_count-3.ensures refl pictures in
-    let sequence = with_one _ _ _ _ _ _ c.in_ok-put-5.ensures.ok c.in_ok-sequence.ensures refused in
+    let refused_set = with_one _ _ _ _ _ _ c.in_ok-put-5.ensures.ok c.in_ok-refused_set.ensures pictures in
+    let refused = with_one _ _ _ _ _ _ c.in_ok-put_count-3.ensures refl refused_set in
+    let sequence =
+    with_one _ _ _ _ _ _ c.in_ok-put-6.ensures.ok (c.in_ok-sequence.ensures ∙ ap sequence_if_given c.sequence-2.ensures) refused in
     let sizes =
-    with_one _ _ _ _ _ _ c.in_ok-put-6.ensures.ok (c.in_ok-sizes.ensures ∙ ap sizes_data c.as_slice.ensures) sequence in
+    with_one _ _ _ _ _ _ c.in_ok-put-7.ensures.ok (c.in_ok-sizes.ensures ∙ ap sizes_data c.as_slice.ensures) sequence in
     let slices = with_one _ _ _ _ _ _ c.in_ok-put_count-4.ensures refl sizes in
     view-Object c.put_count-4.new.map ∙ ap object slices
