@@ -198,6 +198,43 @@ judge 'the other by standard input' $? 0
 dd if="$work/ours" bs=997 2>/dev/null | "$program" compare - "$stream" >"$work/written" 2>"$work/told"
 judge 'the other in small reads' $? 0
 
+# the other as YUV4MPEG2 with these words in its first line
+as_y4m() {
+    python3 - "$work/ours" "$work/other" "$1" <<'PY'
+import sys
+ours, other, words = sys.argv[1:]
+pictures, size = open(ours, "rb").read(), 150 * 90 * 3 // 2
+with open(other, "wb") as file:
+    file.write(f"YUV4MPEG2 {words}\n".encode())
+    for at in range(0, len(pictures), size):
+        file.write((b"FRAME Ixyz\n" if at else b"FRAME\n") + pictures[at : at + size])
+PY
+}
+for words in 'W150 H90' 'W150 H90 F25:1 Ip A1:1 C420jpeg' 'F25:1 C420mpeg2 H90 W150' 'W150 H90 C420paldv XYSCSS=C444'; do
+    as_y4m "$words"
+    : >"$work/wanted"
+    "$program" compare "$work/other" "$stream" >"$work/written" 2>"$work/told"
+    judge "the same as YUV4MPEG2: $words" $? 0
+    "$program" compare - "$stream" <"$work/other" >"$work/written" 2>"$work/told"
+    judge "by standard input: $words" $? 0
+done
+truncate -s -7 "$work/other"
+echo 'the other has fewer pictures: it ends before picture 9 is whole' >"$work/wanted"
+"$program" compare "$work/other" "$stream" >"$work/written" 2>"$work/told"
+judge 'YUV4MPEG2 that ends in a picture' $? 1
+: >"$work/wanted"
+printf 'avcdec: read fault: %s\navcdec: %s: it is YUV4MPEG2 whose samples are not 4:2:0 with 8 bits, or which is not whole\n' "$work/other" "$work/other" \
+    >"$work/wanted_told"
+for words in 'W150 H90 C444' 'W150 H90 C420p10' 'W150 C420jpeg' 'W15O H90' 'W1500000000 H90'; do
+    as_y4m "$words"
+    "$program" compare "$work/other" "$stream" >"$work/written" 2>"$work/told"
+    judge "YUV4MPEG2 that is not read: $words" $? 3
+done
+printf 'YUV4MPEG2 W150 H90\nFROM\n' >"$work/other"
+"$program" compare "$work/other" "$stream" >"$work/written" 2>"$work/told"
+judge 'YUV4MPEG2 without the line of a picture' $? 3
+: >"$work/wanted_told"
+
 # what cannot be read, and nothing
 printf 'avcdec: read fault: %s\navcdec: %s: there is no such file\n' "$work/nothing" "$work/nothing" >"$work/wanted_told"
 "$program" compare "$work/nothing" "$stream" >"$work/written" 2>"$work/told"

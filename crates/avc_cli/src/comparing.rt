@@ -4,9 +4,9 @@ use avc_compare::{Comparison, compare};
 use avc_console::{Console, Ending, Names, RunFault, Watch, fail};
 use avc_request::Request;
 use avc_run::Output;
-use avc_shell::{Input, tell_reason};
+use avc_shell::{Input, OtherPictures, tell_reason};
 use std::fs::File;
-use std::io::{Read, Write};
+use std::io::{ErrorKind, Read, Write};
 
 /// Compares the stream with the pictures of the other file, where samples that are at most so far apart are the same.
 pub fn compare_files<R: Read, W: Write, E: Write, V: Watch>(
@@ -25,9 +25,9 @@ pub fn compare_files<R: Read, W: Write, E: Write, V: Watch>(
     match name {
         Some(file) => match File::open(rt, file) {
             Ok(file) => {
-                let mut other = Input::new(file);
+                let mut other = OtherPictures::new(Input::new(file));
                 let ending = compare(rt.alloc(), how, reader, &mut other, name, writer, console);
-                tell_reason(rt, name, other.fault());
+                tell_reason(rt, name, fault_of(&other));
                 ending
             }
             Err(error) => {
@@ -44,10 +44,19 @@ pub fn compare_files<R: Read, W: Write, E: Write, V: Watch>(
             rt.alloc(),
             how,
             reader,
-            &mut rt.stdin(),
+            &mut OtherPictures::new(rt.stdin()),
             None,
             writer,
             console,
         ),
+    }
+}
+
+// Why the other's pictures could not be read, where they could not.
+fn fault_of<R>(other: &OtherPictures<Input<R>>) -> Option<ErrorKind> {
+    if other.is_invalid() {
+        Some(ErrorKind::InvalidData)
+    } else {
+        other.reader().fault()
     }
 }

@@ -275,7 +275,7 @@ const COMMANDS: &[CommandWords] = &[
     },
     CommandWords {
         name: COMPARE,
-        about: "Says where the pictures of another decoder, as I420, differ first; nothing where they are the same",
+        about: "Says where the pictures of another decoder, as I420 or Y4M, differ first; nothing where they are the same",
         example: "Example: avcdec compare other.yuv in.264",
         words: &[
             Word {
