@@ -1,3 +1,5 @@
+//! From a unit's body to its RBSP, without emulation_prevention_three_byte (7.3.1).
+
 ghost use Rattle.std.specs.Prelude.{◌≡◌, IfOk};
 ghost use Rattle.avc_annexb.specs.Escapes.{rbsp, unescaped_run, zeros_after};
 

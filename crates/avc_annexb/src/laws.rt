@@ -1,3 +1,5 @@
+//! Laws of the units of a byte stream (Annex B): as it grows, and as it is written anew.
+
 ghost use Rattle.avc_annexb.specs.Laws.{UnitsStay, WrittenUnitsStand, WrittenUnitsStandAlone, UnitsAreWithin, LimitsCutUnits, UnitsAreWhole};
 ghost use Rattle.avc_annexb.specs.Laws.{UnitsAreNumbered, UnitsAreFew};
 

@@ -1,3 +1,5 @@
+//! The unit whose end has not been seen, with its bytes so far.
+
 ghost use Rattle.std.specs.Prelude.{◌≡◌, ◌<◌, ◌≤◌, ℕ, [], ◌∷◌, ◌++◌, OnOk, replicate};
 ghost use Rattle.avc_annexb.specs.Scanning.{AddsBytes, AddsBytesIfAny, IsOpenUnit};
 ghost use Rattle.avc_annexb.specs.Units.{PlacedUnit, saturated, unit_of};

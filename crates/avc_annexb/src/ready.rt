@@ -1,3 +1,5 @@
+//! The units that are whole and wait to be taken.
+
 ghost use Rattle.std.specs.Prelude.{◌≡◌, [], ◌++◌, List, OnOk, Option, slice_get, length};
 ghost use Rattle.std.specs.Option.{option_to_list};
 ghost use Rattle.avc_annexb.specs.Scanning.{AddsUnit, AddsUnitIfAny, AreReady, HasOneMoreAtMost};

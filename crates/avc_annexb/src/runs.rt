@@ -1,3 +1,5 @@
+//! Runs of bytes with zeros, and without: between them start codes are looked for.
+
 ghost use Rattle.std.specs.Prelude.{◌≡◌, ◌≢◌, ◌<◌, ◌≤◌, length, take, slice_index, replicate};
 ghost use Rattle.avc_annexb.specs.Scanning.{HasLoneZerosBefore};
 

@@ -1,3 +1,5 @@
+//! The search for start codes, and for the zeros that end a unit (B.1, B.2).
+
 ghost use Rattle.std.specs.Prelude.{◌≤◌};
 
 use crate::open_unit::{OpenUnit, append_any};

@@ -1,3 +1,5 @@
+//! A byte stream (Annex B) in pieces, and its units, one after another.
+
 ghost use Rattle.std.specs.Prelude.{◌≡◌, ◌<◌, true, false, OnErr, OnOk, IfOk, IsOk, IfSome};
 ghost use Rattle.avc_annexb.specs.Scanning.{has_failed};
 ghost use Rattle.avc_annexb.specs.SplitterState.{new_splitter, after_feed, after_finish, after_failure, next_unit_of, after_next_unit, units_waiting, TakesUnit};

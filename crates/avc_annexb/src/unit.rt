@@ -1,3 +1,5 @@
+//! A NAL unit (7.3.1), with its place in the stream.
+
 use avc_types::Bytes;
 
 /// A unit of a byte stream (a NAL unit, 7.3.1).

@@ -1,3 +1,5 @@
+//! The bits of an RBSP, and the codes ue(v), se(v) and te(v) in them (7.2, 9.1).
+
 ghost use Rattle.std.specs.Prelude.{◌≡◌, ◌+◌, ◌-◌, ◌*◌, ◌%◌, ◌^◌, ◌<◌, ◌≤◌, ◌≤ℤ◌, ◌<ℤ◌, pos, neg_ℤ, length};
 ghost use Rattle.std.specs.Prelude.{IsTrue, drop, min, take, replicate, ◌++◌, false, IfOk, Err, IfSome, MatchOption, MatchResult, Ok, OnErr};
 ghost use Rattle.avc_bits.specs.Bits.{at, bits_before_stop, bits_of, byte_bits, more_data, number_of, passed, start, times};

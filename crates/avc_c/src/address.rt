@@ -1,3 +1,5 @@
+//! The memory of a decoder that C holds by its address.
+
 ghost use Rattle.std.specs.Prelude.{◌≡◌, Option, Some, None};
 ghost use Rattle.avc_c.specs.declared.address.OpenDecoder.{OpenDecoder};
 ghost use Rattle.avc_c.specs.OpenDecoders.{IsOpen};

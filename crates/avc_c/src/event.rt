@@ -1,3 +1,5 @@
+//! What `avcdec_take` tells of an event, as the record of the header.
+
 ghost use Rattle.std.specs.Prelude.{◌≡◌};
 ghost use Rattle.avc_c.specs.EventRecords.{picture_record, record_of};
 

@@ -1,3 +1,5 @@
+//! The functions that libavcdec exports.
+
 ghost use Rattle.std.specs.Prelude.{◌≡◌, Some, None, IfOk};
 ghost use Rattle.avc_decoder.specs.Machine.{after_feed, after_flush, new_machine};
 ghost use Rattle.avc_c.specs.Exports.{IsOpened, IsFed, IsUnitFed, IsReset, IsTaken};

@@ -1,3 +1,5 @@
+//! The name of a fault by its number, as C reads it.
+
 ghost use Rattle.avc_c.specs.FaultNames.{IsNamed, IsNumbered, IsTextWritten};
 ghost use Rattle.avc_c.specs.Statuses.{number_of};
 

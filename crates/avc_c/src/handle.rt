@@ -1,3 +1,5 @@
+//! The struct `avcdec_decoder` of the header.
+
 ghost use Rattle.std.specs.Prelude.{◌≡◌, true, Some, None};
 ghost use Rattle.avc_c.specs.OpenDecoders.{IsMarked};
 

@@ -1,3 +1,5 @@
+//! The picture that was taken last: its samples copied, or lent.
+
 ghost use Rattle.std.specs.Prelude.{◌≡◌, IfSome, Option, None};
 ghost use Rattle.avc_types.specs.Whole.{IsWhole};
 ghost use Rattle.avc_c.specs.EventRecords.{picture_of};

@@ -1,3 +1,5 @@
+//! A box as an address and an allocator.
+
 ghost use Rattle.std.specs.Prelude.{◌≡◌};
 ghost use Rattle.std.specs.Box.Ownership.{box_owns};
 

@@ -1,3 +1,5 @@
+//! Rows of samples that are lent to C.
+
 ghost use Rattle.std.specs.Prelude.{◌≡◌};
 ghost use Rattle.std.specs.Ptr.{as_ptr};
 ghost use Rattle.avc_types.specs.Whole.{IsWhole};

@@ -1,3 +1,5 @@
+//! What a call answers, by the number that the header gives it.
+
 ghost use Rattle.std.specs.Prelude.{◌≡◌};
 ghost use Rattle.avc_c.specs.EventRecords.{call_status, take_status, unit_status};
 ghost use Rattle.avc_c.specs.declared.status.Status.TheVariants.{OutOfMemory as NoMemory};

@@ -1,3 +1,5 @@
+//! One piece of a stream, written.
+
 ghost use Rattle.avc_console.specs.Listing.{Cuts};
 
 use crate::fault::RunFault;

@@ -1,3 +1,5 @@
+//! Exit statuses.
+
 ghost use Rattle.std.specs.Prelude.{◌≡◌, ℕ, List, length};
 ghost use Rattle.avc_annexb.specs.Units.{saturated};
 ghost use Rattle.avc_types.specs.declared.fault.Fault.{Fault as Refused};

@@ -1,3 +1,5 @@
+//! What ends a run before its end.
+
 use avc_types::OutOfMemory;
 use avc_yuv::WriteFault;
 use std::alloc::{AllocError, AllocFailed};

@@ -1,3 +1,5 @@
+//! Lines of units, headers and cut points of a stream, written.
+
 ghost use Rattle.avc_tools.specs.CutPoints.{cut_point_lines_so_far};
 ghost use Rattle.avc_tools.specs.Lines.{header_lines_so_far, unit_lines_so_far};
 ghost use Rattle.avc_console.specs.Listing.{Lists};

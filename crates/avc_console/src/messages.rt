@@ -1,3 +1,5 @@
+//! The lines of standard error that tell of faults and refusals.
+
 ghost use Rattle.std.specs.Prelude.{◌≡◌, IfErr, IfOk, OnErr, OnOk, string_bytes};
 ghost use Rattle.std.specs.Io.KnownBytes.{Appends};
 ghost use Rattle.avc_console.specs.Reading.{WritesFirst};

@@ -1,3 +1,5 @@
+//! The commands that need no decoder, and how each tells its end.
+
 ghost use Rattle.std.specs.Prelude.{◌≡◌, ℕ, List, Option, IfErr, IfOk, OnErr, false};
 ghost use Rattle.std.specs.Io.KnownBytes.{Keeps};
 ghost use Rattle.avc_tools.specs.CutPoints.{cut_point_lines_so_far};

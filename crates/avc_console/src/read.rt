@@ -1,3 +1,5 @@
+//! Reading: how much at once, how often, and once.
+
 ghost use Rattle.std.specs.Prelude.{◌≡◌, IfOk, IfErr, OnErr, take, length, ◌≤◌, ◌<◌};
 ghost use Rattle.std.specs.Io.KnownBytes.{Consumes, IsAtEnd, Keeps};
 ghost use Rattle.avc_console.specs.declared.fault.RunFault.TheVariants as faults;

@@ -1,3 +1,5 @@
+//! What a run came to, with all its refusals.
+
 ghost use Rattle.std.specs.Prelude.{◌≡◌, ◌∷◌, ◌++◌, [], OnErr, OnOk};
 ghost use Rattle.avc_console.specs.Reporting.{no_report};
 

@@ -1,3 +1,5 @@
+//! Whoever is told of each picture and each refusal while a run goes on.
+
 ghost use Rattle.std.specs.Prelude.{◌≡◌, ◌++◌, ◌∷◌, [], length, true, IfErr, OnOk};
 ghost use Rattle.avc_annexb.specs.Units.{saturated};
 ghost use Rattle.avc_console.specs.Reporting.{with_picture, with_refusal, Reported, TellsOn};

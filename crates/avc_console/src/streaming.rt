@@ -1,3 +1,5 @@
+//! A text of a stream, written as the stream is read.
+
 ghost use Rattle.std.specs.Prelude.{◌≡◌, ◌^◌, ◌<◌, ◌++◌, [], false, length, Err, IfErr, OnOk};
 ghost use Rattle.avc_tools.specs.Streams.{after_end, after_piece, new_stream};
 ghost use Rattle.avc_console.specs.Listing.{Lists};

@@ -1,3 +1,5 @@
+//! Refusals that are counted, and told at once.
+
 ghost use Rattle.std.specs.Prelude.{◌≡◌, [], true};
 ghost use Rattle.avc_console.specs.Reporting.{new_tally, reported_by};
 

@@ -1,3 +1,5 @@
+//! Lines behind those that were told before, as long as all of them were taken.
+
 ghost use Rattle.avc_console.specs.Messages.{loss_text, refusal_text};
 ghost use Rattle.avc_console.specs.Telling.{Tells, TellsMore};
 

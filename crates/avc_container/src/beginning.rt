@@ -1,3 +1,5 @@
+//! The first bytes of a file that is read in pieces.
+
 ghost use Rattle.std.specs.Prelude.{◌≡◌, ◌-◌, ◌++◌, [], length, take};
 ghost use Rattle.avc_container.specs.Containers.{first_count};
 

@@ -1,3 +1,5 @@
+//! Containers and pictures, by their first bytes.
+
 ghost use Rattle.std.specs.Prelude.{◌≡◌};
 ghost use Rattle.avc_container.specs.Containers.{container_of, has_at, has_signature};
 

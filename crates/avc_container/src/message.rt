@@ -1,3 +1,5 @@
+//! The lines that tell what a file is that is no byte stream of H.264.
+
 ghost use Rattle.std.specs.Prelude.{◌≡◌, ◌++◌, IfOk, OnOk, string_bytes};
 ghost use Rattle.avc_container.specs.Containers.{container_of};
 ghost use Rattle.avc_container.specs.Messages.{advice_of, beginning_text, container_line, container_text, has_start_code, name_of, no_picture_line, other_text};

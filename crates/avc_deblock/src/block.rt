@@ -1,3 +1,5 @@
+//! Samples across a vertical edge, turned so that each line stands in a lane.
+
 ghost use Rattle.std.specs.Prelude.{◌≡◌, ℕ, ◌+◌, ◌*◌, ◌/◌, ◌%◌, ◌<◌, ◌≤◌, ◌==◌, true, false, if◌then◌else◌, slice_index};
 ghost use Rattle.avc_deblock.specs.Line.{Setting, filtered};
 ghost use Rattle.avc_deblock.specs.Rows.{IsRiffled, IsTransposed, IsRowSet, IsWeak, IsStrong, IsNearSet, line_down, line_near};

@@ -1,3 +1,5 @@
+//! The strength bS between two blocks (8.7.2.1).
+
 ghost use Rattle.std.specs.Prelude.{◌≡◌, ℕ, ◌/◌, ◌<◌, ◌==◌, ◌-ℤ◌, nat_le, nat_abs, List, not, ◌||◌, slice_index, slice_index_or};
 ghost use Rattle.avc_types.specs.Pictures.{Coded};
 ghost use Rattle.avc_neigh.specs.declared.neighbour_info.Motion.{Motion};

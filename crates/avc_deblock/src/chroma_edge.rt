@@ -1,3 +1,5 @@
+//! Edges of both chroma components together (8.7.2.2 to 8.7.2.4).
+
 ghost use Rattle.std.specs.Prelude.{◌≡◌, ℕ, ◌+◌, ◌*◌, ◌<◌, ◌≤◌, true, false, slice_index};
 ghost use Rattle.avc_deblock.specs.Line.{filtered};
 ghost use Rattle.avc_deblock.specs.Rows.{line_near, IsNearSet};

@@ -1,3 +1,5 @@
+//! The filter of a picture, row by row of its macroblocks (8.7).
+
 ghost use Rattle.std.specs.Prelude.{◌≡◌, ℕ, ◌+◌, ◌-◌, ◌*◌, ◌<◌, ◌≤◌, List, length, slice_index_or};
 ghost use Rattle.avc_deblock.specs.declared.mb_info.MbInfo.{MbInfo as Info};
 ghost use Rattle.avc_types.specs.Pictures.{Coded};

@@ -1,3 +1,5 @@
+//! Sixteen lines of luma across an edge, in a plane.
+
 ghost use Rattle.std.specs.Prelude.{◌≡◌, ℕ, ◌+◌, ◌/◌, ◌<◌, ◌≤◌, slice_index, true, false};
 ghost use Rattle.avc_deblock.specs.Line.{Setting};
 ghost use Rattle.avc_deblock.specs.Rows.{IsStrong};

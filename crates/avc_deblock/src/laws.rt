@@ -1,3 +1,5 @@
+//! Laws of the filter: its order, and how far it reaches.
+
 ghost use Rattle.avc_deblock.specs.ByInfo.{EdgeIsThePictures, RowIsThePictures};
 ghost use Rattle.avc_deblock.specs.Locality.{RowChangesItsRows, RowReadsNoneBelow, RowCommutesWithBlocksBelow};
 ghost use Rattle.avc_deblock.specs.Laws.{RowsInOrder, InfoOfFirstMacroblocksStays, TwoEdgesOfAStep};

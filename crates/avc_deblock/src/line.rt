@@ -1,3 +1,5 @@
+//! The filter of one line of samples across an edge, in bytes (8.7.2.3, 8.7.2.4).
+
 ghost use Rattle.std.specs.Prelude.{◌≡◌, ◌≤◌, ℕ, ◌+◌, ◌*◌, ◌/◌, ◌==◌, pos, ◌+ℤ◌, nat_abs, nat_lt, true, false, if◌then◌else◌, ◌&&◌, ◌||◌, ℤ, Bool};
 ghost use Rattle.avc_types.specs.Arithmetic.{distance};
 ghost use Rattle.avc_deblock.specs.Line.{Setting, filtered, strong_p0, strong_p1, strong_p2};

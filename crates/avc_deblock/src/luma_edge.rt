@@ -1,3 +1,5 @@
+//! An edge of luma, at the strengths of its blocks (8.7.2.2 to 8.7.2.4).
+
 ghost use Rattle.std.specs.Prelude.{◌≡◌, ℕ, ◌+◌, ◌<◌, ◌≤◌, true, false, slice_index};
 ghost use Rattle.avc_deblock.specs.OneEdge.{edge_filtered, luma_setting, strength_along, AreStrengths, AreLimits};
 ghost use Rattle.avc_deblock.specs.declared.edge_strengths.Strengths.TheVariants.{BelowFour};

@@ -1,3 +1,5 @@
+//! The edges of one macroblock, in the order of the standard (8.7).
+
 ghost use Rattle.std.specs.Prelude.{◌≡◌, ℕ, ◌+◌, ◌*◌, ◌^◌, ◌<◌, ◌≤◌, ◌&&◌, true, false};
 ghost use Rattle.avc_plane.specs.Frames.{planes_of};
 ghost use Rattle.avc_deblock.specs.OneEdge.{HasRoom};

@@ -1,3 +1,5 @@
+//! What the filter asks of one macroblock.
+
 use avc_types::{FilteredEdges, Mv};
 
 /// What the deblocking filter asks of one macroblock (8.7).

@@ -1,3 +1,5 @@
+//! Cb and Cr side by side, so that both are filtered at once.
+
 ghost use Rattle.std.specs.Prelude.{◌≡◌, ℕ, ◌+◌, ◌*◌, ◌/◌, ◌%◌, ◌<◌, ◌≤◌, slice_index};
 
 /// Eight rows of eight samples, and behind them eight others.

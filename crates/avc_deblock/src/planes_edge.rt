@@ -1,3 +1,5 @@
+//! An edge of all three planes, with the limits of its two macroblocks.
+
 ghost use Rattle.std.specs.Prelude.{◌≡◌, ℕ, ◌+◌, ◌*◌, ◌^◌, ◌<◌, ◌≤◌, true, false};
 ghost use Rattle.avc_plane.specs.Frames.{planes_of};
 ghost use Rattle.avc_deblock.specs.OneEdge.{AreLimits, AreStrengths, chroma_of_edge, lines_of_edge, strength_along, HasRoom};

@@ -1,3 +1,5 @@
+//! Strengths of an edge, by the info of its macroblocks; most are known without looking at blocks.
+
 ghost use Rattle.std.specs.Prelude.{◌≡◌, ℕ, ◌+◌, ◌%◌, ◌<◌, slice_index, slice_index_or, true, false};
 ghost use Rattle.avc_motion.specs.Motion.{zero_vector};
 ghost use Rattle.avc_deblock.specs.FilterInfo.{edge_block, inter_strength};

@@ -1,3 +1,5 @@
+//! indexA, indexB, alpha, beta and tC0 (8.7.2.2, Table 8-16, Table 8-17).
+
 ghost use Rattle.std.specs.Prelude.{◌≡◌, ℕ, ◌+◌, ◌*◌, ◌/◌, ◌%◌, ◌<◌, ◌≤◌, slice_index};
 ghost use Rattle.avc_deblock.specs.Line.{threshold_index, alpha_of, beta_of};
 ghost use Rattle.avc_deblock.specs.OneEdge.{tc1_of, AreLimits};

@@ -1,3 +1,5 @@
+//! A list of calls of a decoder, and their answers.
+
 ghost use Rattle.std.specs.Prelude.{IfOk};
 ghost use Rattle.avc_decoder.specs.Machine.{new_machine, Machine, Run, IsCallAnswer};
 

@@ -1,3 +1,5 @@
+//! The end of a picture: it goes to the history, or it is refused and decoding waits.
+
 ghost use Rattle.std.specs.Prelude.{◌≡◌, None, OnOk, Some};
 ghost use Rattle.avc_decoder.specs.Events.{failed_at, pictures};
 ghost use Rattle.avc_decoder.specs.States.{closed_in, phase_of, HasOutcome, IsOpenIn, IsPhase, WaitsAfter};

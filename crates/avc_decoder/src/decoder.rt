@@ -1,3 +1,5 @@
+//! The decoder's public calls.
+
 ghost use Rattle.std.specs.Prelude.{◌≡◌};
 ghost use Rattle.avc_decoder.specs.Machine.{after_feed, after_flush, new_machine};
 ghost use Rattle.avc_decoder.specs.Machine.{IsCount, IsFeedAnswer, IsFeedUnitAnswer, IsTakeAnswer};

@@ -1,3 +1,5 @@
+//! Why a call was not carried out.
+
 ghost use Rattle.std.specs.Prelude.{◌≡◌};
 ghost use Rattle.avc_decoder.specs.declared.error.DecodeError.TheVariants.{OutOfMemory as NoMemory};
 

@@ -1,3 +1,5 @@
+//! What a decoder hands out.
+
 use avc_types::{Fault, Picture};
 
 /// What a decoder hands out, with its kind of picture.

@@ -1,3 +1,5 @@
+//! Events that wait for the caller, in the kind of picture that is handed out.
+
 ghost use Rattle.std.specs.Prelude.{◌≡◌, [], ◌∷◌, OnOk, slice_get};
 ghost use Rattle.avc_decoder.specs.QueueState.{after_queue_take, passed_on, with_events, IsBehind};
 ghost use Rattle.avc_decoder.specs.SeenEvents.{seen_if_any};

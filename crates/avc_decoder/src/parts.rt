@@ -1,3 +1,5 @@
+//! What a decoder consists of: units, their events, and those that wait.
+
 ghost use Rattle.std.specs.Prelude.{◌≡◌, false, true, is_err, IfOk, OnErr, OnOk};
 ghost use Rattle.avc_decoder.specs.SeenEvents.{seen_if_any};
 ghost use Rattle.avc_decoder.specs.States.{after_take_in, next_event_in, stream_state};

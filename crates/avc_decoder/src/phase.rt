@@ -1,3 +1,5 @@
+//! Whether decoding waits, or goes on with a picture or without.
+
 ghost use Rattle.std.specs.Prelude.{◌≡◌, is_some, not, IfSome};
 ghost use Rattle.std.specs.Option.{option_copied};
 ghost use Rattle.avc_decoder.specs.States.{current_in, is_waiting_in, last_header_in, without_picture};

@@ -1,3 +1,5 @@
+//! Events that come of a unit, before they are handed on.
+
 ghost use Rattle.std.specs.Prelude.{◌≡◌, [], ◌∷◌, ◌++◌, map, OnOk, slice_get};
 ghost use Rattle.avc_decoder.specs.Events.{pictures};
 ghost use Rattle.avc_decoder.specs.QueueState.{after_queue_take, with_events};

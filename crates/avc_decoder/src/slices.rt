@@ -1,3 +1,5 @@
+//! The slices of the open picture, and the first of a new one.
+
 ghost use Rattle.std.specs.Prelude.{◌≡◌, false, None, IfSome, OnOk, Some};
 ghost use Rattle.avc_decoder.specs.Events.{after_first_slice, after_next_slice, base_in, sets_named};
 ghost use Rattle.avc_decoder.specs.PictureFrames.{frames_for, CanHave};

@@ -1,3 +1,5 @@
+//! From a unit to its events.
+
 ghost use Rattle.std.specs.Prelude.{◌≡◌, IfOk, IfSome, OnOk};
 ghost use Rattle.avc_decoder.specs.Events.{after_next};
 ghost use Rattle.avc_decoder.specs.States.{after_stream_end, after_unit_in_stream, current_in, new_stream, phase_of, stream_state};

@@ -1,3 +1,5 @@
+//! The cropping rectangle of a sequence, in luma samples (7.4.2.1.1).
+
 ghost use Rattle.std.specs.Prelude.{◌≡◌, ◌*◌};
 ghost use Rattle.avc_decoder_core.specs.Pictures.{crop_of};
 

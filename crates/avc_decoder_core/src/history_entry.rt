@@ -1,3 +1,5 @@
+//! What comes to the history at once: a picture, or missing frame numbers.
+
 use avc_marking::MissingFrameNums;
 use avc_params::Sps;
 use avc_plane::{PADDING, SharedPlanes};

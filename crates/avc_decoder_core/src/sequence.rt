@@ -1,3 +1,5 @@
+//! The pictures of a coded video sequence, opened and closed one after another.
+
 ghost use Rattle.std.specs.Prelude.{◌≡◌, true, false, IfOk, IfErr, OnErr, None, Some, is_some};
 ghost use Rattle.avc_decoder_core.specs.History.{history_after_closing, history_at_opening};
 ghost use Rattle.avc_decoder_core.specs.Opening.{set_with, Finds};

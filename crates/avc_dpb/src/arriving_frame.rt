@@ -1,3 +1,5 @@
+//! A frame that comes into the buffer (C.4.5).
+
 /// What output asks of a frame that comes into the buffer: a decoded picture, or a non-existing frame, which stands for a missing
 /// frame number.
 #[derive(Clone, Copy, Debug)]

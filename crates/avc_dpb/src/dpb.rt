@@ -1,3 +1,5 @@
+//! The decoded picture buffer: frames that are stored, marked and put out (C.4).
+
 ghost use Rattle.avc_plane.specs.declared.frame.Frame.{Frame as StoredFrame};
 ghost use Rattle.std.specs.Prelude.{◌≡◌, ◌+◌, ◌<◌, ◌≤◌, ℕ, [], true, false, length, IfOk, OnErr, OnOk, IsErr};
 ghost use Rattle.avc_dpb.specs.Bumping.{empty_buffer};

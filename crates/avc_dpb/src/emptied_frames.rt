@@ -1,3 +1,5 @@
+//! Frames that have left the buffer, with their memory.
+
 use arrayvec::ArrayVec;
 use avc_plane::{Frame, PADDING};
 

@@ -1,3 +1,5 @@
+//! When pictures go out.
+
 /// When pictures go out of the buffer.
 #[derive(Clone, Copy, Debug, PartialEq, Eq)]
 pub enum Output {

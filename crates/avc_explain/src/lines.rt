@@ -1,3 +1,5 @@
+//! The lines that explain refusals, and count what came and what was lost.
+
 ghost use Rattle.std.specs.Prelude.{◌≡◌, length};
 ghost use Rattle.avc_explain.specs.Explanations.{counts_line, explained_line, waits_line};
 

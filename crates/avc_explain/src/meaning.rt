@@ -1,3 +1,5 @@
+//! What each fault means, in words.
+
 ghost use Rattle.std.specs.Prelude.{◌≡◌};
 ghost use Rattle.avc_explain.specs.Explanations.{meaning_of};
 

@@ -1,3 +1,5 @@
+//! The search for the sequence parameter set of the first picture.
+
 ghost use Rattle.std.specs.Prelude.{◌≡◌, ◌++◌, ◌∷◌, [], false, IfOk, OnOk};
 ghost use Rattle.avc_params.specs.Tables.{sets_after};
 ghost use Rattle.avc_units.specs.Bringing.{sps_under};

@@ -1,3 +1,5 @@
+//! The form of ffmpeg's framemd5: a head, and a line with its MD5 for each picture.
+
 ghost use Rattle.std.specs.Prelude.{◌≡◌, ◌++◌, true, length, IfOk, IfErr, OnOk, string_bytes};
 ghost use Rattle.std.specs.Io.KnownBytes.{Appends};
 ghost use Rattle.hex.specs.Hex.{encode_lower};

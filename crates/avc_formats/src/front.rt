@@ -1,3 +1,5 @@
+//! The front of a stream, which is read before its first picture is written.
+
 ghost use Rattle.std.specs.Prelude.{◌≡◌, false, IfErr, IfOk};
 ghost use Rattle.avc_formats.specs.Front.{IsFront, NoFront};
 

@@ -1,3 +1,5 @@
+//! The line that `md5sum` writes of a digest.
+
 ghost use Rattle.std.specs.Prelude.{◌≡◌, true, IfErr, IfOk, OnOk, string_bytes};
 ghost use Rattle.std.specs.Io.KnownBytes.{Appends};
 ghost use Rattle.avc_console.specs.declared.fault.RunFault.TheVariants as faults;

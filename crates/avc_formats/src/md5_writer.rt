@@ -1,3 +1,5 @@
+//! A writer that keeps the MD5 of its bytes alone (RFC 1321).
+
 ghost use Rattle.std.specs.Prelude.{◌≡◌, []};
 ghost use Rattle.md5.specs.Md5.{md5};
 

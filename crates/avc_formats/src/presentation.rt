@@ -1,3 +1,5 @@
+//! How a sequence is shown: size, shape of samples, frame rate, range and place of chroma (7.4.2.1.1, E.2.1).
+
 ghost use Rattle.std.specs.Prelude.{◌≡◌};
 ghost use Rattle.avc_formats.specs.Presenting.{aspect_of, chroma_site, default_rate, default_site, full_range, in_vui, no_presentation, no_ratio};
 ghost use Rattle.avc_formats.specs.Presenting.{own_aspect, ratio, sample_aspect, site_of_type, IsPresented, IsRateOf};

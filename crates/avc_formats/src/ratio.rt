@@ -1,3 +1,5 @@
+//! Ratios in lowest terms.
+
 ghost use Rattle.std.specs.Prelude.{◌≡◌, ◌/◌, ◌<◌};
 ghost use Rattle.std.specs.Int.{IsGcd};
 ghost use Rattle.avc_formats.specs.Ratios.{IsLowest};

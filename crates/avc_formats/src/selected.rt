@@ -1,3 +1,5 @@
+//! Some of the pictures: without the first ones, and so many at most.
+
 ghost use Rattle.std.specs.Prelude.{◌≡◌, OnOk, IfErr};
 ghost use Rattle.avc_formats.specs.Selecting.{is_wanted, selected};
 

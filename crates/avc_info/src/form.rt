@@ -1,3 +1,5 @@
+//! The forms in which a stream's facts are told.
+
 ghost use Rattle.std.specs.Prelude.{◌≡◌, ℕ, List, IfOk, string_bytes};
 ghost use Rattle.avc_info.specs.Json.{json_line};
 ghost use Rattle.avc_info.specs.PictureText.{info_text};

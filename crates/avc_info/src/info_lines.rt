@@ -1,3 +1,5 @@
+//! A stream's facts, while the stream comes.
+
 ghost use Rattle.std.specs.Prelude.{◌≡◌, ◌++◌, false, OnOk};
 ghost use Rattle.avc_units.specs.Grouping.{set_units};
 ghost use Rattle.avc_tools.specs.Streams.{after_units_left, max_unit, units_left};

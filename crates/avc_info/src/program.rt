@@ -1,3 +1,5 @@
+//! The command `info`.
+
 ghost use Rattle.avc_console.specs.Listing.{Lists};
 ghost use Rattle.avc_console.specs.Program.{EndsListing};
 ghost use Rattle.avc_info.specs.Info.{info_so_far};

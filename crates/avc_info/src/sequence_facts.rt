@@ -1,3 +1,5 @@
+//! What a sequence parameter set says of the pictures (7.3.2.1.1, E.1.1).
+
 ghost use Rattle.std.specs.Prelude.{◌≡◌};
 ghost use Rattle.avc_info.specs.Facts.{chroma_place, coded_size, colour_of, crop_of, ratio_given, reorder_number, said_by, timing_of};
 

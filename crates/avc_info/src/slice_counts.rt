@@ -1,3 +1,5 @@
+//! Pictures, sequences and slices, counted by slice headers (7.4.1.2.4).
+
 ghost use Rattle.std.specs.Prelude.{◌≡◌, Some};
 ghost use Rattle.avc_info.specs.Facts.{begins_after, no_slices, one_more_if, slices_with, with_slice};
 

@@ -1,3 +1,5 @@
+//! The prediction of Intra 16x16 macroblocks (8.3.3).
+
 ghost use Rattle.std.specs.Prelude.{◌≡◌, ℕ, ◌+◌, ◌*◌, ◌<◌, ◌≤◌, pos, ◌+ℤ◌, ◌*ℤ◌, true, length, slice_index};
 ghost use Rattle.avc_types.specs.Arithmetic.{◌>>ℤ◌};
 ghost use Rattle.avc_intra.specs.Neighbourhood.{Around, Predicts};

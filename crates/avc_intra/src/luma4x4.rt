@@ -1,3 +1,5 @@
+//! The prediction of 4x4 luma blocks (8.3.1.2).
+
 ghost use Rattle.std.specs.Prelude.{◌≡◌, ℕ, ◌≤◌, length, pos, true};
 ghost use Rattle.avc_plane.specs.Strided.{IsRoom, IsStridedSet};
 ghost use Rattle.avc_intra.specs.InRows.{IsSeen4x4};

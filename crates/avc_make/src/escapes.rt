@@ -1,3 +1,5 @@
+//! From an RBSP to a unit's body, with emulation_prevention_three_byte (7.3.1).
+
 ghost use Rattle.std.specs.Prelude.{◌≡◌, ◌++◌, ◌≤◌, IfOk, OnOk};
 ghost use Rattle.avc_make.specs.Escaping.{escaped, escaped_byte, zeros_with};
 

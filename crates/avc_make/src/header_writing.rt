@@ -1,3 +1,5 @@
+//! Slice headers, written (7.3.3).
+
 ghost use Rattle.std.specs.Prelude.{◌≡◌, ◌<◌, ◌≤◌, ◌++◌, false, IfSome};
 ghost use Rattle.avc_make.specs.HeaderWriting.{IsDeblocking, IsHeader, IsModification, IsOffset, IsOrderOf};
 ghost use Rattle.avc_make.specs.HeaderWriting.{IsSeWhere, coded_order_bits, deblocking_bits, filtering_bits};

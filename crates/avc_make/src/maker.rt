@@ -1,3 +1,5 @@
+//! Bits and codes, written one after another (7.2, 9.1).
+
 ghost use Rattle.std.specs.Prelude.{◌≡◌, ◌-◌, ◌/◌, ◌%◌, ◌*◌, ◌^◌, ◌<◌, ◌≤◌, ◌<ℤ◌, ℕ, Bool, List, pos, neg_ℤ};
 ghost use Rattle.std.specs.Prelude.{true, false, [], ◌∷◌, ◌++◌, ◌==◌, length, replicate, IfOk, OnErr, OnOk};
 ghost use Rattle.avc_bits.specs.Bits.{bits_of};

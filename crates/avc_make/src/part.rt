@@ -1,3 +1,5 @@
+//! Parts of the syntax that are written.
+
 ghost use Rattle.std.specs.Prelude.{◌≡◌, Bool, List, false, IfSome};
 ghost use Rattle.std.specs.List.{flat_map};
 ghost use Rattle.avc_bits.specs.Bits.{bits_of};

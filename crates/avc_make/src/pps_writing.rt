@@ -1,3 +1,5 @@
+//! Picture parameter sets, written (7.3.2.2).
+
 ghost use Rattle.std.specs.Prelude.{◌≡◌, Ok, IfOk, drop};
 ghost use Rattle.avc_annexb.specs.Escapes.{rbsp};
 ghost use Rattle.avc_make.specs.Made.{Puts};

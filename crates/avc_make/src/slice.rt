@@ -1,3 +1,5 @@
+//! Slices that are to be written, with their macroblocks.
+
 ghost use Rattle.std.specs.Prelude.{◌≡◌};
 
 use avc_params::{Pps, Sps};

@@ -1,3 +1,5 @@
+//! A unit by its header byte and its RBSP (7.3.1).
+
 ghost use Rattle.std.specs.Prelude.{◌≡◌, false, IfOk};
 ghost use Rattle.avc_make.specs.Units.{IsUnit};
 

@@ -1,3 +1,5 @@
+//! VUI parameters and HRD parameters, written (E.1.1, E.1.2).
+
 ghost use Rattle.avc_make.specs.VuiWriting.{IsAspect, IsChromaLocation, IsColour, IsHrd, IsHrdEntry};
 ghost use Rattle.avc_make.specs.VuiWriting.{IsRestriction, IsSampleSize, IsTiming, IsVideoSignal, IsVui};
 ghost use Rattle.avc_make.specs.VuiWriting.{aspect_bits, chroma_location_bits, colour_bits, hrd_bits};

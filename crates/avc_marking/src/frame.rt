@@ -1,3 +1,5 @@
+//! A frame that comes to the buffer, as marking sees it, and frames that lose their marks.
+
 ghost use Rattle.std.specs.Prelude.{◌≡◌, ◌<◌, filter, length, not};
 ghost use Rattle.avc_types.specs.References.{is_marked};
 ghost use Rattle.avc_marking.specs.Frames.{ChangesFrames, UnmarksEach, UnmarksPlace, is_to_unmark, unmarked_if};

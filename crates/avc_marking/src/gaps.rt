@@ -1,3 +1,5 @@
+//! Missing frame numbers (7.4.3, 8.2.5.2).
+
 ghost use Rattle.std.specs.Prelude.{◌≡◌, ◌+◌, ◌%◌, [], ◌<◌, ◌≤◌, drop, length, slice_get, IfSome};
 ghost use Rattle.avc_marking.specs.Marks.{frame_nums_from, missing_frame_nums};
 ghost use Rattle.avc_marking.specs.Frames.{marking_entry};

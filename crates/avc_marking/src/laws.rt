@@ -1,3 +1,5 @@
+//! Laws of marking.
+
 ghost use Rattle.avc_marking.specs.Laws.{StaysLimited, IsLimited, AddsOwnFrameAlone, LeavesOwnFrameAlone, SlidesAgain};
 ghost use Rattle.avc_marking.specs.Laws.{WindowTakesTheFirst};
 

@@ -1,3 +1,5 @@
+//! The marking of a decoded picture (8.2.5.1).
+
 ghost use Rattle.std.specs.Prelude.{◌≡◌, ◌+◌, ◌≤◌, ◌∷◌, [], true, false, None, length, OnOk, if◌then◌else◌};
 ghost use Rattle.std.specs.List.{list_any};
 ghost use Rattle.avc_marking.specs.Marks.{after_adaptive_marking, frame_num_after_marking, is_unmark_all, marks_after};

@@ -1,3 +1,5 @@
+//! Adaptive memory control marking: its operations 1 to 6 (8.2.5.4).
+
 ghost use Rattle.std.specs.Prelude.{◌≡◌, ◌+◌, ◌≤◌, true, false, not, ◌&&◌, pos, ◌-ℤ◌, None, length, IfOk, if◌then◌else◌};
 ghost use Rattle.avc_types.specs.References.{IsPlaceIn, IsShortTermIn, NamesFrames, result_map};
 ghost use Rattle.avc_marking.specs.Marks.{after_operation, after_operations, frame_with_pic_num_x, is_index_allowed};

@@ -1,3 +1,5 @@
+//! Sliding window marking, and how many reference frames there may be (8.2.5.3).
+
 ghost use Rattle.std.specs.Prelude.{◌≡◌, ℕ, ◌+◌, ◌<◌, ◌≤◌, true, false, max, Option, Some, None, length, IfSome, OnOk};
 ghost use Rattle.std.specs.Option.{option_map};
 ghost use Rattle.avc_types.specs.References.{IsPlaceIn, NamesFrames};

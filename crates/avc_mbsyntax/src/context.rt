@@ -1,3 +1,5 @@
+//! What reading a macroblock asks of its slice and of its neighbours.
+
 ghost use Rattle.std.specs.Prelude.{◌≡◌};
 ghost use Rattle.avc_mbsyntax.specs.Steps.{context_of};
 

@@ -1,3 +1,5 @@
+//! The motion of a macroblock (8.4.1).
+
 ghost use Rattle.std.specs.Prelude.{◌≡◌, true, map, replicate, Ok, OnOk};
 ghost use Rattle.std.specs.List.{list_all};
 ghost use Rattle.avc_types.specs.Macroblock.{p_skip};

@@ -1,3 +1,5 @@
+//! Neighbouring partitions (6.4.11.7).
+
 ghost use Rattle.std.specs.Prelude.{◌≡◌, ◌+◌, ◌<◌, ◌≤◌, pos, ◌-ℤ◌};
 ghost use Rattle.avc_neigh.specs.Blocks as blocks;
 ghost use Rattle.std.specs.Option.{option_copied};

@@ -1,3 +1,5 @@
+//! Parts of a macroblock whose vectors are coded (8.4.1.3, 7.4.5.1).
+
 ghost use Rattle.std.specs.Prelude.{◌≡◌, ℕ, ◌≤◌, ◌<◌, ◌+◌, ◌*◌, pos, ◌+ℤ◌, true, false, if◌then◌else◌, length, slice_index_or, Some, None};
 ghost use Rattle.std.specs.List.{All};
 ghost use Rattle.avc_neigh.specs.declared.neighbour_info.Motion.TheVariants.{Absent as absent, Inter as inter};

@@ -1,3 +1,5 @@
+//! Predicted vectors, and the vector of a skipped macroblock (8.4.1.1, 8.4.1.3).
+
 ghost use Rattle.std.specs.Prelude.{◌≡◌};
 ghost use Rattle.avc_types.specs.Arithmetic as arithmetic;
 ghost use Rattle.avc_motion.specs.Motion as motions;

@@ -1,3 +1,5 @@
+//! Luma blocks by their number: their place, and the blocks beside them (6.4.3).
+
 ghost use Rattle.std.specs.Prelude.{◌≡◌, ◌+◌, ◌%◌, ◌<◌, ◌==◌};
 ghost use Rattle.avc_neigh.specs.Blocks.{block_at, block_x, block_y};
 

@@ -1,3 +1,5 @@
+//! nC, by which coeff_token is read (9.2.1).
+
 ghost use Rattle.std.specs.Prelude.{◌≡◌, ◌<◌, take};
 ghost use Rattle.std.specs.Option.{option_copied};
 ghost use Rattle.avc_neigh.specs.TotalCoeffs.{mean, nc, nA, nB};

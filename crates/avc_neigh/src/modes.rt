@@ -1,3 +1,5 @@
+//! Predicted 4x4 intra modes (8.3.1.1).
+
 ghost use Rattle.std.specs.Prelude.{◌≡◌, ◌<◌, ◌-ℤ◌, pos, take, All};
 ghost use Rattle.std.specs.Option.{option_copied};
 ghost use Rattle.avc_neigh.specs.Around.{info_of};

@@ -1,3 +1,5 @@
+//! What is kept of a macroblock for its neighbours.
+
 ghost use Rattle.std.specs.Prelude.{◌≡◌};
 
 use avc_types::Mv;

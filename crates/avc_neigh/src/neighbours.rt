@@ -1,3 +1,5 @@
+//! The neighbouring macroblocks of the next one (6.4.9).
+
 use crate::neighbour_info::NeighbourInfo;
 
 /// The neighbouring macroblocks of the one that comes next (6.4.9), each where it is available: in the picture, decoded

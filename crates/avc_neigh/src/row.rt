@@ -1,3 +1,5 @@
+//! The macroblocks of a picture so far, as far as they can be neighbours still.
+
 ghost use Rattle.std.specs.Prelude.{◌≡◌, ◌<◌, IfOk, Some};
 ghost use Rattle.std.specs.Option.{option_copied};
 ghost use Rattle.avc_neigh.specs.Around.{mb_a, mb_b, mb_c, mb_d, no_info, of_slice, with_info};

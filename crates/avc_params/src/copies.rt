@@ -1,3 +1,5 @@
+//! Copies of parameter sets.
+
 ghost use Rattle.std.specs.Prelude.{◌≡◌};
 
 use crate::sps::{OrderCount, Sps};

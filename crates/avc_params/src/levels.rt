@@ -1,3 +1,5 @@
+//! MaxDpbMbs by level (Table A-1).
+
 ghost use Rattle.std.specs.Prelude.{◌≡◌};
 ghost use Rattle.avc_params.specs.Limits.{max_dpb_mbs as most_in_table};
 

@@ -1,3 +1,5 @@
+//! A picture parameter set, read (7.3.2.2).
+
 ghost use Rattle.std.specs.Prelude.{◌≡◌};
 ghost use Rattle.avc_bits.specs.Reader.{Reads};
 ghost use Rattle.avc_params.specs.PpsReading.{default_counts, pps_after, quantisation, switches};

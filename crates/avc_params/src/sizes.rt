@@ -1,3 +1,5 @@
+//! Sizes and limits that follow from a sequence parameter set (7.4.2.1.1, A.3.1, E.2.1).
+
 ghost use Rattle.std.specs.Prelude.{◌≡◌, ◌≤◌};
 ghost use Rattle.std.specs.Option.{option_map};
 ghost use Rattle.avc_params.specs.Limits.{dpb_size, height_in_mbs, max_dpb_frames, max_frame_num};

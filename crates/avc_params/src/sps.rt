@@ -1,3 +1,5 @@
+//! A sequence parameter set (7.3.2.1.1).
+
 ghost use Rattle.std.specs.Prelude.{◌≡◌};
 ghost use Rattle.avc_params.specs.Same.{same_sps};
 

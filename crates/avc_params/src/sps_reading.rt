@@ -1,3 +1,5 @@
+//! A sequence parameter set, read (7.3.2.1.1).
+
 ghost use Rattle.std.specs.Prelude.{◌≡◌, ◌+◌, ◌*◌, ◌^◌, ◌<◌, ◌≤◌, ◌==◌, ◌||◌, IfOk};
 ghost use Rattle.avc_bits.specs.Reader.{Reads};
 ghost use Rattle.avc_params.specs.Limits.{max_side};

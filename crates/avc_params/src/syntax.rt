@@ -1,3 +1,5 @@
+//! Parts of the syntax that are read from bits.
+
 ghost use Rattle.std.specs.Prelude.{◌≡◌, ◌≤◌};
 ghost use Rattle.avc_bits.specs.Bits.{Read, times, where_set};
 ghost use Rattle.avc_bits.specs.Codes.{flag, se};

@@ -1,3 +1,5 @@
+//! The parameter sets in force (7.4.1.2.1).
+
 ghost use Rattle.std.specs.Prelude.{◌≡◌, [], ◌∷◌, ◌++◌, IfOk, OnOk, OnErr, IfSome, IsSome};
 ghost use Rattle.std.specs.Option.{option_copied};
 ghost use Rattle.avc_params.specs.Reading.{pps_of, sps_of};

@@ -1,3 +1,5 @@
+//! VUI parameters and HRD parameters (E.1.1, E.1.2).
+
 use avc_types::UpTo;
 
 /// sar_width and sar_height: the size of a sample, in units of which only their ratio matters (E.2.1).

@@ -1,3 +1,5 @@
+//! VUI parameters and HRD parameters, read (E.1.1, E.1.2).
+
 ghost use Rattle.std.specs.Prelude.{◌≡◌, ◌+◌};
 ghost use Rattle.avc_bits.specs.Bits.{times};
 ghost use Rattle.avc_bits.specs.Reader.{Reads};

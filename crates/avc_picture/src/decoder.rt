@@ -1,3 +1,5 @@
+//! The decoder of one picture: its slices, one after another, and its end.
+
 ghost use Rattle.std.specs.Prelude.{◌≡◌, ◌==◌, ◌^◌, ◌<◌, ◌≤◌, ◌*◌, IfOk};
 ghost use Rattle.avc_params.specs.Limits.{height_in_mbs, size_in_mbs, width_in_mbs};
 ghost use Rattle.avc_params.specs.Within.{IsPps, IsSps};

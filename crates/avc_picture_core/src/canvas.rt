@@ -1,3 +1,5 @@
+//! A picture that is built, macroblock by macroblock.
+
 ghost use Rattle.std.specs.Prelude.{◌≡◌, ◌<◌, ◌≤◌, true, All};
 ghost use Rattle.avc_types.specs.MacroblockFields.{syntax_of};
 ghost use Rattle.avc_neigh.specs.Around.{info_of};

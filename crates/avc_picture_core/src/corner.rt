@@ -1,3 +1,5 @@
+//! The first column and row of a macroblock in a plane.
+
 ghost use Rattle.std.specs.Prelude.{◌≡◌, ◌+◌, ◌*◌, ◌≤◌};
 
 use avc_plane::Plane;

@@ -1,3 +1,5 @@
+//! Places of macroblocks and of blocks in them (6.1, 6.4.1).
+
 /// The size of a picture in macroblocks (6.1).
 #[derive(Clone, Copy)]
 pub(crate) struct PictureSize {

@@ -1,3 +1,5 @@
+//! Neighbours whose samples intra prediction may read (8.3.1.2, 8.3.3, 8.3.4).
+
 ghost use Rattle.std.specs.Prelude.{◌≡◌, ℕ, ◌<◌, not, ◌||◌, if◌then◌else◌, true};
 ghost use Rattle.std.specs.Option.{option_copied};
 ghost use Rattle.avc_neigh.specs.Around.{info_of, is_intra_info};

@@ -1,3 +1,5 @@
+//! A block of a plane, lent to be changed.
+
 ghost use Rattle.std.specs.Prelude.{◌≡◌, ◌+◌, ◌^◌, ◌<◌, ◌≤◌, slice_index};
 ghost use Rattle.avc_plane.specs.Plane.{sample, with_block, with_sample};
 

@@ -1,3 +1,5 @@
+//! Colour components (6.2).
+
 /// A colour component of a picture (6.2).
 #[derive(Clone, Copy, Debug, PartialEq, Eq)]
 pub enum Component {

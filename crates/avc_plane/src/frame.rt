@@ -1,3 +1,5 @@
+//! The planes of a picture, and stored frames.
+
 ghost use Rattle.std.specs.Prelude.{◌≡◌, ◌+◌, ◌*◌, ◌^◌, ◌<◌, true, IfOk};
 ghost use Rattle.avc_plane.specs.Plane.{HasSamples};
 ghost use Rattle.avc_plane.specs.Planes.{empty_planes, HaveAllSamples};

@@ -1,3 +1,5 @@
+//! Samples of a plane, lent to be read.
+
 /// Samples of a plane, lent to be read where they lie.
 #[derive(Clone, Copy, Debug)]
 pub struct LentPlane<'a> {

@@ -1,3 +1,5 @@
+//! Kinds of pictures that a decoder hands out.
+
 ghost use Rattle.std.specs.Prelude.{◌≡◌, IfOk};
 
 use crate::picture_rows::PictureRows;

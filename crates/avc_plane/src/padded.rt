@@ -1,3 +1,5 @@
+//! A plane that changes no more, with its nearest samples around it (8.4.2.2.1).
+
 ghost use Rattle.std.specs.Prelude.{◌≡◌, ◌+◌, ◌*◌, ◌^◌, ◌<◌, ◌≤◌, IfOk, length, slice_range};
 ghost use Rattle.avc_plane.specs.Plane.{sample};
 ghost use Rattle.avc_plane.specs.Padded.{inner_plane, stride_of, HaveRowsFrom, IsPadded, IsSurrounded};

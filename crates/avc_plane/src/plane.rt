@@ -1,3 +1,5 @@
+//! A plane of samples, of which the rows stand some way apart.
+
 ghost use Rattle.std.specs.Prelude.{◌≡◌, ◌==◌, ◌&&◌, ◌+◌, ◌*◌, ◌^◌, ◌<◌, ◌≤◌, IfOk, length, replicate, slice_index, slice_range};
 ghost use Rattle.avc_plane.specs.Plane.{sample, HasSamples, with_block, with_sample, plane_of};
 ghost use Rattle.avc_plane.specs.Padded.{inner_plane, IsStored};

@@ -1,3 +1,5 @@
+//! Planes of pictures that are over, for later ones.
+
 ghost use Rattle.std.specs.Prelude.{◌+◌, ◌*◌, ◌^◌, ◌<◌, IfOk, IfSome};
 ghost use Rattle.avc_plane.specs.Closed.{planes_of};
 ghost use Rattle.avc_plane.specs.Frames.{AreSized};

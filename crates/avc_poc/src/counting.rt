@@ -1,3 +1,5 @@
+//! TopFieldOrderCnt and BottomFieldOrderCnt of a picture, of any type (8.2.1).
+
 ghost use Rattle.std.specs.Prelude.{◌≡◌};
 ghost use Rattle.avc_params.specs.Within.{IsOrderCount};
 ghost use Rattle.avc_poc.specs.OrderCountState.{IsPrevious, count_pair, raw_counts};

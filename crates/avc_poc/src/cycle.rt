@@ -1,3 +1,5 @@
+//! The expected delta of a cycle of type 1 (8.2.1.2).
+
 ghost use Rattle.std.specs.Prelude.{◌≡◌, ◌≤◌, ◌<◌, ◌^◌, ◌+ℤ◌, ◌*ℤ◌, length, pos};
 ghost use Rattle.avc_poc.specs.OrderCountState.{IsNear};
 ghost use Rattle.avc_poc.specs.OrderCounts.{abs_frame_num, expected_order_count, sum_ℤ};

@@ -1,3 +1,5 @@
+//! FrameNumOffset (8.2.1.2, 8.2.1.3).
+
 ghost use Rattle.std.specs.Prelude.{◌≡◌, ◌≤◌, ◌<◌, ◌^◌, ◌+◌, ◌*◌, ◌/◌};
 ghost use Rattle.avc_poc.specs.OrderCountState.{saturated, next_offset};
 

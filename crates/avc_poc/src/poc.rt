@@ -1,3 +1,5 @@
+//! Picture order counts of pictures in decoding order (8.2.1).
+
 ghost use Rattle.std.specs.Prelude.{◌≡◌, ◌≤◌, ◌<◌, ◌^◌, List, [], ◌∷◌, true};
 ghost use Rattle.std.specs.Result.{OnErr, OnOk, is_ok};
 ghost use Rattle.avc_params.specs.Limits.{max_frame_num};

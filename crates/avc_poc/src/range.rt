@@ -1,3 +1,5 @@
+//! Order counts within 32 bits.
+
 ghost use Rattle.std.specs.Prelude.{◌≡◌, ◌^◌, nat_lt, if◌then◌else◌, Ok, Err};
 ghost use Rattle.avc_types.specs.declared.fault.Fault.TheVariants.{PocRange};
 ghost use Rattle.avc_poc.specs.OrderCountState.{count_pair, counts_of, pair};

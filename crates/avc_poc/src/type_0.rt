@@ -1,3 +1,5 @@
+//! Order counts of type 0 (8.2.1.1).
+
 ghost use Rattle.std.specs.Prelude.{◌≡◌, ◌+ℤ◌, ◌-ℤ◌, ℤ};
 ghost use Rattle.std.specs.Int.{int_min};
 ghost use Rattle.avc_params.specs.Within.{IsOrderCount};

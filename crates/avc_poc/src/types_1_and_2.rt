@@ -1,3 +1,5 @@
+//! Order counts of types 1 and 2 (8.2.1.2, 8.2.1.3).
+
 ghost use Rattle.std.specs.Prelude.{◌≡◌, ◌≤◌, ◌<◌, ◌^◌, ◌+ℤ◌, if◌then◌else◌, length, pos};
 ghost use Rattle.avc_poc.specs.OrderCountState.{IsNear, pair};
 ghost use Rattle.avc_poc.specs.OrderCounts.{counts_1, counts_2, delta_0, delta_1};

@@ -1,3 +1,5 @@
+//! RefPicList0, as places of frames.
+
 ghost use Rattle.std.specs.Prelude.{◌≡◌, ◌≤◌, length, slice_get, unwrap_or, None};
 ghost use Rattle.avc_reflist.specs.Lists.{entries};
 

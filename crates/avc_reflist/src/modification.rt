@@ -1,3 +1,5 @@
+//! The modification of a list (8.2.4.3).
+
 ghost use Rattle.std.specs.Prelude.{◌≡◌, ◌<◌, ◌≤◌, ◌++◌, ◌∷◌, [], length, take, IfOk};
 ghost use Rattle.std.specs.List.{filter};
 ghost use Rattle.avc_types.specs.References.{NamesFrames};

@@ -1,3 +1,5 @@
+//! The frames that modifications name (8.2.4.3.1, 8.2.4.3.2).
+
 ghost use Rattle.std.specs.Prelude.{◌≡◌, ◌<◌, ◌≤◌, ◌++◌, ◌∷◌, [], length, take, All, IfSome, IfOk};
 ghost use Rattle.std.specs.Option.{option_map};
 ghost use Rattle.avc_types.specs.References.{IsPlaceIn, NamesFrames, result_map};

@@ -1,3 +1,5 @@
+//! What a file is, by the end of its name.
+
 ghost use Rattle.avc_request.specs.FileKinds.{IsKind};
 
 use std::alloc::{AllocError, Global};

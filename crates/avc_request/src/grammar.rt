@@ -1,4 +1,5 @@
-// The words that the program takes, as clap reads them and shows them for help.
+//! The words that the program takes, as clap reads them and shows them for help.
+
 use clap::{Arg, ArgAction, Command as Grammar, Error};
 use std::alloc::Global;
 

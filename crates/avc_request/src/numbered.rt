@@ -1,3 +1,5 @@
+//! A name that stands for one file a picture.
+
 ghost use Rattle.std.specs.Prelude.{◌≡◌, ◌++◌, IfOk, OnOk, replicate, string_bytes};
 ghost use Rattle.avc_request.specs.Numberings.{file_name, IsWidth};
 

@@ -1,4 +1,5 @@
-// The words of the command line, as the system gives them.
+//! The words of the command line, as the system gives them.
+
 use crate::grammar::grammar;
 use clap::Error;
 use clap::error::ErrorKind;

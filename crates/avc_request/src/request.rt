@@ -1,3 +1,5 @@
+//! What is asked for.
+
 ghost use Rattle.std.specs.Prelude.{◌≡◌};
 ghost use Rattle.avc_request.specs.Commands.{is_raw, is_raw_form};
 

@@ -1,3 +1,5 @@
+//! From words to what is asked for.
+
 ghost use Rattle.std.specs.Prelude.{◌≡◌};
 ghost use Rattle.avc_request.specs.Commands.{form_by_name, mode_of, progress_of, task_of_all, task_showing, wording_of, IsForm, IsNamed};
 

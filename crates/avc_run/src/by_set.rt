@@ -1,3 +1,5 @@
+//! The command `decode` in a format with a head, which the first sequence parameter set decides.
+
 ghost use Rattle.std.specs.Prelude.{◌≡◌};
 ghost use Rattle.avc_console.specs.Reporting.{no_report, TellsOn};
 ghost use Rattle.avc_formats.specs.Headed.{headed};

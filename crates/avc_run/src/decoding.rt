@@ -1,3 +1,5 @@
+//! A run: a stream decoded, and its pictures written as they go out.
+
 ghost use Rattle.std.specs.Prelude.{◌≡◌, ◌∷◌, [], take, IfErr, IfOk, OnOk};
 ghost use Rattle.std.specs.Io.KnownBytes.{prepend_known, Appends};
 ghost use Rattle.avc_types.specs.Whole.{IsWhole};

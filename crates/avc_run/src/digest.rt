@@ -1,3 +1,5 @@
+//! The commands `decode --format md5` and `decode --verify`.
+
 ghost use Rattle.std.specs.Prelude.{◌≡◌, ◌==◌, if◌then◌else◌};
 ghost use Rattle.avc_console.specs.Reporting.{no_report, TellsOn};
 ghost use Rattle.avc_console.specs.Status.{other_status};

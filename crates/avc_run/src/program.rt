@@ -1,3 +1,5 @@
+//! The command `decode`.
+
 ghost use Rattle.avc_formats.specs.Formats.{plain};
 ghost use Rattle.avc_run.specs.Program.{EndsDecodingAs};
 

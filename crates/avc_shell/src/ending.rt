@@ -1,3 +1,5 @@
+//! The exit status where there had to be pictures.
+
 ghost use Rattle.std.specs.Prelude.{◌≡◌};
 ghost use Rattle.avc_shell.specs.Ending.{ended_status, is_verified, shown_by, status_wanting};
 

@@ -1,3 +1,5 @@
+//! The line that says how far decoding is.
+
 ghost use Rattle.std.specs.Prelude.{◌≡◌, ◌<◌, ◌++◌, IfOk, OnOk, string_bytes};
 ghost use Rattle.avc_shell.specs.Progress.{clock_text, counts_text, left_text, place_by, place_text, progress_line, speed_text};
 ghost use Rattle.avc_shell.specs.Progress.{tenths_text, times_by, times_text};

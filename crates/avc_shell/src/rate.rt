@@ -1,3 +1,5 @@
+//! The search for a stream's frame rate.
+
 ghost use Rattle.std.specs.Prelude.{◌≡◌, ◌⊎◌, ◌++◌, [], length, None, Some, false};
 ghost use Rattle.avc_shell.specs.Rates.{looked, rate_of, IsGoingOn, Looks};
 

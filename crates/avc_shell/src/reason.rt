@@ -1,3 +1,5 @@
+//! Why a file could not be read or written, in words.
+
 ghost use Rattle.std.specs.Prelude.{◌≡◌, IfOk, string_bytes};
 ghost use Rattle.avc_shell.specs.Reasons.{reason_line, reason_of};
 

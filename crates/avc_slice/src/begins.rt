@@ -1,3 +1,5 @@
+//! The first slice of a new picture (7.4.1.2.4).
+
 ghost use Rattle.std.specs.Prelude.{◌≡◌};
 ghost use Rattle.avc_slice.specs.Begins.{begins_after, picture_fields};
 

@@ -1,3 +1,5 @@
+//! Copies of slice headers.
+
 ghost use Rattle.std.specs.Prelude.{◌≡◌};
 
 use crate::header::Header;

@@ -1,3 +1,5 @@
+//! The deblocking fields of a slice header (7.3.3).
+
 ghost use Rattle.avc_bits.specs.Reader.{Reads};
 ghost use Rattle.avc_slice.specs.Reading.{deblocking};
 

@@ -1,3 +1,5 @@
+//! A slice header (7.3.3).
+
 ghost use Rattle.std.specs.Prelude.{◌≡◌, IfSome, slice_get};
 ghost use Rattle.std.specs.List.{list_any};
 ghost use Rattle.avc_slice.specs.Filling.{empty_header};

@@ -1,3 +1,5 @@
+//! Lists of the syntax that a code ends.
+
 ghost use Rattle.std.specs.Prelude.{◌≡◌, ◌≤◌, ◌^◌, ℕ};
 ghost use Rattle.avc_bits.specs.Bits.{Read};
 ghost use Rattle.avc_bits.specs.Codes.{ue_to};

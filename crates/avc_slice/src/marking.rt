@@ -1,3 +1,5 @@
+//! dec_ref_pic_marking, read (7.3.3.3).
+
 ghost use Rattle.std.specs.Prelude.{◌≡◌};
 ghost use Rattle.std.specs.Prelude.{true, Some};
 ghost use Rattle.avc_types.specs.declared.references.Marking.TheVariants.{SlidingWindow};

@@ -1,3 +1,5 @@
+//! ref_pic_list_modification, read (7.3.3.1).
+
 ghost use Rattle.std.specs.Prelude.{◌≡◌, ◌≤◌, ◌-◌};
 ghost use Rattle.avc_bits.specs.Reader.{Reads};
 ghost use Rattle.avc_slice.specs.Reading.{modification, modifications};

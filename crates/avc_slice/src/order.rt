@@ -1,3 +1,5 @@
+//! The fields of picture order counts, read (7.3.3).
+
 ghost use Rattle.std.specs.Prelude.{◌≡◌};
 ghost use Rattle.avc_bits.specs.Reader.{Reads};
 ghost use Rattle.avc_params.specs.Within.{IsOrderCount};

@@ -1,3 +1,5 @@
+//! A slice header in its parts, as they are read.
+
 use crate::header::{CodedOrder, Deblocking, SliceType};
 use crate::weights::PredWeightTable;
 use avc_types::{Modification, UpTo};

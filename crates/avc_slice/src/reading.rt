@@ -1,3 +1,5 @@
+//! A slice header, read (7.3.3).
+
 ghost use Rattle.std.specs.Prelude.{◌≡◌, ◌≤◌, ◌==◌, ◌%◌, true, not, IfOk, IfSome, None};
 ghost use Rattle.avc_bits.specs.Bits.{where_set};
 ghost use Rattle.avc_bits.specs.Reader.{Reads};

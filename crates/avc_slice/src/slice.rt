@@ -1,3 +1,5 @@
+//! A slice as its unit brings it.
+
 use crate::header::Header;
 use avc_types::Bytes;
 

@@ -1,3 +1,5 @@
+//! Weights of prediction (7.4.3.2).
+
 ghost use Rattle.std.specs.Prelude.{◌≡◌, ◌≤◌, map, slice_get};
 ghost use Rattle.avc_slice.specs.Weights.{weight_of, weights_of};
 

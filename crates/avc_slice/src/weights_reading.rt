@@ -1,3 +1,5 @@
+//! pred_weight_table, read (7.3.3.2).
+
 ghost use Rattle.std.specs.Prelude.{◌≡◌, ◌≤◌};
 ghost use Rattle.avc_bits.specs.Reader.{Reads};
 ghost use Rattle.avc_slice.specs.WeightsReading.{chroma_weights, coded_weight, entry_weights, pred_weight_table};

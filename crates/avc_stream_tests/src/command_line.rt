@@ -1,3 +1,5 @@
+//! Tests of what words of the command line ask for.
+
 // What no contract says: what the words of the command line mean. Where an allocation is refused
 // (`rt try --test --fail-alloc N`), a test ends in that error, and not at an assertion.
 use avc_request::{Form, Manner, Request, Showing, Subject, Task, Telling, Wording, requested};

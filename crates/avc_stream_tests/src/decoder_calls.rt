@@ -1,3 +1,5 @@
+//! Tests of the decoder's calls: before, at and behind the end of a stream.
+
 // What no contract says of the decoder's calls: that memory is found where there is some, and where a fault comes from. What whole
 // streams come to, and each status and line, stands in vectors/. Where an allocation is refused (`rt try --test --fail-alloc N`), a test
 // ends in that error, and not at an assertion.

@@ -1,3 +1,5 @@
+//! A writer that takes few bytes at once, and not all.
+
 use std::io;
 use std::io::{ErrorKind, Write};
 

@@ -1,3 +1,5 @@
+//! Tests of listings and pieces of a stream.
+
 // What is told of a stream, and its pieces. Each call is tried once and, where a growth of it was refused, once more: with one growth
 // refused, whichever it is, the second gives what is wanted. With none refused the first does.
 use avc_tools::{cut, list_units, show_headers};

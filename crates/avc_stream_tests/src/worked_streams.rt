@@ -1,5 +1,6 @@
-// Streams of a few bytes whose events can be worked out by hand, with memory that is there: a call that always wanted some would
-// keep its contract. Each is decoded to its samples, its refusals and its count of macroblocks.
+//! Streams of a few bytes whose events can be worked out by hand, with memory that is there: a call that always wanted some would
+//! keep its contract. Each is decoded to its samples, its refusals and its count of macroblocks.
+
 use crate::limited_writer::{LimitedWriter, Refusal};
 use avc_annexb::Splitter;
 use avc_decoder::{Call, DecodeError, Decoder, Event, Output, Reply, run_calls};

@@ -1,4 +1,5 @@
-// A picture is written as I420, to a writer that takes little at a time, or not all.
+//! A picture is written as I420, to a writer that takes little at a time, or not all.
+
 ghost use Rattle.std.specs.Prelude.{IfOk};
 ghost use Rattle.avc_types.specs.Whole.{IsWhole};
 

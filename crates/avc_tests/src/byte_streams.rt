@@ -1,3 +1,5 @@
+//! Tests of byte streams that come in pieces.
+
 // No clause says that memory is found. Where an allocation is refused (`rt try --test --fail-alloc N`), a test ends in
 // that error, and not at an assertion.
 use avc_annexb::{Splitter, unescape};

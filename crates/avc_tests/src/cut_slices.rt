@@ -1,4 +1,5 @@
-// A slice of two macroblocks, cut to each number of its bits.
+//! A slice of two macroblocks, cut to each number of its bits.
+
 use crate::written_slices::{info, total_coeffs_in};
 use avc_bits::BitReader;
 use avc_make::{cut_bits, total_coeffs_of};

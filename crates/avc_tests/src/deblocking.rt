@@ -1,4 +1,5 @@
-// The deblocking filter beside a plain one, which follows clause 8.7 line after line.
+//! The deblocking filter beside a plain one, which follows clause 8.7 line after line.
+
 ghost use Rattle.std.specs.Prelude.{◌≡◌, ◌*◌, ◌^◌, ◌≤◌, ◌<◌, length, true};
 
 use avc_deblock::{MbInfo, picture};

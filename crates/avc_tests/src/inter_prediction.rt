@@ -1,4 +1,5 @@
-// Inter prediction against its formulas sample by sample, and worked rows.
+//! Inter prediction against its formulas sample by sample, and worked rows.
+
 ghost use Rattle.std.specs.Prelude.{◌<◌, ◌≤◌, ◌+◌, ◌≡◌, length};
 
 use avc_inter::{chroma, luma, six_tap_row, weight};

@@ -1,4 +1,5 @@
-// A block of a plane that is lent: what it is given stands there, and nothing beside it.
+//! A block of a plane that is lent: what it is given stands there, and nothing beside it.
+
 use avc_plane::Plane;
 use std::test::Fail;
 

@@ -1,4 +1,5 @@
-// A macroblock of each type, and how they follow one another in a slice.
+//! A macroblock of each type, and how they follow one another in a slice.
+
 ghost use Rattle.std.specs.Prelude.{◌≡◌, ◌≤◌, ◌<◌, ◌+◌, ◌==◌, ◌++◌, ◌∷◌, ℕ, ℤ, Bool, List, ◌≤ℤ◌, pos, negsuc, true, false, length, take, IfOk, []};
 ghost use Rattle.std.specs.List.{range_with_len};
 ghost use Rattle.avc_types.specs.Macroblock.{Mb, parts_of, partitions};

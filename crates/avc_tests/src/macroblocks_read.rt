@@ -1,4 +1,5 @@
-// Macroblocks read from a few bytes, and where the data of a slice ends.
+//! Macroblocks read from a few bytes, and where the data of a slice ends.
+
 use avc_bits::BitReader;
 use avc_mbsyntax::{Context, SliceData, read_macroblock};
 use avc_types::{Fault, Mb, Syntax};

@@ -1,3 +1,5 @@
+//! Tests of a picture that is open.
+
 // One macroblock above another, in two slices: 128 above 136.
 ghost use Rattle.std.specs.Prelude.{◌≡◌, [], Some, IfOk, OnOk};
 ghost use Rattle.avc_params.specs.Within.{IsPps, IsSps};

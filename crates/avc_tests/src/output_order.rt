@@ -1,4 +1,5 @@
-// Which pictures go out of the decoded picture buffer at each step, by worked rows (C.4).
+//! Which pictures go out of the decoded picture buffer at each step, by worked rows (C.4).
+
 ghost use Rattle.std.specs.Prelude.{◌≡◌};
 
 use avc_dpb::{ArrivingFrame, Dpb, Output};

@@ -1,3 +1,5 @@
+//! Tests of planes, and of memory that is used again.
+
 // No clause says that memory is found.
 use avc_plane::{Planes, SharedPlanes, SparePlanes};
 use std::test::Fail;

@@ -1,4 +1,5 @@
-// Whether two macroblocks are the same, element by element.
+//! Whether two macroblocks are the same, element by element.
+
 use avc_mbsyntax::{part_count, partitions};
 use avc_types::{BlockLevels, Levels, Mb, Mvd, PMbType, Syntax};
 

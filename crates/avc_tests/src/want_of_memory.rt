@@ -1,3 +1,5 @@
+//! Tests of what follows want of memory.
+
 // What stands after want of memory. Each call is tried once and, where a growth of it was refused, once more: with one growth refused,
 // whichever it is, the second gives what is wanted. With none refused the first does.
 use crate::written_slices::p_slice;

@@ -1,4 +1,5 @@
-// Slices with a macroblock of each type, written and read back.
+//! Slices with a macroblock of each type, written and read back.
+
 ghost use Rattle.std.specs.Prelude.{◌≡◌, ◌≤◌, ℕ, length, true, false};
 ghost use Rattle.avc_make.specs.SliceMbs.{IsCodedSlice};
 ghost use Rattle.avc_tests.specs.Following.{FollowOn};

@@ -1,3 +1,5 @@
+//! Tests of parameter sets and slice data that are written and read back.
+
 // No clause says that memory is found. Where an allocation is refused (`rt try --test --fail-alloc N`), the test ends in that
 // error, and not at an assertion.
 ghost use Rattle.std.specs.Prelude.{true, ◌≤◌, ℕ, length, false};

@@ -1,3 +1,5 @@
+//! One piece of a stream, cut unit by unit.
+
 ghost use Rattle.std.specs.Prelude.{◌≡◌, ◌++◌, ◌∷◌, [], IfOk, OnOk, List};
 ghost use Rattle.avc_annexb.specs.Written.{written};
 ghost use Rattle.avc_annexb.specs.declared.unit.Unit.{Unit as Piece};

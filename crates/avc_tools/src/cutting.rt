@@ -1,3 +1,5 @@
+//! All pieces of a whole stream.
+
 ghost use Rattle.std.specs.Prelude.{◌≡◌, [], ◌∷◌, ◌++◌, ◌<◌, IfOk, OnOk, length, map, take};
 ghost use Rattle.avc_units.specs.Grouping.{is_start};
 ghost use Rattle.avc_tools.specs.Cutting.{HasSets, pieces_at};

@@ -1,3 +1,5 @@
+//! A piece of a whole stream, by its cut point.
+
 ghost use Rattle.std.specs.Prelude.{◌≡◌, ◌++◌, ◌<◌, IfOk, OnOk, length, map, not, take};
 ghost use Rattle.std.specs.List.{filter, flat_map, take_while};
 ghost use Rattle.avc_annexb.specs.Written.{written};

@@ -1,3 +1,5 @@
+//! A piece of a stream that comes in pieces itself.
+
 ghost use Rattle.std.specs.Prelude.{◌≡◌, [], false, IfOk, OnOk};
 ghost use Rattle.avc_tools.specs.Stages.{IsCutOn, Stage, StandsAt, stage_after};
 ghost use Rattle.avc_tools.specs.Streams.{after_units_left, max_unit, units_left};

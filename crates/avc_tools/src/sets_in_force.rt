@@ -1,3 +1,5 @@
+//! The units of the parameter sets in force.
+
 ghost use Rattle.std.specs.Prelude.{◌≡◌, ℕ, ◌<◌, Option, None, Some, OnOk, IfOk, if◌then◌else◌, length, replicate};
 ghost use Rattle.std.specs.Option.{option_map};
 ghost use Rattle.avc_annexb.specs.Written.{written};

@@ -1,3 +1,5 @@
+//! Texts that are written of a stream while it comes.
+
 ghost use Rattle.std.specs.Prelude.{◌≡◌, ◌^◌, ◌<◌, ℕ, Bool, true, false, List, IfOk, OnErr, OnOk, length};
 ghost use Rattle.avc_tools.specs.Streams.{Adds, OnlyGrows, StreamSoFar, after_end, after_piece};
 

@@ -1,3 +1,5 @@
+//! A stream from one of its cut points on.
+
 ghost use Rattle.std.specs.Prelude.{◌≡◌, ◌∷◌, [], false, IfOk, OnOk};
 ghost use Rattle.avc_tools.specs.Streams.{after_units_left, max_unit, units_left};
 ghost use Rattle.avc_tools.specs.Tail.{IsTailFrom};

@@ -1,3 +1,5 @@
+//! The lines of `units`.
+
 ghost use Rattle.std.specs.Prelude.{◌≡◌, ◌++◌, false, true, length, IfOk, OnOk, string_bytes};
 ghost use Rattle.std.specs.List.{flat_map};
 ghost use Rattle.avc_annexb.specs.Units.{units};

@@ -1,3 +1,5 @@
+//! Units behind start codes (B.1.1).
+
 ghost use Rattle.std.specs.Prelude.{◌≡◌, [], ◌++◌, IfOk, OnOk, if◌then◌else◌};
 ghost use Rattle.std.specs.List.{flat_map};
 ghost use Rattle.avc_annexb.specs.Written.{written};

@@ -1,3 +1,5 @@
+//! The residual of a 4x4 block (8.5.1 to 8.5.4, 8.5.12).
+
 ghost use Rattle.std.specs.Prelude.{◌≡◌, ℕ, ℤ, ◌+◌, ◌*◌, ◌^◌, ◌<◌, ◌≤◌, pos, List};
 ghost use Rattle.avc_transform.specs.Bounds.{IsBelow, AllBelow, HasRows};
 ghost use Rattle.avc_transform.specs.Residual.{level, residual4x4, residual4x4_with_dc};

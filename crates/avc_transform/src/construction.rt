@@ -1,3 +1,5 @@
+//! A prediction and its residual, added (8.5.14).
+
 ghost use Rattle.std.specs.Prelude.{◌≡◌, ℕ, ℤ, ◌^◌, ◌+◌, ◌*◌, ◌/◌, ◌%◌, ◌<◌, ◌≤◌, ◌+ℤ◌, ◌-ℤ◌, pos, slice_index, slice_index_or};
 ghost use Rattle.avc_types.specs.Arithmetic.{clip1};
 ghost use Rattle.avc_transform.specs.Bounds.{IsBelow, AllBelow};

@@ -1,3 +1,5 @@
+//! The DC values of luma and chroma (8.5.10, 8.5.11).
+
 ghost use Rattle.std.specs.Prelude.{◌≡◌, ℕ, ◌+◌, ◌*◌, ◌-◌, ◌/◌, ◌%◌, ◌^◌, ◌<◌, ◌≤◌, ◌+ℤ◌, ◌*ℤ◌, pos, [], ◌∷◌, slice_index_or};
 ghost use Rattle.avc_types.specs.Arithmetic.{◌>>ℤ◌, ◌<<ℤ◌};
 ghost use Rattle.avc_transform.specs.Bounds.{IsBelow, AllBelow, matrix, HasRows, HasColumns};

@@ -1,3 +1,5 @@
+//! The inverse transform of a 4x4 block (8.5.12.2).
+
 ghost use Rattle.std.specs.Prelude.{◌≡◌, ℕ, ℤ, ◌+◌, ◌*◌, ◌^◌, ◌+ℤ◌, pos};
 ghost use Rattle.avc_types.specs.Arithmetic.{◌>>ℤ◌};
 ghost use Rattle.avc_transform.specs.Bounds.{IsBelow, AllBelow, HasRows};

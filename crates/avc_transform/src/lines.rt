@@ -1,3 +1,5 @@
+//! Four lines of four numbers side by side.
+
 ghost use Rattle.std.specs.Prelude.{ℕ, ℤ, ◌^◌};
 ghost use Rattle.avc_transform.specs.Lines.{AreBelow, AreLines};
 

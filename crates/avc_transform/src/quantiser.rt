@@ -1,3 +1,5 @@
+//! QPc (8.5.8, Table 8-15).
+
 ghost use Rattle.std.specs.Prelude.{◌≡◌, ◌≤◌};
 ghost use Rattle.avc_transform.specs.Residual.{chroma_qp};
 

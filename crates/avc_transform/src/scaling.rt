@@ -1,3 +1,5 @@
+//! Scaling by the flat matrix (8.5.9, 8.5.12.1).
+
 ghost use Rattle.std.specs.Prelude.{◌≡◌, ℕ, ◌+◌, ◌*◌, ◌-◌, ◌/◌, ◌%◌, ◌^◌, ◌<◌, ◌≤◌, ◌*ℤ◌, pos, slice_index, slice_index_or};
 ghost use Rattle.avc_transform.specs.Bounds.{IsBelow, AllBelow, HasRows};
 ghost use Rattle.avc_transform.specs.Lines.{AreBelow, AreLines, IsLine};

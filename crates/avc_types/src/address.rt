@@ -1,3 +1,5 @@
+//! Addresses of macroblocks (6.4.1).
+
 ghost use Rattle.std.specs.Prelude.{◌≡◌, ℕ};
 
 use std::marker::Model;

@@ -1,3 +1,5 @@
+//! The samples of a block.
+
 ghost use Rattle.std.specs.Prelude.{◌≡◌, ◌+◌, ◌*◌, ◌<◌, ◌≤◌, List, ℕ, length, take, replicate, slice_index, slice_set};
 ghost use Rattle.avc_types.specs.Blocks.{block_of};
 

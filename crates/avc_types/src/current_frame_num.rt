@@ -1,3 +1,5 @@
+//! PicNum (8.2.4.1).
+
 ghost use Rattle.std.specs.Prelude.{◌≡◌};
 ghost use Rattle.avc_types.specs.References.{pic_num_of};
 

@@ -1,3 +1,5 @@
+//! The faults of units, parameter sets and pictures, with their numbers and names.
+
 ghost use Rattle.std.specs.Prelude.{◌≡◌};
 
 use thiserror::Error;

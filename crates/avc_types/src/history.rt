@@ -1,3 +1,5 @@
+//! What a layer was given so far, for contracts alone.
+
 ghost use Rattle.std.specs.Prelude.{◌≡◌, List, [], ◌∷◌, ◌++◌};
 ghost use Rattle.std.specs.Borrow.{ftrue};
 

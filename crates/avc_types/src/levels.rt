@@ -1,3 +1,5 @@
+//! Transform coefficient levels of a block (7.3.5.3.2).
+
 ghost use Rattle.std.specs.Prelude.{◌≡◌, ◌≤◌, ℤ, pos, List, replicate};
 ghost use Rattle.avc_types.specs.Macroblock.{total_coeff};
 ghost use Rattle.std.proofs.Common.{ap, sym};

@@ -1,3 +1,5 @@
+//! Types of P macroblocks, and what is coded of their motion (Table 7-13, Table 7-17).
+
 /// sub_mb_type of a P macroblock (Table 7-17): how one of its 8x8 quarters is cut into parts with a vector each.
 #[derive(Clone, Copy, Debug, PartialEq, Eq)]
 pub enum SubMbType {

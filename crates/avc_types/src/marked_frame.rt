@@ -1,3 +1,5 @@
+//! A frame as reference lists and marking know it.
+
 ghost use Rattle.std.specs.Prelude.{◌≡◌, IfSome};
 ghost use Rattle.std.specs.Option.{option_map};
 ghost use Rattle.avc_types.specs.References.{IsPlaceIn, IsShortTermIn, MarksAreSeen, NamesFrames};

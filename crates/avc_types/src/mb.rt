@@ -1,3 +1,5 @@
+//! A macroblock of the syntax (7.3.5).
+
 use crate::levels::Levels;
 use crate::macroblock::{Mvd, PMbType};
 use std::marker::Model;

@@ -1,3 +1,5 @@
+//! A decoded picture, and what is not shown of it.
+
 use crate::bytes::Bytes;
 
 /// What is not shown of a coded picture (7.4.2.1.1), in luma samples from each side.

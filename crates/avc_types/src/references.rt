@@ -1,3 +1,5 @@
+//! Modifications, operations and marks of reference frames (7.3.3.1, 7.3.3.3, 8.2.5).
+
 use crate::up_to::UpTo;
 
 /// One entry of ref_pic_list_modification (7.3.3.1): modification_of_pic_nums_idc 0, 1 or 2 with its number.

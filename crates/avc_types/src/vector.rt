@@ -1,3 +1,5 @@
+//! Motion vectors (8.4.1).
+
 /// A motion vector (8.4.1), in quarter luma samples.
 #[derive(Clone, Copy, Debug, PartialEq, Eq)]
 pub struct Mv {

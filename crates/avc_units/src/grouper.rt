@@ -1,3 +1,5 @@
+//! Units, and what each does to the open picture.
+
 ghost use Rattle.std.specs.Prelude.{◌≡◌, false, true, IfOk, OnErr, OnOk};
 ghost use Rattle.avc_params.specs.Tables.{sets_after};
 ghost use Rattle.avc_units.specs.GrouperState.{after_fault, begins_a_picture, after_step, last_header_after};

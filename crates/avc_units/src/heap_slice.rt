@@ -1,3 +1,5 @@
+//! A slice on the heap, and the memory of one that is over.
+
 ghost use Rattle.std.specs.Prelude.{◌≡◌, ◌==◌, ◌%◌, IfOk};
 ghost use Rattle.avc_params.specs.Tables.{sets_after};
 ghost use Rattle.avc_slice.specs.Filling.{filled};

@@ -1,3 +1,5 @@
+//! Kinds of units, by nal_unit_type (Table 7-1).
+
 ghost use Rattle.std.specs.Prelude.{◌≡◌};
 ghost use Rattle.avc_annexb.specs.Units.{nal_unit_type};
 ghost use Rattle.avc_units.specs.Grouping.{kind_of};

@@ -1,3 +1,5 @@
+//! What is kept of the header of the open picture's last slice.
+
 ghost use Rattle.std.specs.Prelude.{◌≡◌};
 ghost use Rattle.avc_slice.specs.Begins.{begins};
 

@@ -1,3 +1,5 @@
+//! Units that bring a parameter set.
+
 ghost use Rattle.std.specs.Prelude.{◌≡◌, true, is_some, IfOk, OnErr};
 ghost use Rattle.std.specs.Option.{option_map};
 ghost use Rattle.avc_units.specs.Bringing.{parameter_set};

@@ -1,3 +1,5 @@
+//! What a parameter set's unit does to the open picture, and to the table.
+
 ghost use Rattle.std.specs.Prelude.{◌≡◌, ◌++◌, true, is_some, IfOk, OnErr, OnOk};
 ghost use Rattle.std.specs.Option.{option_map};
 ghost use Rattle.avc_units.specs.Grouping.{ends_picture, list_of, pps, rbsp_of, refusal_of, set_fault, set_of, sps};

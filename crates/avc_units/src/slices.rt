@@ -1,3 +1,5 @@
+//! What a slice's unit does to the open picture.
+
 ghost use Rattle.std.specs.Prelude.{◌≡◌, ◌&&◌, true, false, is_some, IfOk, OnErr};
 ghost use Rattle.avc_annexb.specs.Units.{forbidden_zero_bit};
 ghost use Rattle.avc_bits.specs.Bits.{start};

@@ -1,3 +1,5 @@
+//! Units with which decoding can start.
+
 ghost use Rattle.std.specs.Prelude.{◌≡◌, IfOk};
 ghost use Rattle.avc_units.specs.Grouping.{is_start};
 

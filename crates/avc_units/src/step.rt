@@ -1,3 +1,5 @@
+//! What a unit does to the open picture.
+
 use crate::heap_slice::HeapSlice;
 use avc_types::Fault;
 

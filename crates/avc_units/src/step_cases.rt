@@ -1,3 +1,5 @@
+//! What a unit does, by what it finds.
+
 ghost use Rattle.std.specs.Prelude.{◌≡◌};
 ghost use Rattle.avc_units.specs.Grouping.{ends_picture, no_effect, readable, slice_step, unreadable};
 ghost use Rattle.avc_units.specs.Kinds.{slice_or_start, open_picture_in};

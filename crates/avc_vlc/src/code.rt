@@ -1,3 +1,5 @@
+//! The next bits of a reader, to be looked up in a table.
+
 ghost use Rattle.std.specs.Prelude.{◌≡◌, ◌≤◌, ◌<◌, ◌^◌, ◌↔◌, List, Bool, take, length, IsTrue};
 ghost use Rattle.avc_bits.specs.Bits.{number_of};
 ghost use Rattle.avc_bits.specs.Reader.{reader_bits};

@@ -1,3 +1,5 @@
+//! Entries of code tables.
+
 ghost use Rattle.std.specs.Prelude.{◌≡◌, ◌≤◌, ℕ, List, Bool, true, false, length, slice_index_or, ◌<◌, MatchOption, OnErr, None, Err};
 ghost use Rattle.std.specs.List.{list_any};
 ghost use Rattle.avc_bits.specs.Reader.{Reads, reader_bits};

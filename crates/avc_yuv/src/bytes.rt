@@ -1,3 +1,5 @@
+//! Bytes that are written, and counted.
+
 ghost use Rattle.std.specs.Prelude.{◌≡◌, ◌+◌, ◌<◌, ◌≤◌, ◌^◌, length, take};
 ghost use Rattle.std.specs.Io.KnownBytes.{Appends};
 ghost use Rattle.avc_yuv.specs.Writing.{done_after, Writes};

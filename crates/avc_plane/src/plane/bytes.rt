@@ -1,3 +1,5 @@
+//! That a plane's samples are bytes.
+
 ghost use Rattle.std.specs.Prelude.{◌≡◌, ℕ, ◌*◌, ◌<◌, ◌≤◌, length};
 ghost use Rattle.avc_plane.specs.Plane.{sample};
 

@@ -1,3 +1,5 @@
+//! Rectangles of a plane, read and written.
+
 ghost use Rattle.std.specs.Prelude.{◌≡◌, ℕ, ◌+◌, ◌*◌, ◌<◌, ◌≤◌, length, slice_index};
 ghost use Rattle.avc_plane.specs.Plane.{sample, with_block};
 ghost use Rattle.avc_plane.specs.Strided.{IsRoom, IsSameOutside};
