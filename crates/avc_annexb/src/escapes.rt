@@ -14,7 +14,7 @@ pub fn unescape(alloc: Global, body: &[u8]) -> Result<Vec<u8>, OutOfMemory>
     unescape_in(Vec::new(alloc), body)
 }
 
-/// The same in the place of bytes that are over, so that memory is taken only where they had less room.
+/// The RBSP of a unit's body (7.3.1) in the place of bytes that are over, so that memory is taken only where they had less room.
 pub fn unescape_in(over: Vec<u8>, body: &[u8]) -> Result<Vec<u8>, OutOfMemory>
     ensures { IfOk result (λ raw. raw.items ≡ rbsp body.now) }
 {

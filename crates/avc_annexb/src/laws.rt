@@ -28,7 +28,7 @@ pub fn units_are_within()
     ensures { UnitsAreWithin }
 {}
 
-/// The same of what the units say.
+/// Whatever the most bytes of a unit are, units say the same, but for the bodies of longer ones.
 #[tactic(auto, using(crate::proofs::Written::limits_cut_units_so))]
 pub fn limits_cut_units()
     ensures { LimitsCutUnits }

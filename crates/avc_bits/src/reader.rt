@@ -238,7 +238,7 @@ impl<'a> BitReader<'a> {
         self.zeros_and_bits_ahead(most, count)
     }
 
-    /// The same where 64 bits stand ahead, which is not tested: `None` where the zeros are more.
+    /// The number of zeros in front and the bits behind them where 64 bits stand ahead, which is not tested: `None` where the zeros are more.
     #[tactic(auto, using(crate::proofs::Reading::reading))]
     #[inline(always)]
     pub fn zeros_and_bits_ahead(&mut self, most: u32, count: u32) -> Option<(u32, u32)>

@@ -225,7 +225,7 @@ fn read_level_code(
     }
 }
 
-// The same, for any prefix and anywhere.
+// A level's code with any prefix, and anywhere in the data.
 #[inline(always)]
 fn read_long_code(reader: &mut BitReader, suffix_length: u32, above_one: bool) -> Result<u32, Fault>
     requires length { suffix_length ≤ 6 }

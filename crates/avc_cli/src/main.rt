@@ -61,7 +61,7 @@ fn names_of<'a>(request: &Request<'a>) -> Names<'a> {
     }
 }
 
-// The same on this input.
+// Does what was asked for with this input.
 fn carry_out_on<R: Read + Drop>(
     rt: &HostRuntime,
     request: &Request<'_>,
@@ -262,7 +262,7 @@ fn write_out<R: Read, E: Write, V: Watch>(
     }
 }
 
-// The same from this input to this output.
+// Does what was asked for from this input to this output.
 fn carry_out_between<R: Read, W: Write, E: Write, V: Watch>(
     rt: &HostRuntime,
     request: &Request<'_>,
@@ -354,7 +354,7 @@ fn show<R: Read, W: Write, E: Write, V: Watch>(
     }
 }
 
-// The same in a format with a head.
+// Shows some of the pictures in a format with a head.
 fn show_headed<R: Read, W: Write, E: Write, V: Watch>(
     alloc: Global,
     format: HeadedFormat,

@@ -62,7 +62,7 @@ pub fn run_comparison<T: Reporter, E: Write, R: Read, O: Read>(
     )
 }
 
-// The same by a new decoder.
+// Compares the pictures of a stream by a new decoder.
 fn compare_all<T: Reporter, E: Write, R: Read, O: Read>(
     alloc: Global,
     most: u8,

@@ -56,7 +56,7 @@ fn words_of(t: &[u8; 64]) -> [u32; 16]
     u32x16::from_le_bytes(u8x64::from_array(*t)).to_array()
 }
 
-/// The same samples by way of words, so that each four are stored at once.
+/// The samples by way of words, so that each four are stored at once.
 #[inline(always)]
 fn by_words(t: &[u8; 64]) -> [u8; 64]
     ensures { (k : ℕ) → k < 64 → slice_index result k ≡ slice_index t.now k }
@@ -159,7 +159,7 @@ pub(crate) fn weak_luma(t: &mut [u8; 128], limits: &Limits)
     set_row(t, 80, &q1);
 }
 
-/// The same at strength 4.
+/// Filters the sixteen lines of luma down a block of eight rows of sixteen samples, at strength 4.
 #[inline(always)]
 pub(crate) fn strong_luma(t: &mut [u8; 128], limits: &StrongLimits)
     requires { (i : ℕ) → i < 16 → slice_index limits.now.small1 i ≡ (slice_index limits.now.alpha1 i + 1) / 4 + 1 }
@@ -206,7 +206,7 @@ pub(crate) fn weak_chroma(t: &mut [u8; 128], from: usize, limits: &Limits)
     set_row(t, from + 32, &q0);
 }
 
-/// The same at strength 4.
+/// Filters the sixteen lines of chroma down four rows of sixteen samples, which stand from a place of a table on, at strength 4.
 #[inline(always)]
 pub(crate) fn strong_chroma(t: &mut [u8; 128], from: usize, limits: &StrongLimits)
     requires room { from + 64 ≤ 128 }

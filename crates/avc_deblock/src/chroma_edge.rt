@@ -30,7 +30,7 @@ fn filter_below_four(t: &mut [u8; 128], from: usize, strengths: &[u8; 4], limits
     weak_chroma(t, from, &limits.weak(&tc1));
 }
 
-/// The same at strength 4.
+/// Filters the lines of chroma down four rows of sixteen samples at strength 4.
 #[inline(always)]
 fn filter_at_four(t: &mut [u8; 128], from: usize, limits: &QpLimits)
     requires room { from + 64 ≤ 128 }
@@ -43,7 +43,7 @@ fn filter_at_four(t: &mut [u8; 128], from: usize, limits: &QpLimits)
     strong_chroma(t, from, &limits.strong());
 }
 
-/// The same at any strengths.
+/// Filters the lines of chroma down four rows of sixteen samples at any strengths.
 #[inline(always)]
 fn filter_chroma(t: &mut [u8; 128], from: usize, strengths: &Strengths, limits: &QpLimits)
     requires room { from + 64 ≤ 128 }
@@ -174,7 +174,7 @@ fn weak_horizontal<const PAD: usize>(
     cr.set_rectangle::<8, 2, 16>(left, top + 3, &new_cr);
 }
 
-/// The same at strength 4.
+/// Filters the eight lines of Cb and the eight of Cr across a horizontal edge at strength 4.
 #[inline(never)]
 fn strong_horizontal<const PAD: usize>(
     cb: &mut Plane<PAD>,
@@ -205,7 +205,7 @@ fn strong_horizontal<const PAD: usize>(
     cr.set_rectangle::<8, 2, 16>(left, top + 3, &new_cr);
 }
 
-/// The same at any strengths.
+/// Filters the eight lines of Cb and the eight of Cr across a horizontal edge at any strengths.
 #[inline(always)]
 #[tactic(auto, using(crate::proofs::FilteredPictures::edge_off))]
 pub(crate) fn horizontal_chroma<const PAD: usize>(

@@ -37,7 +37,7 @@ fn weak_horizontal<const PAD: usize>(
     plane.set_rectangle::<16, 4, 64>(left, top + 2, &inner);
 }
 
-/// The same across a vertical edge, with `left + 4` columns left of it and `top` rows above its first line.
+/// Filters the sixteen lines of luma across a vertical edge at strengths of 0 to 3, with `left + 4` columns left of it and `top` rows above its first line.
 #[inline(always)]
 fn weak_vertical<const PAD: usize>(
     plane: &mut Plane<PAD>,
@@ -82,7 +82,7 @@ pub(crate) fn strong_horizontal<const PAD: usize>(
     plane.set_rectangle::<16, 8, 128>(left, top, &lines);
 }
 
-/// The same across a vertical edge.
+/// Filters the sixteen lines of luma across a vertical edge at strength 4.
 #[inline(never)]
 pub(crate) fn strong_vertical<const PAD: usize>(
     plane: &mut Plane<PAD>,
@@ -121,7 +121,7 @@ pub(crate) fn one_horizontal<const PAD: usize>(
     weak_horizontal(plane, left, top, limits, strengths);
 }
 
-/// The same across a vertical edge.
+/// The lines across one vertical edge at strengths of 0 to 3, apart from its callers.
 #[inline(never)]
 pub(crate) fn one_vertical<const PAD: usize>(
     plane: &mut Plane<PAD>,

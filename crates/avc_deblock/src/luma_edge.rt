@@ -93,7 +93,7 @@ pub(crate) fn three_vertical_luma<const PAD: usize>(
     three_vertical(plane, left, top, limits, strengths);
 }
 
-/// The same across three horizontal edges, each four rows below the one before. The first has `top + 4` rows above it.
+/// Filters sixteen lines of luma across three horizontal edges, each four rows below the one before. The first has `top + 4` rows above it.
 #[inline(always)]
 #[tactic(auto, using(crate::proofs::FilteredPictures::edge_off))]
 pub(crate) fn three_horizontal_luma<const PAD: usize>(

@@ -83,7 +83,7 @@ pub(crate) fn pair_limits(p: &MbInfo, q: &MbInfo, place: Place) -> PairLimits
     }
 }
 
-/// The same of the lines inside `q`: both sides have one QP.
+/// The chroma QP of the lines inside `q`: both sides have one.
 #[inline(always)]
 fn inner_chroma_qps(q: &MbInfo, place: Place) -> EdgeQp
     ensures { result ≡ chroma_qp_of place.chroma_qp_index_offset q.now q.now }
@@ -108,7 +108,7 @@ pub(crate) fn inner_limits(q: &MbInfo, place: Place) -> PairLimits
     }
 }
 
-/// The same where those inside `q` are known.
+/// What the lines between two macroblocks are filtered with, where those inside `q` are known.
 #[inline(always)]
 pub(crate) fn limits_beside(p: &MbInfo, q: &MbInfo, own: PairLimits, place: Place) -> PairLimits
     requires { ArePairLimits own place.chroma_qp_index_offset q.now q.now }
@@ -285,7 +285,7 @@ pub(crate) fn edge_at<const PAD: usize>(
     }
 }
 
-/// The same at the strengths between the two.
+/// Filters an edge of all planes at the strengths between the two macroblocks.
 #[inline(always)]
 #[tactic(auto, using(crate::proofs::FilteredPictures::edge_zero))]
 pub(crate) fn edge_between<const PAD: usize>(

@@ -49,8 +49,8 @@ fn luma_between<const PAD: usize>(
     vertical_luma(luma, left, 16 * place.row, strengths, limits);
 }
 
-/// The same across the three edges inside macroblock `q`, which has these strengths in its middle. Those of an intra macroblock are
-/// equal everywhere.
+/// Filters the sixteen lines of luma across the three edges inside macroblock `q`, which has these strengths in its middle. Those of an
+/// intra macroblock are equal everywhere.
 #[inline(always)]
 fn inner_luma<const PAD: usize>(
     luma: &mut Plane<PAD>,
@@ -82,7 +82,7 @@ fn inner_luma<const PAD: usize>(
     luma_between(luma, q, q, 3, &last, limits, place);
 }
 
-/// The same of both components of chroma, where `n` is 0 or 2.
+/// Filters the lines of both components of chroma across an edge, where `n` is 0 or 2.
 #[inline(always)]
 fn chroma_between<const PAD: usize>(
     cb: &mut Plane<PAD>,

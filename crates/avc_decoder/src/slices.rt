@@ -192,7 +192,7 @@ fn answer_in(current: &mut CurrentPicture, slice: &Slice, frames: &[Frame<PADDIN
     }
 }
 
-/// The same with the fault alone, where no memory was wanted.
+/// The fault alone of a picture's answer, where no memory was wanted.
 fn fault_of(answer: Result<(), PictureError>) -> Result<(), Fault>
     requires { WantsNone answer }
     ensures { answer ≡ picture_answer result }

@@ -50,7 +50,7 @@ fn mark_all(marks: &mut [Mark], shape: Shape, most: u8, ours: &[u8], theirs: &[u
     }
 }
 
-// The same for one sample more.
+// Marks the macroblock of one sample, where it differs.
 fn mark_sample(marks: &mut [Mark], shape: Shape, most: u8, ours: &[u8], theirs: &[u8], place: usize)
     requires same { length theirs.now ≡ length ours.now }
     requires whole { length ours.now ≡ sample_count shape }

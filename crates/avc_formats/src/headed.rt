@@ -23,7 +23,7 @@ pub enum HeadedFormat {
     /// YUV4MPEG2: each picture as I420 behind a line of its own.
     Y4m,
 
-    /// The same, with a head in front of each picture, so that each can stand in a file of its own.
+    /// YUV4MPEG2 with a head in front of each picture, so that each can stand in a file of its own.
     Y4mEach,
 
     /// The MD5 of each picture as I420, in a line of its own, as ffmpeg's framemd5 writes it.

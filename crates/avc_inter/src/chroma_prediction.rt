@@ -129,7 +129,7 @@ fn predict_between<const W: usize, const H: usize, const PAD: usize>(
     lay_chroma::<W, H, PAD>(reference, x, y, mv, rows, to);
 }
 
-/// The same prediction of an even number of rows, laid into its place in the chroma plane of the picture.
+/// The prediction of an even number of rows, laid into its place in the chroma plane of the picture.
 pub fn predict_chroma<const W: usize, const H: usize, const PAD: usize>(
     reference: &PaddedPlane<PAD>,
     x: usize,
@@ -158,7 +158,7 @@ pub fn predict_chroma<const W: usize, const H: usize, const PAD: usize>(
     }
 }
 
-/// The same prediction by the vector 0 of a block that lies in the reference picture, whose samples it takes over.
+/// The prediction by the vector 0 of a block that lies in the reference picture, whose samples it takes over.
 #[inline(always)]
 pub fn copy_chroma<const W: usize, const H: usize, const PAD: usize>(
     reference: &PaddedPlane<PAD>,

@@ -49,7 +49,7 @@ fn copy_each<const W: usize, const H: usize>(
     }
 }
 
-/// The same, counted from the first sample on: an address near it is no sum of its own.
+/// Copies rows that are counted from the first sample on: an address near it is no sum of its own.
 #[inline(always)]
 fn copy_near<const W: usize, const H: usize>(
     p: &[u8],

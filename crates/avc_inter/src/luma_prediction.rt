@@ -160,7 +160,7 @@ fn predict_between<const W: usize, const H: usize, const PAD: usize>(
     lay_luma::<W, H, PAD>(reference, x, y, mv, rows, to);
 }
 
-/// The same prediction of an even number of rows, laid into its place in the luma plane of the picture.
+/// The prediction of an even number of rows, laid into its place in the luma plane of the picture.
 pub fn predict_luma<const W: usize, const H: usize, const PAD: usize>(
     reference: &PaddedPlane<PAD>,
     x: usize,
@@ -189,7 +189,7 @@ pub fn predict_luma<const W: usize, const H: usize, const PAD: usize>(
     }
 }
 
-/// The same prediction by the vector 0 of a block that lies in the reference picture, whose samples it takes over.
+/// The prediction by the vector 0 of a block that lies in the reference picture, whose samples it takes over.
 #[inline(always)]
 pub fn copy_luma<const W: usize, const H: usize, const PAD: usize>(
     reference: &PaddedPlane<PAD>,

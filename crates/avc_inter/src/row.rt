@@ -50,7 +50,7 @@ fn differences(a: u16x16, b: u16x16) -> i32x16
     a.cast::<i32>().strict_sub(b.cast::<i32>())
 }
 
-/// The same in sixteen bits.
+/// The differences of two rows in sixteen bits.
 #[inline(always)]
 pub fn narrow_differences(a: u16x16, b: u16x16) -> i16x16
     requires a_small { Each1 (λ x. x ≤ 16383) a }

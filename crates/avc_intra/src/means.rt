@@ -33,7 +33,7 @@ pub fn mean_of_sides4(counts_above: bool, counts_left: bool, above: u16, left: u
     }
 }
 
-/// The same from the sums of sixteen samples each.
+/// The mean of the sides from the sums of sixteen samples each.
 pub fn mean_of_sides16(counts_above: bool, counts_left: bool, above: u16, left: u16) -> u8
     requires above { above ≤ 4080 }
     requires left { left ≤ 4080 }

@@ -24,7 +24,7 @@ pub struct Context {
     pub up: Option<TotalCoeffs>,
 }
 
-/// The same, with what the neighbours have in its place.
+/// What reading a macroblock asks of its slice and of its neighbours, which are lent.
 #[derive(Clone, Copy)]
 pub(crate) struct LentContext<'a> {
     pub is_p: bool,

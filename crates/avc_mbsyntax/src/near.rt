@@ -35,7 +35,7 @@ pub fn cr_side(total_coeffs: &Option<TotalCoeffs>) -> Option<&[u8; 4]>
     }
 }
 
-/// The same of lent ones.
+/// total_coeff of the luma blocks of a neighbour that is lent.
 pub(crate) fn luma_counts(total_coeffs: Option<&TotalCoeffs>) -> Option<&[u8; 16]>
     ensures { option_copied result ≡ luma_side (option_copied total_coeffs.entry) }
 {

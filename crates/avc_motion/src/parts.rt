@@ -109,7 +109,7 @@ fn fill_blocks(mine: &mut [Motion; 16], part: Part, quarter: usize, motion: Moti
     }
 }
 
-/// The same. Each block is looked at only where some lie in the part and some do not.
+/// Gives the blocks of a quarter that lie in the part this motion. Each is looked at only where some lie in it and some do not.
 #[inline(always)]
 fn fill_quarter(mine: &mut [Motion; 16], part: Part, quarter: usize, motion: Motion)
     requires { quarter < 4 }

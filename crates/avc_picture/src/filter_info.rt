@@ -30,7 +30,7 @@ fn coded_blocks(levels: &BlockLevels<16>) -> u16
     bits
 }
 
-/// The same of a macroblock: none of an intra one.
+/// Bit k is set where luma block `k` of a macroblock has a level that is not 0; of an intra macroblock none is.
 fn coefficients(mb: &Mb) -> u16
     ensures { (k : ℕ) → k < 16 → has_bit result k ≡ has_coefficients mb.now.syntax k }
 {

@@ -317,7 +317,7 @@ fn predict_parts<const PAD: usize>(
     Ok(())
 }
 
-/// The same of a macroblock whose blocks have one motion: it is predicted at once.
+/// Predicts a macroblock whose blocks have one motion, at once.
 fn predict_whole<const PAD: usize>(
     references: &[Option<ReferencePicture<'_, PAD>>],
     size: PictureSize,

@@ -220,7 +220,7 @@ fn set_plain_part<
     predict_chroma::<CW, CH, PAD>(&reference.cr, x, y, mv, &mut planes.cr);
 }
 
-/// The same with weights.
+/// Predicts a part with weights.
 #[inline(never)]
 fn set_weighted_part<
     const W: usize,
@@ -274,7 +274,7 @@ fn set_weighted_part<
     );
 }
 
-/// The same from one picture, with weights where it has them.
+/// Predicts a part from one picture, with weights where it has them.
 pub(crate) fn set_part<
     const W: usize,
     const H: usize,

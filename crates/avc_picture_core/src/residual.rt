@@ -131,7 +131,7 @@ fn add_coded_block4x4<const PAD: usize>(
     add_residual4x4(plane, left, top, &values);
 }
 
-/// The same, by which nothing is done where the levels are all 0.
+/// Adds the residual of a 4x4 block, by which nothing is done where the levels are all 0.
 // the test stands in the caller, since most blocks have no levels
 #[inline(always)]
 pub(crate) fn add_block4x4<const PAD: usize>(

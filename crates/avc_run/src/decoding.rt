@@ -79,7 +79,7 @@ pub fn run_watched<F: PictureFormat, T: Reporter, E: Write, V: Watch, R: Read, W
     )
 }
 
-/// The same of a stream of which the front was read before.
+/// Decodes a byte stream of which the front was read before.
 pub fn run_behind<F: PictureFormat, T: Reporter, E: Write, V: Watch, R: Read, W: Write>(
     alloc: Global,
     output: Output,
@@ -111,7 +111,7 @@ pub fn run_behind<F: PictureFormat, T: Reporter, E: Write, V: Watch, R: Read, W:
     run
 }
 
-// The same by a new decoder, and without its end.
+// Decodes a byte stream by a new decoder, without telling its end.
 fn decode_by<F: PictureFormat, T: Reporter, E: Write, V: Watch, R: Read, W: Write>(
     decoder: &mut Decoder<MAX_UNIT, SharedPicture>,
     format: &F,
@@ -199,7 +199,7 @@ fn take_in<F: PictureFormat, T: Reporter, E: Write, V: Watch, W: Write>(
     Ok(())
 }
 
-// The same of bytes up to where a unit has ended. Answers how many they are.
+// Takes in bytes up to where a unit has ended. Answers how many they are.
 fn take_unit<F: PictureFormat, T: Reporter, E: Write, V: Watch, W: Write>(
     decoder: &mut Decoder<MAX_UNIT, SharedPicture>,
     bytes: &[u8],

@@ -398,7 +398,7 @@ pub fn read_header(header: u8, rbsp: &[u8], table: &ParamTable) -> Result<Header
     Ok(read)
 }
 
-/// The same, put into a header in which anything may stand: a header is large, and so it is not handed on.
+/// Reads a slice header into one in which anything may stand: a header is large, and so it is not handed on.
 pub fn put_header(
     header: u8,
     rbsp: &[u8],

@@ -67,7 +67,7 @@ fn telling_of(subject: Subject, wording: Wording) -> Result<Request<'static>, (E
     plain(Task::Tell(subject, wording))
 }
 
-// The same where the standard output is named.
+// What is asked for where the standard output is named.
 fn to_standard_output(task: Task) -> Result<Request<'static>, (ErrorKind, i32)> {
     Ok(Request {
         task,
@@ -82,7 +82,7 @@ fn to_standard_output(task: Task) -> Result<Request<'static>, (ErrorKind, i32)> 
     })
 }
 
-// The same in this manner.
+// What is asked for in this manner.
 fn in_manner(task: Task, manner: Manner) -> Result<Request<'static>, (ErrorKind, i32)> {
     Ok(Request {
         task,
@@ -117,7 +117,7 @@ fn compared(
     })
 }
 
-// The same where progress is told so.
+// What is asked for where progress is told so.
 fn telling(
     task: Task,
     progress: Telling,

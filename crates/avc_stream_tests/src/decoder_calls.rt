@@ -220,7 +220,7 @@ fn turns_of(decoder: &mut Decoder<1000>, bytes: &[u8]) -> Result<(u64, u64), Dec
     Ok((before, decoder.turns()))
 }
 
-// The same of one stream, after a reset, and of another.
+// How many macroblocks are counted of one stream, and after a reset of another.
 fn turns_of_both(
     decoder: &mut Decoder<1000>,
     one: &[u8],

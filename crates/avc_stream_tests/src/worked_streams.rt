@@ -384,7 +384,7 @@ fn is_stopped(decoder: &mut Decoder<1000>) -> bool {
     answers == [Err(DecodeError::OutOfMemory); 2] && decoder.take().is_err()
 }
 
-// The same; where a growth is refused, each call answers so until a reset, after which the stream gives it.
+// How many pictures the first stream gives; where a growth is refused, each call answers so until a reset, after which the stream gives them.
 fn pictures_again(decoder: &mut Decoder<1000>) -> Result<usize, DecodeError> {
     let first = pictures_of_the_first(decoder);
     if first != Err(DecodeError::OutOfMemory) {

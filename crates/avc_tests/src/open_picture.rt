@@ -110,7 +110,7 @@ fn two_slices(
     ])
 }
 
-// The same of a new picture.
+// What is read and filtered of a new picture while two slices of it are decoded.
 fn decoded(
     alloc: Global,
     sps: &Sps,

@@ -241,7 +241,7 @@ fn only_where_room_is_needed(rt: HostRuntime) -> Result<(), Fail> {
     Ok(())
 }
 
-// The same early: the second of two that are needed for output goes out later. The frames stay for reference.
+// With early output the second of two that are needed for output goes out later. The frames stay for reference.
 #[test]
 fn no_more_than_may_stay_needed(rt: HostRuntime) -> Result<(), Fail> {
     let steps = [

@@ -77,7 +77,7 @@ impl Cutter {
         }
     }
 
-    // The same while the piece has not begun.
+    // Takes a unit in while the piece has not begun.
     fn wait_on(
         &mut self,
         alloc: Global,
@@ -131,7 +131,7 @@ impl Cutter {
         Ok(())
     }
 
-    // The same once the piece has begun.
+    // Takes a unit in once the piece has begun.
     fn write_on(
         &mut self,
         alloc: Global,

@@ -150,7 +150,7 @@ pub fn add_to_row(samples: &[u8; 64], residuals: [i32; 4]) -> [u8; 64]
     moved_halves(samples, &moves, &moves)
 }
 
-/// The same of four 4x4 blocks of a square.
+/// The samples of four 4x4 blocks of a square, row by row, each with a residual that is one value (8.5.14): each sum held to 0 to 255.
 #[inline(always)]
 pub fn add_to_square(samples: &[u8; 64], residuals: [i32; 4]) -> [u8; 64]
     requires { AllBelow 4 (2 ^ 25) residuals }

@@ -20,7 +20,7 @@ static EVEN_SCALES: [[u32; 4]; 6] = [
     [18, 23, 18, 23],
 ];
 
-/// The same in an odd column.
+/// normAdjust4x4 by QP modulo 6 (8.5.9), in an odd column of a 4x4 block from above down.
 static ODD_SCALES: [[u32; 4]; 6] = [
     [13, 16, 13, 16],
     [14, 18, 14, 18],

@@ -21,7 +21,7 @@ pub fn rbsp_of(alloc: Global, unit: &Unit) -> Result<Option<Bytes>, OutOfMemory>
     rbsp_in(alloc, &mut over, unit)
 }
 
-/// The same in the place of the RBSP of a slice that is over, where there is such a one.
+/// The RBSP of a unit in the place of that of a slice that is over, where there is such a one.
 pub(crate) fn rbsp_in(
     alloc: Global,
     over: &mut Option<HeapSlice>,

@@ -39,7 +39,7 @@ pub fn read_coeff_token(reader: &mut BitReader, nc: i8) -> Result<Token, Fault>
     }
 }
 
-// The same, where the stop bit may be near.
+// coeff_token, where the stop bit may be near.
 #[inline(always)]
 fn read_near_end(reader: &mut BitReader, nc: i8) -> Result<Token, Fault>
     ensures read { Reads result (coeff_token nc) reader.old reader.new }

@@ -129,7 +129,7 @@ pub(crate) fn number_by(reader: &mut BitReader, rows: &[[Entry<u8>; 4]]) -> Resu
     }
 }
 
-// The same, where the stop bit may be near.
+// A number by its rows of entries, where the stop bit may be near.
 #[inline(always)]
 fn number_near_end(reader: &mut BitReader, rows: &[[Entry<u8>; 4]]) -> Result<u8, Fault>
     requires some { 1 ≤ length rows.now }

@@ -39,7 +39,7 @@ pub fn read_run_before(reader: &mut BitReader, zeros_left: u8) -> Result<u8, Fau
     read_coded(reader, run_entry(code, zeros_left), zeros_left)
 }
 
-// The same where one to six zeros are left and the stop bit is not near: any three bits begin with a codeword.
+// run_before where one to six zeros are left and the stop bit is not near: any three bits begin with a codeword.
 #[inline(always)]
 fn read_few(reader: &mut BitReader, zeros_left: u8) -> u8
     requires some { 1 ≤ zeros_left }
@@ -54,7 +54,7 @@ fn read_few(reader: &mut BitReader, zeros_left: u8) -> u8
     run.zeros
 }
 
-// The same, where the stop bit may be near.
+// run_before, where the stop bit may be near.
 #[inline(always)]
 fn read_near_end(reader: &mut BitReader, zeros_left: u8) -> Result<u8, Fault>
     ensures read { Reads result (run_before zeros_left) reader.old reader.new }
@@ -208,7 +208,7 @@ macro_rules! few_runs {
     };
 }
 
-// The same by the zeros in front: four rows.
+// Eight codewords as four rows of entries, by the zeros in front.
 macro_rules! by_zeros {
     ($a:tt, $b:tt, $c:tt, $d:tt, $e:tt, $f:tt, $g:tt, $h:tt) => {
         [
@@ -220,7 +220,7 @@ macro_rules! by_zeros {
     };
 }
 
-// The same as runs.
+// Eight codewords as runs.
 macro_rules! runs8 {
     ($(($length:literal, $zeros:literal)),+) => {
         [$(Run { length: $length, zeros: $zeros }),+]

@@ -43,7 +43,7 @@ fn read_4x4(reader: &mut BitReader, total: u8) -> Result<u8, Fault>
     }
 }
 
-// The same, where the stop bit may be near.
+// total_zeros, where the stop bit may be near.
 #[inline(always)]
 fn read_near_end(reader: &mut BitReader, total: u8) -> Result<u8, Fault>
     requires { total ≤ 15 }

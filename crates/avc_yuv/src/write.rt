@@ -39,7 +39,7 @@ pub fn write_i420<P: PictureRows, W: Write>(picture: &P, writer: &mut W) -> Resu
     Ok(())
 }
 
-/// The same by as many rows at once as this room holds, for who writes one picture after another: `ROOM` bytes are as good as more. What
+/// Writes what is shown of a picture by as many rows at once as this room holds, for who writes one picture after another: `ROOM` bytes are as good as more. What
 /// stands in it then is any.
 pub fn write_i420_through<P: PictureRows, W: Write>(
     picture: &P,

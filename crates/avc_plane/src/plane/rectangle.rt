@@ -43,7 +43,7 @@ impl<const PAD: usize> Plane<PAD> {
         self.store_rectangle::<W, H, N, false>(left, top, samples);
     }
 
-    /// The same of samples that lie in memory: each row is one copy.
+    /// Sets a rectangle to samples that lie in memory: each row is one copy.
     #[inline(always)]
     pub fn copy_rectangle<const W: usize, const H: usize, const N: usize>(
         &mut self,
