@@ -93,13 +93,22 @@ fn carry_out_on<R: Read + Drop>(
         has_left: &has_left,
         pictures: &pictures,
     };
-    let written = match request.from {
-        Some(number) => write_out_from(rt, request, number, &mut input, noted, &mut console),
-        None => write_out(rt, request, &mut input, noted, &mut console),
-    };
+    let written = write_out_from(rt, request, &mut input, noted, &mut console);
+    tell_end(rt, request, is_told_more, &input, written, &console.watch)
+}
+
+// Tells how it ended, behind what the command told itself. Answers the exit status.
+fn tell_end<R>(
+    rt: &HostRuntime,
+    request: &Request<'_>,
+    is_told_more: bool,
+    input: &Input<R>,
+    written: Written,
+    watch: &Observer<'_>,
+) -> u8 {
     tell_reason(rt, request.input, input.fault());
     tell_reason(rt, request.output, written.fault);
-    let status = match console.watch.times_fault() {
+    let status = match watch.times_fault() {
         Some(kind) => fail_times(rt, request.frame_times, kind),
         None => written.status,
     };
@@ -110,12 +119,12 @@ fn carry_out_on<R: Read + Drop>(
     if status == 0 {
         tell_container(rt, &request.task, input.first());
     }
-    match console.watch.outcome() {
+    match watch.outcome() {
         Some(outcome) => {
             if is_told_more {
-                tell_outcome(rt, outcome, console.watch.passed(), input.first());
+                tell_outcome(rt, outcome, watch.passed(), input.first());
             }
-            ended_status(manner.is_strict, &request.task, outcome.pictures, status)
+            ended_status(request.manner.is_strict, &request.task, outcome.pictures, status)
         }
         None => status,
     }
@@ -188,15 +197,17 @@ struct Written {
     missing: Option<u32>,
 }
 
-// Writes the output of what is read from the piece of this number on.
+// Writes the output of what is read, or of what is read from a piece on.
 fn write_out_from<R: Read, E: Write, V: Watch>(
     rt: &HostRuntime,
     request: &Request<'_>,
-    number: u32,
     reader: &mut R,
     noted: Noted<'_>,
     console: &mut Console<'_, E, V>,
 ) -> Written {
+    let Some(number) = request.from else {
+        return write_out(rt, request, reader, noted, console);
+    };
     match FromPiece::new(rt.alloc(), number, reader) {
         Ok(mut reader) => {
             let written = write_out(rt, request, &mut reader, noted, console);
