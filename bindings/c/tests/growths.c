@@ -1,6 +1,6 @@
 /* growths IN: each growth of a stream's decoding is refused in turn, fed in pieces and unit by unit. The call answers so, and each call
- * after it until the decoder is reset; then the same events come as where nothing is refused. In the end no block is left. Prints how
- * many growths there were. */
+ * after it until the decoder is reset, or closed and opened again; then the same events come as where nothing is refused. Whenever a
+ * decoder was closed, at the end or in mid-stream, no block is left. Prints how many growths there were. */
 #include <avcdec.h>
 #include <stdio.h>
 #include <stdlib.h>
@@ -46,16 +46,21 @@ static void add(given *to, const uint8_t *bytes, size_t count) {
         to->sum = to->sum * 1099511628211u + bytes[at] + 1;
 }
 
-/* To lend takes no memory, and gives the samples that were copied. */
-static void compare_lent(avcdec_decoder *decoder, const uint8_t *samples) {
-    long before = growths;
+/* To lend, to copy and to count take no memory and free none, and what is lent is what is copied. */
+static void compare_lent(avcdec_decoder *decoder, uint8_t *samples) {
+    long before = growths, held = blocks;
     for (uint32_t plane = AVCDEC_LUMA; plane <= AVCDEC_CR; plane++) {
         avcdec_rows lent;
         CHECK(avcdec_lend_plane(decoder, plane, &lent) == AVCDEC_OK);
-        for (size_t y = 0; y < lent.rows; y++, samples += lent.columns)
-            CHECK(memcmp(lent.samples + y * lent.stride, samples, lent.columns) == 0);
+        size_t size = (size_t)lent.columns * lent.rows;
+        for (size_t y = 0; y < lent.rows; y++)
+            CHECK(memcmp(lent.samples + y * lent.stride, samples + y * lent.columns, lent.columns) == 0);
+        CHECK(avcdec_copy_plane(decoder, plane, samples, size, lent.columns) == AVCDEC_OK);
+        for (size_t y = 0; y < lent.rows; y++)
+            CHECK(memcmp(lent.samples + y * lent.stride, samples + y * lent.columns, lent.columns) == 0);
+        samples += size;
     }
-    CHECK(growths == before);
+    CHECK(avcdec_turns(decoder) > 0 && growths == before && blocks == held);
 }
 
 static avcdec_status take_events(avcdec_decoder *decoder, given *to) {
@@ -98,6 +103,22 @@ static avcdec_status decode(avcdec_decoder *decoder, bool by_unit, given *to) {
     return take_events(decoder, to);
 }
 
+/* Nothing is left of a decoder that was closed. */
+static void close_decoder(avcdec_decoder *decoder) {
+    avcdec_close(decoder);
+    CHECK(!decoder->open && blocks == 0);
+}
+
+/* Begins anew behind want of memory: by a reset, or by closing, which frees what the stream so far has brought. */
+static void begin_anew(avcdec_decoder *decoder, bool by_closing) {
+    if (by_closing) {
+        close_decoder(decoder);
+        CHECK(avcdec_open(decoder, false) == AVCDEC_OK);
+    } else {
+        CHECK(avcdec_reset(decoder) == AVCDEC_OK);
+    }
+}
+
 /* One decoding, where growth `refuse` is refused. */
 static given try_decoding(bool by_unit) {
     avcdec_decoder decoder = AVCDEC_DECODER_CLOSED;
@@ -105,9 +126,10 @@ static given try_decoding(bool by_unit) {
     given all = {0, 0};
     growths = 0;
     if (avcdec_open(&decoder, false) != AVCDEC_OK) {
-        CHECK(growths == refuse && !decoder.open);
+        CHECK(growths == refuse && !decoder.open && blocks == 0);
         CHECK(avcdec_open(&decoder, false) == AVCDEC_OK);
     }
+    CHECK(avcdec_open(&decoder, true) == AVCDEC_IS_OPEN);
     avcdec_status status = decode(&decoder, by_unit, &all);
     if (status != AVCDEC_OK) {
         CHECK(status == AVCDEC_OUT_OF_MEMORY && growths == refuse);
@@ -115,12 +137,12 @@ static given try_decoding(bool by_unit) {
         CHECK(avcdec_feed(&decoder, stream, 1) == AVCDEC_OUT_OF_MEMORY && avcdec_flush(&decoder) == AVCDEC_OUT_OF_MEMORY);
         CHECK(avcdec_feed_unit(&decoder, stream, 1, &used) == AVCDEC_OUT_OF_MEMORY && used == 0);
         CHECK(avcdec_take(&decoder, &event) == AVCDEC_OUT_OF_MEMORY && event.kind == AVCDEC_NOTHING);
-        CHECK(avcdec_reset(&decoder) == AVCDEC_OK);
+        begin_anew(&decoder, refuse % 2 == 1);
         all.events = all.sum = 0;
         CHECK(decode(&decoder, by_unit, &all) == AVCDEC_OK);
     }
-    avcdec_close(&decoder);
-    CHECK(blocks == 0);
+    close_decoder(&decoder);
+    close_decoder(&decoder);
     return all;
 }
 

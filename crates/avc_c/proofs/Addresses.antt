@@ -27,6 +27,11 @@ heap = record { row = Z; laws = global_laws.the_row_laws; g = ghosts; d = impl [
 pub null_typed : (h : Val) → Good (layout Z) h → T (has_ty (layout Z) h && true) × WT (two vnull h)
 null_typed h good = (and_tt (has_ty (layout Z) h) good.0, (record { fits = lit< tt }, (good.1, tt)))
 
+-- an address and the heap's handle are such a struct
+pub at_typed : (p : Ptr) (h : Val) → Good (layout Z) h → Good (layout Address) (two (ptr_val p) h)
+at_typed (block_ptr b o) h good = (and_tt (has_ty (layout Z) h) good.0, (tt, (good.1, tt)))
+at_typed null_ptr h good = null_typed h good
+
 -- the decoder that is there
 pub decoder_in : (y : Option OpenDecoder) → IsOpen y → (x : OpenDecoder) × (y ≡ Some x)
 decoder_in (Some x) open' = (x, refl)
@@ -44,6 +49,15 @@ module _ {M : Type 1} {𝓤 : Ura M} {𝓛 : Logic 𝓤} {K : Type 0} {Γ : List
       in_a_block t d.at (λ p. box_owns (ghosts.dealloc_token d.alloc) R p x) (fst∗ 𝓤 (never 𝓤) (sem 𝓛 (ghosts.dealloc_token d.alloc (bare (lone R.mir)) null_ptr))) (λ b o e. k b o h
       (subst (λ (p : Ptr). vs ≡ two (ptr_val p) h ∷ []) e
       (subst (λ (ws : List Val). vs ≡ vstruct (of_list (ptr_val d.at ∷ (ws ++ []))) ∷ []) ea (subst (λ (ps : List Val). vs ≡ vstruct (of_list (ps ++ (vss.1.0 ++ []))) ∷ []) ep ev))) fits)))))
+
+  -- the handle of the heap alone
+  pub address_apart : K → (d : Address.Denot) (vs : List Val)
+      → ((h : Val) → vs ≡ two (ptr_val d.at) h ∷ [] → Good (layout Z) h → Seq K 𝓛 (‵ (Z.own_val d.alloc (h ∷ [])) ∷ Γ) G)
+      → Seq K 𝓛 (‵ (Address.own_val d vs) ∷ Γ) G
+  address_apart t d vs k =
+      fsplit t $ fpick t (λ vss. fsplit t $ feq_l t (λ ev. fsplit t $ feq_l t (λ ep. fsplit t $ handle_tells heap t d.alloc vss.1.0 (λ h ea fits. move t (1 ∷ []) $ drop t $ move t (1 ∷ []) $ drop t $
+      k h
+      (subst (λ (ws : List Val). vs ≡ vstruct (of_list (ptr_val d.at ∷ (ws ++ []))) ∷ []) ea (subst (λ (ps : List Val). vs ≡ vstruct (of_list (ps ++ (vss.1.0 ++ []))) ∷ []) ep ev)) fits))))
 
   -- an address is made of these, and one of nothing of a handle alone
   pub address_in : K → (p : Ptr) (h : Val) (a : Z.Denot) (y : Option OpenDecoder)

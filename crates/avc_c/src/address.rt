@@ -18,9 +18,9 @@ pub struct OpenDecoder {
     pub picture: LastPicture,
 }
 
-/// Where an open decoder lies, of which it is the owner; or nothing.
+/// Where an open decoder lies, of which it is the owner; or nothing. It is not `Drop`, so that no decoder is forgotten: one leaves it as its
+/// box, and only an address of nothing is let go.
 #[repr(C)]
-#[derive(Drop)]
 pub struct DecoderAddress {
     at: *mut u8,
     alloc: Global,
@@ -57,6 +57,14 @@ impl DecoderAddress {
         ensures { Some result.value ≡ self.decoder }
     {
         self.into_raw().into_box()
+    }
+
+    /// Lets an address of nothing go. Answers its heap.
+    pub fn into_alloc(self) -> Global
+        requires { self.decoder ≡ None }
+    {
+        let DecoderAddress { at: _, alloc } = self;
+        alloc
     }
 
     fn of_raw(raw: RawBox<OpenDecoder, Global>) -> DecoderAddress

@@ -6,9 +6,8 @@ ghost use Rattle.avc_c.specs.OpenDecoders.{IsMarked};
 use crate::address::{DecoderAddress, OpenDecoder};
 use std::alloc::Global;
 
-/// What C holds of a decoder. All zero, it is closed.
+/// What C holds of a decoder. All zero, it is closed. It is not `Drop`: an open decoder leaves it by `remove` alone.
 #[repr(C)]
-#[derive(Drop)]
 pub struct DecoderHandle {
     pub is_open: bool,
     pub address: DecoderAddress,
@@ -38,13 +37,19 @@ impl DecoderHandle {
         address.into_box()
     }
 
-    /// Puts a decoder in, and is open. One that was there is lost.
+    /// Puts a decoder in where there is none, and is open.
     pub(crate) fn insert(&mut self, decoder: Box<OpenDecoder>)
+        requires { self.old.address.decoder ≡ None }
         ensures { self.new.address.decoder ≡ Some decoder.value }
     {
-        *self = DecoderHandle {
+        let opened = DecoderHandle {
             is_open: true,
             address: DecoderAddress::of(decoder),
         };
+        let DecoderHandle {
+            is_open: _,
+            address,
+        } = std::mem::replace(self, opened);
+        let _ = address.into_alloc();
     }
 }
