@@ -1,5 +1,9 @@
 pub mod Ending
 pub mod FrameTimes
+pub mod Inputs
+pub mod LossLines
+pub mod Manners
+pub mod Outcomes
 pub mod Progress
 pub mod Rates
 pub mod Reasons

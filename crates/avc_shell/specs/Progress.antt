@@ -1,8 +1,11 @@
 -- The line that says how far decoding is.
-use Rattle.std.specs.Prelude.{ℕ, ◌*◌, ◌/◌, ◌%◌, ◌-◌, min, ◌==◌, ◌||◌, if◌then◌else◌, List, [], ◌∷◌, ◌++◌, Option, Some, None, codes}
+use Rattle.std.specs.Prelude.{◌≡◌, ℕ, ◌+◌, ◌*◌, ◌/◌, ◌%◌, ◌-◌, min, nat_le, Bool, ◌==◌, ◌||◌, if◌then◌else◌, List, [], ◌∷◌, ◌++◌, length, Option, Some, None, codes}
 use Rattle.std.specs.Fmt.{decimal}
+use Rattle.avc_annexb.specs.Units.{saturated}
 use Rattle.avc_console.specs.declared.reporter.Counts.{Counts}
 use Rattle.avc_shell.specs.declared.progress.Place.{Place}
+use Rattle.avc_shell.specs.Rates.{Looks}
+use Rattle.avc_shell.specs.declared.progress_state.ProgressState.{ProgressState}
 
 -- tenths, in decimal
 abbrev pub tenths_text : ℕ → List ℕ
@@ -57,3 +60,42 @@ place_text p millis = place_if_known p.read millis p.size
 abbrev pub progress_line : Counts → Place → (millis : ℕ) → (rate : Option ℕ) → List ℕ
 progress_line c p millis rate =
     13 ∷ (counts_text c ++ speed_text c.pictures millis ++ times_text c.pictures millis rate ++ place_text p millis ++ 27 ∷ codes "[K")
+
+-- ---- how far decoding is, and when that is told
+
+-- before any event
+abbrev pub no_counts : Counts
+no_counts = record { pictures = 0; refused = 0 }
+
+-- before any read
+abbrev pub first_place : (size : Option ℕ) → Place
+first_place size = record { read = 0; size = size }
+
+-- after a read of these bytes
+abbrev pub place_after : Place → (piece : List ℕ) → Place
+place_after p piece = record p { read = saturated (p.read + length piece) }
+
+-- whole milliseconds
+abbrev pub millis_in : (nanoseconds : ℕ) → ℕ
+millis_in n = n / 1000000
+
+-- A line is due a quarter of a second after the one before.
+abbrev pub is_line_due : (before now : ℕ) → Bool
+is_line_due before now = nat_le 250 (millis_in (now - before))
+
+-- the line so many nanoseconds after the start
+abbrev pub line_at : ProgressState → (nanoseconds : ℕ) → List ℕ
+line_at s n = progress_line s.counts s.place (saturated (millis_in n)) s.rate.found
+
+-- After a read of these bytes, when the stream had come to this, where a line is wanted.
+abbrev pub IsReadOn : (piece : List ℕ) → Counts → (old new : Option ProgressState) → Type 0
+IsReadOn piece counts None new = new ≡ None
+IsReadOn piece counts (Some s) None = ⊥
+IsReadOn piece counts (Some s) (Some t) =
+    (t.counts ≡ counts) × (t.place ≡ place_after s.place piece) × Looks s.rate.searched piece s.rate t.rate
+
+-- The same at the end of the run.
+abbrev pub IsLast : Counts → (old new : Option ProgressState) → Type 0
+IsLast counts None new = new ≡ None
+IsLast counts (Some s) None = ⊥
+IsLast counts (Some s) (Some t) = (t.counts ≡ counts) × (t.place ≡ s.place) × (t.rate ≡ s.rate)

@@ -1,5 +1,5 @@
 -- The search for a stream's frame rate.
-use Rattle.std.specs.Prelude.{◌≡◌, ◌⊎◌, ℕ, ◌^◌, ◌<◌, Bool, false, ◌||◌, if◌then◌else◌, List, ◌++◌, length, Option, Some, None, is_some, nat_le}
+use Rattle.std.specs.Prelude.{◌≡◌, ◌⊎◌, ℕ, ◌<◌, false, ◌||◌, if◌then◌else◌, List, [], ◌++◌, length, Option, Some, None, is_some, nat_le}
 use Rattle.avc_tools.specs.Streams.{StreamSoFar}
 use Rattle.avc_info.specs.Info.{facts_so_far}
 use Rattle.avc_info.specs.Text.{frame_rate}
@@ -9,6 +9,10 @@ use Rattle.avc_info.specs.declared.sequence_facts.SequenceFacts.{SequenceFacts}
 pub record Search : Type 0 where
   pub searched : Option (List ℕ)
   pub found : Option ℕ
+
+-- at the start of a stream
+abbrev pub new_search : Search
+new_search = record { searched = Some []; found = None }
 
 -- how many bytes are looked at
 abbrev pub most : ℕ

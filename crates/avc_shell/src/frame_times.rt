@@ -1,6 +1,7 @@
 //! How long each picture took.
 
-ghost use Rattle.std.specs.Prelude.{◌≡◌, IfOk, string_bytes};
+ghost use Rattle.std.specs.Prelude.{◌≡◌, ◌-◌, IfOk, string_bytes};
+ghost use Rattle.std.specs.Duration.{as_nanos};
 ghost use Rattle.avc_shell.specs.FrameTimes.{time_line};
 
 use crate::errors::Errors;
@@ -55,14 +56,23 @@ impl FrameTimes<'_> {
             return;
         }
         if let Ok(now) = self.start.elapsed(self.rt) {
-            let took = now.saturating_sub(self.before);
-            self.before = now;
-            if let Ok(line) = time_line(self.rt.alloc(), took.as_nanos()) {
+            let took = self.note_time(now);
+            if let Ok(line) = time_line(self.rt.alloc(), took) {
                 if let Err(error) = self.write(line.as_bytes()) {
                     self.fault = Some(error.kind());
                 }
             }
         }
+    }
+
+    // The nanoseconds that a picture took which was written so long after the start.
+    fn note_time(&mut self, now: Duration) -> u128
+        ensures took { result ≡ as_nanos now - as_nanos self.old.before }
+        ensures before { self.new.before ≡ now }
+    {
+        let took = now.saturating_sub(self.before);
+        self.before = now;
+        took.as_nanos()
     }
 
     fn write(&mut self, line: &[u8]) -> io::Result<()> {
@@ -73,7 +83,9 @@ impl FrameTimes<'_> {
     }
 
     /// Why a write failed, where one did.
-    pub fn fault(&self) -> Option<ErrorKind> {
+    pub fn fault(&self) -> Option<ErrorKind>
+        ensures { result ≡ self.now.fault }
+    {
         self.fault
     }
 }

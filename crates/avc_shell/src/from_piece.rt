@@ -1,6 +1,6 @@
 //! What is decoded of a stream from one of its pieces on.
 
-ghost use Rattle.std.specs.Prelude.{◌≡◌, ◌≤◌, length};
+ghost use Rattle.std.specs.Prelude.{◌≡◌, ◌++◌, drop, length, min, take};
 
 use avc_console::{PIECE, READS};
 use avc_tools::{StreamText, TailText};
@@ -100,9 +100,8 @@ impl<R: Read> Read for FromPiece<'_, R> {
 
 // Copies as many bytes as there is room for. Answers how many.
 fn copied(bytes: &[u8], buf: &mut [u8]) -> usize
-    ensures given { result ≤ length bytes.now }
-    ensures room { result ≤ length buf.new }
-    ensures length { length buf.new ≡ length buf.old }
+    ensures count { result ≡ min (length bytes.now) (length buf.old) }
+    ensures bytes { buf.new ≡ take result bytes.now ++ drop result buf.old }
 {
     let len = bytes.len().min(buf.len());
     buf[..len].copy_from_slice(&bytes[..len]);

@@ -12,6 +12,7 @@ mod observer;
 mod other_pictures;
 mod output;
 mod progress;
+mod progress_state;
 mod rate;
 mod reason;
 mod told;
@@ -28,4 +29,6 @@ pub use observer::Observer;
 pub use other_pictures::OtherPictures;
 pub use output::{Output, OutputFile, PictureFiles};
 pub use progress::Progress;
-pub use told::{is_told_more, tell_container, tell_no_piece, tell_outcome, tell_reason};
+pub use told::{
+    is_progress_told, is_told_more, tell_container, tell_no_piece, tell_outcome, tell_reason,
+};

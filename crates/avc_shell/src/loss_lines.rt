@@ -1,7 +1,13 @@
 //! What is lost behind refusals, told as decoding goes on.
 
+ghost use Rattle.std.specs.Prelude.{◌≡◌, ◌⊎◌, true, Some, None, IfOk, OnOk};
+ghost use Rattle.avc_annexb.specs.SplitterState.{next_unit_of};
+ghost use Rattle.avc_console.specs.Reading.{max_unit};
+ghost use Rattle.avc_shell.specs.LossLines.{is_at, passed_in, place_of, slice_behind, with_bytes, with_end, GoesOn};
+ghost use Rattle.avc_tools.specs.Losses.{behind, seen};
+
 use avc_console::{MAX_UNIT, tell_loss};
-use avc_tools::Losses;
+use avc_tools::{Losses, SeenUnit};
 use avc_types::{Fault, OutOfMemory};
 
 /// Tells behind the refusal of a unit with its picture that decoding waits, and counts the slices that it passes over, where more than
@@ -31,20 +37,20 @@ impl LossLines<'_> {
     }
 
     /// The next bytes of the stream.
-    pub fn note_bytes(&mut self, piece: &[u8]) {
-        if let Some(mut losses) = self.losses.take() {
-            if losses.feed(piece).is_ok() {
-                self.losses = Some(losses);
-            }
+    pub fn note_bytes(&mut self, piece: &[u8])
+        ensures { GoesOn (with_bytes piece.now) self.old.losses self.new.losses }
+    {
+        if let Some(losses) = self.losses.take() {
+            self.losses = with_bytes(losses, piece);
         }
     }
 
     /// The end of the stream.
-    pub fn note_end(&mut self) {
-        if let Some(mut losses) = self.losses.take() {
-            if losses.finish().is_ok() {
-                self.losses = Some(losses);
-            }
+    pub fn note_end(&mut self)
+        ensures { GoesOn with_end self.old.losses self.new.losses }
+    {
+        if let Some(losses) = self.losses.take() {
+            self.losses = with_end(losses);
         }
     }
 
@@ -72,11 +78,33 @@ impl LossLines<'_> {
     }
 
     /// How many slices were passed over, where that is known.
-    pub fn passed(&self) -> Option<u64> {
+    pub fn passed(&self) -> Option<u64>
+        ensures { result ≡ passed_in self.now.losses }
+    {
         match &self.losses {
             Some(losses) => Some(losses.passed()),
             None => None,
         }
+    }
+}
+
+// With the next bytes of the stream, or nothing for want of memory.
+fn with_bytes(mut losses: Losses<MAX_UNIT>, piece: &[u8]) -> Option<Losses<MAX_UNIT>>
+    ensures { (result ≡ Some (with_bytes piece.now losses)) ⊎ (result ≡ None) }
+{
+    match losses.feed(piece) {
+        Ok(()) => Some(losses),
+        Err(_) => None,
+    }
+}
+
+// With the end of the stream, or nothing for want of memory.
+fn with_end(mut losses: Losses<MAX_UNIT>) -> Option<Losses<MAX_UNIT>>
+    ensures { (result ≡ Some (with_end losses)) ⊎ (result ≡ None) }
+{
+    match losses.finish() {
+        Ok(()) => Some(losses),
+        Err(_) => None,
     }
 }
 
@@ -85,7 +113,10 @@ fn lose_at(
     losses: &mut Losses<MAX_UNIT>,
     last_slice: &mut Option<u64>,
     unit: u64,
-) -> Result<bool, OutOfMemory> {
+) -> Result<bool, OutOfMemory>
+    ensures lost { IfOk result (λ is_lost. is_lost ≡ is_at last_slice.new unit) }
+    ensures waits { IfOk result (λ is_lost. is_lost ≡ true → losses.new.waits ≡ true) }
+{
     let mut is_ahead = *last_slice != Some(unit);
     'units: for _unit in 0..u64::MAX {
         if !is_ahead {
@@ -120,14 +151,22 @@ fn take_all(
 fn take_next(
     losses: &mut Losses<MAX_UNIT>,
     last_slice: &mut Option<u64>,
-) -> Result<Option<u64>, OutOfMemory> {
-    match losses.next_unit()? {
-        Some(seen) => {
-            if seen.is_slice {
-                *last_slice = Some(seen.index);
-            }
-            Ok(Some(seen.index))
-        }
-        None => Ok(None),
+) -> Result<Option<u64>, OutOfMemory>
+    ensures place { IfOk result (λ place. place ≡ place_of (seen (next_unit_of max_unit losses.old.units))) }
+    ensures last { OnOk result (last_slice.new ≡ slice_behind last_slice.old (seen (next_unit_of max_unit losses.old.units))) }
+    ensures losses { OnOk result (losses.new ≡ behind losses.old (next_unit_of max_unit losses.old.units)) }
+{
+    let unit = losses.next_unit()?;
+    *last_slice = slice_behind(*last_slice, unit);
+    Ok(unit.map(|unit| unit.index))
+}
+
+// The last slice behind a unit, if there is one.
+fn slice_behind(last: Option<u64>, unit: Option<SeenUnit>) -> Option<u64>
+    ensures { result ≡ slice_behind last unit }
+{
+    match unit {
+        Some(unit) if unit.is_slice => Some(unit.index),
+        _ => last,
     }
 }

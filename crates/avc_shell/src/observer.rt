@@ -1,5 +1,11 @@
 //! What is known of a run while it goes on, and at its end.
 
+ghost use Rattle.std.specs.Prelude.{◌≡◌, None};
+ghost use Rattle.std.specs.Option.{option_map};
+ghost use Rattle.avc_shell.specs.LossLines.{passed_in, with_bytes, with_end, GoesOn};
+ghost use Rattle.avc_shell.specs.Outcomes.{outcome_after};
+ghost use Rattle.avc_shell.specs.Progress.{IsLast, IsReadOn};
+
 use crate::frame_times::FrameTimes;
 use crate::loss_lines::LossLines;
 use crate::progress::Progress;
@@ -25,7 +31,11 @@ impl<'a> Observer<'a> {
         losses: LossLines<'a>,
         times: Option<FrameTimes<'a>>,
         pictures: &'a Cell<u64>,
-    ) -> Observer<'a> {
+    ) -> Observer<'a>
+        ensures outcome { result.outcome ≡ None }
+        ensures progress { result.progress ≡ progress.entry }
+        ensures losses { result.losses ≡ losses.entry }
+    {
         Observer {
             progress,
             losses,
@@ -36,12 +46,16 @@ impl<'a> Observer<'a> {
     }
 
     /// What the run came to, once it has ended without a fault.
-    pub fn outcome(&self) -> Option<Counts> {
+    pub fn outcome(&self) -> Option<Counts>
+        ensures { result ≡ self.now.outcome }
+    {
         self.outcome
     }
 
     /// How many slices were passed over, where that is known.
-    pub fn passed(&self) -> Option<u64> {
+    pub fn passed(&self) -> Option<u64>
+        ensures { result ≡ passed_in self.now.losses.losses }
+    {
         self.losses.passed()
     }
 
@@ -55,11 +69,15 @@ impl<'a> Observer<'a> {
 }
 
 impl Watch for Observer<'_> {
-    fn note_bytes(&mut self, piece: &[u8]) {
+    fn note_bytes(&mut self, piece: &[u8])
+        ensures { GoesOn (with_bytes piece.now) self.old.losses.losses self.new.losses.losses }
+    {
         self.losses.note_bytes(piece);
     }
 
-    fn note_end(&mut self) {
+    fn note_end(&mut self)
+        ensures { GoesOn with_end self.old.losses.losses self.new.losses.losses }
+    {
         self.losses.note_end();
     }
 
@@ -74,16 +92,33 @@ impl Watch for Observer<'_> {
         self.losses.note_refusal(unit, fault);
     }
 
-    fn look(&mut self, piece: &[u8], counts: Counts) {
+    fn look(&mut self, piece: &[u8], counts: Counts)
+        ensures { IsReadOn piece.now counts (option_map (λ m. m.state) self.old.progress.meter) (option_map (λ m. m.state) self.new.progress.meter) }
+    {
         self.losses.note_units();
         self.progress.look(piece, counts);
     }
 
-    fn end(&mut self, counts: Counts, run: Result<(), RunFault>) {
+    fn end(&mut self, counts: Counts, run: Result<(), RunFault>)
+        ensures progress { IsLast counts (option_map (λ m. m.state) self.old.progress.meter) (option_map (λ m. m.state) self.new.progress.meter) }
+        ensures outcome { self.new.outcome ≡ outcome_after counts run self.old.outcome }
+    {
         self.losses.note_units();
         self.progress.end(counts);
-        if run.is_ok() {
-            self.outcome = Some(counts);
-        }
+        self.outcome = outcome_after(counts, run, self.outcome);
+    }
+}
+
+// What a run came to, where no fault ended it; or what was known before.
+fn outcome_after(
+    counts: Counts,
+    run: Result<(), RunFault>,
+    before: Option<Counts>,
+) -> Option<Counts>
+    ensures { result ≡ outcome_after counts run before }
+{
+    match run {
+        Ok(()) => Some(counts),
+        Err(_) => before,
     }
 }

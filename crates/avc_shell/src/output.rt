@@ -1,5 +1,10 @@
 //! What is written.
 
+ghost use Rattle.std.specs.Prelude.{◌≡◌, Some, None, IfErr, OnOk};
+ghost use Rattle.std.specs.Io.{WritesAtMost};
+ghost use Rattle.std.specs.Io.KnownBytes.{Keeps, WriteAppends};
+ghost use Rattle.std.specs.IoError.{error_kind};
+
 use avc_request::Numbered;
 use std::cell::Cell;
 use std::fs::{File, metadata};
@@ -143,7 +148,9 @@ pub struct Output<'a, W> {
 
 impl<'a, W> Output<'a, W> {
     /// To which nothing has been written, and where it is noted that whoever reads has left.
-    pub fn new(writer: W, has_left: &'a Cell<bool>) -> Output<'a, W> {
+    pub fn new(writer: W, has_left: &'a Cell<bool>) -> Output<'a, W>
+        ensures { result.fault ≡ None }
+    {
         Output {
             writer,
             fault: None,
@@ -152,7 +159,9 @@ impl<'a, W> Output<'a, W> {
     }
 
     /// Why a write failed, where one did.
-    pub fn fault(&self) -> Option<ErrorKind> {
+    pub fn fault(&self) -> Option<ErrorKind>
+        ensures { result ≡ self.now.fault }
+    {
         self.fault
     }
 }
@@ -160,7 +169,12 @@ impl<'a, W> Output<'a, W> {
 impl<W: Write> Write for Output<'_, W> {
     ghost contents = { λ o. W.contents o.writer };
 
-    fn write(&mut self, buf: &[u8]) -> io::Result<usize> {
+    fn write(&mut self, buf: &[u8]) -> io::Result<usize>
+        ensures bound { WritesAtMost result buf.now }
+        ensures bytes { WriteAppends (W.contents self.old.writer) (W.contents self.new.writer) result buf.now }
+        ensures kept { OnOk result (self.new.fault ≡ self.old.fault) }
+        ensures fault { IfErr result (λ error. self.new.fault ≡ Some (error_kind error)) }
+    {
         match self.writer.write(buf) {
             Ok(len) => Ok(len),
             Err(error) => {

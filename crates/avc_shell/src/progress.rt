@@ -1,18 +1,16 @@
 //! The line that says how far decoding is.
 
 ghost use Rattle.std.specs.Prelude.{◌≡◌, ◌<◌, ◌++◌, IfOk, OnOk, string_bytes};
+ghost use Rattle.std.specs.Option.{option_map};
 ghost use Rattle.avc_shell.specs.Progress.{clock_text, counts_text, left_text, place_by, place_text, progress_line, speed_text};
-ghost use Rattle.avc_shell.specs.Progress.{tenths_text, times_by, times_text};
+ghost use Rattle.avc_shell.specs.Progress.{place_after, tenths_text, times_by, times_text, IsLast, IsReadOn};
+ghost use Rattle.avc_shell.specs.Rates.{Looks};
 
-use crate::rate::RateSearch;
+use crate::progress_state::ProgressState;
 use avc_console::Counts;
 use std::alloc::{AllocError, Global};
 use std::cell::Cell;
-use std::io::Write;
-use std::time::{Duration, Instant};
-
-/// The least time between two lines, in milliseconds: they come at most four times a second.
-const INTERVAL: u64 = 250;
+use std::time::Instant;
 
 /// How far reading is.
 #[derive(Clone, Copy, Debug, PartialEq, Eq)]
@@ -48,16 +46,22 @@ impl Progress<'_> {
     }
 
     /// After each read: the bytes that it gave, and what the stream has come to.
-    pub fn look(&mut self, piece: &[u8], counts: Counts) {
-        if let Some(meter) = &mut self.meter {
-            meter.look(piece, counts);
+    pub fn look(&mut self, piece: &[u8], counts: Counts)
+        ensures { IsReadOn piece.now counts (option_map (λ m. m.state) self.old.meter) (option_map (λ m. m.state) self.new.meter) }
+    {
+        match &mut self.meter {
+            Some(meter) => meter.look(piece, counts),
+            None => {}
         }
     }
 
     /// At the end of the run: what the stream has come to.
-    pub fn end(&mut self, counts: Counts) {
-        if let Some(meter) = &mut self.meter {
-            meter.end(counts);
+    pub fn end(&mut self, counts: Counts)
+        ensures { IsLast counts (option_map (λ m. m.state) self.old.meter) (option_map (λ m. m.state) self.new.meter) }
+    {
+        match &mut self.meter {
+            Some(meter) => meter.end(counts),
+            None => {}
         }
     }
 }
@@ -67,13 +71,7 @@ impl Progress<'_> {
 struct Meter<'a> {
     rt: &'a HostRuntime,
     start: Instant,
-
-    /// Since the start, when the line was written last.
-    written: Duration,
-
-    rate: RateSearch,
-    counts: Counts,
-    place: Place,
+    state: ProgressState,
 
     /// Whether the line stands, and is not ended.
     stands: &'a Cell<bool>,
@@ -89,47 +87,50 @@ impl Meter<'_> {
         Some(Meter {
             rt,
             start,
-            written: Duration::ZERO,
-            rate: RateSearch::new(rt.alloc()),
-            counts: Counts {
-                pictures: 0,
-                refused: 0,
-            },
-            place: Place { read: 0, size },
+            state: ProgressState::new(rt.alloc(), size),
             stands,
         })
     }
 
-    fn look(&mut self, piece: &[u8], counts: Counts) {
-        self.rate.look(piece);
-        self.counts = counts;
-        self.place.read = self.place.read.saturating_add(piece.len() as u64);
-        if let Ok(elapsed) = self.start.elapsed(self.rt) {
-            if elapsed.saturating_sub(self.written) >= Duration::from_millis(INTERVAL) {
-                self.write(elapsed);
-            }
+    fn look(&mut self, piece: &[u8], counts: Counts)
+        ensures counts { self.new.state.counts ≡ counts }
+        ensures place { self.new.state.place ≡ place_after self.old.state.place piece.now }
+        ensures rate { Looks self.old.state.rate.searched piece.now self.old.state.rate self.new.state.rate }
+    {
+        self.state.note_read(piece, counts);
+        self.tell_if_due();
+    }
+
+    // Where the system has no clock, memory or the standard error fails, there is no line.
+    fn tell_if_due(&mut self)
+        ensures { self.new.state ≡ record self.old.state { told_at = self.new.state.told_at } }
+    {
+        let Ok(elapsed) = self.start.elapsed(self.rt) else {
+            return;
+        };
+        if !self.state.is_line_due(elapsed) {
+            return;
         }
+        self.stands.set(true);
+        let _ = self
+            .state
+            .tell(self.rt.alloc(), elapsed, &mut self.rt.stderr());
     }
 
     // The last line stays.
-    fn end(&mut self, counts: Counts) {
-        self.counts = counts;
-        if let Ok(elapsed) = self.start.elapsed(self.rt) {
-            self.write(elapsed);
-            let _ = self.rt.stderr().write(b"\n");
-            self.stands.set(false);
-        }
-    }
-
-    // Where memory or the standard error fails, the line is not written.
-    fn write(&mut self, elapsed: Duration) {
-        self.written = elapsed;
-        let millis = u64::try_from(elapsed.as_millis()).unwrap_or(u64::MAX);
-        let rate = self.rate.found();
-        if let Ok(line) = progress_line(self.rt.alloc(), self.counts, self.place, millis, rate) {
-            let _ = self.rt.stderr().write(line.as_bytes());
-            self.stands.set(true);
-        }
+    fn end(&mut self, counts: Counts)
+        ensures counts { self.new.state.counts ≡ counts }
+        ensures place { self.new.state.place ≡ self.old.state.place }
+        ensures rate { self.new.state.rate ≡ self.old.state.rate }
+    {
+        self.state.note_end(counts);
+        let Ok(elapsed) = self.start.elapsed(self.rt) else {
+            return;
+        };
+        self.stands.set(false);
+        let _ = self
+            .state
+            .tell_last(self.rt.alloc(), elapsed, &mut self.rt.stderr());
     }
 }
 

@@ -1,7 +1,7 @@
 //! The search for a stream's frame rate.
 
 ghost use Rattle.std.specs.Prelude.{◌≡◌, ◌⊎◌, ◌++◌, [], length, None, Some, false};
-ghost use Rattle.avc_shell.specs.Rates.{looked, rate_of, IsGoingOn, Looks};
+ghost use Rattle.avc_shell.specs.Rates.{looked, new_search, rate_of, IsGoingOn, Looks};
 
 use avc_info::{InfoLines, SequenceFacts, frame_rate};
 use avc_tools::{ForPeople, StreamText};
@@ -34,7 +34,7 @@ impl Model for RateSearch {
 impl RateSearch {
     /// At the start of a stream.
     pub fn new(alloc: Global) -> RateSearch
-        ensures { result ≡ record { searched = Some []; found = None } }
+        ensures { result ≡ new_search }
     {
         RateSearch {
             lines: Some(InfoLines::new(alloc, ForPeople)),

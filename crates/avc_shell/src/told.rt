@@ -1,10 +1,13 @@
 //! What is told behind what a command tells itself.
 
+ghost use Rattle.std.specs.Prelude.{◌≡◌};
+ghost use Rattle.avc_shell.specs.Manners.{is_line_wanted, is_more_told};
+
 use crate::reason::reason_line;
 use avc_console::{Counts, no_piece_line};
 use avc_container::{container_line, container_of, no_picture_line};
 use avc_explain::counts_line;
-use avc_request::{Manner, Subject, Task};
+use avc_request::{Manner, Subject, Task, Telling};
 use std::io::{ErrorKind, IsTerminal, Write};
 
 /// Tells why a file could not be read or written, where it has a name and that is known.
@@ -32,7 +35,30 @@ pub fn tell_outcome(rt: &HostRuntime, counts: Counts, passed: Option<u64>, first
 
 /// Whether more than the lines that scripts read may be told.
 pub fn is_told_more(rt: &HostRuntime, manner: &Manner) -> bool {
-    manner.is_explained || (!manner.is_quiet && rt.stderr().is_terminal())
+    is_more_told(manner, rt.stderr().is_terminal())
+}
+
+// The same where the standard error is a terminal or not.
+fn is_more_told(manner: &Manner, to_terminal: bool) -> bool
+    ensures { result ≡ is_more_told manner.now to_terminal }
+{
+    manner.is_explained || (!manner.is_quiet && to_terminal)
+}
+
+/// Whether a line says how far decoding is.
+pub fn is_progress_told(rt: &HostRuntime, progress: Telling) -> bool {
+    is_line_wanted(progress, rt.stderr().is_terminal())
+}
+
+// The same where the standard error is a terminal or not.
+fn is_line_wanted(progress: Telling, to_terminal: bool) -> bool
+    ensures { result ≡ is_line_wanted progress to_terminal }
+{
+    match progress {
+        Telling::Always => true,
+        Telling::ToTerminals => to_terminal,
+        Telling::Never => false,
+    }
 }
 
 /// Tells of a stream of which facts were wanted that it is a container or a picture, by its first bytes.
