@@ -1,5 +1,7 @@
 //! The command `compare`, with the file that is compared.
 
+ghost use Rattle.avc_cli.specs.Tasks.{EndsComparingFile};
+
 use avc_compare::{Comparison, compare};
 use avc_console::{Console, Ending, Names, RunFault, Watch, fail};
 use avc_request::Request;
@@ -16,7 +18,11 @@ pub fn compare_files<R: Read, W: Write, E: Write, V: Watch>(
     reader: &mut R,
     writer: &mut W,
     console: &mut Console<'_, E, V>,
-) -> Ending {
+) -> Ending
+    ensures { EndsComparingFile console.old.names request.now.other console.old.is_explained most
+        (R.remaining reader.old) (R.remaining reader.new) (W.contents writer.old) (W.contents writer.new)
+        (E.contents console.old.errors) (E.contents console.new.errors) result }
+{
     let how = Comparison {
         output: Output::Full,
         most,

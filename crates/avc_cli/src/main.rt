@@ -1,6 +1,15 @@
 //! `avcdec`: decodes a byte stream of H.264 (Annex B), shows what is in it, and cuts it, on the command line.
 #![tactic(auto)]
 
+ghost use Rattle.std.specs.Prelude.{◌≡◌, is_some};
+ghost use Rattle.avc_tools.specs.CutPoints.{cut_point_lines_so_far};
+ghost use Rattle.avc_tools.specs.Lines.{header_lines_so_far, unit_lines_so_far};
+ghost use Rattle.avc_info.specs.Info.{info_so_far};
+ghost use Rattle.avc_console.specs.Program.{EndsListing};
+ghost use Rattle.avc_formats.specs.Headed.{headed};
+ghost use Rattle.avc_run.specs.BySet.{EndsDecodingBySet};
+ghost use Rattle.avc_cli.specs.Tasks.{selection_of, text_on, y4m_of, EndsShowing, EndsTask};
+
 mod comparing;
 
 use avc_console::{
@@ -9,11 +18,12 @@ use avc_console::{
 };
 use avc_formats::{HeadedFormat, I420, Selected};
 use avc_info::{ForPrograms, InfoForm, info};
-use avc_request::{Form, Request, Showing, Subject, Task, Telling, Wording, requested, words_of};
+use avc_request::{Form, Request, Showing, Subject, Task, Wording, requested, words_of};
 use avc_run::{decode, decode_as, decode_headed, decode_md5, verify};
 use avc_shell::{
-    Errors, FrameTimes, FromPiece, Input, LossLines, Observer, Output, OutputFile, PictureFiles, Progress, ended_status, is_output_refused,
-    is_told_more, tell_container, tell_no_piece, tell_outcome, tell_reason,
+    Errors, FrameTimes, FromPiece, Input, LossLines, Observer, Output, OutputFile, PictureFiles,
+    Progress, ended_status, is_output_refused, is_progress_told, is_told_more, tell_container,
+    tell_no_piece, tell_outcome, tell_reason,
 };
 use avc_tools::{ForPeople, ListingForm};
 use clap::error::ErrorKind;
@@ -22,7 +32,7 @@ use std::alloc::Global;
 use std::cell::Cell;
 use std::fs::{File, metadata};
 use std::io;
-use std::io::{IsTerminal, Read, Write};
+use std::io::{Read, Write};
 use std::process::ExitCode;
 
 fn main(rt: HostRuntime) -> ExitCode {
@@ -153,15 +163,6 @@ fn fail_times(rt: &HostRuntime, name: Option<&str>, kind: io::ErrorKind) -> u8 {
     ending.status
 }
 
-// Whether a line says how far decoding is.
-fn is_progress_told(rt: &HostRuntime, progress: Telling) -> bool {
-    match progress {
-        Telling::Always => true,
-        Telling::ToTerminals => rt.stderr().is_terminal(),
-        Telling::Never => false,
-    }
-}
-
 // How many bytes the input has, where it is a file with a name, and decoded from its beginning.
 fn size_of(rt: &HostRuntime, request: &Request<'_>) -> Option<u64> {
     if request.from.is_some() {
@@ -244,7 +245,7 @@ fn write_out<R: Read, E: Write, V: Watch>(
     if let Some(name) = request.numbered {
         let files = PictureFiles::new(rt, name, request.input, noted.pictures);
         let mut output = Output::new(files, noted.has_left);
-        let status = carry_out_between(rt, request, reader, &mut output, console);
+        let status = carry_out_between(rt, request, reader, &mut output, console).status;
         return Written {
             status,
             fault: output.fault(),
@@ -254,7 +255,7 @@ fn write_out<R: Read, E: Write, V: Watch>(
     match request.output {
         Some(name) => {
             let mut output = Output::new(OutputFile::new(rt, name), noted.has_left);
-            let status = carry_out_between(rt, request, reader, &mut output, console);
+            let status = carry_out_between(rt, request, reader, &mut output, console).status;
             Written {
                 status,
                 fault: output.fault(),
@@ -263,7 +264,7 @@ fn write_out<R: Read, E: Write, V: Watch>(
         }
         None => {
             let mut output = Output::new(io::writer(rt), noted.has_left);
-            let status = carry_out_between(rt, request, reader, &mut output, console);
+            let status = carry_out_between(rt, request, reader, &mut output, console).status;
             Written {
                 status,
                 fault: output.fault(),
@@ -280,9 +281,13 @@ fn carry_out_between<R: Read, W: Write, E: Write, V: Watch>(
     reader: &mut R,
     writer: &mut W,
     console: &mut Console<'_, E, V>,
-) -> u8 {
+) -> Ending
+    ensures { EndsTask request.now.task request.now.other (is_some request.now.numbered) console.old.names console.old.is_explained
+        (R.remaining reader.old) (R.remaining reader.new) (W.contents writer.old) (W.contents writer.new)
+        (E.contents console.old.errors) (E.contents console.new.errors) result }
+{
     let alloc = rt.alloc();
-    let ending = match request.task {
+    match request.task {
         Task::Decode(output) => decode(alloc, output, reader, writer, console),
         Task::Check(output) => decode(alloc, output, reader, &mut io::sink(), console),
         Task::Show(showing) => {
@@ -303,8 +308,7 @@ fn carry_out_between<R: Read, W: Write, E: Write, V: Watch>(
         }
         Task::Cut(number) => cut(alloc, number, reader, writer, console),
         Task::Compare(most) => compare_files(rt, request, most, reader, writer, console),
-    };
-    ending.status
+    }
 }
 
 // Tells something of a stream in this form.
@@ -315,7 +319,12 @@ fn tell<F: ListingForm + InfoForm + Drop, R: Read, W: Write, E: Write, V: Watch>
     reader: &mut R,
     writer: &mut W,
     console: &mut Console<'_, E, V>,
-) -> Ending {
+) -> Ending
+    ensures { EndsListing console.old.names
+        (text_on subject (unit_lines_so_far F.of_unit) (header_lines_so_far F.of_header) (cut_point_lines_so_far F.of_piece) (info_so_far F.text))
+        (R.remaining reader.old) (R.remaining reader.new) (W.contents writer.old) (W.contents writer.new)
+        (E.contents console.old.errors) (E.contents console.new.errors) result }
+{
     match subject {
         Subject::Units => units(alloc, form, reader, writer, console),
         Subject::Headers => headers(alloc, form, reader, writer, console),
@@ -332,7 +341,11 @@ fn show<R: Read, W: Write, E: Write, V: Watch>(
     reader: &mut R,
     writer: &mut W,
     console: &mut Console<'_, E, V>,
-) -> Ending {
+) -> Ending
+    ensures { EndsShowing showing.form showing is_each_alone console.old.names console.old.is_explained
+        (R.remaining reader.old) (R.remaining reader.new) (W.contents writer.old) (W.contents writer.new)
+        (E.contents console.old.errors) (E.contents console.new.errors) result }
+{
     let mode = showing.mode;
     let skip = showing.skip;
     let limit = showing.limit;
@@ -345,14 +358,14 @@ fn show<R: Read, W: Write, E: Write, V: Watch>(
         Form::I420 => decode_as(alloc, mode, &format, reader, writer, console),
         Form::Null => decode_as(alloc, mode, &format, reader, &mut io::sink(), console),
         Form::Md5 => decode_md5(alloc, mode, &format, reader, writer, console),
-        Form::Y4m => {
-            let y4m = if is_each_alone {
-                HeadedFormat::Y4mEach
-            } else {
-                HeadedFormat::Y4m
-            };
-            show_headed(alloc, y4m, showing, reader, writer, console)
-        }
+        Form::Y4m => show_headed(
+            alloc,
+            y4m_of(is_each_alone),
+            showing,
+            reader,
+            writer,
+            console,
+        ),
         Form::FrameMd5 => show_headed(
             alloc,
             HeadedFormat::FrameMd5,
@@ -365,6 +378,17 @@ fn show<R: Read, W: Write, E: Write, V: Watch>(
     }
 }
 
+// YUV4MPEG2, where each picture has a file of its own or not.
+fn y4m_of(is_each_alone: bool) -> HeadedFormat
+    ensures { result ≡ y4m_of is_each_alone }
+{
+    if is_each_alone {
+        HeadedFormat::Y4mEach
+    } else {
+        HeadedFormat::Y4m
+    }
+}
+
 // Shows some of the pictures in a format with a head.
 fn show_headed<R: Read, W: Write, E: Write, V: Watch>(
     alloc: Global,
@@ -373,7 +397,11 @@ fn show_headed<R: Read, W: Write, E: Write, V: Watch>(
     reader: &mut R,
     writer: &mut W,
     console: &mut Console<'_, E, V>,
-) -> Ending {
+) -> Ending
+    ensures { EndsDecodingBySet console.old.names console.old.is_explained (λ said. selection_of showing (headed format said)) showing.mode
+        (R.remaining reader.old) (R.remaining reader.new) (W.contents writer.old) (W.contents writer.new)
+        (E.contents console.old.errors) (E.contents console.new.errors) result }
+{
     decode_headed(
         alloc,
         format,

@@ -1,0 +1,108 @@
+-- How a command ends that was asked for: which pictures of a stream become what, or what is told of it.
+use Rattle.std.specs.Prelude.{◌≡◌, ◌⊎◌, ℕ, Bool, true, false, List, Option, None}
+use Rattle.std.specs.Borrow.{Bor}
+use Rattle.avc_request.specs.Commands.{mode_of}
+use Rattle.avc_request.specs.declared.request.Form.{Form}
+use Rattle.avc_request.specs.declared.request.Form.TheVariants as forms
+use Rattle.avc_request.specs.declared.request.Showing.{Showing}
+use Rattle.avc_request.specs.declared.request.Subject.{Subject}
+use Rattle.avc_request.specs.declared.request.Subject.TheVariants.{Headers, Info, Pieces, Units}
+use Rattle.avc_request.specs.declared.request.Task.{Task}
+use Rattle.avc_request.specs.declared.request.Task.TheVariants as tasks
+use Rattle.avc_request.specs.declared.request.Wording.{Wording}
+use Rattle.avc_request.specs.declared.request.Wording.TheVariants.{Json, Plain}
+use Rattle.avc_console.specs.Messages.{fault_line}
+use Rattle.avc_console.specs.Program.{EndsCutting, EndsListing}
+use Rattle.avc_console.specs.Status.{fault_status}
+use Rattle.avc_console.specs.Telling.{Tells}
+use Rattle.avc_console.specs.declared.console.Names.{Names}
+use Rattle.avc_console.specs.declared.exit.Ending.{Ending}
+use Rattle.avc_console.specs.declared.fault.RunFault.TheVariants.{Read}
+use Rattle.avc_tools.specs.CutPoints.{cut_point_line, cut_point_lines_so_far}
+use Rattle.avc_tools.specs.Lines.{header_line, header_lines_so_far, unit_line, unit_lines_so_far}
+use Rattle.avc_info.specs.Info.{info_so_far}
+use Rattle.avc_info.specs.Json.{json_line}
+use Rattle.avc_info.specs.ListingJson.{header_json, piece_json, unit_json}
+use Rattle.avc_info.specs.PictureText.{info_text}
+use Rattle.avc_formats.specs.Formats.{plain, Format}
+use Rattle.avc_formats.specs.Headed.{headed}
+use Rattle.avc_formats.specs.Selecting.{selected}
+use Rattle.avc_formats.specs.declared.headed.HeadedFormat.{HeadedFormat}
+use Rattle.avc_formats.specs.declared.headed.HeadedFormat.TheVariants.{FrameMd5, Y4m, Y4mEach}
+use Rattle.avc_run.specs.BySet.{EndsDecodingBySet}
+use Rattle.avc_run.specs.Digesting.{EndsDigesting, EndsVerifying}
+use Rattle.avc_run.specs.Program.{EndsDecodingAs}
+use Rattle.avc_compare.specs.Told.{EndsComparing}
+
+-- ---- pictures
+
+-- those that are asked for, in a format
+abbrev pub selection_of : Showing → Format → Format
+selection_of s format = selected format s.skip s.limit
+
+-- YUV4MPEG2, where each picture has a file of its own or not
+abbrev pub y4m_of : (is_each_alone : Bool) → HeadedFormat
+y4m_of true = Y4mEach
+y4m_of false = Y4m
+
+-- The pictures that are asked for become this: they, or their MD5, are written; or nothing is, and they are decoded, or their MD5 compared.
+abbrev pub EndsShowing : Form → Showing → (is_each_alone : Bool) → Names → (explained : Bool) → (unread left held holds before now : Option (List ℕ)) → Ending → Type 0
+EndsShowing forms.I420 s alone names explained unread left held holds before now ending =
+    EndsDecodingAs names explained (selection_of s plain) s.mode unread left held holds before now ending
+EndsShowing forms.Null s alone names explained unread left held holds before now ending =
+    (holds ≡ held) × EndsDecodingAs names explained (selection_of s plain) s.mode unread left None None before now ending
+EndsShowing forms.Md5 s alone names explained unread left held holds before now ending =
+    EndsDigesting names explained (selection_of s plain) s.mode unread left held holds before now ending
+EndsShowing forms.Y4m s alone names explained unread left held holds before now ending =
+    EndsDecodingBySet names explained (λ said. selection_of s (headed (y4m_of alone) said)) s.mode unread left held holds before now ending
+EndsShowing forms.FrameMd5 s alone names explained unread left held holds before now ending =
+    EndsDecodingBySet names explained (λ said. selection_of s (headed FrameMd5 said)) s.mode unread left held holds before now ending
+EndsShowing (forms.Verify digest) s alone names explained unread left held holds before now ending =
+    (holds ≡ held) × EndsVerifying names explained (selection_of s plain) s.mode digest unread left before now ending
+
+-- ---- what is told of a stream
+
+-- the one of four texts that is on this subject
+abbrev pub text_on : Subject → (of_units of_headers of_pieces of_all : List ℕ → (ended : Bool) → List ℕ) → List ℕ → (ended : Bool) → List ℕ
+text_on Units of_units of_headers of_pieces of_all = of_units
+text_on Headers of_units of_headers of_pieces of_all = of_headers
+text_on Pieces of_units of_headers of_pieces of_all = of_pieces
+text_on Info of_units of_headers of_pieces of_all = of_all
+
+-- in a wording
+abbrev pub text_in : Wording → Subject → List ℕ → (ended : Bool) → List ℕ
+text_in Plain subject =
+    text_on subject (unit_lines_so_far unit_line) (header_lines_so_far header_line) (cut_point_lines_so_far cut_point_line) (info_so_far info_text)
+text_in Json subject =
+    text_on subject (unit_lines_so_far unit_json) (header_lines_so_far header_json) (cut_point_lines_so_far piece_json) (info_so_far json_line)
+
+-- ---- comparing
+
+-- The other's file can't be opened: that is told, and nothing is written.
+pub record IsNotOpened (other : Option (Bor (List ℕ))) (held holds before now : Option (List ℕ)) (ending : Ending) : Type 0 where
+  pub status_is : ending.status ≡ fault_status Read
+  pub told : Tells before now (fault_line (record { input = other; output = None }) Read) ending.told
+  pub nothing : holds ≡ held
+
+-- The pictures were compared with those of the other's file, all of them and as they go out by default, or that file can't be opened.
+abbrev pub EndsComparingFile : Names → (other : Option (Bor (List ℕ))) → (explained : Bool) → (most : ℕ) → (unread left held holds before now : Option (List ℕ)) → Ending → Type 0
+EndsComparingFile names other explained most unread left held holds before now ending =
+    EndsComparing names other explained most (mode_of false) unread left None None held holds before now ending
+    ⊎ IsNotOpened other held holds before now ending
+
+-- ---- all of them
+
+-- A task ended so, where the pictures have a file each or not.
+abbrev pub EndsTask : Task → (other : Option (Bor (List ℕ))) → (is_each_alone : Bool) → Names → (explained : Bool) → (unread left held holds before now : Option (List ℕ)) → Ending → Type 0
+EndsTask (tasks.Decode mode) other alone names explained unread left held holds before now ending =
+    EndsDecodingAs names explained plain mode unread left held holds before now ending
+EndsTask (tasks.Check mode) other alone names explained unread left held holds before now ending =
+    (holds ≡ held) × EndsDecodingAs names explained plain mode unread left None None before now ending
+EndsTask (tasks.Show s) other alone names explained unread left held holds before now ending =
+    EndsShowing s.form s alone names explained unread left held holds before now ending
+EndsTask (tasks.Tell subject wording) other alone names explained unread left held holds before now ending =
+    EndsListing names (text_in wording subject) unread left held holds before now ending
+EndsTask (tasks.Cut number) other alone names explained unread left held holds before now ending =
+    EndsCutting names number unread left held holds before now ending
+EndsTask (tasks.Compare most) other alone names explained unread left held holds before now ending =
+    EndsComparingFile names other explained most unread left held holds before now ending
