@@ -818,6 +818,18 @@ unit 7: 3 OutOfRange: a value is outside the range that its semantics give (7.4)
 waits for an IDR picture from unit 7 on
 2 pictures, 2 refusals, 2 slices passed over
 '
+# in each form what is told is the same, also where the front of the stream is read first
+for format in i420 null md5 y4m framemd5; do
+    "$program" decode --explain --format "$format" "$gap" >"$work/written" 2>"$work/told"
+    judge "decode --explain --format $format of slices behind a loss" $? 1 'refused unit 3: 32 FrameNumGap
+unit 3: 32 FrameNumGap: a gap in frame_num where gaps are not allowed (7.4.3)
+waits for an IDR picture from unit 3 on
+refused unit 5: 3 OutOfRange
+unit 5: 3 OutOfRange: a value is outside the range that its semantics give (7.4)
+waits for an IDR picture from unit 5 on
+2 pictures, 2 refusals, 0 slices passed over
+'
+done
 # two slices of type 1 before the first IDR picture, and a unit between them that is none
 { printf '\000\000\001\101\232\042\240\000\000\001\014\377\000\000\001\101\232\042\240' && cat "$moving"; } |
     "$program" decode --explain >"$work/written" 2>"$work/told"
@@ -934,6 +946,17 @@ holds 'all of a file was read' grep -q '^pictures 10, refused 0.*, 100%.\[K$' "$
 "$program" decode --progress --limit 1 "$work/long" >"$work/written" 2>"$work/told"
 tr '\r' '\n' <"$work/told" | tail -n 1 >"$work/last"
 holds 'a part of a file was read' grep -q "^pictures [0-9]*, .*, $((100 * 65536 / $(wc -c <"$work/long")))%, [0-9]*:[0-9][0-9] left.\\[K\$" "$work/last"
+# also where the front of it is read first, or no picture is written; not where the pieces before one are left out
+for words in '--format y4m' '--format null' '--format md5'; do
+    # shellcheck disable=SC2086
+    "$program" decode --progress $words "$moving" >"$work/written" 2>"$work/told"
+    tr '\r' '\n' <"$work/told" | tail -n 1 >"$work/last"
+    holds "all of a file was read by decode $words" grep -q '^pictures 10, refused 0.*, 100%.\[K$' "$work/last"
+done
+"$program" decode --progress --from 0 "$moving" >"$work/written" 2>"$work/told"
+tr '\r' '\n' <"$work/told" | tail -n 1 >"$work/last"
+grep -q '^pictures 10, refused 0' "$work/last" && ! grep -q '%' "$work/last"
+holds 'no part of a file from a piece on' [ $? = 0 ]
 refusing=$here/foreign/for_cabac_main
 "$program" decode --progress "$refusing.264" >"$work/pictures" 2>"$work/all"
 status=$?
