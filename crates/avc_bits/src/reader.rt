@@ -89,22 +89,24 @@ impl<'a> BitReader<'a> {
         self.left() > 0
     }
 
-    /// Whether surely 256 bits or more stand ahead. Where they do, a caller that asks first has each look and skip without a
-    /// test of its own.
+    /// Whether surely 256 bits or more stand ahead: it is where 264 do. Where they do, a caller that asks first has each look and
+    /// skip without a test of its own.
     #[tactic(auto, using(crate::proofs::Reading::reading))]
     #[inline(always)]
     pub fn has_many(&self) -> bool
-        ensures { IsTrue result → 256 ≤ length (reader_bits self.now).ahead }
+        ensures ahead { IsTrue result → 256 ≤ length (reader_bits self.now).ahead }
+        ensures found { 264 ≤ length (reader_bits self.now).ahead → IsTrue result }
     {
         self.is_far()
     }
 
-    /// Whether surely so many bytes stand ahead. A caller that asks once for several elements has them without a test of
-    /// each.
+    /// Whether surely so many bytes stand ahead: it is where one more does. A caller that asks once for several elements has them
+    /// without a test of each.
     #[tactic(auto, using(crate::proofs::Reading::reading))]
     #[inline(always)]
     pub fn has_bytes(&self, count: usize) -> bool
-        ensures { IsTrue result → 8 * count ≤ length (reader_bits self.now).ahead }
+        ensures ahead { IsTrue result → 8 * count ≤ length (reader_bits self.now).ahead }
+        ensures found { 8 * (count + 1) ≤ length (reader_bits self.now).ahead → IsTrue result }
     {
         self.has_more(count)
     }
@@ -506,7 +508,8 @@ impl<'a> BitReader<'a> {
     // whether the stop bit is so far ahead that no test against it is needed
     #[inline(always)]
     fn is_far(&self) -> bool
-        ensures { IsTrue result → self.now.byte + 33 ≤ self.now.stop_byte }
+        ensures far { IsTrue result → self.now.byte + 33 ≤ self.now.stop_byte }
+        ensures found { self.now.byte + 33 ≤ self.now.stop_byte → IsTrue result }
     {
         self.stop_byte - self.byte > 32
     }
@@ -514,7 +517,8 @@ impl<'a> BitReader<'a> {
     // whether the byte with the stop bit is more than so many bytes ahead
     #[inline(always)]
     fn has_more(&self, count: usize) -> bool
-        ensures { IsTrue result → self.now.byte + count + 1 ≤ self.now.stop_byte }
+        ensures more { IsTrue result → self.now.byte + count + 1 ≤ self.now.stop_byte }
+        ensures found { self.now.byte + count + 1 ≤ self.now.stop_byte → IsTrue result }
     {
         self.stop_byte - self.byte > count
     }

@@ -5,7 +5,7 @@ use Rattle.avc_cavlc.proofs.level.read_level.Goals as goal
 
 read : (c : goal.After-skip_ahead) → Reads7 c.args.stage c.short_level-short.result (reader_bits c.args.reader.now)
 read c =
-    entry_reads c.args.stage c.peek.result c.short_level-short.result (reader_bits c.args.reader.now) (omega (arith, c.if-has_many.ensures)) c.peek.ensures.bits c.short_level-short.ensures (omega arith)
+    entry_reads c.args.stage c.peek.result c.short_level-short.result (reader_bits c.args.reader.now) (omega (arith, c.if-has_many.ensures.ahead)) c.peek.ensures.bits c.short_level-short.ensures (omega arith)
 
 size : (c : goal.After-skip_ahead) → IsLevel c.short_level-short.result.value
 size c =
