@@ -1,6 +1,6 @@
 -- How frames are marked for reference (8.2.5), and gaps in frame_num (8.2.5.2), from the history. A history is written
 -- with its newest entry first.
-use Rattle.std.specs.Prelude.{ℕ, zero, suc, ◌+◌, ◌-◌, ◌%◌, pos, ◌-ℤ◌, Bool, true, false, not, ◌==◌, ◌&&◌, ◌||◌, nat_lt, nat_le, max, if◌then◌else◌, List, [], ◌∷◌, ◌++◌, length, map, Option, Some, None, is_some, slice_get, Result, Ok, Err}
+use Rattle.std.specs.Prelude.{◌≡◌, ℕ, zero, suc, ◌+◌, ◌-◌, ◌%◌, ◌<◌, pos, ◌-ℤ◌, Bool, true, false, not, ◌==◌, ◌&&◌, ◌||◌, nat_lt, nat_le, max, if◌then◌else◌, List, [], ◌∷◌, ◌++◌, length, map, Option, Some, None, is_some, slice_get, Result, Ok, Err}
 use Rattle.std.specs.List.{filter, list_any}
 use Rattle.avc_types.specs.declared.current_frame_num.CurrentFrameNum.{CurrentFrameNum}
 use Rattle.avc_types.specs.declared.fault.Fault.{Fault}
@@ -262,6 +262,12 @@ prev_ref_frame_num (s ∷ older) = elim (is_some s.marking) [ true ↦ frame_num
 abbrev pub frame_nums_from : (max a n : ℕ) → List ℕ
 frame_nums_from max a zero = []
 frame_nums_from max a (suc n) = a % max ∷ frame_nums_from max (a + 1) n
+
+-- There are such numbers, and they are counted modulo max from this one on.
+pub record AreCountedFrom (max number : ℕ) (numbers : List ℕ) : Type 0 where
+  pub below : number < max
+  pub some : 0 < length numbers
+  pub numbers_are : numbers ≡ frame_nums_from max number (length numbers)
 
 -- how many numbers stand between PrevRefFrameNum and frame_num, modulo MaxFrameNum (7.4.3)
 abbrev pub gap_of : (previous : ℕ) → CurrentFrameNum → ℕ

@@ -1,7 +1,7 @@
 //! Missing frame numbers (7.4.3, 8.2.5.2).
 
-ghost use Rattle.std.specs.Prelude.{◌≡◌, ◌+◌, ◌%◌, [], ◌<◌, ◌≤◌, drop, length, slice_get, IfSome};
-ghost use Rattle.avc_marking.specs.Marks.{frame_nums_from, missing_frame_nums};
+ghost use Rattle.std.specs.Prelude.{◌≡◌, ℕ, ◌+◌, ◌%◌, [], ◌<◌, ◌≤◌, true, drop, length, slice_get, IfSome, Some};
+ghost use Rattle.avc_marking.specs.Marks.{frame_nums_from, missing_frame_nums, AreCountedFrom};
 ghost use Rattle.avc_marking.specs.Frames.{marking_entry};
 
 use crate::frame::NewFrame;
@@ -19,6 +19,20 @@ fn next_frame_num(number: u32, max_frame_num: u32) -> u32
     } else {
         number + 1
     }
+}
+
+/// Whether so many numbers from `first` on are the same modulo both.
+#[tactic(auto, using(crate::proofs::KeptFrames::numbers_low, crate::proofs::KeptFrames::alike))]
+fn are_alike(first: u32, count: u32, max_frame_num: u32, other: u32) -> bool
+    requires { first < max_frame_num }
+    ensures same { result ≡ true → frame_nums_from max_frame_num first count ≡ frame_nums_from other first count }
+    ensures found { (number : ℕ) → number < other → 0 < count →
+        frame_nums_from max_frame_num first count ≡ frame_nums_from other number count → result ≡ true }
+{
+    if max_frame_num == other {
+        return true;
+    }
+    u64::from(first) + u64::from(count) <= u64::from(max_frame_num.min(other))
 }
 
 /// Missing frame numbers, in order. A contract sees them as their list.
@@ -72,12 +86,13 @@ impl MissingFrameNums {
         self.left
     }
 
-    /// The first of them, where they are counted modulo this MaxFrameNum.
-    #[tactic(auto, using(crate::proofs::KeptFrames::length_numbers))]
+    /// The first of them, if there is one, where they are counted modulo this MaxFrameNum.
+    #[tactic(auto, using(crate::proofs::KeptFrames::length_numbers, crate::proofs::KeptFrames::numbers_begin))]
     pub fn first(&self, max_frame_num: u32) -> Option<u32>
-        ensures { IfSome result (λ number. self.now ≡ frame_nums_from max_frame_num number (length self.now)) }
+        ensures numbers { IfSome result (λ number. self.now ≡ frame_nums_from max_frame_num number (length self.now)) }
+        ensures found { (number : ℕ) → AreCountedFrom max_frame_num number self.now → result ≡ Some number }
     {
-        if self.left == 0 || self.max_frame_num != max_frame_num {
+        if self.left == 0 || !are_alike(self.next, self.left, self.max_frame_num, max_frame_num) {
             return None;
         }
         Some(self.next)

@@ -178,6 +178,65 @@ pub numbers_next : (max next after left : ℕ) → next < max → 0 < left → a
     frame_nums_from max next left ≡ next ∷ frame_nums_from max after (left - 1)
 numbers_next max next after left below more moved = grind (arith, mod-eq_of_lt, numbers-mod)
 
+-- ---- numbers that are the same modulo two
+
+numbers_at : (m n a i : ℕ) → i < n → slice_index_or (frame_nums_from m a n) i 0 ≡ (a + i) % m
+numbers_at m zero a i few = absurd (omega (arith, few))
+numbers_at m (suc n) a zero few = ap (λ k. k % m) (omega arith)
+numbers_at m (suc n) a (suc i) few = numbers_at m n (a + 1) i (omega (arith, few)) ∙ ap (λ k. k % m) (omega arith)
+
+-- no number comes to either
+pub numbers_low : (m n k a : ℕ) → a + k ≤ m → a + k ≤ n → frame_nums_from m a k ≡ frame_nums_from n a k
+numbers_low m n zero a low low' = refl
+numbers_low m n (suc k) a low low' =
+    let first : a % m ≡ a % n = mod-eq_of_lt (omega (arith, low)) ∙ sym (mod-eq_of_lt (omega (arith, low'))) in
+    rw (first, numbers_low m n k (a + 1) (omega (arith, low)) (omega (arith, low'))) refl
+
+-- each stands modulo both at its place
+same_at : (m n k a b i : ℕ) → frame_nums_from m a k ≡ frame_nums_from n b k → i < k → (a + i) % m ≡ (b + i) % n
+same_at m n k a b i same few =
+    sym (numbers_at m k a i few) ∙ ap (λ xs. slice_index_or xs i 0) same ∙ numbers_at n k b i few
+
+-- they begin with the same one
+pub numbers_begin : (m n k a b : ℕ) → a < m → b < n → 0 < k → frame_nums_from m a k ≡ frame_nums_from n b k → a ≡ b
+numbers_begin m n k a b below below' some same =
+    let low : a + 0 < m = omega (arith, below) in
+    let low' : b + 0 < n = omega (arith, below') in
+    let e : a + 0 ≡ b + 0 = sym (mod-eq_of_lt low) ∙ same_at m n k a b 0 same some ∙ mod-eq_of_lt low' in
+    omega (arith, e)
+
+-- where they come round modulo one, the other is the same
+pub numbers_round : (m n k a : ℕ) → a < m → a < n → m < a + k → frame_nums_from m a k ≡ frame_nums_from n a k → m ≡ n
+numbers_round m n k a below below' round same =
+    let here : a + (m - a) ≡ m = omega (arith, below) in
+    let before : a + (m - a - 1) ≡ m - 1 = omega (arith, below) in
+    let once : m ≡ 1 * m + 0 = omega arith in
+    let none : m % m ≡ 0 = ap (λ x. x % m) once ∙ mod-mul-add 1 m 0 (omega (arith, below)) in
+    let zero_there : m % n ≡ 0 =
+    sym (ap (λ x. x % n) here) ∙ sym (same_at m n k a a (m - a) same (omega (arith, below, round))) ∙ ap (λ x. x % m) here ∙ none in
+    let last : (m - 1) % n ≡ m - 1 =
+    sym (ap (λ x. x % n) before) ∙ sym (same_at m n k a a (m - a - 1) same (omega (arith, below, round))) ∙ ap (λ x. x % m) before
+    ∙ mod-eq_of_lt (omega (arith, below)) in
+    let low : (m - 1) % n < n = mod_below (m - 1) n (omega (arith, below')) in
+    elim (cases_lt m n) [
+      | inl less ↦ absurd (omega (arith, below, zero_there, mod-eq_of_lt less))
+      | inr more ↦ omega (arith, low, last, more, below)
+    ]
+
+-- so they are counted modulo one and the same, or come to neither
+pub alike : (m n k a b : ℕ) → a < m → b < n → 0 < k → frame_nums_from m a k ≡ frame_nums_from n b k → (m ≡ n) ⊎ ((a + k ≤ m) × (a + k ≤ n))
+alike m n k a b below below' some same =
+    let e = numbers_begin m n k a b below below' some same in
+    let low : a < n = omega (arith, e, below') in
+    let here : frame_nums_from m a k ≡ frame_nums_from n a k = same ∙ ap (λ x. frame_nums_from n x k) (sym e) in
+    elim (cases_lt m (a + k)) [
+      | inl round ↦ inl (numbers_round m n k a below low round here)
+      | inr within ↦ elim (cases_lt n (a + k)) [
+        | inl round ↦ inl (sym (numbers_round n m k a low below round (sym here)))
+        | inr within' ↦ inr (within, within')
+      ]
+    ]
+
 pub ruleset gap_numbers = (nat_tests, length_numbers, numbers-mod, numbers_skipped)
 
 -- ---- how many reference frames there are, and which goes first from the sliding window

@@ -5,7 +5,7 @@ use Rattle.avc_decoder_core.proofs.opening.count_missing.Goals as goal
 pub returns-then-first-max_frame_num : goal.returns-then-first-max_frame_num
 returns-then-first-max_frame_num c history e =
     counted_at_once c.args.sps.now c.args.numbers c.max_frame_num-max_frame_num.result c.in-Some.first c.len.result c.missing_from.new.self history
-    c.max_frame_num-max_frame_num.ensures c.len.ensures c.in-Some.ensures (c.missing_from.ensures (pasts history) e)
+    c.max_frame_num-max_frame_num.ensures c.len.ensures c.in-Some.ensures.numbers (c.missing_from.ensures (pasts history) e)
 
 pub loop-frame_num-preserved : goal.loop-frame_num-preserved
 loop-frame_num-preserved c history e =

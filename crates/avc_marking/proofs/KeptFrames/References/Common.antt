@@ -2,7 +2,7 @@
 pub use Rattle.std.proofs.Common.{◌≡◌, ℕ, zero, suc, ◌<◌, Bool, not, List, [], ◌∷◌, ◌++◌, length, map, refl, ap, arith, append-nil, ◌+◌, true, false, Option}
 pub use Rattle.std.proofs.Common.{Some, Ok, ◌&&◌, length-append, None, ◌-◌, ◌≤◌, ◌%◌, drop, slice_get, sym, ◌∙◌, nat_lt, inl, inr, ◌||◌, All, Result, Err, take, rules}
 pub use Rattle.std.proofs.Math.Nat.{mod-mod, mod-add-mod, mod-eq_of_lt, mod-lt, div-add-mod, add-mod_right}
-pub use Rattle.std.proofs.lemmas.Bool.{and_parts, eq-eqb, ne_eqb, or_left, or_right}
+pub use Rattle.std.proofs.lemmas.Bool.{and_parts, cases_lt, eq-eqb, ne_eqb, or_left, or_right}
 pub use Rattle.std.proofs.lemmas.Bool.Decides.{nat_tests}
 pub use Rattle.std.proofs.lemmas.Int.{ints}
 pub use Rattle.std.proofs.lemmas.List.{drop_all, take_all, get_or_append_left, length-set, get_or_at}
@@ -10,7 +10,7 @@ pub use Rattle.std.proofs.lemmas.List.Elements.{filter-append, All-head, All-tai
 pub use Rattle.std.proofs.lemmas.List.Folds.{list_any-append}
 pub use Rattle.std.proofs.lemmas.List.Kept.{AllPairs-from_increasing}
 pub use Rattle.std.proofs.lemmas.List.Sums.{length-filter, count_by-le-length}
-pub use Rattle.std.proofs.lemmas.Nat.{mod-mul-add}
+pub use Rattle.std.proofs.lemmas.Nat.{mod-mul-add, mod_below}
 pub use Rattle.std.proofs.lemmas.Result.{err_from_is_err_and}
 pub use Rattle.std.specs.List.{filter, refill, list_any}
 pub use Rattle.std.specs.List.Sorted.{IsStrictlyIncreasing}

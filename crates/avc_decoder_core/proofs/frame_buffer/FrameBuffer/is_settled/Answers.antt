@@ -20,7 +20,7 @@ returns c = λ settles.
     let room : length i.dpb.frames ≤ c.dpb_size.result = omega arith in
     subst (λ v. IsLongGap v.output sps v.history numbers) c.self.view_is
     (long_gap h i.dpb i.max_long_term_frame_idx i.prev_ref_frame_num state sps numbers c.in-Some.number shorts first low c.count.result
-    (c.in-Some.ensures ∙ ap (λ m. frame_nums_from m c.in-Some.number (length numbers)) c.max_frame_num.ensures)
+    (c.in-Some.ensures.numbers ∙ ap (λ m. frame_nums_from m c.in-Some.number (length numbers)) c.max_frame_num.ensures)
     (omega arith)
     (let z : first + shorts ≡ length i.dpb.frames = omega arith in z)
     (omega arith)
