@@ -18,7 +18,7 @@ use Rattle.avc_motion.specs.declared.neighbouring.NeighbouringPartitions.{Neighb
 use Rattle.avc_neigh.specs.Blocks.{block_x, block_y, location_at}
 use Rattle.avc_neigh.specs.Nearby.{nearby}
 use Rattle.avc_neigh.specs.Around.{Around}
-use Rattle.avc_neigh.specs.BlockNear.{MotionIsAround}
+use Rattle.avc_neigh.specs.BlockNear.{MotionIsAround, motion_near}
 
 -- the vector of a neighbour without one, and of a macroblock that stands still (8.4.1.1, 8.4.1.3.2)
 abbrev pub zero_vector : Mv
@@ -159,6 +159,12 @@ motion_by near (i_nxn modes chroma residual) = replicate 16 intra
 motion_by near (i_16x16 mode chroma residual) = replicate 16 intra
 motion_by near p_skip = replicate 16 (inter 0 (skip_vector (neighbours_of near no_motion 0 0 16)))
 motion_by near (p_inter shape ref_idx mvd residual) = motion_of_parts near shape ref_idx no_motion (parts_of shape) mvd
+
+-- A or B alone makes a skipped macroblock with these neighbours stand still (8.4.1.1).
+abbrev pub is_held : Around → Bool
+is_held n =
+    let around = neighbours_of (motion_near n) no_motion 0 0 16 in
+    is_still around.a || is_still around.b
 
 -- those of macroblock a (8.4.1)
 abbrev pub motion_of : Coded → List (List Motion) → ℕ → MbSyntax → List Motion

@@ -9,7 +9,7 @@ ghost use Rattle.avc_neigh.specs.BlockNear.{motion_near};
 ghost use Rattle.avc_neigh.specs.declared.neighbour_info.Motion.TheVariants.{Absent as absent};
 ghost use Rattle.avc_motion.specs.Motion.{AreOfOneMotion, HasMotion, HasVectors, is_in_range, motion_by, vector_of as motion_vector};
 ghost use Rattle.avc_motion.specs.Motion.{has_one_motion as has_one_motion_by, is_one_partition as is_one_partition_by};
-ghost use Rattle.avc_motion.specs.Motion.{neighbours_of, skip_vector, still_blocks, zero_vector};
+ghost use Rattle.avc_motion.specs.Motion.{is_held, neighbours_of, skip_vector, still_blocks, zero_vector};
 ghost use Rattle.avc_motion.specs.Decoding.{blocks_or_fault, decoded_whole, HasFourQuarters};
 
 use crate::neighbouring::{NeighbouringPartitions, above, left_of};
@@ -50,7 +50,8 @@ fn set_all(blocks: &mut [Motion; 16], motion: Motion)
 
 /// A skipped macroblock does not move by what A and B have alone (8.4.1.1).
 fn is_held(neighbours: &Neighbours<'_>) -> bool
-    ensures { result ≡ true → skip_vector (neighbours_of (motion_near (info_of neighbours.now)) (replicate 16 absent) 0 0 16) ≡ zero_vector }
+    ensures still { result ≡ true → skip_vector (neighbours_of (motion_near (info_of neighbours.now)) (replicate 16 absent) 0 0 16) ≡ zero_vector }
+    ensures exact { result ≡ is_held (info_of neighbours.now) }
 {
     let mine = [Motion::Absent; 16];
     is_still(left_of(neighbours, &mine, 0, 0)) || is_still(above(neighbours, &mine, 0, 0))
@@ -59,7 +60,8 @@ fn is_held(neighbours: &Neighbours<'_>) -> bool
 /// Whether a skipped macroblock with these neighbours stands still by what A and B have alone (8.4.1.1).
 #[inline]
 pub fn stands_still(neighbours: &Neighbours<'_>) -> bool
-    ensures { result ≡ true → HasMotion (info_of neighbours.now) p_skip (Ok still_blocks) }
+    ensures motion { result ≡ true → HasMotion (info_of neighbours.now) p_skip (Ok still_blocks) }
+    ensures exact { result ≡ is_held (info_of neighbours.now) }
 {
     is_held(neighbours)
 }
