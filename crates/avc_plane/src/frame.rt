@@ -5,6 +5,7 @@ ghost use Rattle.avc_plane.specs.Plane.{HasSamples};
 ghost use Rattle.avc_plane.specs.Planes.{empty_planes, HaveAllSamples};
 ghost use Rattle.avc_plane.specs.Closed.{planes_of, padded_planes_of};
 ghost use Rattle.avc_plane.specs.Frames.{marked_frame, AreSized};
+ghost use Rattle.avc_plane.specs.Spare.{is_sized};
 
 use crate::padded::PaddedPlane;
 use crate::plane::Plane;
@@ -40,7 +41,9 @@ impl<const PAD: usize> Planes<PAD> {
     pub(crate) fn has_size(&self, width: usize, height: usize) -> bool
         requires narrow { 16 * width + 2 * PAD < 2 ^ 31 }
         requires low { 16 * height + 2 * PAD < 2 ^ 31 }
-        ensures { result ≡ true → AreSized width height (planes_of self.now) }
+        ensures sized { result ≡ true → AreSized width height (planes_of self.now) }
+        ensures found { AreSized width height (planes_of self.now) → result ≡ true }
+        ensures exact { result ≡ is_sized width height (planes_of self.now) }
     {
         self.luma.has_size(16 * width, 16 * height)
             && self.cb.has_size(8 * width, 8 * height)

@@ -22,7 +22,7 @@ pub use output::OutputPicture;
 pub use padded::PaddedPlane;
 pub use picture_rows::PictureRows;
 pub use plane::{Plane, RowsPlace};
-pub use shared::{SharedPicture, SharedPlanes};
+pub use shared::{EmptiedPlanes, SharedPicture, SharedPlanes};
 pub use spare::SparePlanes;
 
 /// How many samples a stored frame has on each side of each plane, copies of the nearest ones: a prediction that leads no further is

@@ -79,6 +79,37 @@ impl<const PAD: usize> SharedPlanes<PAD> {
     }
 }
 
+/// The closed planes of a frame that has left the buffer. Who has them can't drop them: they go to `SparePlanes::put`, which keeps
+/// them for later pictures.
+pub struct EmptiedPlanes<const PAD: usize> {
+    planes: SharedPlanes<PAD>,
+}
+
+impl<const PAD: usize> Model for EmptiedPlanes<PAD> {
+    ghost use Rattle.avc_plane.specs.Planes.{Planes};
+
+    ghost Value = { Planes };
+
+    ghost view = { λ e. e.planes };
+}
+
+impl<const PAD: usize> EmptiedPlanes<PAD> {
+    /// These planes, of a frame that has left.
+    pub fn new(planes: SharedPlanes<PAD>) -> Self
+        ensures { result ≡ planes.entry }
+    {
+        EmptiedPlanes { planes }
+    }
+
+    /// The planes, to be kept.
+    pub(crate) fn into_shared(self) -> SharedPlanes<PAD>
+        ensures { result ≡ self.entry }
+    {
+        let EmptiedPlanes { planes } = self;
+        planes
+    }
+}
+
 /// A decoded picture whose planes others may hold too. A contract sees it as the `Picture` that it is.
 #[derive(Drop)]
 pub struct SharedPicture {
