@@ -52,6 +52,20 @@ inter_strength p kp q kq =
     else (if not (slice_index p.pictures (kp / 4) == slice_index q.pictures (kq / 4))
     || are_far (slice_index_or p.vectors kp zero_vector) (slice_index_or q.vectors kq zero_vector) then 1 else 0)
 
+-- Two blocks without coefficients have one picture and one vector.
+pub record HaveOneMotion (p : MbInfo) (kp : ℕ) (q : MbInfo) (kq : ℕ) : Type 0 where
+  pub no_p_levels : has_bit p.coefficients kp ≡ false
+  pub no_q_levels : has_bit q.coefficients kq ≡ false
+  pub picture : slice_index p.pictures (kp / 4) ≡ slice_index q.pictures (kq / 4)
+  pub vector : slice_index_or p.vectors kp zero_vector ≡ slice_index_or q.vectors kq zero_vector
+
+-- an inter macroblock of one motion without coefficients
+pub record IsStill (f : MbInfo) : Type 0 where
+  pub inter : f.is_intra ≡ false
+  pub no_levels : f.coefficients ≡ 0
+  pub pictures_are : (k : ℕ) → k < 4 → slice_index f.pictures k ≡ slice_index f.pictures 0
+  pub vectors_are : (k : ℕ) → k < 16 → slice_index_or f.vectors k zero_vector ≡ slice_index_or f.vectors 0 zero_vector
+
 -- The luma block on the q side of edge n of a macroblock in the k-th quarter of the edge. The edges of a macroblock are numbered from 0,
 -- four luma samples apart.
 abbrev pub edge_block : Bool → (n k : ℕ) → ℕ

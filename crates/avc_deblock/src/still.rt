@@ -2,7 +2,7 @@
 
 ghost use Rattle.std.specs.Prelude.{◌≡◌, ℕ, ◌+◌, ◌%◌, ◌<◌, slice_index, slice_index_or, true, false};
 ghost use Rattle.avc_motion.specs.Motion.{zero_vector};
-ghost use Rattle.avc_deblock.specs.FilterInfo.{edge_block, inter_strength};
+ghost use Rattle.avc_deblock.specs.FilterInfo.{edge_block, inter_strength, HaveOneMotion, IsStill};
 ghost use Rattle.avc_deblock.specs.ByInfo.{strength_of};
 
 use crate::edge_strengths::edge_block;
@@ -12,7 +12,8 @@ use crate::mb_info::MbInfo;
 impl MbInfo {
     #[inline(always)]
     fn has_one_picture(&self) -> bool
-        ensures { result ≡ true → (k : ℕ) → k < 4 → slice_index self.now.pictures k ≡ slice_index self.now.pictures 0 }
+        ensures one { result ≡ true → (k : ℕ) → k < 4 → slice_index self.now.pictures k ≡ slice_index self.now.pictures 0 }
+        ensures found { ((k : ℕ) → k < 4 → slice_index self.now.pictures k ≡ slice_index self.now.pictures 0) → result ≡ true }
     {
         let mut same = true;
         for k in 0..4 {
@@ -23,8 +24,10 @@ impl MbInfo {
 
     #[inline(always)]
     fn has_one_vector(&self) -> bool
-        ensures { result ≡ true → (k : ℕ) → k < 16 →
+        ensures one { result ≡ true → (k : ℕ) → k < 16 →
             slice_index_or self.now.vectors k zero_vector ≡ slice_index_or self.now.vectors 0 zero_vector }
+        ensures found { ((k : ℕ) → k < 16 →
+            slice_index_or self.now.vectors k zero_vector ≡ slice_index_or self.now.vectors 0 zero_vector) → result ≡ true }
     {
         let mut same = true;
         for k in 0..16 {
@@ -42,6 +45,7 @@ impl MbInfo {
     pub(crate) fn is_still(&self) -> bool
         ensures inter { result ≡ true → self.now.is_intra ≡ false }
         ensures strengths { result ≡ true → (j k : ℕ) → j < 16 → k < 16 → inter_strength self.now j self.now k ≡ 0 }
+        ensures found { IsStill self.now → result ≡ true }
     {
         if self.is_intra || self.coefficients != 0 {
             return false;
@@ -56,7 +60,8 @@ impl MbInfo {
     fn moves_as(&self, block: usize, q: &MbInfo, q_block: usize) -> bool
         requires p { block < 16 }
         requires q { q_block < 16 }
-        ensures { result ≡ true → inter_strength self.now block q.now q_block ≡ 0 }
+        ensures strength { result ≡ true → inter_strength self.now block q.now q_block ≡ 0 }
+        ensures found { HaveOneMotion self.now block q.now q_block → result ≡ true }
     {
         let (u, v) = (self.vectors[block], q.vectors[q_block]);
         let same_vector = both(u.x == v.x, u.y == v.y);
@@ -70,8 +75,10 @@ impl MbInfo {
     #[inline(always)]
     pub(crate) fn is_quiet(&self, q: &MbInfo, is_vertical: bool, n: usize) -> bool
         requires { n < 4 }
-        ensures { result ≡ true → (k : ℕ) → k < 4 →
+        ensures strengths { result ≡ true → (k : ℕ) → k < 4 →
             inter_strength self.now (edge_block is_vertical ((n + 3) % 4) k) q.now (edge_block is_vertical n k) ≡ 0 }
+        ensures found { ((k : ℕ) → k < 4 →
+            HaveOneMotion self.now (edge_block is_vertical ((n + 3) % 4) k) q.now (edge_block is_vertical n k)) → result ≡ true }
     {
         let mut quiet = true;
         for k in 0..4 {
@@ -89,6 +96,8 @@ impl MbInfo {
     #[inline(always)]
     pub(crate) fn has_coefficients_beside(&self, q: &MbInfo, is_vertical: bool, n: usize) -> bool
         requires { n < 4 }
+        ensures { ((k : ℕ) → k < 4 →
+            HaveOneMotion self.now (edge_block is_vertical ((n + 3) % 4) k) q.now (edge_block is_vertical n k)) → result ≡ false }
     {
         let mut any = false;
         for k in 0..4 {
@@ -102,7 +111,9 @@ impl MbInfo {
     /// The strengths along the edge from `self` to `q`, which is another macroblock without coefficients, are 0, as one look tells.
     #[inline(always)]
     pub(crate) fn meets_quietly(&self, q: &MbInfo, is_vertical: bool) -> bool
-        ensures { result ≡ true → (k : ℕ) → k < 4 → strength_of self.now q.now is_vertical 0 k ≡ 0 }
+        ensures strengths { result ≡ true → (k : ℕ) → k < 4 → strength_of self.now q.now is_vertical 0 k ≡ 0 }
+        ensures found { self.now.is_intra ≡ false → q.now.is_intra ≡ false → q.now.coefficients ≡ 0 →
+            ((k : ℕ) → k < 4 → HaveOneMotion self.now (edge_block is_vertical 3 k) q.now (edge_block is_vertical 0 k)) → result ≡ true }
     {
         if self.is_intra | q.is_intra | (q.coefficients != 0) {
             return false;
