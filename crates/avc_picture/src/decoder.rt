@@ -1,6 +1,6 @@
 //! The decoder of one picture: its slices, one after another, and its end.
 
-ghost use Rattle.std.specs.Prelude.{◌≡◌, ◌==◌, ◌^◌, ◌<◌, ◌≤◌, ◌*◌, IfOk};
+ghost use Rattle.std.specs.Prelude.{◌≡◌, ◌==◌, ◌^◌, ◌<◌, ◌≤◌, ◌*◌, IfOk, IsOk};
 ghost use Rattle.avc_params.specs.Limits.{height_in_mbs, size_in_mbs, width_in_mbs};
 ghost use Rattle.avc_params.specs.Within.{IsPps, IsSps};
 ghost use Rattle.avc_slice.specs.Within.{IsHeader};
@@ -8,6 +8,7 @@ ghost use Rattle.avc_plane.specs.Frames.{padded_planes_of, AreSized};
 ghost use Rattle.avc_picture_core.specs.Built.{size_of};
 ghost use Rattle.avc_picture.specs.Decoding.{no_slice_yet, AreFramesOf, HasNoFault, HasRead, IsFinishAnswer, IsFull, IsSliceAnswer};
 ghost use Rattle.avc_picture.specs.DecoderState.{number_after};
+ghost use Rattle.avc_picture.specs.Memory.{HasMemoryFor, KeepsMemory, KeepsPicture};
 ghost use Rattle.avc_picture.specs.OpenPicture.{HasFiltered, HasSample, IsCovered};
 
 use crate::macroblocks::Macroblocks;
@@ -59,7 +60,8 @@ fn number_after(number: u32, before: u32, after: u32) -> u32
 }
 
 impl<const PAD: usize> PictureDecoder<PAD> {
-    /// A picture with these parameter sets, and no slice yet. `frames` are those of the buffer in decoding order.
+    /// A picture with these parameter sets, and no slice yet. `frames` are those of the buffer in decoding order. It asks for no memory
+    /// where all that a picture of this size is decoded in is left over.
     pub fn begin(
         alloc: Global,
         sps: &Sps,
@@ -71,7 +73,8 @@ impl<const PAD: usize> PictureDecoder<PAD> {
         requires sps { IsSps sps.now }
         requires pps { IsPps pps.now }
         requires frames { AreFramesOf sps.now frames.now }
-        ensures { IfOk result (λ d. d ≡ no_slice_yet sps.now pps.now frames.now) }
+        ensures begun { IfOk result (λ d. d ≡ no_slice_yet sps.now pps.now frames.now) }
+        ensures memory { HasMemoryFor (width_in_mbs sps.now) (height_in_mbs sps.now) memory.old → IsOk result }
     {
         let macroblocks = Macroblocks::new(alloc, sps, pps, memory)?;
         Ok(PictureDecoder {
@@ -160,6 +163,7 @@ impl<const PAD: usize> PictureDecoder<PAD> {
     pub fn finish(self, memory: &mut PictureMemory<PAD>) -> Result<PaddedPlanes<PAD>, PictureError>
         ensures answer { IsFinishAnswer self.entry result }
         ensures sized { IfOk result (λ planes. AreSized (width_in_mbs self.entry.sps) (height_in_mbs self.entry.sps) (padded_planes_of planes)) }
+        ensures memory { KeepsMemory (width_in_mbs self.entry.sps) (height_in_mbs self.entry.sps) memory.old result memory.new }
     {
         if let Some(fault) = self.fault {
             self.macroblocks.discard(memory);
@@ -173,7 +177,9 @@ impl<const PAD: usize> PictureDecoder<PAD> {
     }
 
     /// Gives the memory of a picture back that is refused.
-    pub fn discard(self, memory: &mut PictureMemory<PAD>) {
+    pub fn discard(self, memory: &mut PictureMemory<PAD>)
+        ensures { KeepsPicture (width_in_mbs self.entry.sps) (height_in_mbs self.entry.sps) memory.old memory.new }
+    {
         self.macroblocks.discard(memory);
     }
 }

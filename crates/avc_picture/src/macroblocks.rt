@@ -1,6 +1,6 @@
 //! The macroblocks of a picture, decoded one after another (8.3 to 8.7).
 
-ghost use Rattle.std.specs.Prelude.{◌≡◌, ℕ, suc, ◌*◌, ◌+◌, ◌^◌, ◌<◌, ◌≤◌, length, take, Some, None, slice_get, IfOk, OnOk};
+ghost use Rattle.std.specs.Prelude.{◌≡◌, ℕ, suc, ◌*◌, ◌+◌, ◌^◌, ◌<◌, ◌≤◌, length, take, Some, None, slice_get, IfOk, IsOk, OnOk};
 ghost use Rattle.std.specs.Option.{option_copied, option_map};
 ghost use Rattle.avc_types.specs.Pictures.{Coded};
 ghost use Rattle.avc_params.specs.Limits.{height_in_mbs, width_in_mbs};
@@ -16,6 +16,7 @@ ghost use Rattle.avc_picture_core.specs.References.{AreUsable};
 ghost use Rattle.avc_picture.specs.Decoded.{deblocked};
 ghost use Rattle.avc_picture.specs.FirstMbs.{HasSameSize, HasSets, HoldsFirst, IsDecoded, IsSlice};
 ghost use Rattle.avc_picture.specs.MacroblockInfo.{IsRead};
+ghost use Rattle.avc_picture.specs.Memory.{with_info, HasMemoryFor, KeepsPicture};
 ghost use Rattle.avc_picture.specs.RowLate.{covering_address, row_late};
 
 use crate::current_info::CurrentInfo;
@@ -108,6 +109,7 @@ impl<const PAD: usize> Macroblocks<PAD> {
         ensures next { IfOk result (λ m. m.next ≡ 0) }
         ensures width { IfOk result (λ m. m.canvas.width ≡ width_in_mbs sps.now) }
         ensures height { IfOk result (λ m. m.canvas.height ≡ height_in_mbs sps.now) }
+        ensures memory { HasMemoryFor (width_in_mbs sps.now) (height_in_mbs sps.now) memory.old → IsOk result }
     {
         let columns = sps.width_in_mbs();
         let width = columns as usize;
@@ -201,6 +203,7 @@ impl<const PAD: usize> Macroblocks<PAD> {
         ensures cr { HasSamples result.cr }
         ensures samples { (c : Coded) (names : Names) → HoldsFirst c names self.entry → self.entry.next ≡ length c.mbs
             → length c.mbs ≡ c.width * c.height → planes_of result ≡ deblocked c }
+        ensures memory { memory.new ≡ with_info self.entry.canvas.width memory.old }
     {
         let mut planes = self.planes;
         self.filter_rows
@@ -213,7 +216,9 @@ impl<const PAD: usize> Macroblocks<PAD> {
     }
 
     /// Gives the memory of a picture back that is refused.
-    pub(crate) fn discard(self, memory: &mut PictureMemory<PAD>) {
+    pub(crate) fn discard(self, memory: &mut PictureMemory<PAD>)
+        ensures { KeepsPicture self.entry.canvas.width self.entry.canvas.height memory.old memory.new }
+    {
         memory.keep_open(self.planes);
         memory.keep_info(FactRows {
             row: self.row,

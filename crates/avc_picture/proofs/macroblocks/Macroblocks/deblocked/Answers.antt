@@ -1,4 +1,5 @@
-use Rattle.avc_picture.proofs.Slices.{◌≡◌, ◌∙◌, ◌/◌, refl, sym, arith, rules, w8, to_z, of_z, planes_of, AreInfoOf, FiltersUpTo, filtered_rows, filtered_is}
+use Rattle.avc_picture.proofs.Slices.{◌≡◌, ◌∙◌, ◌/◌, ap, refl, sym, arith, rules, w8, to_z, of_z, planes_of, AreInfoOf, FiltersUpTo, filtered_rows, filtered_is}
+use Rattle.avc_picture.specs.Memory.{with_info}
 use Rattle.avc_picture.proofs.macroblocks.Macroblocks.deblocked.Goals as goal
 
 pub returns : goal.returns
@@ -20,4 +21,5 @@ returns g c =
           let lines : FiltersUpTo coded (filtered_rows coded.width i.next) (i.next / coded.width) before after =
           rw (width, w.kept.filter_count) at (c.filter_last_row.ensures.lines coded names of) in
           filtered_is holds w.kept last all before after refl lines);
+      memory = rw (← c.self.view_is) (c.keep_info.ensures ∙ ap (λ n. with_info n c.args.memory.now) w.kept.row_width);
     }

@@ -9,7 +9,7 @@ invariant_of-result g c =
     let offset = to_z w8 (of_z w8 (to_z w32 (of_z w32 c.args.pps.now.chroma_qp_index_offset))) in
     let size : w * h ≤ max_macroblocks = rw (c.width_in_mbs-columns.ensures, c.height_in_mbs-height.ensures) c.requires.sps.size in
     record {
-      sized = c.in_ok-planes.ensures;
+      sized = c.in_ok-planes.ensures.sized;
       filter_width = ap (λ (f : FilterInfo). f.width) c.in_ok-info.ensures.filter_rows;
       kept = rw (c.in_ok-info.ensures.row, c.in_ok-info.ensures.filter_rows)
           (kept_none w h offset c.args.pps.now.constrained_intra_pred_flag (planes_of c.in_ok-planes.planes) (omega (arith, c.width_in_mbs-columns.ensures))
@@ -24,7 +24,7 @@ returns-clause-holds g c = λ coded names sets.
     let p = c.requires.pps in
     let cast : to_z w8 (of_z w8 (to_z w32 (of_z w32 x))) ≡ x = omega (arith, ints, p.chroma_low, p.chroma_high) in
     let planes = planes_of c.in_ok-planes.planes in
-    let size = c.in_ok-planes.ensures in
+    let size = c.in_ok-planes.ensures.sized in
     let whole : IsSized w h planes = record {
       luma = whole_plane (16 * w) (16 * h) planes.luma size.luma_width size.luma_height c.holds_bytes.ensures.all;
       cb = whole_plane (8 * w) (8 * h) planes.cb size.cb_width size.cb_height c.holds_bytes-2.ensures.all;
