@@ -3,11 +3,13 @@ use Rattle.std.proofs.Common.{◌≡◌, ℕ, List, [], ◌∷◌, Bool, false, 
 use Rattle.serde_json.specs.Written.{has_float}
 use Rattle.avc_formats.specs.declared.ratio.Ratio.{Ratio}
 use Rattle.avc_params.specs.declared.vui.Colour.{Colour}
-use Rattle.avc_info.specs.Json.{clock_of, colour_data, count_if_given, facts_data, flag_data, ratio_data, refusal_data, sequence_if_given, sizes_data}
+use Rattle.avc_info.specs.Json.{clock_of, colour_data, count_if_given, facts_data, flag_data, ratio_data, refusal_data, sequence_if_given, set_head_data, sizes_data}
 use Rattle.avc_info.specs.Rates.{bit_rate, duration, rate_ratio}
 use Rattle.avc_info.specs.declared.sequence_facts.SequenceFacts.{SequenceFacts}
 use Rattle.avc_info.specs.declared.sequence_facts.Size.{Size}
 use Rattle.avc_info.specs.declared.stream_facts.Refusal.{Refusal}
+use Rattle.avc_info.specs.Text.{sequence_of}
+use Rattle.avc_info.specs.declared.stream_facts.SetHead.{SetHead}
 use Rattle.avc_info.specs.declared.stream_facts.StreamFacts.{StreamFacts}
 
 in_count : (n : Option ℕ) → has_float (count_if_given n) ≡ false
@@ -30,11 +32,12 @@ in_refusal : (r : Option Refusal) → has_float (refusal_data r) ≡ false
 in_refusal None = refl
 in_refusal (Some r) = refl
 
+in_set_head : (h : Option SetHead) → has_float (set_head_data h) ≡ false
+in_set_head None = refl
+in_set_head (Some h) = refl
+
 none_of_six : (a b c d e f : Bool) → a ≡ false → b ≡ false → c ≡ false → d ≡ false → e ≡ false → f ≡ false → (a || (b || (c || (d || (e || (f || false)))))) ≡ false
 none_of_six a b c d e f is_a is_b is_c is_d is_e is_f = rw (is_a, is_b, is_c, is_d, is_e, is_f) refl
-
-none_of_five : (a b c d e : Bool) → a ≡ false → b ≡ false → c ≡ false → d ≡ false → e ≡ false → (a || (b || (c || (d || (e || false))))) ≡ false
-none_of_five a b c d e is_a is_b is_c is_d is_e = rw (is_a, is_b, is_c, is_d, is_e) refl
 
 in_sizes : (sizes : List Size) → has_float (sizes_data sizes) ≡ false
 in_sizes [] = refl
@@ -50,7 +53,9 @@ in_sequence (Some s) =
 
 pub none_is_float : (f : StreamFacts) (bytes : ℕ) → has_float (facts_data f bytes) ≡ false
 none_is_float f bytes =
-    let bits = bit_rate (clock_of f.sequence) bytes f.counts.pictures in
-    let lasts = duration (clock_of f.sequence) f.counts.pictures in
-    none_of_five (has_float (count_if_given bits)) (has_float (count_if_given lasts)) (has_float (refusal_data f.first_refusal))
-    (has_float (sequence_if_given f.sequence)) (has_float (sizes_data f.sizes.first)) (in_count bits) (in_count lasts) (in_refusal f.first_refusal) (in_sequence f.sequence) (in_sizes f.sizes.first)
+    let said = sequence_of f in
+    let bits = bit_rate (clock_of said) bytes f.counts.pictures in
+    let lasts = duration (clock_of said) f.counts.pictures in
+    none_of_six (has_float (count_if_given bits)) (has_float (count_if_given lasts)) (has_float (refusal_data f.first_refusal))
+    (has_float (set_head_data f.refused_set)) (has_float (sequence_if_given said)) (has_float (sizes_data f.sizes.first))
+    (in_count bits) (in_count lasts) (in_refusal f.first_refusal) (in_set_head f.refused_set) (in_sequence said) (in_sizes f.sizes.first)

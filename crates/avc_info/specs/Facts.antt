@@ -144,7 +144,3 @@ after_refusal unit fault f = record f {
 -- with a sequence parameter set: what it says, or what it begins with where it is refused
 abbrev pub with_set : Option SequenceFacts → Option SetHead → StreamFacts → StreamFacts
 with_set said refused f = record f { first_set = first_of f.first_set said; refused_set = first_of f.refused_set refused }
-
--- what is said of the pictures: by the set of the first slice, or without a slice that is read by the first set
-abbrev pub sequence_of : StreamFacts → Option SequenceFacts
-sequence_of f = first_of f.sequence f.first_set

@@ -7,9 +7,8 @@ use Rattle.avc_types.specs.Faults.{number_of, name_of}
 use Rattle.avc_formats.specs.declared.ratio.Ratio.{Ratio}
 use Rattle.avc_params.specs.declared.vui.Colour.{Colour}
 use Rattle.avc_params.specs.declared.vui.Timing.{Timing}
-use Rattle.avc_info.specs.Facts.{sequence_of}
 use Rattle.avc_info.specs.Rates.{bit_rate, duration, rate_ratio}
-use Rattle.avc_info.specs.Text.{level_name, newline, profile_name}
+use Rattle.avc_info.specs.Text.{level_name, newline, profile_name, sequence_of}
 use Rattle.avc_info.specs.declared.sequence_facts.Crop.{Crop}
 use Rattle.avc_info.specs.declared.sequence_facts.SequenceFacts.{SequenceFacts}
 use Rattle.avc_info.specs.declared.sequence_facts.Size.{Size}

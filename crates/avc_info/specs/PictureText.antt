@@ -6,9 +6,8 @@ use Rattle.avc_formats.specs.declared.ratio.Ratio.{Ratio}
 use Rattle.avc_params.specs.declared.vui.Colour.{Colour}
 use Rattle.avc_params.specs.declared.vui.Timing.{Timing}
 use Rattle.avc_info.specs.Rates.{bit_rate, duration}
-use Rattle.avc_info.specs.Facts.{sequence_of}
 use Rattle.avc_info.specs.Sizes.{sizes_line}
-use Rattle.avc_info.specs.Text.{if_given, newline, stream_text, thousandths_if_given}
+use Rattle.avc_info.specs.Text.{if_given, newline, sequence_of, stream_text, thousandths_if_given}
 use Rattle.avc_info.specs.declared.sequence_facts.Crop.{Crop}
 use Rattle.avc_info.specs.declared.sequence_facts.SequenceFacts.{SequenceFacts}
 use Rattle.avc_info.specs.declared.sequence_facts.Size.{Size}

@@ -5,7 +5,6 @@ use Rattle.avc_types.specs.Faults.{number_of, name_of}
 use Rattle.avc_params.specs.declared.vui.Timing.{Timing}
 use Rattle.avc_info.specs.declared.sequence_facts.SequenceFacts.{SequenceFacts}
 use Rattle.avc_info.specs.declared.slice_counts.SliceCounts.{SliceCounts}
-use Rattle.avc_info.specs.Facts.{sequence_of}
 use Rattle.avc_info.specs.declared.stream_facts.Refusal.{Refusal}
 use Rattle.avc_info.specs.declared.stream_facts.SetHead.{SetHead}
 use Rattle.avc_info.specs.declared.stream_facts.StreamFacts.{StreamFacts}
@@ -126,6 +125,10 @@ refused_set_line None = []
 refused_set_line (Some h) =
     codes "refused sequence: profile " ++ decimal h.profile_idc ++ other_profile_name h.profile_idc
     ++ codes ", level " ++ decimal (h.level_idc / 10) ++ codes "." ++ decimal (h.level_idc % 10) ++ newline
+
+-- what is said of the pictures: by the set of the first slice, or without a slice that is read by the first set
+abbrev pub sequence_of : StreamFacts → Option SequenceFacts
+sequence_of f = elim f.sequence [ Some s ↦ Some s | None ↦ f.first_set ]
 
 -- the lines that say what a stream is
 abbrev pub stream_text : StreamFacts → List ℕ

@@ -4,8 +4,9 @@ ghost use Rattle.std.specs.Prelude.{◌≡◌};
 ghost use Rattle.std.specs.Option.{option_map};
 ghost use Rattle.avc_params.specs.Tables.{sets_after};
 ghost use Rattle.avc_units.specs.Bringing.{sps_under};
-ghost use Rattle.avc_info.specs.Facts.{after_refusal, after_slice, no_facts, said_by, sequence_of, with_set};
+ghost use Rattle.avc_info.specs.Facts.{after_refusal, after_slice, no_facts, said_by, with_set};
 ghost use Rattle.avc_info.specs.Sizes.{shown_size};
+ghost use Rattle.avc_info.specs.Text.{sequence_of};
 
 use crate::sequence_facts::{SequenceFacts, Size};
 use crate::sizes::Sizes;
