@@ -119,12 +119,18 @@ other_profile_name p =
     else (if p == 118 then codes " Multiview High"
     else (if p == 128 then codes " Stereo High" else []))))))))
 
--- the profile and the level of the first sequence parameter set that is refused
+-- the profile of a sequence parameter set that is refused
+abbrev pub refused_profile_text : SetHead → List ℕ
+refused_profile_text h = codes "refused sequence: profile " ++ decimal h.profile_idc ++ other_profile_name h.profile_idc
+
+-- its level
+abbrev pub refused_level_text : SetHead → List ℕ
+refused_level_text h = codes ", level " ++ decimal (h.level_idc / 10) ++ codes "." ++ decimal (h.level_idc % 10)
+
+-- both, of the first one
 abbrev pub refused_set_line : Option SetHead → List ℕ
 refused_set_line None = []
-refused_set_line (Some h) =
-    codes "refused sequence: profile " ++ decimal h.profile_idc ++ other_profile_name h.profile_idc
-    ++ codes ", level " ++ decimal (h.level_idc / 10) ++ codes "." ++ decimal (h.level_idc % 10) ++ newline
+refused_set_line (Some h) = refused_profile_text h ++ refused_level_text h ++ newline
 
 -- what is said of the pictures: by the set of the first slice, or without a slice that is read by the first set
 abbrev pub sequence_of : StreamFacts → Option SequenceFacts

@@ -31,7 +31,7 @@ pub(crate) fn note_unit(
 }
 
 fn note_brought(facts: &mut StreamFacts, reader: &HeaderReader, unit: u64, brought: Brought)
-    ensures { facts.new ≡ after_brought (sets_after reader.now) unit brought.entry facts.old }
+    ensures { facts.new ≡ after_brought (sets_after reader.now) unit brought facts.old }
 {
     match brought {
         Brought::Nothing => {}

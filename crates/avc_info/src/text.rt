@@ -4,7 +4,8 @@ ghost use Rattle.std.specs.Prelude.{◌≡◌, ◌++◌, IfOk, OnOk, codes, stri
 ghost use Rattle.avc_info.specs.PictureText.{info_text};
 ghost use Rattle.avc_info.specs.Text.{clock_text, counts_line, frame_rate, frames_line, if_given, is_level_1b};
 ghost use Rattle.avc_info.specs.Text.{level_name, level_text, profile_name, profile_text, rate_of};
-ghost use Rattle.avc_info.specs.Text.{newline, other_profile_name, references_text, refusal_text, refused_line, refused_set_line, refused_text};
+ghost use Rattle.avc_info.specs.Text.{newline, other_profile_name, references_text, refusal_text};
+ghost use Rattle.avc_info.specs.Text.{refused_level_text, refused_line, refused_profile_text, refused_set_line, refused_text};
 ghost use Rattle.avc_info.specs.Text.{sequence_text, shape_line, size_text, stream_text, thousandths, thousandths_if_given};
 
 use crate::picture_text::add_picture;
@@ -260,18 +261,31 @@ fn add_refused_set(text: &mut String, head: Option<SetHead>) -> Result<(), OutOf
 {
     match head {
         Some(head) => {
-            let profile = head.profile_idc;
-            let name = other_profile_name(profile);
-            let whole = head.level_idc / 10;
-            let tenth = head.level_idc % 10;
-            writeln!(
-                text,
-                "refused sequence: profile {profile}{name}, level {whole}.{tenth}"
-            )?;
+            add_refused_profile(text, head)?;
+            add_refused_level(text, head)?;
+            end_line(text)?;
             Ok(())
         }
         None => Ok(()),
     }
+}
+
+fn add_refused_profile(text: &mut String, head: SetHead) -> Result<(), OutOfMemory>
+    ensures { OnOk result (string_bytes text.new ≡ string_bytes text.old ++ refused_profile_text head) }
+{
+    let profile = head.profile_idc;
+    let name = other_profile_name(profile);
+    write!(text, "refused sequence: profile {profile}{name}")?;
+    Ok(())
+}
+
+fn add_refused_level(text: &mut String, head: SetHead) -> Result<(), OutOfMemory>
+    ensures { OnOk result (string_bytes text.new ≡ string_bytes text.old ++ refused_level_text head) }
+{
+    let whole = head.level_idc / 10;
+    let tenth = head.level_idc % 10;
+    write!(text, ", level {whole}.{tenth}")?;
+    Ok(())
 }
 
 // The name of a profile that is not taken (A.2, G.10.1, H.10.1), behind a space.
