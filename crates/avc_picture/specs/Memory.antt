@@ -36,11 +36,11 @@ pub record HasMemoryFor (width height : ℕ) (m : MemoryState) : Type 0 where
   pub info : m.info_width ≡ Some width
 
 -- A picture of this size is over and became no frame: all that it was decoded in is left over.
-pub record KeepsPicture (width height : ℕ) (old new : MemoryState) : Type 0 where
+pub record LeavesAll (width height : ℕ) (old new : MemoryState) : Type 0 where
   pub memory : HasMemoryFor width height new
   pub closed : (new.planes).closed ≡ (old.planes).closed
 
 -- A picture of this size was closed: its rows of info are left over, and its planes too where it became no frame.
-abbrev pub KeepsMemory : {PAD : ℕ} → (width height : ℕ) → MemoryState → Result (PaddedPlanes PAD) PictureError → MemoryState → Type 0
-KeepsMemory width height old (Ok planes) new = new ≡ with_info width old
-KeepsMemory width height old (Err error) new = KeepsPicture width height old new
+abbrev pub LeavesMemory : {PAD : ℕ} → (width height : ℕ) → MemoryState → Result (PaddedPlanes PAD) PictureError → MemoryState → Type 0
+LeavesMemory width height old (Ok planes) new = new ≡ with_info width old
+LeavesMemory width height old (Err error) new = LeavesAll width height old new

@@ -8,7 +8,7 @@ ghost use Rattle.avc_plane.specs.Frames.{padded_planes_of, AreSized};
 ghost use Rattle.avc_picture_core.specs.Built.{size_of};
 ghost use Rattle.avc_picture.specs.Decoding.{no_slice_yet, AreFramesOf, HasNoFault, HasRead, IsFinishAnswer, IsFull, IsSliceAnswer};
 ghost use Rattle.avc_picture.specs.DecoderState.{number_after};
-ghost use Rattle.avc_picture.specs.Memory.{HasMemoryFor, KeepsMemory, KeepsPicture};
+ghost use Rattle.avc_picture.specs.Memory.{HasMemoryFor, LeavesMemory, LeavesAll};
 ghost use Rattle.avc_picture.specs.OpenPicture.{HasFiltered, HasSample, IsCovered};
 
 use crate::macroblocks::Macroblocks;
@@ -163,7 +163,7 @@ impl<const PAD: usize> PictureDecoder<PAD> {
     pub fn finish(self, memory: &mut PictureMemory<PAD>) -> Result<PaddedPlanes<PAD>, PictureError>
         ensures answer { IsFinishAnswer self.entry result }
         ensures sized { IfOk result (λ planes. AreSized (width_in_mbs self.entry.sps) (height_in_mbs self.entry.sps) (padded_planes_of planes)) }
-        ensures memory { KeepsMemory (width_in_mbs self.entry.sps) (height_in_mbs self.entry.sps) memory.old result memory.new }
+        ensures memory { LeavesMemory (width_in_mbs self.entry.sps) (height_in_mbs self.entry.sps) memory.old result memory.new }
     {
         if let Some(fault) = self.fault {
             self.macroblocks.discard(memory);
@@ -178,7 +178,7 @@ impl<const PAD: usize> PictureDecoder<PAD> {
 
     /// Gives the memory of a picture back that is refused.
     pub fn discard(self, memory: &mut PictureMemory<PAD>)
-        ensures { KeepsPicture (width_in_mbs self.entry.sps) (height_in_mbs self.entry.sps) memory.old memory.new }
+        ensures { LeavesAll (width_in_mbs self.entry.sps) (height_in_mbs self.entry.sps) memory.old memory.new }
     {
         self.macroblocks.discard(memory);
     }

@@ -16,7 +16,7 @@ ghost use Rattle.avc_picture_core.specs.References.{AreUsable};
 ghost use Rattle.avc_picture.specs.Decoded.{deblocked};
 ghost use Rattle.avc_picture.specs.FirstMbs.{HasSameSize, HasSets, HoldsFirst, IsDecoded, IsSlice};
 ghost use Rattle.avc_picture.specs.MacroblockInfo.{IsRead};
-ghost use Rattle.avc_picture.specs.Memory.{with_info, HasMemoryFor, KeepsPicture};
+ghost use Rattle.avc_picture.specs.Memory.{with_info, HasMemoryFor, LeavesAll};
 ghost use Rattle.avc_picture.specs.RowLate.{covering_address, row_late};
 
 use crate::current_info::CurrentInfo;
@@ -217,7 +217,7 @@ impl<const PAD: usize> Macroblocks<PAD> {
 
     /// Gives the memory of a picture back that is refused.
     pub(crate) fn discard(self, memory: &mut PictureMemory<PAD>)
-        ensures { KeepsPicture self.entry.canvas.width self.entry.canvas.height memory.old memory.new }
+        ensures { LeavesAll self.entry.canvas.width self.entry.canvas.height memory.old memory.new }
     {
         memory.keep_open(self.planes);
         memory.keep_info(FactRows {
