@@ -2,7 +2,8 @@
 
 ghost use Rattle.std.specs.Prelude.{◌≡◌, None, OnOk, Some};
 ghost use Rattle.avc_decoder.specs.Events.{failed_at, pictures};
-ghost use Rattle.avc_decoder.specs.States.{closed_in, phase_of, HasOutcome, IsOpenIn, IsPhase, WaitsAfter};
+ghost use Rattle.avc_decoder.specs.SpareMemory.{LeavesCurrent};
+ghost use Rattle.avc_decoder.specs.States.{closed_in, current_in, phase_of, HasOutcome, IsOpenIn, IsPhase, WaitsAfter};
 ghost use Rattle.avc_decoder.specs.declared.phase.Phase.TheVariants.{Running, Waiting};
 ghost use Rattle.avc_decoder_core.specs.Pictures.{held_pictures};
 ghost use Rattle.avc_decoder_core.specs.SequenceState.{current_history};
@@ -65,7 +66,8 @@ fn close_picture(stream: &mut Stream, current: CurrentPicture) -> Result<(), Out
 #[cold]
 #[inline(never)]
 fn forget(phase: &mut Phase, memory: &mut PictureMemory<PADDING>)
-    ensures { phase.new ≡ Waiting }
+    ensures phase { phase.new ≡ Waiting }
+    ensures memory { LeavesCurrent (current_in phase.old) memory.old memory.new }
 {
     if let Some(current) = phase.take() {
         current.decoder.discard(memory);

@@ -2,6 +2,7 @@
 
 ghost use Rattle.std.specs.Prelude.{◌≡◌, false, None, IfSome, OnOk, Some};
 ghost use Rattle.avc_decoder.specs.Events.{after_first_slice, after_next_slice, base_in, sets_named};
+ghost use Rattle.avc_decoder.specs.SpareMemory.{AddsClosed};
 ghost use Rattle.avc_decoder.specs.PictureFrames.{frames_for, CanHave};
 ghost use Rattle.avc_decoder.specs.States.{current_in, more_read, phase_of, picture_answer};
 ghost use Rattle.avc_decoder.specs.States.{DecodesIn, HasAnswered, HasOutcome, IsAnswerIn, IsPhase, IsStream, WantsNone};
@@ -106,7 +107,8 @@ fn sets_of<'a>(table: &'a ParamTable, slice: &Slice) -> ActiveSets<'a>
 
 /// The planes of frames that have left the buffer are kept for later pictures.
 fn keep_emptied(sequence: &mut Sequence, memory: &mut PictureMemory<PADDING>)
-    ensures { sequence.new ≡ sequence.old }
+    ensures sequence { sequence.new ≡ sequence.old }
+    ensures memory { AddsClosed memory.old memory.new }
 {
     for frame in 0..MOST_EMPTIED {
         match sequence.emptied_planes() {

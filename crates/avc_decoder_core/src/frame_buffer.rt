@@ -31,7 +31,7 @@ use avc_marking::{
     sliding_window,
 };
 use avc_params::Sps;
-use avc_plane::{Frame, PADDING, SharedPicture, SharedPlanes};
+use avc_plane::{EmptiedPlanes, Frame, PADDING, SharedPicture, SharedPlanes};
 use avc_slice::Header;
 use avc_types::{
     CurrentFrameNum, Fault, History, Mark, MarkedFrame, Marking, OutOfMemory, PictureError,
@@ -458,9 +458,9 @@ impl FrameBuffer {
 
     /// Takes the planes of a frame that has left the buffer, if there is one, so that their memory is used again once no picture shares
     /// them.
-    pub fn emptied_planes(&mut self) -> Option<SharedPlanes<PADDING>>
+    pub fn emptied_planes(&mut self) -> Option<EmptiedPlanes<PADDING>>
         ensures { self.new ≡ self.old }
     {
-        self.dpb.emptied_frame()?.planes
+        Some(EmptiedPlanes::new(self.dpb.emptied_frame()?.planes?))
     }
 }

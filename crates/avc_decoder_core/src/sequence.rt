@@ -16,7 +16,7 @@ use crate::opening::{OpenPicture, Opening, after_missing, missing_frame_nums};
 use avc_dpb::Output;
 use avc_marking::MissingFrameNums;
 use avc_params::Sps;
-use avc_plane::{Frame, PADDING, SharedPicture, SharedPlanes};
+use avc_plane::{EmptiedPlanes, Frame, PADDING, SharedPicture, SharedPlanes};
 use avc_poc::Poc;
 use avc_slice::Header;
 use avc_types::{Fault, History, OutOfMemory, PictureError, WantOfMemory};
@@ -193,7 +193,7 @@ impl Sequence {
 
     /// Takes the planes of a frame that has left the buffer, if there is one, so that their memory is used again once no picture shares
     /// them: until no more come there are at most 17.
-    pub fn emptied_planes(&mut self) -> Option<SharedPlanes<PADDING>>
+    pub fn emptied_planes(&mut self) -> Option<EmptiedPlanes<PADDING>>
         ensures { self.new ≡ self.old }
     {
         self.buffer.emptied_planes()

@@ -1,7 +1,7 @@
 //! Tests of planes, and of memory that is used again.
 
 // No clause says that memory is found.
-use avc_plane::{Planes, SharedPlanes, SparePlanes};
+use avc_plane::{EmptiedPlanes, Planes, SharedPlanes, SparePlanes};
 use std::test::Fail;
 
 #[test]
@@ -23,7 +23,7 @@ fn takes_spare_planes(rt: HostRuntime) -> Result<(), Fail> {
     spare.put_open(planes);
     let again = Planes::of_size(rt.alloc(), 2, 1, &mut spare)?;
     assert_eq!(rt; again.luma.get(31, 15), 7);
-    spare.put(SharedPlanes::new(rt.alloc(), again.pad())?);
+    spare.put(EmptiedPlanes::new(SharedPlanes::new(rt.alloc(), again.pad())?));
     let other = Planes::of_size(rt.alloc(), 1, 2, &mut spare)?;
     assert_eq!(rt; other.luma.get(15, 31), 0);
     let new = Planes::of_size(rt.alloc(), 2, 1, &mut spare)?;
@@ -39,7 +39,7 @@ fn leaves_planes_that_are_held(rt: HostRuntime) -> Result<(), Fail> {
     planes.luma.set(31, 15, 7);
     let shared = SharedPlanes::new(rt.alloc(), planes.pad())?;
     let held = shared.share()?;
-    spare.put(shared);
+    spare.put(EmptiedPlanes::new(shared));
     let new = Planes::of_size(rt.alloc(), 2, 1, &mut spare)?;
     assert_eq!(rt; new.luma.get(31, 15), 0);
     drop(held);

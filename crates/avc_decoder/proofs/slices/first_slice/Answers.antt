@@ -7,7 +7,7 @@ begin-requires c =
     let t = c.args.stream.now in
     let sets = c.sets_of-sets in
     let opened = subst (IsOpened t.sequence sets.result.sps.now c.args.slice.now.header c.in-Ok.out.items)
-    (sym c.keep_emptied.ensures) c.in-Ok.ensures.ok in
+    (sym c.keep_emptied.ensures.sequence) c.in-Ok.ensures.ok in
     let fit = frames_fit t.sequence c.keep_emptied.new.sequence sets.result.sps.now c.args.slice.now.header
     c.in-Ok.out.items c.frames_for-frames.result.now opened c.frames_for-frames.ensures.value
     c.frames_for-frames.ensures.sized in
@@ -23,14 +23,14 @@ returns-in_ok-decode_slice-in-Ok c =
     let pps = sets.result.pps.now in
     let frames = c.frames_for-frames.result.now in
     let opened = subst (IsOpened t.sequence sps slice.header c.in-Ok.out.items)
-    (sym c.keep_emptied.ensures) c.in-Ok.ensures.ok in
+    (sym c.keep_emptied.ensures.sequence) c.in-Ok.ensures.ok in
     let d = c.in_ok-decode_slice-in-Ok.ensures in
     first_slice_more c.missing_numbers_keep_the_order.ensures t.sequence c.keep_emptied.new.sequence t'.sequence t.queue
     c.show.new.self t'.queue t.read t'.read t.table t'.table sps pps frames slice c.in-Ok.out.items
     (base_in (phase_of t.sequence t.phase)) (record
     { decoder = c.in_ok-begin-in-Ok.field-0; last_header = c.new.result; last_unit = slice.unit }) t'.phase
     (base_here t.sequence t.phase c.requires.phase c.requires.rest)
-    (sym c.get.ensures ∙ c.if-get-ne0.false) opened c.in_ok-show-in-Ok.ensures c.in_ok-begin-in-Ok.ensures d.0.0
+    (sym c.get.ensures ∙ c.if-get-ne0.false) opened c.in_ok-show-in-Ok.ensures c.in_ok-begin-in-Ok.ensures.begun d.0.0
     d.0.1 d.1
     sets.ensures.named (named_first (sets_after t.table) slice sps pps frames c.requires.within sets.ensures.named)
 
