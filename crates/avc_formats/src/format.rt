@@ -1,8 +1,9 @@
 //! How pictures are written, one after another.
 
-ghost use Rattle.std.specs.Prelude.{◌≡◌, OnOk, IfErr};
+ghost use Rattle.std.specs.Prelude.{◌≡◌, false, OnOk, IfErr};
 ghost use Rattle.std.specs.Io.KnownBytes.{Appends};
 ghost use Rattle.avc_types.specs.Whole.{IsWhole};
+ghost use Rattle.avc_console.specs.declared.fault.RunFault.TheVariants as faults;
 ghost use Rattle.avc_formats.specs.Formats.{plain, Format, StopsPicture};
 
 use avc_console::RunFault;
@@ -27,7 +28,8 @@ pub trait PictureFormat {
         requires { IsWhole picture.now }
         ensures ok { OnOk result (Appends (W.contents writer.old) (W.contents writer.new) ((format self.now).text number picture.now)) }
         ensures err { IfErr result (λ fault. StopsPicture fault ((format self.now).fits number picture.now) (W.contents writer.old)
-            (W.contents writer.new) ((format self.now).text number picture.now)) };
+            (W.contents writer.new) ((format self.now).text number picture.now)) }
+        ensures size { (format self.now).fits number picture.now ≡ false → result ≡ Err faults.Size };
 
     /// Whether so many pictures are all that are wanted.
     fn is_enough(&self, pictures: u64) -> bool

@@ -9,11 +9,8 @@ counted : (es : List Event) → (report_of es).pictures ≡ pictures_after 0 es
 counted es = ap (λ r. r.pictures) (sym (told es)) ∙ pictures_now no_report es
 
 -- what was written from the start on, and then behind it
-abbrev OfAll : Format → (old new : Option (List ℕ)) → List Event → Type 0
-OfAll f old new es = Appends old new (written_from f 0 es)
-
-joined : (f : Format) (r : Report) (w0 w w' : Option (List ℕ)) (a b : List Event) → r ≡ report_of a → OfAll f w0 w a → Appends w w' (written_from f r.pictures b)
-    → OfAll f w0 w' (a ++ b)
+joined : (f : Format) (r : Report) (w0 w w' : Option (List ℕ)) (a b : List Event) → r ≡ report_of a → IsWritten f 0 w0 w a → IsWritten f r.pictures w w' b
+    → IsWritten f 0 w0 w' (a ++ b)
 joined f r w0 w w' a b is before more = behind f no_report r w0 w w' a b (is ∙ sym (told a)) before more
 
 -- ---- what is due
@@ -53,7 +50,7 @@ one_piece f grow output unread left left' w0 w w' d d' r r' piece i more h =
       consumed = Consumes-trans unread left left' i.bytes piece i.consumed more;
       machine = h.machine ∙ ap (λ n. after_draining n) same ∙ drained_then m front then'.0 refl then'.1 then'.2;
       report = h.report ∙ ap (λ q. report_with q (events_left (after_feed piece d))) i.report ∙ ap (λ es. report_with (report_of front) es) due_is ∙ report_more front then'.0 ∙ ap (λ es. report_of es) (sym then'.1);
-      written = subst (OfAll f w0 w') (ap (λ es. front ++ es) due_is ∙ sym then'.1) (joined f r w0 w w' front (events_left (after_feed piece d)) i.report i.written h.written);
+      written = subst (IsWritten f 0 w0 w') (ap (λ es. front ++ es) due_is ∙ sym then'.1) (joined f r w0 w w' front (events_left (after_feed piece d)) i.report i.written h.written);
     }
 
 -- what is due at the end
@@ -74,7 +71,7 @@ ended f grow output unread left left' w0 w w' d d' r r' len piece i none more at
       i.bytes,
       true,
       record { consumed = consumed; whole = λ all. at_end },
-      subst (OfAll f w0 w') (ap (λ es. front ++ es) due_is ∙ sym then'.1) (joined f r w0 w w' front (events_left (after_flush d)) i.report i.written h.written),
+      subst (IsWritten f 0 w0 w') (ap (λ es. front ++ es) due_is ∙ sym then'.1) (joined f r w0 w w' front (events_left (after_flush d)) i.report i.written h.written),
       h.report ∙ ap (λ q. report_with q (events_left (after_flush d))) i.report ∙ ap (λ es. report_with (report_of front) es) due_is ∙ report_more front then'.0 ∙ ap (λ es. report_of es) (sym then'.1),
       λ other. cc,
     )
@@ -99,7 +96,7 @@ pub record IsReading (format : Format) (reads : ℕ) (output : Output) (unread l
 pub reading_begins : (f : Format) (output : Output) (unread holds : Option (List ℕ)) (m : Machine) (r : Report) → m ≡ new_machine output → r ≡ no_report
     → IsReading f 0 output unread unread holds holds m r
 reading_begins f output unread holds m r new none = record {
-  runs = record { bytes = []; consumed = Consumes-nil unread; machine = new; report = none; written = Appends-nil holds };
+  runs = record { bytes = []; consumed = Consumes-nil unread; machine = new; report = none; written = record { fit = tt; text = Appends-nil holds } };
   many = omega arith;
 }
 
@@ -132,7 +129,7 @@ endless f output unread left w0 w d r reads i all =
 
 -- from the start on
 off_from_start : (f : Format) (r : Report) (fault : RunFault) (w0 w' : Option (List ℕ)) (es : List Event) → BreaksOffFrom f no_report r fault w0 w' es → BreaksOff f r fault w0 w' es
-off_from_start f r fault w0 w' es off = record { front = off.front; rest = off.rest; parts = off.parts; reported = off.report ∙ told off.front; stops = off.stops }
+off_from_start f r fault w0 w' es off = record { front = off.front; rest = off.rest; parts = off.parts; fit = off.fit; reported = off.report ∙ told off.front; stops = off.stops }
 
 -- a fault at the events of all bytes so far
 broken : (f : Format) (output : Output) (fault : RunFault) (unread left w0 w' : Option (List ℕ)) (r : Report) (bytes : List ℕ) (all : Bool) → HasRead unread left bytes all

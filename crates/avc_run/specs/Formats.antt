@@ -26,6 +26,17 @@ written_from format n [] = []
 written_from format n (Picture p ∷ events) = format.text n p ++ written_from format (saturated (n + 1)) events
 written_from format n (Refused unit f ∷ events) = written_from format n events
 
+-- all pictures of these events have a size that the format can have, where so many went out before
+abbrev pub AllFit : Format → (number : ℕ) → List Event → Type 0
+AllFit format n [] = Unit {0}
+AllFit format n (Picture p ∷ events) = (format.fits n p ≡ true) × AllFit format (saturated (n + 1)) events
+AllFit format n (Refused unit f ∷ events) = AllFit format n events
+
+-- They have, and are written.
+pub record IsWritten (format : Format) (number : ℕ) (old new : Option (List ℕ)) (events : List Event) : Type 0 where
+  pub fit : AllFit format number events
+  pub text : Appends old new (written_from format number events)
+
 -- Behind this text the first of these further bytes were written, and not all.
 pub record WritesWithin (old new : Option (List ℕ)) (text more : List ℕ) : Type 0 where
   pub count : ℕ
@@ -37,31 +48,33 @@ pub record WritesWithin (old new : Option (List ℕ)) (text more : List ℕ) : T
 -- None comes from reading here.
 abbrev pub StopsAt : Format → (number : ℕ) → RunFault → (old new : Option (List ℕ)) → (text : List ℕ) → List Event → Type 0
 StopsAt format n Memory old new text events = Appends old new text
-StopsAt format n Write old new text (Picture p ∷ events) = WritesWithin old new text (format.text n p)
+StopsAt format n Write old new text (Picture p ∷ events) = (format.fits n p ≡ true) × WritesWithin old new text (format.text n p)
 StopsAt format n Size old new text (Picture p ∷ events) = (format.fits n p ≡ false) × Appends old new text
 StopsAt format n _ old new text events = ⊥
 
--- A fault broke off the handling of these events: the first of them were written, each whole, and are reported.
+-- A fault broke off the handling of these events: the first of them have a size that the format can have, were written, each whole,
+-- and are reported.
 pub record BreaksOff (format : Format) (report : Report) (fault : RunFault) (old new : Option (List ℕ)) (events : List Event) : Type 0 where
   pub front : List Event
   pub rest : List Event
   pub parts : events ≡ front ++ rest
+  pub fit : AllFit format 0 front
   pub reported : report ≡ report_of front
   pub stops : StopsAt format (pictures_after 0 front) fault old new (written_from format 0 front) rest
 
 -- Of all bytes that the reader had, or of the first of them where these bring as many pictures as are wanted, the defined pictures
--- are written, and the report is on what they define. After a read fault exactly the pictures are written that the bytes read so far
--- define, and reported what these define, and also where there were more reads than a run may take, each of some bytes. After other
--- faults the events before it are.
+-- fit and are written, and the report is on what they define. After a read fault exactly the pictures that the bytes read so far define
+-- fit and are written, and reported is what these define, and also where there were more reads than a run may take, each of some bytes.
+-- After other faults the events before it are.
 abbrev pub DecodesAs : Format → Output → (unread left held holds : Option (List ℕ)) → Report → Result (Unit {0}) RunFault → Type 0
 DecodesAs format output unread left held holds report (Ok _) =
-    (bytes : List ℕ) × (all : Bool) × HasRead unread left bytes all × Appends held holds (written_from format 0 (events output max_unit bytes all))
+    (bytes : List ℕ) × (all : Bool) × HasRead unread left bytes all × IsWritten format 0 held holds (events output max_unit bytes all)
     × (report ≡ report_of (events output max_unit bytes all)) × (all ≡ false → format.enough report.pictures ≡ true)
 DecodesAs format output unread left held holds report (Err Read) =
-    (bytes : List ℕ) × HasRead unread left bytes false × Appends held holds (written_from format 0 (events output max_unit bytes false))
+    (bytes : List ℕ) × HasRead unread left bytes false × IsWritten format 0 held holds (events output max_unit bytes false)
     × (report ≡ report_of (events output max_unit bytes false))
 DecodesAs format output unread left held holds report (Err Endless) =
-    (bytes : List ℕ) × HasRead unread left bytes false × Appends held holds (written_from format 0 (events output max_unit bytes false))
+    (bytes : List ℕ) × HasRead unread left bytes false × IsWritten format 0 held holds (events output max_unit bytes false)
     × (report ≡ report_of (events output max_unit bytes false)) × (2 ^ 32 ≤ length bytes)
 DecodesAs format output unread left held holds report (Err fault) =
     (bytes : List ℕ) × (all : Bool) × HasRead unread left bytes all × BreaksOff format report fault held holds (events output max_unit bytes all)

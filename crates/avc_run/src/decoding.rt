@@ -1,13 +1,13 @@
 //! A run: a stream decoded, and its pictures written as they go out.
 
 ghost use Rattle.std.specs.Prelude.{◌≡◌, ◌∷◌, [], take, IfErr, IfOk, OnOk};
-ghost use Rattle.std.specs.Io.KnownBytes.{prepend_known, Appends};
+ghost use Rattle.std.specs.Io.KnownBytes.{prepend_known};
 ghost use Rattle.avc_types.specs.Whole.{IsWhole};
 ghost use Rattle.avc_console.specs.Reading.{max_unit};
 ghost use Rattle.avc_console.specs.Reporting.{no_report, TellsOn};
 ghost use Rattle.avc_events.specs.EventReports.{report_with, IfPicture};
 ghost use Rattle.avc_run.specs.Decoding.{Decodes};
-ghost use Rattle.avc_run.specs.Formats.{written_from, DecodesAs};
+ghost use Rattle.avc_run.specs.Formats.{DecodesAs, IsWritten};
 ghost use Rattle.avc_run.specs.Draining.{events_left, BreaksOffFrom, IsDrained, IsHandled};
 ghost use Rattle.avc_decoder.specs.Machine.{after_feed, after_flush, new_machine, IsUpToUnit};
 
@@ -279,8 +279,8 @@ fn handle<F: PictureFormat, T: Reporter, E: Write, V: Watch, W: Write>(
 ) -> Result<(), RunFault>
     requires { IfPicture event IsWhole }
     ensures report { OnOk result ((T.reported report.new).report ≡ report_with (T.reported report.old).report (event ∷ [])) }
-    ensures written { OnOk result (Appends (W.contents writer.old) (W.contents writer.new)
-        (written_from (F.format format.now) (T.reported report.old).report.pictures (event ∷ []))) }
+    ensures written { OnOk result (IsWritten (F.format format.now) (T.reported report.old).report.pictures
+        (W.contents writer.old) (W.contents writer.new) (event ∷ [])) }
     ensures err { IfErr result (λ fault. BreaksOffFrom (F.format format.now) (T.reported report.old).report (T.reported report.new).report fault
         (W.contents writer.old) (W.contents writer.new) (event ∷ [])) }
     ensures told { TellsOn (T.reported report.old) (T.reported report.new) (E.contents errors.old) (E.contents errors.new) }

@@ -26,12 +26,21 @@ pub number_after : (r r' : Report) (a : List Event) → r' ≡ report_with r a �
 number_after r r' a is = ap (λ q. q.pictures) is ∙ pictures_now r a
 
 -- what was written behind other events
-pub behind : (f : Format) (r r' : Report) (w0 w w' : Option (List ℕ)) (a b : List Event) → r' ≡ report_with r a → Appends w0 w (written_from f r.pictures a)
-    → Appends w w' (written_from f r'.pictures b) → Appends w0 w' (written_from f r.pictures (a ++ b))
+fit-append : (f : Format) (n : ℕ) (a b : List Event) → AllFit f n a → AllFit f (pictures_after n a) b → AllFit f n (a ++ b)
+fit-append f n [] b first later = later
+fit-append f n (Picture p ∷ a) b first later = (first.0, fit-append f (saturated (n + 1)) a b first.1 later)
+fit-append f n (Refused unit x ∷ a) b first later = fit-append f n a b first later
+
+pub behind : (f : Format) (r r' : Report) (w0 w w' : Option (List ℕ)) (a b : List Event) → r' ≡ report_with r a → IsWritten f r.pictures w0 w a
+    → IsWritten f r'.pictures w w' b → IsWritten f r.pictures w0 w' (a ++ b)
 behind f r r' w0 w w' a b told before more =
-    subst (Appends w0 w') (sym (written-append f r.pictures a b))
-    (Appends-trans w0 w w' (written_from f r.pictures a) (written_from f (pictures_after r.pictures a) b) before
-    (subst (λ n. Appends w w' (written_from f n b)) (number_after r r' a told) more))
+    let here = subst (λ n. IsWritten f n w w' b) (number_after r r' a told) more in
+    record {
+      fit = fit-append f r.pictures a b before.fit here.fit;
+      text =
+          subst (Appends w0 w') (sym (written-append f r.pictures a b))
+          (Appends-trans w0 w w' (written_from f r.pictures a) (written_from f (pictures_after r.pictures a) b) before.text here.text);
+    }
 
 -- ---- the next one
 
@@ -49,10 +58,10 @@ due_next d e is =
     drop_more all d.taken e (slice_get_within all d.taken e (sym is)) ∙ ap (λ y. y ∷ drop (d.taken + 1) all) (get_or_from_slice_get all d.taken e e (sym is))
 
 pub begun : (f : Format) (d : Machine) (r : Report) (held : Option (List ℕ)) → Appends held held [] → IsDraining f d d r r held held
-begun f d r holds nothing = record { done = []; rest = refl; machine = ap (λ k. record d { taken = k }) (omega arith); report = refl; written = nothing }
+begun f d r holds nothing = record { done = []; rest = refl; machine = ap (λ k. record d { taken = k }) (omega arith); report = refl; written = record { fit = tt; text = nothing } }
 
 pub one_more : (f : Format) (d0 d d' : Machine) (r0 r r' : Report) (w0 w w' : Option (List ℕ)) (e : Event)
-    → Some e ≡ next_event max_unit d → d' ≡ after_take (Some e) d → r' ≡ report_with r (e ∷ []) → Appends w w' (written_from f r.pictures (e ∷ []))
+    → Some e ≡ next_event max_unit d → d' ≡ after_take (Some e) d → r' ≡ report_with r (e ∷ []) → IsWritten f r.pictures w w' (e ∷ [])
     → IsDraining f d0 d r0 r w0 w → IsDraining f d0 d' r0 r' w0 w'
 one_more f d0 d d' r0 r r' w0 w w' e next taken told wrote i =
     let after = i.done ++ e ∷ [] in
@@ -78,7 +87,7 @@ handled f d0 d d' r0 r w0 w none same i =
     record {
       machine = same ∙ i.machine ∙ ap (λ es. record d0 { taken = d0.taken + length es }) all;
       report = i.report ∙ ap (λ es. report_with r0 es) all;
-      written = subst (λ es. Appends w0 w (written_from f r0.pictures es)) all i.written;
+      written = subst (λ es. IsWritten f r0.pictures w0 w es) all i.written;
     }
 
 -- ---- a fault
@@ -89,13 +98,15 @@ stops_on : (f : Format) (n : ℕ) (fault : RunFault) (w0 w w' : Option (List ℕ
 stops_on f n Memory w0 w w' x text rest c all some = Appends-trans w0 w w' x text all some
 stops_on f n Write w0 w w' x text [] c all some = absurd some
 stops_on f n Write w0 w w' x text (Refused unit e ∷ rest) c all some = absurd some
-stops_on f n Write w0 w w' x text (Picture p ∷ rest) c all some =
-    let more = take some.count (f.text n p) in
-    record {
-      count = some.count;
-      fewer = some.fewer;
-      written = subst (Appends w0 w') (sym (append_assoc x text more)) (Appends-trans w0 w w' x (text ++ more) all some.written);
-    }
+stops_on f n Write w0 w w' x text (Picture p ∷ rest) c all (fits, some) =
+    let more = take some.count (f.text n p) in (
+      fits,
+      record {
+        count = some.count;
+        fewer = some.fewer;
+        written = subst (Appends w0 w') (sym (append_assoc x text more)) (Appends-trans w0 w w' x (text ++ more) all some.written);
+      },
+    )
 stops_on f n Size w0 w w' x text [] c all some = absurd some
 stops_on f n Size w0 w w' x text (Refused unit e ∷ rest) c all some = absurd some
 stops_on f n Size w0 w w' x text (Picture p ∷ rest) c all some = (some.0, Appends-trans w0 w w' x text all some.1)
@@ -104,18 +115,19 @@ stops_on f n Endless w0 w w' x text rest c all some = absurd some
 
 -- a fault in b, after all of a and before c
 pub breaks_behind : (f : Format) (r r' r'' : Report) (fault : RunFault) (w0 w w' : Option (List ℕ)) (a b c : List Event) → r' ≡ report_with r a
-    → Appends w0 w (written_from f r.pictures a) → BreaksOffFrom f r' r'' fault w w' b → BreaksOffFrom f r r'' fault w0 w' (a ++ (b ++ c))
+    → IsWritten f r.pictures w0 w a → BreaksOffFrom f r' r'' fault w w' b → BreaksOffFrom f r r'' fault w0 w' (a ++ (b ++ c))
 breaks_behind f r r' r'' fault w0 w w' a b c told all some =
     let n = r.pictures in
     let m = pictures_after n a in
     let text = written_from f n a ++ written_from f m some.front in
     let here = subst (λ k. StopsAt f (pictures_after k some.front) fault w w' (written_from f k some.front) some.rest) (number_after r r' a told) some.stops in
-    let later = stops_on f (pictures_after m some.front) fault w0 w w' (written_from f n a) (written_from f m some.front) some.rest c all here in
+    let later = stops_on f (pictures_after m some.front) fault w0 w w' (written_from f n a) (written_from f m some.front) some.rest c all.text here in
     let number = subst (λ k. StopsAt f k fault w0 w' text (some.rest ++ c)) (sym (after-append n a some.front)) later in
     record {
       front = a ++ some.front;
       rest = some.rest ++ c;
       parts = ap (λ es. a ++ es) (ap (λ es. es ++ c) some.parts ∙ append_assoc some.front some.rest c) ∙ sym (append_assoc a some.front (some.rest ++ c));
+      fit = fit-append f n a some.front all.fit (subst (λ k. AllFit f k some.front) (number_after r r' a told) some.fit);
       report = some.report ∙ ap (λ q. report_with q some.front) told ∙ sym (report_with-append r a some.front);
       stops = subst (λ t. StopsAt f (pictures_after n (a ++ some.front)) fault w0 w' t (some.rest ++ c)) (sym (written-append f n a some.front)) number;
     }
@@ -128,8 +140,9 @@ stopped f fault d0 d r0 r w0 w memory i =
       front = i.done;
       rest = events_left d;
       parts = i.rest;
+      fit = i.written.fit;
       report = i.report;
-      stops = subst (λ e. StopsAt f (pictures_after r0.pictures i.done) e w0 w (written_from f r0.pictures i.done) (events_left d)) (sym memory) i.written;
+      stops = subst (λ e. StopsAt f (pictures_after r0.pictures i.done) e w0 w (written_from f r0.pictures i.done) (events_left d)) (sym memory) i.written.text;
     }
 
 -- in the midst of one
@@ -140,22 +153,40 @@ stopped_in f fault d0 d r0 r r' w0 w w' e next some i =
     let all : events_left d0 ≡ i.done ++ ((e ∷ []) ++ c) = i.rest ∙ ap (λ es. i.done ++ es) (due_next d e next) in
     subst (BreaksOffFrom f r0 r' fault w0 w') (sym all) (breaks_behind f r0 r r' fault w0 w w' i.done (e ∷ []) c i.report i.written some)
 
--- in the writing of one picture
-in_picture : (f : Format) (n : ℕ) (fault : RunFault) (w w' : Option (List ℕ)) (p : Decoded) → StopsPicture fault (f.fits n p) w w' (f.text n p) → StopsAt f n fault w w' [] (Picture p ∷ [])
-in_picture f n Write w w' p some = record { count = some.count; fewer = some.fewer; written = some.written }
-in_picture f n Memory w w' p some = some
-in_picture f n Size w w' p some = some
-in_picture f n _ w w' p some = absurd some
+-- in the writing of one picture, which fits, or else nothing of it is written
+fits_at_write : (fits : Bool) → (fits ≡ false → Write ≡ Size) → fits ≡ true
+fits_at_write true other = refl
+fits_at_write false other = let same : Write ≡ Size = other refl in cc
+
+in_picture : (f : Format) (n : ℕ) (fault : RunFault) (w w' : Option (List ℕ)) (p : Decoded) → (f.fits n p ≡ false → fault ≡ Size) → StopsPicture fault (f.fits n p) w w' (f.text n p)
+    → StopsAt f n fault w w' [] (Picture p ∷ [])
+in_picture f n Write w w' p other some = (fits_at_write (f.fits n p) other, record { count = some.count; fewer = some.fewer; written = some.written })
+in_picture f n Memory w w' p other some = some
+in_picture f n Size w w' p other some = some
+in_picture f n _ w w' p other some = absurd some
 
 pub picture_broken : (f : Format) (r r' : Report) (fault : RunFault) (w w' : Option (List ℕ)) (e : Event) (p : Decoded) → e ≡ Picture p → r' ≡ r
-    → StopsPicture fault (f.fits r.pictures p) w w' (f.text r.pictures p) → BreaksOffFrom f r r' fault w w' (e ∷ [])
-picture_broken f r r' fault w w' e p is same some = record {
+    → (f.fits r.pictures p ≡ false → fault ≡ Size) → StopsPicture fault (f.fits r.pictures p) w w' (f.text r.pictures p) → BreaksOffFrom f r r' fault w w' (e ∷ [])
+picture_broken f r r' fault w w' e p is same other some = record {
   front = [];
   rest = e ∷ [];
   parts = refl;
+  fit = tt;
   report = same;
-  stops = subst (λ x. StopsAt f r.pictures fault w w' [] (x ∷ [])) (sym is) (in_picture f r.pictures fault w w' p some);
+  stops = subst (λ x. StopsAt f r.pictures fault w w' [] (x ∷ [])) (sym is) (in_picture f r.pictures fault w w' p other some);
 }
+
+-- one picture that was written
+fits_at_ok : (fits : Bool) (r : Result (Unit {0}) RunFault) → (fits ≡ false → r ≡ Err Size) → IsOk r → fits ≡ true
+fits_at_ok true r other ok = refl
+fits_at_ok false (Ok done) other ok = let is : Ok done ≡ Err Size = other refl in cc
+fits_at_ok false (Err fault) other ok = let not_so : false ≡ true = ok in cc
+
+pub picture_written : (f : Format) (n : ℕ) (w w' : Option (List ℕ)) (e : Event) (p : Decoded) (r : Result (Unit {0}) RunFault) → e ≡ Picture p
+    → (f.fits n p ≡ false → r ≡ Err Size) → IsOk r → Appends w w' (f.text n p) → IsWritten f n w w' (e ∷ [])
+picture_written f n w w' e p r is other ok text =
+    subst (λ x. IsWritten f n w w' (x ∷ [])) (sym is)
+    (record { fit = (fits_at_ok (f.fits n p) r other ok, tt); text = subst (Appends w w') (sym (append-nil (f.text n p))) text })
 
 -- nothing was handled, for want of memory
 pub none_handled : (f : Format) (r r' : Report) (fault : RunFault) (w : Option (List ℕ)) (events : List Event) → fault ≡ Memory → r' ≡ r → BreaksOffFrom f r r' fault w w events
@@ -163,6 +194,7 @@ none_handled f r r' fault w events memory same = record {
   front = [];
   rest = events;
   parts = refl;
+  fit = tt;
   report = same;
   stops = subst (λ e. StopsAt f r.pictures e w w [] events) (sym memory) (Appends-nil w);
 }
@@ -274,7 +306,7 @@ handled_both f grow d0 d d' a b r0 r r' w0 w w' i h more =
       machine = more.machine ∙ ap (λ n. given n (d.bytes ++ b) (d.taken + length y)) h.machine
           ∙ ap (λ bs. given d0 bs (d.taken + length y)) bytes ∙ ap (given d0 (d0.bytes ++ (a ++ b))) count;
       report = more.report ∙ ap (λ q. report_with q y) h.report ∙ sym (report_with-append r0 x y) ∙ ap (λ es. report_with r0 es) (sym all);
-      written = subst (λ es. Appends w0 w' (written_from f r0.pictures es)) (sym all) (behind f r0 r w0 w w' x y h.report h.written more.written);
+      written = subst (λ es. IsWritten f r0.pictures w0 w' es) (sym all) (behind f r0 r w0 w w' x y h.report h.written more.written);
     }
 
 -- ---- as the loop says it
@@ -289,7 +321,7 @@ none_fed f grow d r w piece i =
     record {
       machine = ap (λ bs. given d bs d.taken) (sym (append-nil d.bytes)) ∙ ap (given d (d.bytes ++ [])) count;
       report = ap (λ es. report_with r es) (sym nothing);
-      written = subst (Appends w w) (ap (λ es. written_from f r.pictures es) (sym nothing)) (Appends-nil w);
+      written = subst (λ es. IsWritten f r.pictures w w es) (sym nothing) (record { fit = tt; text = Appends-nil w });
     }
 
 -- n bytes, and then so many more
@@ -352,7 +384,7 @@ written_plain n (Refused unit f ∷ es) = written_plain n es
 plainly : (output : Output) (unread left held holds : Option (List ℕ)) (report : Report) → DecodesAs plain output unread left held holds report (Ok tt)
     → Decodes output unread left held holds (Ok report)
 plainly output unread left held holds report (bytes, true, read, wrote, told, wanted) =
-    (bytes, read, subst (Appends held holds) (written_plain 0 (events output max_unit bytes true)) wrote, told)
+    (bytes, read, subst (Appends held holds) (written_plain 0 (events output max_unit bytes true)) wrote.text, told)
 plainly output unread left held holds report (bytes, false, read, wrote, told, wanted) = cc (wanted refl)
 
 -- where a picture was not written whole
@@ -360,7 +392,7 @@ within_shown : (held holds : Option (List ℕ)) (k : ℕ) (es front rest : List 
     → WritesFirst held holds (shown es)
 within_shown held holds k es front [] parts some = absurd some
 within_shown held holds k es front (Refused unit f ∷ rest) parts some = absurd some
-within_shown held holds k es front (Picture p ∷ rest) parts some =
+within_shown held holds k es front (Picture p ∷ rest) parts (fits, some) =
     let t = written_from plain 0 front in
     let s = written_from plain (saturated (pictures_after 0 front + 1)) rest in
     let all : shown es ≡ t ++ (i420 p ++ s) =
@@ -382,9 +414,9 @@ no_other_size held holds k text (Picture p ∷ rest) some = let another : true �
 plainly_off : (output : Output) (unread left held holds : Option (List ℕ)) (report : Report) (fault : RunFault) → DecodesAs plain output unread left held holds report (Err fault)
     → Decodes output unread left held holds (Err fault)
 plainly_off output unread left held holds report Read (bytes, read, wrote, told) =
-    (bytes, read, subst (Appends held holds) (written_plain 0 (events output max_unit bytes false)) wrote)
+    (bytes, read, subst (Appends held holds) (written_plain 0 (events output max_unit bytes false)) wrote.text)
 plainly_off output unread left held holds report Endless (bytes, read, wrote, told, many) =
-    (bytes, read, subst (Appends held holds) (written_plain 0 (events output max_unit bytes false)) wrote, many)
+    (bytes, read, subst (Appends held holds) (written_plain 0 (events output max_unit bytes false)) wrote.text, many)
 plainly_off output unread left held holds report Write (bytes, all, read, off) =
     (bytes, all, read, within_shown held holds (pictures_after 0 off.front) (events output max_unit bytes all) off.front off.rest off.parts off.stops)
 plainly_off output unread left held holds report Memory (bytes, all, read, off) =

@@ -6,7 +6,7 @@ pub use Rattle.std.proofs.lemmas.List.{take-append-le, drop_more, take-append-dr
 pub use Rattle.std.proofs.lemmas.Option.{slice_get_within, get_or_from_slice_get}
 pub use Rattle.std.specs.Io.KnownBytes.{Appends, Keeps, Consumes, IsAtEnd, prepend_known}
 pub use Rattle.std.specs.Prelude.{◌≡◌, ℕ, suc, ◌+◌, ◌<◌, List, [], ◌∷◌, ◌++◌, length, take, Option, Some, None, Bool, true, false}
-pub use Rattle.std.specs.Prelude.{Result, Ok, Err, refl, ◌≤◌, zero, ◌-◌, drop, IsErrAnd, IfErr, OnOk, slice_get, ◌^◌}
+pub use Rattle.std.specs.Prelude.{Result, Ok, Err, refl, ◌≤◌, zero, ◌-◌, drop, IsErrAnd, IfErr, IsOk, OnOk, slice_get, ◌^◌}
 pub use Rattle.avc_annexb.specs.Units.{saturated}
 pub use Rattle.avc_decoder.specs.Events.{pictures_in, refusals_in, events}
 pub use Rattle.avc_decoder.specs.Laws.{EventsOnlyGrow}
@@ -32,7 +32,7 @@ pub use Rattle.avc_events.specs.EventReports.{events_defined, report_of, report_
 pub use Rattle.avc_run.specs.Decoding.{Decodes, defined}
 pub use Rattle.avc_run.specs.Draining.{events_left, count_left, BreaksOffFrom, IsDraining, IsHandled, IsDrained}
 pub use Rattle.avc_run.specs.Draining.{after_draining, IsRunning}
-pub use Rattle.avc_run.specs.Formats.{pictures_after, written_from, BreaksOff, DecodesAs, StopsAt}
+pub use Rattle.avc_run.specs.Formats.{pictures_after, written_from, AllFit, BreaksOff, DecodesAs, IsWritten, StopsAt}
 pub use Rattle.avc_formats.specs.Formats.{Format, StopsPicture, plain}
 pub use Rattle.avc_console.specs.Reading.{WritesFirst, HasRead}
 pub use Rattle.avc_console.specs.declared.fault.RunFault.{RunFault}
