@@ -93,10 +93,35 @@ set_of_more unread left bytes s mid sets i more =
 fed_bytes : (s mid : SplitterState) (piece : List ℕ) → s.ended ≡ false → mid ≡ after_feed s piece → mid ≡ record s { bytes = s.bytes ++ piece }
 fed_bytes s mid piece going is = is ∙ ap (λ e. if e then s else record s { bytes = s.bytes ++ piece }) going
 
+-- by one read more
+reads_more : (unread left : Option (List ℕ)) (bytes piece bytes' : List ℕ) (s : SplitterState) (sets : List SetUnit) → IsLooking unread left bytes s sets → length bytes < 134217728 → length piece ≤ 65536
+    → bytes' ≡ bytes ++ piece → ReadsFront bytes' false
+reads_more unread left bytes piece bytes' s sets i fewer short all = record {
+  before = bytes;
+  last = piece;
+  parts = all;
+  short = short;
+  none = λ is. cc;
+  unseen = i.none;
+  fewer = fewer;
+}
+
+-- by one that gives nothing
+reads_nothing : (unread left : Option (List ℕ)) (bytes : List ℕ) (s : SplitterState) (sets : List SetUnit) → IsLooking unread left bytes s sets → length bytes < 134217728 → ReadsFront bytes true
+reads_nothing unread left bytes s sets i fewer = record {
+  before = bytes;
+  last = [];
+  parts = sym (append-nil bytes);
+  short = omega arith;
+  none = λ is. refl;
+  unseen = i.none;
+  fewer = fewer;
+}
+
 pub looking_more : UnitsStay → (unread left left' : Option (List ℕ)) (bytes piece bytes' : List ℕ) (s mid new : SplitterState) (sets now : List SetUnit) (said : Option Presentation)
-    → IsLooking unread left bytes s sets → Consumes left left' piece → bytes' ≡ bytes ++ piece → mid ≡ after_feed s piece → IsFound mid new sets now said → said ≡ None
+    → length bytes < 134217728 → length piece ≤ 65536 → IsLooking unread left bytes s sets → Consumes left left' piece → bytes' ≡ bytes ++ piece → mid ≡ after_feed s piece → IsFound mid new sets now said → said ≡ None
     → IsLooking unread left' bytes' new now
-looking_more stay unread left left' bytes piece bytes' s mid new sets now said i more all fed is none =
+looking_more stay unread left left' bytes piece bytes' s mid new sets now said fewer short i more all fed is none =
     let found : IsFound mid new sets now None = subst (IsFound mid new sets now) none is in
     let left = left_by_feed stay max_unit s mid piece i.drained fed in
     let fed_is = fed_bytes s mid piece i.open_end fed in
@@ -117,6 +142,7 @@ looking_more stay unread left left' bytes piece bytes' s mid new sets now said i
       none =
           sym (ap (λ bs. first_sps [] (units max_unit bs mid.ended)) mid_bytes ∙ ap (λ e. stream_sps bytes' e) mid_open)
           ∙ set_of_more unread _ bytes s mid sets i left ∙ found.0;
+      reads = λ some. reads_more unread _ bytes piece bytes' s sets i fewer short all;
     }
 
 -- ---- the front is there
@@ -131,9 +157,9 @@ says_nothing : (o : Option Sps) → o ≡ None → Says o no_presentation
 says_nothing o none = rw none refl
 
 pub front_found : UnitsStay → (unread left left' : Option (List ℕ)) (bytes piece bytes' : List ℕ) (s mid new : SplitterState) (sets now : List SetUnit) (said : Option Presentation) (p : Presentation)
-    → IsLooking unread left bytes s sets → Consumes left left' piece → bytes' ≡ bytes ++ piece → mid ≡ after_feed s piece → IsFound mid new sets now said → said ≡ Some p
-    → IsFront unread left' bytes' p
-front_found stay unread left left' bytes piece bytes' s mid new sets now told p i more all fed is some =
+    → length bytes < 134217728 → length piece ≤ 65536 → IsLooking unread left bytes s sets → Consumes left left' piece → bytes' ≡ bytes ++ piece → mid ≡ after_feed s piece
+    → IsFound mid new sets now said → said ≡ Some p → IsFront unread left' bytes' p
+front_found stay unread left left' bytes piece bytes' s mid new sets now told p fewer short i more all fed is some =
     let found : IsFound mid new sets now (Some p) = subst (IsFound mid new sets now) some is in
     let left = left_by_feed stay max_unit s mid piece i.drained fed in
     let fed_is = fed_bytes s mid piece i.open_end fed in
@@ -148,12 +174,13 @@ front_found stay unread left left' bytes piece bytes' s mid new sets now told p 
       has_read = record { consumed = subst (Consumes unread left') (sym all) (Consumes-trans unread _ left' bytes piece i.consumed more); whole = λ is. cc };
       says = says_of (stream_sps bytes' false) p said;
       enough = λ _ none. absurd (some_said (stream_sps bytes' false) p said none);
+      reads = reads_more unread _ bytes piece bytes' s sets i fewer short all;
     }
 
 pub front_ended : UnitsStay → (unread left left' : Option (List ℕ)) (bytes piece : List ℕ) (len : ℕ) (s mid new : SplitterState) (sets now : List SetUnit) (said : Option Presentation) (p : Presentation)
-    → IsLooking unread left bytes s sets → len ≡ 0 → Consumes left left' (take len piece) → IsAtEnd left' → mid ≡ after_finish s → IsFound mid new sets now said
+    → length bytes < 134217728 → IsLooking unread left bytes s sets → len ≡ 0 → Consumes left left' (take len piece) → IsAtEnd left' → mid ≡ after_finish s → IsFound mid new sets now said
     → p ≡ unwrap_or said no_presentation → IsFront unread left' bytes p
-front_ended stay unread left left' bytes piece len s mid new sets now said p i none more end finished found is_p =
+front_ended stay unread left left' bytes piece len s mid new sets now said p fewer i none more end finished found is_p =
     let left = left_by_finish stay max_unit s mid i.drained finished in
     let mid_bytes : mid.bytes ≡ bytes = ap (λ t. t.bytes) finished ∙ i.bytes_are in
     let mid_ended : mid.ended ≡ true = ap (λ t. t.ended) finished in
@@ -165,6 +192,7 @@ front_ended stay unread left left' bytes piece len s mid new sets now said p i n
       has_read = record { consumed = nothing_more unread _ left' bytes piece len i.consumed none more; whole = λ is. end };
       says = subst (Says (stream_sps bytes true)) (sym is_p) (by said found set_is);
       enough = λ is. cc;
+      reads = reads_nothing unread _ bytes s sets i fewer;
     }
   where
     by : (said : Option Presentation) → IsFound mid new sets now said → stream_sps bytes true ≡ first_sps sets (units_left max_unit mid) → Says (stream_sps bytes true) (unwrap_or said no_presentation)
@@ -173,13 +201,30 @@ front_ended stay unread left left' bytes piece len s mid new sets now said p i n
 
 -- ---- there is none
 
-pub unread_on : (unread left left' : Option (List ℕ)) (bytes : List ℕ) (s : SplitterState) (sets : List SetUnit) (fault : RunFault) → IsLooking unread left bytes s sets → Keeps left left'
-    → fault ≡ Read → NoFront fault unread left'
-unread_on unread left left' bytes s sets fault i kept is = rw is (bytes, Consumes-kept unread left left' bytes i.consumed kept, i.none)
+pub unread_on : (unread left left' : Option (List ℕ)) (bytes : List ℕ) (s : SplitterState) (sets : List SetUnit) (fault : RunFault) → length bytes < 134217728
+    → IsLooking unread left bytes s sets → Keeps left left' → fault ≡ Read → NoFront fault unread left'
+unread_on unread left left' bytes s sets fault fewer i kept is =
+    rw is (bytes, Consumes-kept unread left left' bytes i.consumed kept, reads_nothing unread left bytes s sets i fewer)
 
-pub no_memory : (unread left left' : Option (List ℕ)) (bytes : List ℕ) (s : SplitterState) (sets : List SetUnit) (piece : List ℕ) (fault : RunFault) → IsLooking unread left bytes s sets → Consumes left left' piece
-    → fault ≡ Memory → NoFront fault unread left'
-no_memory unread left left' bytes s sets piece fault i more is = rw is (bytes ++ piece, Consumes-trans unread left left' bytes piece i.consumed more)
+pub no_memory : (unread left left' : Option (List ℕ)) (bytes : List ℕ) (s : SplitterState) (sets : List SetUnit) (piece : List ℕ) (fault : RunFault) → length bytes < 134217728
+    → length piece ≤ 65536 → IsLooking unread left bytes s sets → Consumes left left' piece → fault ≡ Memory → NoFront fault unread left'
+no_memory unread left left' bytes s sets piece fault fewer short i more is =
+    rw is (bytes ++ piece, Consumes-trans unread left left' bytes piece i.consumed more, reads_more unread left bytes piece (bytes ++ piece) s sets i fewer short refl)
+
+-- so many were looked at
+some_read : (bytes : List ℕ) → 134217728 ≤ length bytes → bytes ≡ [] → ⊥
+some_read [] many is = omega (arith, many)
+some_read (b ∷ bytes) many is = cc
+
+pub all_looked_at : (unread left : Option (List ℕ)) (bytes : List ℕ) (s : SplitterState) (sets : List SetUnit) (p : Presentation) → IsLooking unread left bytes s sets → 134217728 ≤ length bytes
+    → p ≡ no_presentation → IsFront unread left bytes p
+all_looked_at unread left bytes s sets p i many is = record {
+  all = false;
+  has_read = record { consumed = i.consumed; whole = λ all. cc };
+  says = subst (Says (stream_sps bytes false)) (sym is) (says_nothing (stream_sps bytes false) i.none);
+  enough = λ _ none. many;
+  reads = i.reads (some_read bytes many);
+}
 
 -- ---- text that is joined in steps
 

@@ -1,5 +1,5 @@
 -- The sequence parameter set of the first slice that is decoded, which is looked for in the front of a stream.
-use Rattle.std.specs.Prelude.{◌≡◌, ℕ, ◌≤◌, Bool, false, if◌then◌else◌, List, [], ◌∷◌, ◌++◌, length, Option, Some, None}
+use Rattle.std.specs.Prelude.{◌≡◌, ℕ, ◌<◌, ◌≤◌, Bool, true, false, if◌then◌else◌, List, [], ◌∷◌, ◌++◌, length, Option, Some, None}
 use Rattle.std.specs.Io.KnownBytes.{Consumes}
 use Rattle.avc_annexb.specs.SplitterState.{SplitterState}
 use Rattle.avc_annexb.specs.Units.{units}
@@ -45,18 +45,34 @@ stream_sps bytes ended = first_sps [] (units max_unit bytes ended)
 abbrev pub front_length : ℕ
 front_length = max_unit
 
+-- the most bytes of one read
+abbrev pub max_read : ℕ
+max_read = 65536
+
+-- These bytes were read for such a slice. The last read gave at most 65,536 of them, and none where it is said to be empty. Before it the
+-- bytes had no such slice, and were fewer than are looked at.
+pub record ReadsFront (bytes : List ℕ) (empty : Bool) : Type 0 where
+  pub before : List ℕ
+  pub last : List ℕ
+  pub parts : bytes ≡ before ++ last
+  pub short : length last ≤ max_read
+  pub none : empty ≡ true → last ≡ []
+  pub unseen : stream_sps before false ≡ None
+  pub fewer : length before < front_length
+
 -- These bytes were read, and this is what the set says of the first slice in them that is decoded. They go up to the end of that
--- slice at least, or are all, or as many as are looked at.
+-- slice, in the last read, or are all, or as many as are looked at.
 pub record IsFront (unread left : Option (List ℕ)) (bytes : List ℕ) (said : Presentation) : Type 0 where
   pub all : Bool
   pub has_read : HasRead unread left bytes all
   pub says : Says (stream_sps bytes all) said
   pub enough : all ≡ false → stream_sps bytes false ≡ None → front_length ≤ length bytes
+  pub reads : ReadsFront bytes all
 
 -- A fault of reading came before such a slice, or memory was refused.
 abbrev pub NoFront : RunFault → (unread left : Option (List ℕ)) → Type 0
-NoFront Read unread left = (bytes : List ℕ) × Consumes unread left bytes × (stream_sps bytes false ≡ None)
-NoFront Memory unread left = (bytes : List ℕ) × Consumes unread left bytes
+NoFront Read unread left = (bytes : List ℕ) × Consumes unread left bytes × ReadsFront bytes true
+NoFront Memory unread left = (bytes : List ℕ) × Consumes unread left bytes × ReadsFront bytes false
 NoFront _ unread left = ⊥
 
 -- ---- for private clauses
@@ -82,3 +98,4 @@ pub record IsLooking (unread left : Option (List ℕ)) (bytes : List ℕ) (s : S
   pub bytes_are : s.bytes ≡ bytes
   pub sets_are : sets ≡ set_units (units max_unit bytes false)
   pub none : stream_sps bytes false ≡ None
+  pub reads : (bytes ≡ [] → ⊥) → ReadsFront bytes false

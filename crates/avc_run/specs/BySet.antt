@@ -19,7 +19,7 @@ pub record DecodesBySet (format : Presentation → Format) (output : Output) (un
   pub middle : Option (List ℕ)
   pub said : Presentation
   pub front : IsFront unread middle bytes said
-  pub decodes : DecodesAs (format said) output unread left held holds report run
+  pub decodes : DecodesAs (format said) output bytes unread left held holds report run
 
 -- A stream is decoded so, or its front can't be read, and nothing is written or reported.
 pub data Decodes (format : Presentation → Format) (output : Output) (unread left held holds : Option (List ℕ)) (report : Report) (run : Result (Unit {0}) RunFault) : Type 0 where

@@ -19,7 +19,7 @@ use Rattle.avc_run.specs.Formats.{DecodesAs}
 -- A run whose bytes went into a digest (RFC 1321), and what it came to.
 pub record Sums (format : Format) (output : Output) (unread left : Option (List ℕ)) (report : Report) (run : Result (Unit {0}) RunFault) (digest : List ℕ) : Type 0 where
   pub summed : List ℕ
-  pub decodes : DecodesAs format output unread left (Some []) (Some summed) report run
+  pub decodes : DecodesAs format output [] unread left (Some []) (Some summed) report run
   pub digest_is : digest ≡ md5 summed
 
 -- This line was written after a run without a fault; after a write fault less than all of it, and where the run or memory failed

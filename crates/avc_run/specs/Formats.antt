@@ -1,7 +1,6 @@
 -- What `decode` writes where pictures have a format of their own, and not all may be wanted.
 use Rattle.std.specs.Prelude.{◌≡◌, ℕ, ◌+◌, ◌<◌, ◌≤◌, ◌^◌, Bool, true, false, List, [], ◌∷◌, ◌++◌, length, take, Option, Result, Ok, Err}
 use Rattle.std.specs.Io.KnownBytes.{Appends}
-use Rattle.avc_types.specs.declared.picture.Picture.{Picture as Decoded}
 use Rattle.avc_annexb.specs.Units.{saturated}
 use Rattle.avc_decoder.specs.Output.{Output}
 use Rattle.avc_decoder.specs.Events.{events}
@@ -10,6 +9,7 @@ use Rattle.avc_decoder.specs.declared.event.Event.TheVariants.{Picture, Refused}
 use Rattle.avc_events.specs.EventReports.{report_of}
 use Rattle.avc_console.specs.Reading.{max_unit, HasRead}
 use Rattle.avc_formats.specs.Formats.{Format}
+use Rattle.avc_formats.specs.Front.{max_read}
 use Rattle.avc_console.specs.declared.fault.RunFault.{RunFault}
 use Rattle.avc_console.specs.declared.fault.RunFault.TheVariants.{Read, Endless, Write, Memory, Size}
 use Rattle.avc_console.specs.declared.report.Report.{Report}
@@ -62,19 +62,31 @@ pub record BreaksOff (format : Format) (report : Report) (fault : RunFault) (old
   pub reported : report ≡ report_of front
   pub stops : StopsAt format (pictures_after 0 front) fault old new (written_from format 0 front) rest
 
--- Of all bytes that the reader had, or of the first of them where these bring as many pictures as are wanted, the defined pictures
--- fit and are written, and the report is on what they define. After a read fault exactly the pictures that the bytes read so far define
--- fit and are written, and reported is what these define, and also where there were more reads than a run may take, each of some bytes.
--- After other faults the events before it are.
-abbrev pub DecodesAs : Format → Output → (unread left held holds : Option (List ℕ)) → Report → Result (Unit {0}) RunFault → Type 0
-DecodesAs format output unread left held holds report (Ok _) =
+-- These bytes were read: a front, and what the reads behind it gave. The last of these gave at most 65,536 bytes, and none where it is said
+-- to be empty. It was wanted: it was the first, or the pictures that had come were not yet all that are wanted.
+pub record ReadsWanted (format : Format) (output : Output) (front bytes : List ℕ) (empty : Bool) : Type 0 where
+  pub before : List ℕ
+  pub last : List ℕ
+  pub parts : bytes ≡ (front ++ before) ++ last
+  pub short : length last ≤ max_read
+  pub none : empty ≡ true → last ≡ []
+  pub wanted : (before ≡ [] → ⊥) → format.enough (report_of (events output max_unit (front ++ before) false)).pictures ≡ false
+
+-- Of all bytes that the reader had, a front among them that had been read, or of the first of them where these bring as many pictures as
+-- are wanted, the defined pictures fit and are written, and the report is on what they define. After a read fault exactly the pictures
+-- that the bytes read so far define fit and are written, and reported is what these define, and also where there were more reads than a
+-- run may take, each of some bytes. After other faults the events before it are. No read came that was not wanted.
+abbrev pub DecodesAs : Format → Output → (front : List ℕ) → (unread left held holds : Option (List ℕ)) → Report → Result (Unit {0}) RunFault → Type 0
+DecodesAs format output front unread left held holds report (Ok _) =
     (bytes : List ℕ) × (all : Bool) × HasRead unread left bytes all × IsWritten format 0 held holds (events output max_unit bytes all)
     × (report ≡ report_of (events output max_unit bytes all)) × (all ≡ false → format.enough report.pictures ≡ true)
-DecodesAs format output unread left held holds report (Err Read) =
+    × ReadsWanted format output front bytes all
+DecodesAs format output front unread left held holds report (Err Read) =
     (bytes : List ℕ) × HasRead unread left bytes false × IsWritten format 0 held holds (events output max_unit bytes false)
-    × (report ≡ report_of (events output max_unit bytes false))
-DecodesAs format output unread left held holds report (Err Endless) =
+    × (report ≡ report_of (events output max_unit bytes false)) × ReadsWanted format output front bytes true
+DecodesAs format output front unread left held holds report (Err Endless) =
     (bytes : List ℕ) × HasRead unread left bytes false × IsWritten format 0 held holds (events output max_unit bytes false)
-    × (report ≡ report_of (events output max_unit bytes false)) × (2 ^ 32 ≤ length bytes)
-DecodesAs format output unread left held holds report (Err fault) =
+    × (report ≡ report_of (events output max_unit bytes false)) × ReadsWanted format output front bytes true × (2 ^ 32 ≤ length bytes)
+DecodesAs format output front unread left held holds report (Err fault) =
     (bytes : List ℕ) × (all : Bool) × HasRead unread left bytes all × BreaksOff format report fault held holds (events output max_unit bytes all)
+    × ReadsWanted format output front bytes all

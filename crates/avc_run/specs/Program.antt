@@ -1,5 +1,5 @@
 -- How the commands that decode end.
-use Rattle.std.specs.Prelude.{ℕ, Bool, List, Option, Result}
+use Rattle.std.specs.Prelude.{ℕ, Bool, List, [], Option, Result}
 use Rattle.avc_decoder.specs.Output.{Output}
 use Rattle.avc_console.specs.Program.{TellsRun}
 use Rattle.avc_console.specs.declared.console.Names.{Names}
@@ -13,5 +13,5 @@ use Rattle.avc_run.specs.Formats.{DecodesAs}
 pub record EndsDecodingAs (names : Names) (explained : Bool) (format : Format) (output : Output) (unread left held holds before now : Option (List ℕ)) (ending : Ending) : Type 0 where
   pub report : Report
   pub run : Result (Unit {0}) RunFault
-  pub decodes : DecodesAs format output unread left held holds report run
+  pub decodes : DecodesAs format output [] unread left held holds report run
   pub tells : TellsRun names explained report run before now ending

@@ -11,7 +11,9 @@ ghost use Rattle.avc_run.specs.Formats.{DecodesAs, IsWritten};
 ghost use Rattle.avc_run.specs.Draining.{events_left, BreaksOffFrom, IsDrained, IsHandled};
 ghost use Rattle.avc_decoder.specs.Machine.{after_feed, after_flush, new_machine, IsUpToUnit};
 
-use avc_console::{MAX_UNIT, PIECE, READS, Report, Reporter, RunFault, Unwatched, Watch, read_once};
+use avc_console::{
+    MAX_UNIT, PIECE, READS, Report, Reporter, RunFault, Unwatched, Watch, read_once,
+};
 use avc_decoder::laws::{events_only_grow, pictures_are_whole};
 use avc_decoder::{Decoder, Event, Output};
 use avc_events::{feed_unit, flush, next_event};
@@ -49,8 +51,8 @@ pub fn run<R: Read, W: Write>(
     }
 }
 
-/// Decodes a byte stream (Annex B) in this format. Where it wants no more pictures, the bytes are not read to their end. Each picture
-/// and each refusal is reported as it comes, and `watch` is told how far the run is, after each read and at the end.
+/// Decodes a byte stream (Annex B) in this format. Once it wants no more pictures, no further read is made; the first is made in any case.
+/// Each picture and each refusal is reported as it comes, and `watch` is told how far the run is, after each read and at the end.
 pub fn run_watched<F: PictureFormat, T: Reporter, E: Write, V: Watch, R: Read, W: Write>(
     alloc: Global,
     output: Output,
@@ -62,7 +64,7 @@ pub fn run_watched<F: PictureFormat, T: Reporter, E: Write, V: Watch, R: Read, W
     writer: &mut W,
 ) -> Result<(), RunFault>
     requires { (T.reported report.old).report ≡ no_report }
-    ensures decodes { DecodesAs (F.format format.now) output (R.remaining reader.old) (R.remaining reader.new) (W.contents writer.old)
+    ensures decodes { DecodesAs (F.format format.now) output [] (R.remaining reader.old) (R.remaining reader.new) (W.contents writer.old)
         (W.contents writer.new) (T.reported report.new).report result }
     ensures told { TellsOn (T.reported report.old) (T.reported report.new) (E.contents errors.old) (E.contents errors.new) }
 {
@@ -92,8 +94,8 @@ pub fn run_behind<F: PictureFormat, T: Reporter, E: Write, V: Watch, R: Read, W:
     writer: &mut W,
 ) -> Result<(), RunFault>
     requires { (T.reported report.old).report ≡ no_report }
-    ensures decodes { DecodesAs (F.format format.now) output (prepend_known front.now (R.remaining reader.old)) (R.remaining reader.new)
-        (W.contents writer.old) (W.contents writer.new) (T.reported report.new).report result }
+    ensures decodes { DecodesAs (F.format format.now) output front.now (prepend_known front.now (R.remaining reader.old))
+        (R.remaining reader.new) (W.contents writer.old) (W.contents writer.new) (T.reported report.new).report result }
     ensures told { TellsOn (T.reported report.old) (T.reported report.new) (E.contents errors.old) (E.contents errors.new) }
 {
     let mut decoder = Decoder::<MAX_UNIT, SharedPicture>::sharing(alloc, output);
@@ -124,8 +126,8 @@ fn decode_by<F: PictureFormat, T: Reporter, E: Write, V: Watch, R: Read, W: Writ
 ) -> Result<(), RunFault>
     requires new { decoder.old ≡ new_machine decoder.old.output }
     requires none { (T.reported report.old).report ≡ no_report }
-    ensures decodes { DecodesAs (F.format format.now) decoder.old.output (prepend_known front.now (R.remaining reader.old)) (R.remaining reader.new)
-        (W.contents writer.old) (W.contents writer.new) (T.reported report.new).report result }
+    ensures decodes { DecodesAs (F.format format.now) decoder.old.output front.now (prepend_known front.now (R.remaining reader.old))
+        (R.remaining reader.new) (W.contents writer.old) (W.contents writer.new) (T.reported report.new).report result }
     ensures told { TellsOn (T.reported report.old) (T.reported report.new) (E.contents errors.old) (E.contents errors.new) }
 {
     events_only_grow();

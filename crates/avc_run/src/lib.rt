@@ -7,9 +7,10 @@ mod digest;
 mod program;
 
 pub use avc_console::{
-    Answer, Console, Counts, Ending, MAX_UNIT, Names, PIECE, Refusals, Report, Reporter, RunFault, Tally,
-    Unwatched, Watch, answer_status, cut, cut_status, end_listing, fail, fault_status, headers,
-    read_once, refusal_line, run_cut, run_headers, run_units, status, tell, units, write_stream,
+    Answer, Console, Counts, Ending, MAX_UNIT, Names, PIECE, Refusals, Report, Reporter, RunFault,
+    Tally, Unwatched, Watch, answer_status, cut, cut_status, end_listing, fail, fault_status,
+    headers, read_once, refusal_line, run_cut, run_headers, run_units, status, tell, units,
+    write_stream,
 };
 pub use avc_decoder::Output;
 pub use avc_events::{feed_unit, flush, next_event};

@@ -1,6 +1,6 @@
 -- The names that the proofs cite of std, of the crates below and of the definitions here, passed on from one place. Declares nothing.
 pub use Rattle.std.proofs.Common.{◌≡◌, true, false, List, [], ◌∷◌, ◌++◌, Option, Some, None, refl, ap, sym, subst, ◌∙◌, append_assoc, append-nil, arith, ℕ}
-pub use Rattle.std.proofs.Common.{take, Result, ◌+◌, ◌<◌, ◌≤◌, length, Ok, Err, IfErr, length-append, suc, zero, ◌-◌, ◌^◌, replicate, string_bytes, rules}
+pub use Rattle.std.proofs.Common.{take, Result, ◌+◌, ◌<◌, ◌≤◌, length, Ok, Err, IfErr, length-append, length-take, suc, zero, ◌-◌, ◌^◌, replicate, string_bytes, rules}
 pub use Rattle.std.proofs.KnownBytes.{Appends-nil, Consumes-kept, Consumes-trans, Appends-trans}
 pub use Rattle.std.proofs.lemmas.List.{take-append-le}
 pub use Rattle.std.proofs.lemmas.Nat.Gcd.{IsGcd-from_zero, IsGcd-from_mod}
@@ -33,7 +33,7 @@ pub use Rattle.md5.specs.Md5.{md5}
 pub use Rattle.avc_formats.specs.Formats.{StopsPicture}
 pub use Rattle.avc_formats.specs.FrameMd5.{column, aspect_line, codec_lines, columns_line, dimensions_line, format_lines, time_base_line, framemd5_line}
 pub use Rattle.avc_formats.specs.FrameMd5.{size_text, times_text}
-pub use Rattle.avc_formats.specs.Front.{first_of, first_sps, starting_sps, IsFound, IsSaid, stream_sps, IsFront, IsLooking, NoFront}
+pub use Rattle.avc_formats.specs.Front.{first_of, first_sps, starting_sps, IsFound, IsSaid, stream_sps, IsFront, IsLooking, NoFront, ReadsFront}
 pub use Rattle.avc_formats.specs.Front.{front_length}
 pub use Rattle.avc_formats.specs.Presenting.{no_presentation, Says}
 pub use Rattle.avc_formats.specs.Text.{newline}

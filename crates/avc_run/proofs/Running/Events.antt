@@ -381,11 +381,11 @@ written_plain n [] = refl
 written_plain n (Picture p ∷ es) = ap (λ bs. i420 p ++ bs) (written_plain (saturated (n + 1)) es)
 written_plain n (Refused unit f ∷ es) = written_plain n es
 
-plainly : (output : Output) (unread left held holds : Option (List ℕ)) (report : Report) → DecodesAs plain output unread left held holds report (Ok tt)
+plainly : (output : Output) (unread left held holds : Option (List ℕ)) (report : Report) → DecodesAs plain output [] unread left held holds report (Ok tt)
     → Decodes output unread left held holds (Ok report)
-plainly output unread left held holds report (bytes, true, read, wrote, told, wanted) =
+plainly output unread left held holds report (bytes, true, read, wrote, told, enough, asked) =
     (bytes, read, subst (Appends held holds) (written_plain 0 (events output max_unit bytes true)) wrote.text, told)
-plainly output unread left held holds report (bytes, false, read, wrote, told, wanted) = cc (wanted refl)
+plainly output unread left held holds report (bytes, false, read, wrote, told, enough, asked) = cc (enough refl)
 
 -- where a picture was not written whole
 within_shown : (held holds : Option (List ℕ)) (k : ℕ) (es front rest : List Event) → es ≡ front ++ rest → StopsAt plain k Write held holds (written_from plain 0 front) rest
@@ -411,15 +411,15 @@ no_other_size held holds k text [] some = some
 no_other_size held holds k text (Refused unit f ∷ rest) some = some
 no_other_size held holds k text (Picture p ∷ rest) some = let another : true ≡ false = some.0 in cc
 
-plainly_off : (output : Output) (unread left held holds : Option (List ℕ)) (report : Report) (fault : RunFault) → DecodesAs plain output unread left held holds report (Err fault)
+plainly_off : (output : Output) (unread left held holds : Option (List ℕ)) (report : Report) (fault : RunFault) → DecodesAs plain output [] unread left held holds report (Err fault)
     → Decodes output unread left held holds (Err fault)
-plainly_off output unread left held holds report Read (bytes, read, wrote, told) =
+plainly_off output unread left held holds report Read (bytes, read, wrote, told, asked) =
     (bytes, read, subst (Appends held holds) (written_plain 0 (events output max_unit bytes false)) wrote.text)
-plainly_off output unread left held holds report Endless (bytes, read, wrote, told, many) =
+plainly_off output unread left held holds report Endless (bytes, read, wrote, told, asked, many) =
     (bytes, read, subst (Appends held holds) (written_plain 0 (events output max_unit bytes false)) wrote.text, many)
-plainly_off output unread left held holds report Write (bytes, all, read, off) =
+plainly_off output unread left held holds report Write (bytes, all, read, off, asked) =
     (bytes, all, read, within_shown held holds (pictures_after 0 off.front) (events output max_unit bytes all) off.front off.rest off.parts off.stops)
-plainly_off output unread left held holds report Memory (bytes, all, read, off) =
+plainly_off output unread left held holds report Memory (bytes, all, read, off, asked) =
     let es = events output max_unit bytes all in
     let is : take (length off.front) es ≡ off.front = ap (λ xs. take (length off.front) xs) off.parts ∙ take-append_seam off.front off.rest in (
       bytes,
@@ -431,16 +431,16 @@ plainly_off output unread left held holds report Memory (bytes, all, read, off) 
         written = subst (Appends held holds) (written_plain 0 off.front ∙ ap shown (sym is)) off.stops;
       },
     )
-plainly_off output unread left held holds report Size (bytes, all, read, off) =
+plainly_off output unread left held holds report Size (bytes, all, read, off, asked) =
     absurd (no_other_size held holds (pictures_after 0 off.front) (written_from plain 0 off.front) off.rest off.stops)
 
 -- by how it ended
 pub plainly_ok : (output : Output) (unread left held holds : Option (List ℕ)) (report : Report) (run : Result (Unit {0}) RunFault) (done : Unit {0}) → run ≡ Ok done
-    → DecodesAs plain output unread left held holds report run → Decodes output unread left held holds (Ok report)
+    → DecodesAs plain output [] unread left held holds report run → Decodes output unread left held holds (Ok report)
 plainly_ok output unread left held holds report run done is d =
-    plainly output unread left held holds report (subst (DecodesAs plain output unread left held holds report) is d)
+    plainly output unread left held holds report (subst (DecodesAs plain output [] unread left held holds report) is d)
 
 pub plainly_err : (output : Output) (unread left held holds : Option (List ℕ)) (report : Report) (run : Result (Unit {0}) RunFault) (fault : RunFault) → run ≡ Err fault
-    → DecodesAs plain output unread left held holds report run → Decodes output unread left held holds (Err fault)
+    → DecodesAs plain output [] unread left held holds report run → Decodes output unread left held holds (Err fault)
 plainly_err output unread left held holds report run fault is d =
-    plainly_off output unread left held holds report fault (subst (DecodesAs plain output unread left held holds report) is d)
+    plainly_off output unread left held holds report fault (subst (DecodesAs plain output [] unread left held holds report) is d)

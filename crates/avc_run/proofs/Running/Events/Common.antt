@@ -1,5 +1,5 @@
 -- The names that the proofs cite of std, of the crates below and of the definitions here, passed on from one place. Declares nothing.
-pub use Rattle.std.proofs.Common.{ap, sym, ◌∙◌, append_assoc, append-nil, arith, subst, length-append, length-drop, rules}
+pub use Rattle.std.proofs.Common.{ap, sym, ◌∙◌, append_assoc, append-nil, arith, subst, length-append, length-drop, length-take, rules}
 pub use Rattle.std.proofs.KnownBytes.{Appends-trans, Appends-nil, Consumes-nil, Consumes-trans, prepend_known-nil, Consumes-kept}
 pub use Rattle.std.proofs.Math.Seq.{take-append-add, drop-nil, take-append_seam, drop-append_seam, take-add, take-length}
 pub use Rattle.std.proofs.lemmas.List.{take-append-le, drop_more, take-append-drop, take_rest}
@@ -32,7 +32,7 @@ pub use Rattle.avc_events.specs.EventReports.{events_defined, report_of, report_
 pub use Rattle.avc_run.specs.Decoding.{Decodes, defined}
 pub use Rattle.avc_run.specs.Draining.{events_left, count_left, BreaksOffFrom, IsDraining, IsHandled, IsDrained}
 pub use Rattle.avc_run.specs.Draining.{after_draining, IsRunning}
-pub use Rattle.avc_run.specs.Formats.{pictures_after, written_from, AllFit, BreaksOff, DecodesAs, IsWritten, StopsAt}
+pub use Rattle.avc_run.specs.Formats.{pictures_after, written_from, AllFit, BreaksOff, DecodesAs, IsWritten, ReadsWanted, StopsAt}
 pub use Rattle.avc_formats.specs.Formats.{Format, StopsPicture, plain}
 pub use Rattle.avc_console.specs.Reading.{WritesFirst, HasRead}
 pub use Rattle.avc_console.specs.declared.fault.RunFault.{RunFault}

@@ -1,4 +1,4 @@
-use Rattle.avc_run.proofs.Running.{sym, ap, ◌∙◌, after_take, by_fault, handled, is_none, one_more, smaller, stays_told, stopped, stopped_in, told_then}
+use Rattle.avc_run.proofs.Running.{sym, ap, ◌∙◌, after_take, by_fault, handled, is_none, one_more, smaller, stopped, stopped_in, told_then}
 use Rattle.avc_run.proofs.decoding.drain.Goals as goal
 
 pub returns-in_err-event-clause-err : goal.returns-in_err-event-clause-err

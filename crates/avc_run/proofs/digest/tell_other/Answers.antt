@@ -1,4 +1,4 @@
-use Rattle.avc_run.proofs.Running.{arith, subst, TellsMore, other_text, told_both}
+use Rattle.avc_run.proofs.Running.{arith, subst, TellsMore, told_both}
 use Rattle.avc_run.proofs.digest.tell_other.Goals as goal
 
 pub returns-in-Ok : goal.returns-in-Ok
