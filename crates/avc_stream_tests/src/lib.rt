@@ -4,6 +4,8 @@
 #[cfg(test)]
 mod command_line;
 #[cfg(test)]
+mod counted_calls;
+#[cfg(test)]
 mod decoder_calls;
 #[cfg(test)]
 mod limited_writer;

@@ -1,0 +1,258 @@
+// How often a run reads and writes, and what it tells of a call that failed. No clause says this, since the history of a reader or a writer
+// has its bytes alone.
+use crate::limited_writer::Refusal;
+use crate::worked_streams::ONE_HELD;
+use avc_formats::{HeadedFormat, I420, Selected};
+use avc_run::{
+    Console, Ending, Names, Output, RunFault, Unwatched, decode, decode_as, decode_headed, run,
+    run_units,
+};
+use avc_tools::ForPeople;
+use std::alloc::{AllocError, Global};
+use std::io;
+use std::io::{ErrorKind, Read, Write};
+use std::test::Fail;
+
+// Gives these bytes, at most so many a call, and then the end. The call of one number, from 0, fails, and those after it would not.
+#[derive(Drop)]
+struct CountingReader<'a> {
+    bytes: &'a [u8],
+    piece: usize,
+    failing: Option<usize>,
+    calls: usize,
+}
+
+impl Read for CountingReader<'_> {
+    fn read(&mut self, buf: &mut [u8]) -> io::Result<usize> {
+        let number = self.calls;
+        self.calls = number.saturating_add(1);
+        if self.failing == Some(number) {
+            return Err(ErrorKind::BrokenPipe.into());
+        }
+        let count = self.bytes.len().min(buf.len()).min(self.piece);
+        buf[..count].copy_from_slice(&self.bytes[..count]);
+        self.bytes = &self.bytes[count..];
+        Ok(count)
+    }
+}
+
+fn reader_of(bytes: &[u8], piece: usize, failing: Option<usize>) -> CountingReader<'_> {
+    CountingReader {
+        bytes,
+        piece,
+        failing,
+        calls: 0,
+    }
+}
+
+// Takes all bytes of each call, but of the one of this number, from 0.
+#[derive(Drop)]
+struct CountingWriter {
+    failing: Option<usize>,
+    refusal: Refusal,
+    calls: usize,
+    taken: usize,
+}
+
+impl Write for CountingWriter {
+    fn write(&mut self, buf: &[u8]) -> io::Result<usize> {
+        let number = self.calls;
+        self.calls = number.saturating_add(1);
+        if self.failing == Some(number) {
+            return match self.refusal {
+                Refusal::Error => Err(ErrorKind::BrokenPipe.into()),
+                Refusal::Zero => Ok(0),
+            };
+        }
+        self.taken = self.taken.saturating_add(buf.len());
+        Ok(buf.len())
+    }
+
+    fn flush(&mut self) -> io::Result<()> {
+        Ok(())
+    }
+}
+
+fn writer_failing(failing: Option<usize>, refusal: Refusal) -> CountingWriter {
+    CountingWriter {
+        failing,
+        refusal,
+        calls: 0,
+        taken: 0,
+    }
+}
+
+fn console_of(errors: CountingWriter) -> Console<'static, CountingWriter, Unwatched> {
+    Console {
+        names: Names {
+            input: None,
+            output: None,
+        },
+        is_explained: false,
+        errors,
+        watch: Unwatched,
+    }
+}
+
+// What ended a run, where a fault did.
+fn fault_of(
+    alloc: Global,
+    reader: &mut CountingReader<'_>,
+    writer: &mut CountingWriter,
+) -> Option<RunFault> {
+    match run(alloc, Output::Full, reader, writer) {
+        Ok(_) => None,
+        Err(fault) => Some(fault),
+    }
+}
+
+// Each of the two pictures has 384 bytes, which go out by one write.
+#[test]
+fn a_write_that_fails_is_the_last(rt: HostRuntime) -> Result<(), Fail> {
+    for refusal in [Refusal::Error, Refusal::Zero] {
+        for (failing, calls, taken) in [(0, 1, 0), (1, 2, 384)] {
+            let mut reader = reader_of(ONE_HELD, 7, None);
+            let mut writer = writer_failing(Some(failing), refusal);
+            let fault = fault_of(rt.alloc(), &mut reader, &mut writer);
+            assert_eq!(rt; fault, Some(RunFault::Write), "{failing}");
+            assert_eq!(rt; (writer.calls, writer.taken), (calls, taken), "{failing}");
+        }
+    }
+    Ok(())
+}
+
+#[test]
+fn a_read_that_fails_is_the_last(rt: HostRuntime) -> Result<(), Fail> {
+    for (failing, calls) in [(0, 1), (1, 2), (43, 44)] {
+        let mut reader = reader_of(ONE_HELD, 1, Some(failing));
+        let mut writer = writer_failing(None, Refusal::Error);
+        let fault = fault_of(rt.alloc(), &mut reader, &mut writer);
+        assert_eq!(rt; fault, Some(RunFault::Read), "{failing}");
+        assert_eq!(rt; reader.calls, calls, "{failing}");
+    }
+    Ok(())
+}
+
+fn framed(
+    alloc: Global,
+    reader: &mut CountingReader<'_>,
+    writer: &mut CountingWriter,
+    console: &mut Console<'static, CountingWriter, Unwatched>,
+) -> Ending {
+    decode_headed(
+        alloc,
+        HeadedFormat::FrameMd5,
+        Output::Full,
+        0,
+        u64::MAX,
+        reader,
+        writer,
+        console,
+    )
+}
+
+// `avcdec: read fault` and the end of the line are 19 bytes, written in two parts.
+#[test]
+fn a_read_that_fails_in_the_front_is_told(rt: HostRuntime) -> Result<(), Fail> {
+    for (failing, calls) in [(0, 1), (1, 2)] {
+        let mut reader = reader_of(ONE_HELD, 1, Some(failing));
+        let mut writer = writer_failing(None, Refusal::Error);
+        let mut console = console_of(writer_failing(None, Refusal::Error));
+        let ending = framed(rt.alloc(), &mut reader, &mut writer, &mut console);
+        assert_eq!(rt; (ending.status, ending.told), (3, true), "{failing}");
+        assert_eq!(rt; (reader.calls, writer.calls), (calls, 0), "{failing}");
+        assert_eq!(rt; console.errors.taken, 19, "{failing}");
+    }
+    Ok(())
+}
+
+// So many that a count of a million, or of 2 to the power of 20, is passed.
+const MANY: usize = 1_048_577;
+
+// A stream of which each read gives a byte goes on, and what reads it asks for its end once.
+#[test]
+fn a_million_reads_are_no_fault(rt: HostRuntime) -> Result<(), Fail> {
+    let alloc = rt.alloc();
+    let zeros = vec![in alloc; 0; MANY]?;
+    let mut writer = writer_failing(None, Refusal::Error);
+
+    let mut reader = reader_of(&zeros, 1, None);
+    assert_eq!(rt; fault_of(alloc, &mut reader, &mut writer), None);
+    assert_eq!(rt; (reader.calls, writer.calls), (MANY + 1, 0));
+
+    let mut listed = reader_of(&zeros, 1, None);
+    assert!(rt; run_units(alloc, ForPeople, &mut listed, &mut writer).is_ok());
+    assert_eq!(rt; (listed.calls, writer.calls), (MANY + 1, 0));
+
+    let mut front = reader_of(&zeros, 1, None);
+    let mut console = console_of(writer_failing(None, Refusal::Error));
+    let ending = framed(alloc, &mut front, &mut writer, &mut console);
+    assert_eq!(rt; (ending.status, ending.told), (0, true));
+    Ok(())
+}
+
+// So many units of one byte, whose forbidden_zero_bit is 1.
+fn forbidden(alloc: Global, units: u32) -> Result<Vec<u8>, AllocError> {
+    let mut bytes = Vec::new(alloc);
+    for _ in 0..units {
+        bytes.extend_from_slice(&[0, 0, 1, 0x80])?;
+    }
+    Ok(bytes)
+}
+
+// `refused unit N: 4 ForbiddenBit` and the end of the line are 30 bytes and the digits of N, told by one write: of 2,500 units 83,890
+// bytes. Where the standard error takes no more of the second line, it is not asked again.
+#[test]
+fn refusals_are_told_as_long_as_they_are_taken(rt: HostRuntime) -> Result<(), Fail> {
+    let alloc = rt.alloc();
+    let bytes = forbidden(alloc, 2_500)?;
+    for (failing, told, calls, taken) in [(None, true, 2_500, 83_890), (Some(1), false, 2, 31)] {
+        let mut reader = reader_of(&bytes, 65_536, None);
+        let mut writer = writer_failing(None, Refusal::Error);
+        let mut console = console_of(writer_failing(failing, Refusal::Error));
+        let ending = decode(alloc, Output::Full, &mut reader, &mut writer, &mut console);
+        assert_eq!(rt; (ending.status, ending.told), (1, told), "{taken}");
+        assert_eq!(rt;
+            (console.errors.calls, console.errors.taken),
+            (calls, taken)
+        );
+    }
+    Ok(())
+}
+
+// The first picture goes out with the last byte, the second at the end. The first read is made also where no picture is wanted.
+#[test]
+fn reads_as_long_as_pictures_are_wanted(rt: HostRuntime) -> Result<(), Fail> {
+    for (piece, limit, reads, taken) in [
+        (65_536, 0, 1, 0),
+        (65_536, 1, 1, 384),
+        (65_536, 2, 2, 768),
+        (1, 0, 1, 0),
+        (1, 1, 43, 384),
+        (1, 2, 44, 768),
+    ] {
+        let format = Selected {
+            format: I420,
+            skip: 0,
+            limit,
+        };
+        let mut reader = reader_of(ONE_HELD, piece, None);
+        let mut writer = writer_failing(None, Refusal::Error);
+        let mut console = console_of(writer_failing(None, Refusal::Error));
+        let ending = decode_as(
+            rt.alloc(),
+            Output::Full,
+            &format,
+            &mut reader,
+            &mut writer,
+            &mut console,
+        );
+        assert_eq!(rt; ending.status, 0, "{piece}, {limit}");
+        assert_eq!(rt;
+            (reader.calls, writer.taken),
+            (reads, taken),
+            "{piece}, {limit}"
+        );
+    }
+    Ok(())
+}
