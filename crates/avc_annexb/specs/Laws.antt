@@ -5,7 +5,8 @@ use Rattle.avc_annexb.specs.declared.unit.Unit.{Unit}
 use Rattle.avc_annexb.specs.Units.{saturated, units}
 use Rattle.avc_annexb.specs.Written.{start_code, written}
 
--- The units whose end has been seen stay the first ones, whatever follows them, and whether the stream ends or not.
+-- The units whose end has been seen stay the first ones, whatever follows them, and whether the
+-- stream ends or not.
 abbrev pub UnitsStay : Type 0
 UnitsStay = (max : ℕ) (bytes more : List ℕ) (ended : Bool) → (others : List Unit) × (units max (bytes ++ more) ended ≡ units max bytes false ++ others)
 
@@ -20,7 +21,8 @@ pub record IsUnitOf (max : ℕ) (bytes : List ℕ) (u : Unit) : Type 0 where
   pub short : IsTrue (is_some u.body)
 
 -- A stream that is written of units of a stream, and then goes on with that stream from one of its
--- units, has these units, and then those from that one on; the offset of that one is below the greatest u64, so not cut off.
+-- units, has these units, and then those from that one on; the offset of that one is below the
+-- greatest u64, so not cut off.
 abbrev pub WrittenUnitsStand : Type 0
 WrittenUnitsStand =
     (max : ℕ) (bytes : List ℕ) (ended : Bool) (written_units : List Unit) (k : ℕ) (u : Unit) →
@@ -50,7 +52,8 @@ WrittenUnitsStandAlone =
     All (IsUnitOf limit bytes) written_units →
     map contents (units max (flat_map written written_units) true) ≡ map (contents_within max) written_units
 
--- The same bytes have the same units, whatever the most bytes of one are, but for the bodies of longer ones.
+-- The same bytes have the same units, whatever the most bytes of one are, but for the bodies of
+-- longer ones.
 abbrev pub UnitsAreWithin : Type 0
 UnitsAreWithin =
     (limit max : ℕ) (bytes : List ℕ) (ended : Bool) → length bytes ≤ limit →

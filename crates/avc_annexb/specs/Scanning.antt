@@ -84,7 +84,8 @@ pub record HasOneMoreAtMost {max : ℕ} (old new : Ready max) : Type 0 where
   pub no_fewer : length old.units.items ≤ length new.units.items
   pub no_more : length new.units.items ≤ length old.units.items + 1
 
--- what the units from here on are, whatever comes: n bytes came, and of the last of them zeros are not yet in the unit
+-- what the units from here on are, whatever comes: n bytes came, and of the last of them zeros are
+-- not yet in the unit
 abbrev pub placed_units_after : ℕ → Option PlacedUnit → ℕ → Bool → List ℕ → List PlacedUnit
 placed_units_after n None zeros ended more = placed_units (n - zeros) ended (replicate zeros 0 ++ more)
 placed_units_after n (Some unit) zeros ended more =
@@ -117,7 +118,8 @@ pub record HasScanned (max : ℕ) (s : Scanner max) (bytes : List ℕ) : Type 0 
   pub ready : AreReady max s.ready done
   pub position : s.position ≡ saturated (length bytes)
 
--- Of these bytes so many were scanned, at least one where there is one, and one unit more is ready, or none.
+-- Of these bytes so many were scanned, at least one where there is one, and one unit more is ready,
+-- or none.
 pub record HasTaken (max : ℕ) (old : Scanner max) (piece : List ℕ) (used : ℕ) (new : Scanner max) : Type 0 where
   pub within : used ≤ length piece
   pub some : 0 < length piece → 0 < used
@@ -138,7 +140,8 @@ has_failed _ = false
 abbrev pub splitter_state : {MAX : ℕ} → Inside MAX → SplitterState
 splitter_state s = record { bytes = s.bytes.items; ended = has_ended s.progress; taken = length s.scanner.ready.given.items; failed = has_failed s.progress }
 
--- what holds in each phase: the scan stands at the end of the bytes; or all units are ready; or nothing is known
+-- what holds in each phase: the scan stands at the end of the bytes; or all units are ready; or
+-- nothing is known
 abbrev pub IsSplitterStateIn : SplitterPhase → (max : ℕ) → Scanner max → List ℕ → Type 0
 IsSplitterStateIn Running max s bytes = HasScanned max s bytes
 IsSplitterStateIn Ended max s bytes = AreReady max s.ready (placed_units 0 true bytes)

@@ -3,7 +3,8 @@ use Rattle.std.specs.Prelude.{◌≡◌, ℕ, ◌+◌, ◌-◌, ◌<◌, ◌≤�
 use Rattle.avc_annexb.specs.declared.unit.Unit.{Unit}
 use Rattle.avc_annexb.specs.Units.{units}
 
--- The bytes that were fed, whether they are all, how many units were taken, and whether memory was refused.
+-- The bytes that were fed, whether they are all, how many units were taken, and whether memory was
+-- refused.
 pub record SplitterState : Type 0 where
   pub bytes : List ℕ
   pub ended : Bool
@@ -22,8 +23,8 @@ after_feed s piece = if s.ended then s else record s { bytes = s.bytes ++ piece 
 abbrev pub unit_count : (max : ℕ) → SplitterState → ℕ
 unit_count max s = length (units max s.bytes s.ended)
 
--- So many of these bytes were taken: all, unless a unit has ended with them. At most one has, and at least one byte was taken where
--- there is one.
+-- So many of these bytes were taken: all, unless a unit has ended with them. At most one has, and
+-- at least one byte was taken where there is one.
 pub record TakesUnit (max : ℕ) (old : SplitterState) (bytes : List ℕ) (used : ℕ) (new : SplitterState) : Type 0 where
   pub within : used ≤ length bytes
   pub some : 0 < length bytes → 0 < used

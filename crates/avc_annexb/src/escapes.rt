@@ -14,7 +14,8 @@ pub fn unescape(alloc: Global, body: &[u8]) -> Result<Vec<u8>, OutOfMemory>
     unescape_in(Vec::new(alloc), body)
 }
 
-/// The RBSP of a unit's body (7.3.1) in the place of bytes that are over, so that memory is taken only where they had less room.
+/// The RBSP of a unit's body (7.3.1) in the place of bytes that are over, so that memory is taken
+/// only where they had less room.
 pub fn unescape_in(over: Vec<u8>, body: &[u8]) -> Result<Vec<u8>, OutOfMemory>
     ensures { IfOk result (λ raw. raw.items ≡ rbsp body.now) }
 {
@@ -44,7 +45,8 @@ fn without_escape(zeros: u8, run: &[u8]) -> &[u8]
     }
 }
 
-/// How many zeros stand at the end, at most two, after so many zeros, a run that has none, and one zero.
+/// How many zeros stand at the end, at most two, after so many zeros, a run that has none, and one
+/// zero.
 fn one_more(zeros: u8, run: &[u8]) -> u8
     ensures { result ≡ zeros_after zeros run.now }
 {

@@ -18,7 +18,8 @@ pub fn zeros_at_start(bytes: &[u8]) -> usize
     count
 }
 
-/// How many bytes stand before the first zero that a zero or the end follows. The search is faster in a call of its own.
+/// How many bytes stand before the first zero that a zero or the end follows. The search is faster
+/// in a call of its own.
 #[inline(never)]
 pub fn run_length(bytes: &[u8]) -> usize
     ensures within { result ≤ length bytes.now }

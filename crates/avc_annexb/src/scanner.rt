@@ -24,8 +24,10 @@ pub struct Scanner<const MAX: usize> {
 }
 
 impl<const MAX: usize> Scanner<MAX> {
-    ghost use Rattle.std.specs.Prelude.{◌≡◌, ◌≢◌, ◌<◌, ◌≤◌, ℕ, true, [], ◌∷◌, ◌++◌, List, IfOk, OnOk, length, slice_index, replicate};
-    ghost use Rattle.avc_annexb.specs.Scanning.{HasScanned, HasLoneZeros, HasOneMore, HasOneMoreAtMost, HasTaken, AreReady};
+    ghost use Rattle.std.specs.Prelude.{◌≡◌, ◌≢◌, ◌<◌, ◌≤◌, ℕ, true, [], ◌∷◌, ◌++◌, List, IfOk};
+    ghost use Rattle.std.specs.Prelude.{OnOk, length, slice_index, replicate};
+    ghost use Rattle.avc_annexb.specs.Scanning.{HasScanned, HasLoneZeros, HasOneMore};
+    ghost use Rattle.avc_annexb.specs.Scanning.{HasOneMoreAtMost, HasTaken, AreReady};
     ghost use Rattle.avc_annexb.specs.Units.{placed_units};
 
     pub fn new(alloc: Global) -> Self
@@ -62,8 +64,8 @@ impl<const MAX: usize> Scanner<MAX> {
         Ok(())
     }
 
-    /// Takes the next bytes of the stream up to where a unit has ended, or all where none ends. Answers how many. After an `Err`
-    /// the scanner is of no use.
+    /// Takes the next bytes of the stream up to where a unit has ended, or all where none ends.
+    /// Answers how many. After an `Err` the scanner is of no use.
     pub fn take_unit(&mut self, piece: &[u8]) -> Result<usize, OutOfMemory>
         ensures ok { IfOk result (λ used. HasTaken MAX self.old piece.now used self.new) }
         ensures ended { IfOk result (λ used. used < length piece.now → HasOneMore self.old.ready self.new.ready) }
@@ -77,7 +79,8 @@ impl<const MAX: usize> Scanner<MAX> {
         Ok(place)
     }
 
-    // Takes the zeros that stand here, or the 01 of a start code, or bytes without boundary. Answers how many.
+    // Takes the zeros that stand here, or the 01 of a start code, or bytes without boundary.
+    // Answers how many.
     fn step(&mut self, left: &[u8]) -> Result<usize, OutOfMemory>
         requires { 0 < length left.now }
         ensures ok { IfOk result (λ used. HasTaken MAX self.old left.now used self.new) }

@@ -2,7 +2,9 @@
 
 ghost use Rattle.std.specs.Prelude.{◌≡◌, ◌<◌, true, false, OnErr, OnOk, IfOk, IsOk, IfSome};
 ghost use Rattle.avc_annexb.specs.Scanning.{has_failed};
-ghost use Rattle.avc_annexb.specs.SplitterState.{new_splitter, after_feed, after_finish, after_failure, next_unit_of, after_next_unit, units_waiting, TakesUnit};
+ghost use Rattle.avc_annexb.specs.SplitterState.{new_splitter, after_feed, after_finish};
+ghost use Rattle.avc_annexb.specs.SplitterState.{after_failure, next_unit_of, after_next_unit};
+ghost use Rattle.avc_annexb.specs.SplitterState.{units_waiting, TakesUnit};
 
 use crate::scanner::Scanner;
 use crate::unit::Unit;
@@ -32,9 +34,10 @@ fn keep<T>(phase: &mut SplitterPhase, answer: Result<T, OutOfMemory>) -> Result<
     }
 }
 
-/// Splits a byte stream (Annex B) into its units, in whatever pieces its bytes come. It keeps the unit that is not yet over,
-/// of at most `MAX` bytes, and the units that were not taken. It is seen as the bytes that it was fed, whether they are all,
-/// how many units were taken, and whether memory was refused.
+/// Splits a byte stream (Annex B) into its units, in whatever pieces its bytes come. It keeps the
+/// unit that is not yet over, of at most `MAX` bytes, and the units that were not taken. It is seen
+/// as the bytes that it was fed, whether they are all, how many units were taken, and whether
+/// memory was refused.
 #[derive(Drop)]
 pub struct Splitter<const MAX: usize> {
     progress: SplitterPhase,
@@ -66,8 +69,8 @@ impl<const MAX: usize> Splitter<MAX> {
         }
     }
 
-    /// Takes the next bytes of the stream. After an `Ok` of `finish` nothing changes. Once it answers an `Err`, for want of
-    /// memory, it goes on to do so and asks for none.
+    /// Takes the next bytes of the stream. After an `Ok` of `finish` nothing changes. Once it
+    /// answers an `Err`, for want of memory, it goes on to do so and asks for none.
     pub fn feed(&mut self, piece: &[u8]) -> Result<(), OutOfMemory>
         ensures ok { OnOk result (self.new ≡ after_feed self.old piece.now) }
         ensures going { OnOk result (self.old.failed ≡ false) }
@@ -86,8 +89,9 @@ impl<const MAX: usize> Splitter<MAX> {
         }
     }
 
-    /// Takes the next bytes of the stream up to where a unit has ended, or all where none ends. Answers how many. After an `Ok` of
-    /// `finish` it takes all, and nothing changes. Once it answers an `Err`, for want of memory, it goes on to do so and asks for none.
+    /// Takes the next bytes of the stream up to where a unit has ended, or all where none ends.
+    /// Answers how many. After an `Ok` of `finish` it takes all, and nothing changes. Once it
+    /// answers an `Err`, for want of memory, it goes on to do so and asks for none.
     pub fn feed_unit(&mut self, bytes: &[u8]) -> Result<usize, OutOfMemory>
         ensures ok { IfOk result (λ used. TakesUnit MAX self.old bytes.now used self.new) }
         ensures going { OnOk result (self.old.failed ≡ false) }
@@ -106,8 +110,8 @@ impl<const MAX: usize> Splitter<MAX> {
         }
     }
 
-    /// Ends the stream, and with it the last unit. A second call changes nothing. Once it answers an `Err`, for want of
-    /// memory, it goes on to do so and asks for none.
+    /// Ends the stream, and with it the last unit. A second call changes nothing. Once it answers
+    /// an `Err`, for want of memory, it goes on to do so and asks for none.
     pub fn finish(&mut self) -> Result<(), OutOfMemory>
         ensures ok { OnOk result (self.new ≡ after_finish self.old) }
         ensures going { OnOk result (self.old.failed ≡ false) }
@@ -137,7 +141,8 @@ impl<const MAX: usize> Splitter<MAX> {
         }
     }
 
-    /// A unit that was handed out is over: the bytes of another will stand in its place, so that for most units no memory is taken.
+    /// A unit that was handed out is over: the bytes of another will stand in its place, so that
+    /// for most units no memory is taken.
     pub fn take_back(&mut self, unit: Unit)
         ensures { self.new ≡ self.old }
     {

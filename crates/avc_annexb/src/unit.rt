@@ -17,6 +17,7 @@ pub struct Unit {
     /// Its first byte: forbidden_zero_bit, nal_ref_idc and nal_unit_type.
     pub header: u8,
 
-    /// The bytes after the first, with their emulation prevention, or none where the unit is too long.
+    /// The bytes after the first, with their emulation prevention, or none where the unit is too
+    /// long.
     pub body: Option<Bytes>,
 }

@@ -14,8 +14,8 @@ use Rattle.avc_c.specs.declared.address.OpenDecoder.{OpenDecoder}
 use Rattle.avc_c.specs.declared.event.EventRecord.{EventRecord}
 use Rattle.avc_c.specs.declared.status.Status.TheVariants as statuses
 
--- A call that C makes of an open decoder. To look is to copy its picture or a plane, to be lent a plane, or to count; to open it changes
--- nothing either.
+-- A call that C makes of an open decoder. To look is to copy its picture or a plane, to be lent a
+-- plane, or to count; to open it changes nothing either.
 pub data CallOfC : Type 0 where
   feeds : List ℕ → CallOfC
   feeds_unit : List ℕ → CallOfC
@@ -54,8 +54,9 @@ abbrev pub given_by : Result (Unit {0}) DecodeError → (used : ℕ) → List �
 given_by (Ok done) used bytes = take used bytes
 given_by (Err error) used bytes = bytes
 
--- What C was told of these calls is what the machine replies to its own calls `made`: each of C's feeds, take, flush and reset is one
--- of the machine's, a feed of one unit being a feed of the bytes that it took, and `picture` becomes that of the last take.
+-- What C was told of these calls is what the machine replies to its own calls `made`: each of C's
+-- feeds, take, flush and reset is one of the machine's, a feed of one unit being a feed of the
+-- bytes that it took, and `picture` becomes that of the last take.
 abbrev pub Tells : (picture : Option Picture) → List CallOfC → List Told → (made : List Call) → List Reply → (last : Option Picture) → Type 0
 Tells picture [] [] [] [] last = last ≡ picture
 Tells picture (feeds piece ∷ calls) (told ∷ all_told) (Feed bytes ∷ made) (replies.Fed answer ∷ replies) last =
@@ -72,8 +73,8 @@ Tells picture (opens early ∷ calls) (told ∷ all_told) made replies last = (t
 Tells picture (looks ∷ calls) (told ∷ all_told) made replies last = Tells picture calls all_told made replies last
 Tells picture calls all_told made replies last = ⊥
 
--- However C calls a decoder from open to close, it is told the replies of a run of the machine, and the picture that it may copy is
--- that of the last take.
+-- However C calls a decoder from open to close, it is told the replies of a run of the machine, and
+-- the picture that it may copy is that of the last take.
 abbrev pub CallsAreARun : Type 0
 CallsAreARun =
     (early : Bool) (calls : List CallOfC) (told : List Told) (last : OpenDecoder) → AreAnswered (Some (opened early)) calls told (Some last) →

@@ -12,13 +12,14 @@ use Rattle.avc_c.specs.declared.status.Status.TheVariants.{Ok, NoPicture, NoPlan
 abbrev pub component_of : (plane : ℕ) → Option Component
 component_of plane = slice_get (Luma ∷ Cb ∷ Cr ∷ []) plane
 
--- The picture stands at the front as I420, and what is behind it stays; or there was no room and nothing changed.
+-- The picture stands at the front as I420, and what is behind it stays; or there was no room and
+-- nothing changed.
 pub record IsI420Written (p : Picture) (old : List ℕ) (status : ℕ) (new : List ℕ) : Type 0 where
   pub enough : length (i420 p) ≤ length old → (status ≡ number_of Ok) × (new ≡ i420 p ++ drop (length (i420 p)) old)
   pub short : length old < length (i420 p) → (status ≡ number_of NoRoom) × (new ≡ old)
 
--- The rows of a component stand in memory, `stride` bytes from one to the next, and all other bytes stay; or the rows would overlap,
--- or there was no room, and nothing changed.
+-- The rows of a component stand in memory, `stride` bytes from one to the next, and all other bytes
+-- stay; or the rows would overlap, or there was no room, and nothing changed.
 pub record IsComponentWritten (p : Picture) (c : Component) (old : List ℕ) (stride status : ℕ) (new : List ℕ) : Type 0 where
   pub enough : (window_of p c).width ≤ stride → plane_room p c stride ≤ length old → (status ≡ number_of Ok) × (new ≡ laid stride (shown_rows p c) old)
   pub narrow : stride < (window_of p c).width → (status ≡ number_of NoRoom) × (new ≡ old)

@@ -39,7 +39,8 @@ IsFed after (Some d) status new =
     (answer : Result (Unit {0}) DecodeError) × (m : Machine) × IsFeedAnswer d.decoder (after d.decoder) answer m × (status ≡ number_of (call_status answer))
     × (new ≡ Some (record { decoder = m; picture = d.picture }))
 
--- bytes are fed up to where a unit has ended, and `used` says how many; the picture that was taken stays
+-- bytes are fed up to where a unit has ended, and `used` says how many; the picture that was taken
+-- stays
 abbrev pub IsUnitFed : (bytes : List ℕ) → Option OpenDecoder → (status used : ℕ) → Option OpenDecoder → Type 0
 IsUnitFed bytes None status used new = (status ≡ number_of Closed) × (used ≡ 0) × (new ≡ None)
 IsUnitFed bytes (Some d) status used new =

@@ -10,7 +10,8 @@ abbrev pub IsNumbered : (number : ℕ) → Option Fault → Type 0
 IsNumbered number (Some f) = number_of f ≡ number
 IsNumbered number None = (f : Fault) → number_of f ≡ number → ⊥
 
--- Text and a 0 behind it stand at the front, and what is behind stays; or there was no room and nothing changed.
+-- Text and a 0 behind it stand at the front, and what is behind stays; or there was no room and
+-- nothing changed.
 pub record IsTextWritten (text old : List ℕ) (status : ℕ) (new : List ℕ) : Type 0 where
   pub enough : length text < length old → (status ≡ status_number Ok) × (new ≡ text ++ 0 ∷ drop (length text + 1) old)
   pub short : length old ≤ length text → (status ≡ status_number NoRoom) × (new ≡ old)

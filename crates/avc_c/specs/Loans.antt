@@ -11,8 +11,8 @@ use Rattle.avc_c.specs.Statuses.{number_of}
 use Rattle.avc_c.specs.declared.rows.LentRows.{LentRows}
 use Rattle.avc_c.specs.declared.status.Status.TheVariants.{Ok, NoPicture, NoPlane}
 
--- C is told where this slice lies. In it the sample in column x and row y of what is shown stands behind y * stride + x others; `columns`
--- and `rows` say how many are shown.
+-- C is told where this slice lies. In it the sample in column x and row y of what is shown stands
+-- behind y * stride + x others; `columns` and `rows` say how many are shown.
 pub record IsTold (p : Picture) (c : Component) (slice : Bor (List ℕ)) (told : LentRows) : Type 0 where
   pub address : told.samples ≡ as_ptr slice
   pub count : told.length ≡ length slice.now

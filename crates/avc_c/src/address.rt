@@ -18,8 +18,8 @@ pub struct OpenDecoder {
     pub picture: LastPicture,
 }
 
-/// Where an open decoder lies, of which it is the owner; or nothing. It is not `Drop`, so that no decoder is forgotten: one leaves it as its
-/// box, and only an address of nothing is let go.
+/// Where an open decoder lies, of which it is the owner; or nothing. It is not `Drop`, so that no
+/// decoder is forgotten: one leaves it as its box, and only an address of nothing is let go.
 #[repr(C)]
 pub struct DecoderAddress {
     at: *mut u8,

@@ -6,7 +6,8 @@ ghost use Rattle.avc_c.specs.EventRecords.{picture_record, record_of};
 use avc_decoder::{DecodeError, Event};
 use avc_plane::{PictureRows, SharedPicture};
 
-/// What C is told of an event: nothing (0), a picture (1) or a refusal (2). What does not belong to its kind is 0.
+/// What C is told of an event: nothing (0), a picture (1) or a refusal (2). What does not belong to
+/// its kind is 0.
 #[repr(C)]
 #[derive(Clone, Copy, Debug, PartialEq, Eq)]
 pub struct EventRecord {

@@ -72,7 +72,8 @@ pub extern "C" fn avcdec_feed(alloc: Global, decoder: &mut DecoderHandle, bytes:
     Status::of_call(answer).number()
 }
 
-/// Gives the next bytes of the stream up to where a unit has ended, or all where none ends. `used` says how many those are.
+/// Gives the next bytes of the stream up to where a unit has ended, or all where none ends. `used`
+/// says how many those are.
 #[unsafe(no_mangle)]
 pub extern "C" fn avcdec_feed_unit(
     alloc: Global,
@@ -163,7 +164,8 @@ pub extern "C" fn avcdec_copy_i420(
     status.number()
 }
 
-/// Copies what is shown of one plane of the picture that was taken last, a row every `stride` bytes.
+/// Copies what is shown of one plane of the picture that was taken last, a row every `stride`
+/// bytes.
 #[unsafe(no_mangle)]
 pub extern "C" fn avcdec_copy_plane(
     alloc: Global,
@@ -184,7 +186,8 @@ pub extern "C" fn avcdec_copy_plane(
     status.number()
 }
 
-/// Tells where what is shown of one plane of the picture that was taken last lies. It is to be read until the next take, reset or close.
+/// Tells where what is shown of one plane of the picture that was taken last lies. It is to be read
+/// until the next take, reset or close.
 #[unsafe(no_mangle)]
 pub extern "C" fn avcdec_lend_plane(
     alloc: Global,

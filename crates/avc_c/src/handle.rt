@@ -6,7 +6,8 @@ ghost use Rattle.avc_c.specs.OpenDecoders.{IsMarked};
 use crate::address::{DecoderAddress, OpenDecoder};
 use std::alloc::Global;
 
-/// What C holds of a decoder. All zero, it is closed. It is not `Drop`: an open decoder leaves it by `remove` alone.
+/// What C holds of a decoder. All zero, it is closed. It is not `Drop`: an open decoder leaves it
+/// by `remove` alone.
 #[repr(C)]
 pub struct DecoderHandle {
     pub is_open: bool,

@@ -14,7 +14,8 @@ use avc_plane::SharedPicture;
 use avc_yuv::{Component, copy_i420, copy_plane, i420_len, plane_columns, plane_len};
 use std::marker::Model;
 
-/// The picture that was taken last, where the last event is one; it holds the picture's planes. They and its crop fit its size.
+/// The picture that was taken last, where the last event is one; it holds the picture's planes.
+/// They and its crop fit its size.
 #[derive(Drop)]
 pub struct LastPicture {
     picture: Option<SharedPicture>,

@@ -45,7 +45,8 @@ abbrev pub y4m_of : (is_each_alone : Bool) → HeadedFormat
 y4m_of true = Y4mEach
 y4m_of false = Y4m
 
--- The pictures that are asked for become this: they, or their MD5, are written; or nothing is, and they are decoded, or their MD5 compared.
+-- The pictures that are asked for become this: they, or their MD5, are written; or nothing is, and
+-- they are decoded, or their MD5 compared.
 abbrev pub EndsShowing : Form → Showing → (is_each_alone : Bool) → Names → (explained : Bool) → (unread left held holds before now : Option (List ℕ)) → Ending → Type 0
 EndsShowing forms.I420 s alone names explained unread left held holds before now ending =
     EndsDecodingAs names explained (selection_of s plain) s.mode unread left held holds before now ending
@@ -84,7 +85,8 @@ pub record IsNotOpened (other : Option (Bor (List ℕ))) (held holds before now 
   pub told : Tells before now (fault_line (record { input = other; output = None }) Read) ending.told
   pub nothing : holds ≡ held
 
--- The pictures were compared with those of the other's file, all of them and as they go out by default, or that file can't be opened.
+-- The pictures were compared with those of the other's file, all of them and as they go out by
+-- default, or that file can't be opened.
 abbrev pub EndsComparingFile : Names → (other : Option (Bor (List ℕ))) → (explained : Bool) → (most : ℕ) → (unread left held holds before now : Option (List ℕ)) → Ending → Type 0
 EndsComparingFile names other explained most unread left held holds before now ending =
     EndsComparing names other explained most (mode_of false) unread left None None held holds before now ending

@@ -10,7 +10,8 @@ use avc_shell::{Input, OtherPictures, tell_reason};
 use std::fs::File;
 use std::io::{ErrorKind, Read, Write};
 
-/// Compares the stream with the pictures of the other file, where samples that are at most so far apart are the same.
+/// Compares the stream with the pictures of the other file, where samples that are at most so far
+/// apart are the same.
 pub fn compare_files<R: Read, W: Write, E: Write, V: Watch>(
     rt: &HostRuntime,
     request: &Request<'_>,

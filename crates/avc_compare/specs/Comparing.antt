@@ -18,7 +18,8 @@ use Rattle.avc_compare.specs.declared.verdict.CompareFault.TheVariants.{Ours, Th
 use Rattle.avc_compare.specs.declared.verdict.Verdict.{Verdict}
 use Rattle.avc_compare.specs.declared.verdict.Verdict.TheVariants.{Differs, Fewer, More, Same}
 
--- The other's bytes are the pictures of these events, one behind another, where samples that are at most so far apart are the same.
+-- The other's bytes are the pictures of these events, one behind another, where samples that are at
+-- most so far apart are the same.
 pub record IsSame (most : ℕ) (events : List Event) (theirs : List ℕ) : Type 0 where
   pub all : length theirs ≡ length (shown events)
   pub same : AreSame most (shown events) theirs
@@ -28,7 +29,8 @@ pub record IsAlike (most : ℕ) (events : List Event) (theirs : List ℕ) (repor
   pub same : IsSame most events theirs
   pub reported : report ≡ report_of events
 
--- Among these events is this picture. Those before it are the other's first bytes, and the report is on these; other bytes follow.
+-- Among these events is this picture. Those before it are the other's first bytes, and the report
+-- is on these; other bytes follow.
 pub record IsReached (most : ℕ) (events : List Event) (p : Decoded) (theirs here : List ℕ) (report : Report) : Type 0 where
   pub front : List Event
   pub rest : List Event
@@ -37,8 +39,9 @@ pub record IsReached (most : ℕ) (events : List Event) (p : Decoded) (theirs he
   pub bytes : theirs ≡ before ++ here
   pub alike : IsAlike most front before report
 
--- What becomes of the comparison of the events that a stream defines, all or so far, with the other's bytes, all or so far. A picture's
--- number is that of the pictures before it (the greatest number, once there).
+-- What becomes of the comparison of the events that a stream defines, all or so far, with the
+-- other's bytes, all or so far. A picture's number is that of the pictures before it (the greatest
+-- number, once there).
 abbrev pub Finds : (most : ℕ) → List Event → (all : Bool) → (theirs : List ℕ) → (over : Bool) → Report → Verdict → Type 0
 Finds most events all theirs over report Same = (all ≡ true) × (over ≡ true) × IsAlike most events theirs report
 Finds most events all theirs over report (More number) =
@@ -49,8 +52,9 @@ Finds most events all theirs over report (Differs d) =
     (p : Decoded) × (here : List ℕ) × IsReached most events p theirs here report × (length here ≡ length (i420 p)) × (d.number ≡ report.pictures)
     × (d.shape ≡ shape_of p) × IsDifference (shape_of p) most (i420 p) here d.difference
 
--- Why a comparison was broken off after the first of a stream's events: a read of the stream failed, when no event was left; or there were
--- so many bytes and events; or the other's file can't be read; or memory was refused.
+-- Why a comparison was broken off after the first of a stream's events: a read of the stream
+-- failed, when no event was left; or there were so many bytes and events; or the other's file can't
+-- be read; or memory was refused.
 abbrev pub BreaksOffFor : CompareFault → (bytes : List ℕ) → (front rest : List Event) → Type 0
 BreaksOffFor (Ours Read) bytes front rest = rest ≡ []
 BreaksOffFor (Ours Endless) bytes front rest = 2 ^ 32 ≤ length bytes + length front

@@ -12,7 +12,8 @@ use Rattle.avc_console.specs.declared.fault.RunFault.TheVariants.{Read, Endless,
 use Rattle.avc_events.specs.EventReports.{events_defined, IfPicture}
 use Rattle.avc_compare.specs.Kept.{Waiting}
 
--- Of the bytes that were read some were fed, and the rest wait; of the events that the fed ones define these were taken.
+-- Of the bytes that were read some were fed, and the rest wait; of the events that the fed ones
+-- define these were taken.
 pub record IsReading (output : Output) (unread left : Option (List ℕ)) (m : Machine) (a : Waiting) (done : List Event) : Type 0 where
   pub mode : m.output ≡ output
   pub consumed : Consumes unread left (m.bytes ++ a.bytes)
@@ -27,7 +28,8 @@ pub record ReadsOn (old_left new_left : Option (List ℕ)) (old new : Machine) (
   pub on : (output : Output) (unread : Option (List ℕ)) (done : List Event) → IsReading output unread old_left old before done
       → IsReading output unread new_left new now done
 
--- why it broke off: a read failed, when no event was left; there were so many bytes; or memory was refused
+-- why it broke off: a read failed, when no event was left; there were so many bytes; or memory was
+-- refused
 abbrev pub StopsFor : RunFault → (bytes : List ℕ) → (rest : List Event) → Type 0
 StopsFor Read bytes rest = rest ≡ []
 StopsFor Endless bytes rest = 2 ^ 32 ≤ length bytes
@@ -63,7 +65,8 @@ abbrev pub IsWholeIfAny : Option Event → Type 0
 IsWholeIfAny None = Unit {0}
 IsWholeIfAny (Some event) = IfPicture event IsWhole
 
--- What waits is more, by what was read, where nothing waited; where nothing waits still, no more is left to read.
+-- What waits is more, by what was read, where nothing waited; where nothing waits still, no more is
+-- left to read.
 pub record Fills (old_left new_left : Option (List ℕ)) (before now : Waiting) : Type 0 where
   pub more : List ℕ
   pub consumed : Consumes old_left new_left more

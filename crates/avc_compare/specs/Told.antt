@@ -40,7 +40,8 @@ abbrev pub HasMarks : Verdict → Type 0
 HasMarks (Differs d) = length (d.difference).marks.items ≡ macroblocks d.shape
 HasMarks _ = Unit {0}
 
--- This text was written; after a write fault less than all of it, and after want of memory none of it.
+-- This text was written; after a write fault less than all of it, and after want of memory none of
+-- it.
 abbrev pub WritesText : List ℕ → (held holds : Option (List ℕ)) → Result (Unit {0}) RunFault → Type 0
 WritesText text held holds (Ok _) = Appends held holds text
 WritesText text held holds (Err fault) = StopsPicture fault true held holds text
@@ -64,8 +65,9 @@ abbrev pub fault_names : Names → (other : Option (Bor (List ℕ))) → Compare
 fault_names names other (Ours fault) = names
 fault_names names other Theirs = record names { input = other }
 
--- A verdict is written, and the exit status and what is told are those of a run that ended as the writing did. Where the run was broken off
--- they are those of its fault, which names the other's file where that can't be read.
+-- A verdict is written, and the exit status and what is told are those of a run that ended as the
+-- writing did. Where the run was broken off they are those of its fault, which names the other's
+-- file where that can't be read.
 abbrev pub TellsVerdict : Names → (other : Option (Bor (List ℕ))) → (explained : Bool) → Report → Result Verdict CompareFault → (held holds before now : Option (List ℕ)) → Ending → Type 0
 TellsVerdict names other explained report (Ok verdict) held holds before now ending =
     (written : Result (Unit {0}) RunFault) × (decoded : Ending) × WritesText (verdict_text verdict) held holds written

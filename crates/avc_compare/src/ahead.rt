@@ -10,7 +10,8 @@ use std::alloc::Global;
 use std::io::Read;
 use std::marker::Model;
 
-/// The bytes of one read of which the first were fed. A contract sees those that were not, and whether the stream has ended.
+/// The bytes of one read of which the first were fed. A contract sees those that were not, and
+/// whether the stream has ended.
 #[derive(Drop)]
 pub(crate) struct Ahead {
     piece: Vec<u8>,

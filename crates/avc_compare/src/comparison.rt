@@ -33,8 +33,9 @@ pub struct Comparison {
 /// The most events of one comparison.
 const EVENTS: u64 = 4_294_967_296;
 
-/// Compares the pictures of a byte stream (Annex B) with another decoder's, which are I420, one behind another, and ends at the first that
-/// differs. Each refusal is reported as it comes. Neither is read further than that needs, and of each one picture is held at a time.
+/// Compares the pictures of a byte stream (Annex B) with another decoder's, which are I420, one
+/// behind another, and ends at the first that differs. Each refusal is reported as it comes.
+/// Neither is read further than that needs, and of each one picture is held at a time.
 pub fn run_comparison<T: Reporter, E: Write, R: Read, O: Read>(
     alloc: Global,
     how: Comparison,

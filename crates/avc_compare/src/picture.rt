@@ -17,8 +17,8 @@ use avc_yuv::{copy_i420, i420_len};
 use std::alloc::Global;
 use std::io::Read;
 
-/// Compares a picture with the other's next bytes, as many as it has as I420. Answers None where it is the same, and else how the
-/// comparison ends.
+/// Compares a picture with the other's next bytes, as many as it has as I420. Answers None where it
+/// is the same, and else how the comparison ends.
 pub(crate) fn compare_picture<O: Read>(
     alloc: Global,
     most: u8,

@@ -6,7 +6,8 @@ ghost use Rattle.avc_console.specs.Program.{TellsRun};
 ghost use Rattle.avc_console.specs.Reporting.{report_in, reported_by, IsTold};
 ghost use Rattle.avc_formats.specs.Formats.{StopsPicture};
 ghost use Rattle.avc_console.specs.Status.{other_status};
-ghost use Rattle.avc_compare.specs.Told.{fault_names, is_same, run_fault, verdict_status, verdict_text, EndsComparing, HasMarks};
+ghost use Rattle.avc_compare.specs.Told.{fault_names, is_same, run_fault, verdict_status};
+ghost use Rattle.avc_compare.specs.Told.{verdict_text, EndsComparing, HasMarks};
 
 use crate::comparison::{Comparison, run_comparison};
 use crate::text::add_verdict;
@@ -15,9 +16,10 @@ use avc_console::{Console, Ending, Names, Reporter, RunFault, Tally, Watch, tell
 use std::alloc::Global;
 use std::io::{Read, Write};
 
-/// The command `compare`: compares the pictures of a byte stream (Annex B) with another decoder's, as I420, from a file of this name,
-/// and writes where they differ first, or nothing. It tells on the console of each refusal when it comes, and of the fault that ended the run.
-/// The status is 1 where something differs.
+/// The command `compare`: compares the pictures of a byte stream (Annex B) with another decoder's,
+/// as I420, from a file of this name, and writes where they differ first, or nothing. It tells on
+/// the console of each refusal when it comes, and of the fault that ended the run. The status is 1
+/// where something differs.
 pub fn compare<R: Read, O: Read, W: Write, E: Write, V: Watch>(
     alloc: Global,
     how: Comparison,

@@ -1,6 +1,7 @@
 //! The events of a stream, one by one.
 
-ghost use Rattle.std.specs.Prelude.{◌≡◌, ◌<◌, [], false, true, length, None, IfErr, IfOk, OnErr, OnOk};
+ghost use Rattle.std.specs.Prelude.{◌≡◌, ◌<◌, [], false, true, length, None, IfErr, IfOk, OnErr};
+ghost use Rattle.std.specs.Prelude.{OnOk};
 ghost use Rattle.std.specs.Io.KnownBytes.{Keeps};
 ghost use Rattle.avc_console.specs.Reading.{max_unit};
 ghost use Rattle.avc_console.specs.declared.fault.RunFault.TheVariants as faults;
@@ -15,7 +16,8 @@ use avc_events::{feed_unit, flush, next_event};
 use avc_plane::SharedPicture;
 use std::io::Read;
 
-/// Takes the next event of a stream. It reads and feeds only what that needs, a unit at a time, so that few pictures wait.
+/// Takes the next event of a stream. It reads and feeds only what that needs, a unit at a time, so
+/// that few pictures wait.
 pub(crate) fn next_of<R: Read>(
     decoder: &mut Decoder<MAX_UNIT, SharedPicture>,
     ahead: &mut Ahead,

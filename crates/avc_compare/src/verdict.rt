@@ -16,7 +16,8 @@ pub enum Verdict {
     /// This picture is the first that differs.
     Differs(Differing),
 
-    /// The other's bytes end before the picture of this number is whole, and those before it are the same.
+    /// The other's bytes end before the picture of this number is whole, and those before it are
+    /// the same.
     Fewer(u64),
 
     /// All of so many pictures are the same, and the other has more bytes.

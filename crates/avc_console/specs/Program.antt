@@ -9,7 +9,8 @@ use Rattle.avc_console.specs.declared.exit.Ending.{Ending}
 use Rattle.avc_console.specs.declared.fault.RunFault.{RunFault}
 use Rattle.avc_console.specs.declared.report.Report.{Report}
 
--- The exit status and what is told are those of a run that came to this report, where the files have these names.
+-- The exit status and what is told are those of a run that came to this report, where the files
+-- have these names.
 pub record TellsRun (names : Names) (explained : Bool) (report : Report) (run : Result (Unit {0}) RunFault) (before now : Option (List ℕ)) (ending : Ending) : Type 0 where
   pub status_is : ending.status ≡ run_status report run
   pub told : Tells before now (run_text names explained report run) ending.told

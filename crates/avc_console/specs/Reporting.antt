@@ -25,16 +25,19 @@ with_picture r = record r { report = record r.report { pictures = saturated (r.r
 abbrev pub with_refusal : Report → ℕ × Fault → Report
 with_refusal report refusal = record report { refused = report.refused ++ refusal ∷ [] }
 
--- Since the standard error held `start`, the lines of all refusals were told, or where it took no more the first of them.
+-- Since the standard error held `start`, the lines of all refusals were told, or where it took no
+-- more the first of them.
 abbrev pub IsTold : (start now : Option (List ℕ)) → Reported → Type 0
 IsTold start now r = Tells start now (flat_map r.line r.report.refused) r.is_told
 
--- Telling went on: if the refusals so far were told, so are those that have come since, each by the same line.
+-- Telling went on: if the refusals so far were told, so are those that have come since, each by the
+-- same line.
 pub record TellsOn (old new : Reported) (before now : Option (List ℕ)) : Type 0 where
   pub line_is : new.line ≡ old.line
   pub told : (start : Option (List ℕ)) → IsTold start before old → IsTold start now new
 
--- A tally: the pictures and refusals that were counted, whether what they mean is told too, and whether all was told.
+-- A tally: the pictures and refusals that were counted, whether what they mean is told too, and
+-- whether all was told.
 pub record Tallied : Type 0 where
   pub pictures : ℕ
   pub refusals : List (ℕ × Fault)

@@ -30,7 +30,8 @@ abbrev pub run_status : Report → Result (Unit {0}) RunFault → ℕ
 run_status report (Ok _) = refused_status report.refused
 run_status report (Err fault) = fault_status fault
 
--- after decoding that ended so, where the pictures are not those that were expected: 1 in place of 0
+-- after decoding that ended so, where the pictures are not those that were expected: 1 in place of
+-- 0
 abbrev pub other_status : ℕ → ℕ
 other_status status = if status == 0 then 1 else status
 

@@ -12,8 +12,8 @@ pub struct Names<'a> {
     pub output: Option<&'a str>,
 }
 
-/// What a command shows beside what it writes: on `errors` refusals, and faults with the names of files, and by `watch` how far
-/// it is.
+/// What a command shows beside what it writes: on `errors` refusals, and faults with the names of
+/// files, and by `watch` how far it is.
 #[derive(Drop)]
 pub struct Console<'a, E, V> {
     pub names: Names<'a>,
@@ -26,7 +26,8 @@ pub struct Console<'a, E, V> {
     pub watch: V,
 }
 
-/// Whoever is told how far a run is. What becomes of it is no matter of the run: nothing that the run writes or answers hangs on it.
+/// Whoever is told how far a run is. What becomes of it is no matter of the run: nothing that the
+/// run writes or answers hangs on it.
 pub trait Watch {
     /// The next bytes of the stream, before they are decoded.
     fn note_bytes(&mut self, piece: &[u8]);
@@ -43,7 +44,8 @@ pub trait Watch {
     /// After each read: the bytes that it gave, and what the stream has come to.
     fn look(&mut self, piece: &[u8], counts: Counts);
 
-    /// At the end of the run: what the stream has come to, and the fault that ended the run, if one did.
+    /// At the end of the run: what the stream has come to, and the fault that ended the run, if one
+    /// did.
     fn end(&mut self, counts: Counts, run: Result<(), RunFault>);
 }
 

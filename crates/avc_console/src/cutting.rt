@@ -9,8 +9,9 @@ use avc_tools::laws::pieces_come_whole;
 use std::alloc::Global;
 use std::io::{Read, Write};
 
-/// Writes the piece of this number, counted from 0, of a byte stream (Annex B), each part as soon as it belongs to the piece whatever
-/// follows, and answers whether there is such a piece. Once the next piece has begun no more is read.
+/// Writes the piece of this number, counted from 0, of a byte stream (Annex B), each part as soon
+/// as it belongs to the piece whatever follows, and answers whether there is such a piece. Once the
+/// next piece has begun no more is read.
 pub fn run_cut<R: Read, W: Write>(
     alloc: Global,
     number: u32,

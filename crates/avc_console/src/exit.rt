@@ -3,7 +3,8 @@
 ghost use Rattle.std.specs.Prelude.{◌≡◌, ℕ, List, length};
 ghost use Rattle.avc_annexb.specs.Units.{saturated};
 ghost use Rattle.avc_types.specs.declared.fault.Fault.{Fault as Refused};
-ghost use Rattle.avc_console.specs.Status.{answer_status, cut_status, fault_status, refused_status, status_of};
+ghost use Rattle.avc_console.specs.Status.{answer_status, cut_status, fault_status, refused_status};
+ghost use Rattle.avc_console.specs.Status.{status_of};
 
 use crate::fault::RunFault;
 use crate::report::Report;
@@ -28,7 +29,8 @@ pub struct Ending {
     pub told: bool,
 }
 
-/// The exit status after a fault: 3 after one of reading or writing, or at a picture of another size, 4 after want of memory.
+/// The exit status after a fault: 3 after one of reading or writing, or at a picture of another
+/// size, 4 after want of memory.
 pub fn fault_status(fault: RunFault) -> u8
     ensures { result ≡ fault_status fault }
 {
@@ -38,8 +40,8 @@ pub fn fault_status(fault: RunFault) -> u8
     }
 }
 
-/// The exit status after `decode`: 0 where all of the stream was decoded, 1 where something was refused, and that of the fault
-/// where the run ended by one.
+/// The exit status after `decode`: 0 where all of the stream was decoded, 1 where something was
+/// refused, and that of the fault where the run ended by one.
 pub fn status(run: &Result<Report, RunFault>) -> u8
     ensures { result ≡ status_of run.now }
 {
@@ -55,7 +57,8 @@ pub fn status(run: &Result<Report, RunFault>) -> u8
     }
 }
 
-/// The exit status after so many refusals, where no fault ended the run: 1 where something was refused.
+/// The exit status after so many refusals, where no fault ended the run: 1 where something was
+/// refused.
 pub(crate) fn refused_status(refused: u64) -> u8
     ensures { (refusals : List (ℕ × Refused)) → refused ≡ saturated (length refusals) → result ≡ refused_status refusals }
 {
@@ -69,8 +72,8 @@ pub fn cut_status(found: bool) -> u8
     if found { 0 } else { 1 }
 }
 
-/// The exit status after words that name nothing to do: 0 after help, 2 where they are not taken, and that of the fault where
-/// the answer could not be given.
+/// The exit status after words that name nothing to do: 0 after help, 2 where they are not taken,
+/// and that of the fault where the answer could not be given.
 pub fn answer_status(answer: Result<Answer, RunFault>) -> u8
     ensures { result ≡ answer_status answer }
 {

@@ -10,7 +10,8 @@ use avc_tools::{CutPointLines, HeaderLines, ListingForm, UnitLines};
 use std::alloc::Global;
 use std::io::{Read, Write};
 
-/// Writes a line of a form for each unit of a byte stream (Annex B), as soon as the unit's end has been read.
+/// Writes a line of a form for each unit of a byte stream (Annex B), as soon as the unit's end has
+/// been read.
 pub fn run_units<F: ListingForm + Drop, R: Read, W: Write>(
     alloc: Global,
     form: F,
@@ -24,7 +25,8 @@ pub fn run_units<F: ListingForm + Drop, R: Read, W: Write>(
     Ok(())
 }
 
-/// Writes a line of a form for each parameter set and slice of a byte stream (Annex B), as soon as the end of its unit has been read.
+/// Writes a line of a form for each parameter set and slice of a byte stream (Annex B), as soon as
+/// the end of its unit has been read.
 pub fn run_headers<F: ListingForm + Drop, R: Read, W: Write>(
     alloc: Global,
     form: F,
@@ -38,7 +40,8 @@ pub fn run_headers<F: ListingForm + Drop, R: Read, W: Write>(
     Ok(())
 }
 
-/// Writes a line of a form for each unit of a byte stream (Annex B) with which a piece begins, as soon as the unit's end has been read.
+/// Writes a line of a form for each unit of a byte stream (Annex B) with which a piece begins, as
+/// soon as the unit's end has been read.
 pub fn run_pieces<F: ListingForm + Drop, R: Read, W: Write>(
     alloc: Global,
     form: F,

@@ -3,7 +3,8 @@
 ghost use Rattle.std.specs.Prelude.{◌≡◌, IfErr, IfOk, OnErr, OnOk, string_bytes};
 ghost use Rattle.std.specs.Io.KnownBytes.{Appends};
 ghost use Rattle.avc_console.specs.Reading.{WritesFirst};
-ghost use Rattle.avc_console.specs.Messages.{fault_line, fault_text, file_of, name_text, no_piece_line, refusal_line};
+ghost use Rattle.avc_console.specs.Messages.{fault_line, fault_text, file_of, name_text};
+ghost use Rattle.avc_console.specs.Messages.{no_piece_line, refusal_line};
 ghost use Rattle.avc_console.specs.declared.fault.RunFault.TheVariants as faults;
 
 use crate::console::Names;
@@ -15,7 +16,8 @@ use itoa::Buffer;
 use std::alloc::Global;
 use std::io::Write;
 
-/// Writes the line of the standard error that tells of a fault, and of the file that it is about. It asks for no memory.
+/// Writes the line of the standard error that tells of a fault, and of the file that it is about.
+/// It asks for no memory.
 pub(crate) fn write_fault<E: Write>(
     fault: RunFault,
     names: &Names<'_>,

@@ -24,7 +24,8 @@ use avc_tools::ListingForm;
 use std::alloc::Global;
 use std::io::{Read, Write};
 
-/// Tells how a run ended, behind its refusals: of the fault that ended it, if one did, with the name of the file that it is about.
+/// Tells how a run ended, behind its refusals: of the fault that ended it, if one did, with the
+/// name of the file that it is about.
 pub fn tell<E: Write>(
     run: Result<(), RunFault>,
     tally: &Tally,
@@ -78,7 +79,8 @@ pub fn fail<E: Write>(fault: RunFault, names: &Names<'_>, errors: &mut E) -> End
     }
 }
 
-/// The command `units`: writes a line of this form for each unit of a byte stream (Annex B), and tells of a fault on the console.
+/// The command `units`: writes a line of this form for each unit of a byte stream (Annex B), and
+/// tells of a fault on the console.
 pub fn units<F: ListingForm + Drop, R: Read, W: Write, E: Write, V>(
     alloc: Global,
     form: F,
@@ -93,8 +95,8 @@ pub fn units<F: ListingForm + Drop, R: Read, W: Write, E: Write, V>(
     end_listing(run, &console.names, &mut console.errors)
 }
 
-/// The command `headers`: writes a line of this form for each parameter set and slice of a byte stream (Annex B), and tells of a
-/// fault on the console.
+/// The command `headers`: writes a line of this form for each parameter set and slice of a byte
+/// stream (Annex B), and tells of a fault on the console.
 pub fn headers<F: ListingForm + Drop, R: Read, W: Write, E: Write, V>(
     alloc: Global,
     form: F,
@@ -109,8 +111,8 @@ pub fn headers<F: ListingForm + Drop, R: Read, W: Write, E: Write, V>(
     end_listing(run, &console.names, &mut console.errors)
 }
 
-/// The command `pieces`: writes a line of this form for each piece that `cut` can write of a byte stream (Annex B), and tells of a
-/// fault on the console.
+/// The command `pieces`: writes a line of this form for each piece that `cut` can write of a byte
+/// stream (Annex B), and tells of a fault on the console.
 pub fn pieces<F: ListingForm + Drop, R: Read, W: Write, E: Write, V>(
     alloc: Global,
     form: F,
@@ -138,8 +140,8 @@ pub fn end_listing<E: Write>(run: Result<(), RunFault>, names: &Names<'_>, error
     }
 }
 
-/// The command `cut`: writes the piece of this number, counted from 0, of a byte stream (Annex B), and tells on the console of a
-/// fault, and where there is no such piece.
+/// The command `cut`: writes the piece of this number, counted from 0, of a byte stream (Annex B),
+/// and tells on the console of a fault, and where there is no such piece.
 pub fn cut<R: Read, W: Write, E: Write, V>(
     alloc: Global,
     number: u32,
@@ -162,7 +164,8 @@ pub fn cut<R: Read, W: Write, E: Write, V>(
     }
 }
 
-// Tells that there is no piece of this number, where there is none. An error is want of memory for the text.
+// Tells that there is no piece of this number, where there is none. An error is want of memory for
+// the text.
 fn write_no_piece<E: Write>(
     alloc: Global,
     found: bool,

@@ -26,7 +26,8 @@ pub fn zeros(alloc: Global, count: usize) -> Result<Vec<u8>, RunFault>
     Ok(vec![in alloc; 0; count]?)
 }
 
-/// How many bytes one `read` gave: none only where no more come. An error is a fault, also one that tells of an interruption.
+/// How many bytes one `read` gave: none only where no more come. An error is a fault, also one that
+/// tells of an interruption.
 pub fn read_once<R: Read>(reader: &mut R, piece: &mut [u8]) -> Result<usize, RunFault>
     ensures length { length piece.new ≡ length piece.old }
     ensures within { IfOk result (λ len. len ≤ length piece.new) }

@@ -7,8 +7,8 @@ use avc_types::{Fault, OutOfMemory};
 use std::alloc::Global;
 use std::marker::Model;
 
-/// The refusals of a stream in order: each unit, by its place among the stream's units from 0, and its fault. A contract sees
-/// their list.
+/// The refusals of a stream in order: each unit, by its place among the stream's units from 0, and
+/// its fault. A contract sees their list.
 #[derive(Drop)]
 pub struct Refusals {
     refusals: Vec<(u64, Fault)>,

@@ -20,8 +20,9 @@ pub struct Counts {
     pub refused: u64,
 }
 
-/// What a run reports to while it goes on: each picture that was written, and each refusal. Of the refusals it may tell on the
-/// standard error, by a line for each, in order; where that takes no more, nothing more is told.
+/// What a run reports to while it goes on: each picture that was written, and each refusal. Of the
+/// refusals it may tell on the standard error, by a line for each, in order; where that takes no
+/// more, nothing more is told.
 pub trait Reporter {
     /// What was reported, and told of it.
     ghost reported: { Self → Reported };
@@ -30,7 +31,8 @@ pub trait Reporter {
     fn count_picture(&mut self)
         ensures { reported self.new ≡ with_picture (reported self.old) };
 
-    /// A refusal has come: the place of a unit among the stream's units, from 0, and its fault. An error is want of memory to keep it.
+    /// A refusal has come: the place of a unit among the stream's units, from 0, and its fault. An
+    /// error is want of memory to keep it.
     fn refuse<E: Write>(&mut self, unit: u64, fault: Fault, errors: &mut E) -> Result<(), RunFault>
         ensures ok { OnOk result ((reported self.new).report ≡ with_refusal (reported self.old).report (unit, fault)) }
         ensures err { IfErr result (λ e. (e ≡ faults.Memory) × ((reported self.new).report ≡ (reported self.old).report)) }

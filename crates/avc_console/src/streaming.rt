@@ -12,8 +12,9 @@ use avc_tools::StreamText;
 use std::alloc::Global;
 use std::io::{Read, Write};
 
-/// Reads a byte stream (Annex B) to its end, or until a text of it is over, and writes the text, each part as soon as the bytes that
-/// were read decide it. Of the stream nothing has come to the text yet.
+/// Reads a byte stream (Annex B) to its end, or until a text of it is over, and writes the text,
+/// each part as soon as the bytes that were read decide it. Of the stream nothing has come to the
+/// text yet.
 pub fn write_stream<T: StreamText, R: Read, W: Write>(
     alloc: Global,
     text: &mut T,

@@ -10,8 +10,9 @@ use avc_types::{Fault, History};
 use std::io::Write;
 use std::marker::Model;
 
-/// Counts pictures and refusals, and tells each refusal at once on the standard error, by its line, and by one that says what it means
-/// where that is wanted. It keeps no refusal, and asks for no memory. A contract sees the refusals, and whether all lines were taken.
+/// Counts pictures and refusals, and tells each refusal at once on the standard error, by its line,
+/// and by one that says what it means where that is wanted. It keeps no refusal, and asks for no
+/// memory. A contract sees the refusals, and whether all lines were taken.
 #[derive(Drop)]
 pub struct Tally {
     counts: Counts,

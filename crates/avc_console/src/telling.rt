@@ -8,8 +8,9 @@ use avc_explain::{explained_line, waits_line};
 use avc_types::Fault;
 use std::io::Write;
 
-/// Tells of a refusal behind what was told before, where all of that was taken: by its line, and by one that says what it means where
-/// that is wanted. Answers whether all was taken. It asks for no memory.
+/// Tells of a refusal behind what was told before, where all of that was taken: by its line, and by
+/// one that says what it means where that is wanted. Answers whether all was taken. It asks for no
+/// memory.
 pub(crate) fn tell_refusal<E: Write>(
     is_told: bool,
     is_explained: bool,
@@ -35,7 +36,8 @@ pub(crate) fn tell_refusal<E: Write>(
     }
 }
 
-/// Tells behind the refusal of a unit that decoding waits from there on, where it does. Answers whether all was taken. It asks for no memory.
+/// Tells behind the refusal of a unit that decoding waits from there on, where it does. Answers
+/// whether all was taken. It asks for no memory.
 pub fn tell_loss<E: Write>(unit: u64, waits: bool, errors: &mut E) -> bool
     ensures { Tells (E.contents errors.old) (E.contents errors.new) (loss_text unit waits) result }
 {
@@ -46,7 +48,8 @@ pub fn tell_loss<E: Write>(unit: u64, waits: bool, errors: &mut E) -> bool
     }
 }
 
-/// Tells a text behind what was told before, where all of that was taken. Answers whether all was taken.
+/// Tells a text behind what was told before, where all of that was taken. Answers whether all was
+/// taken.
 pub fn tell_more<E: Write>(is_told: bool, text: &[u8], errors: &mut E) -> bool
     ensures { TellsMore is_told (E.contents errors.old) (E.contents errors.new) text.now result }
 {

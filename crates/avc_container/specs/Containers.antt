@@ -4,7 +4,8 @@ use Rattle.std.specs.List.{starts_with}
 use Rattle.avc_container.specs.declared.container.Container.{Container}
 use Rattle.avc_container.specs.declared.container.Container.TheVariants.{Avi, Flv, Ivf, Jpeg, Matroska, MpegTs, Mp4, Png, Y4m}
 
--- how many first bytes are looked at: one more than a packet of a transport stream has (H.222.0, 2.4.3.2)
+-- how many first bytes are looked at: one more than a packet of a transport stream has (H.222.0,
+-- 2.4.3.2)
 abbrev pub first_count : ℕ
 first_count = 189
 
@@ -12,7 +13,8 @@ first_count = 189
 abbrev pub has_at : (first : List ℕ) → (place : ℕ) → (bytes : List ℕ) → Bool
 has_at first place bytes = starts_with nat_eq (drop place first) bytes
 
--- How each begins: the first box of MP4 is a file type box (ISO/IEC 14496-12, 4.3), Matroska and WebM have an EBML header (RFC 8794,
+-- How each begins: the first box of MP4 is a file type box (ISO/IEC 14496-12, 4.3), Matroska and
+-- WebM have an EBML header (RFC 8794,
 -- 11.2.1), packets of a transport stream a sync_byte (H.222.0, 2.4.3.2), AVI is a RIFF file of this form; JPEG begins with SOI and
 -- a further marker (T.81, B.2.1), PNG with its signature (ISO/IEC 15948, 5.2).
 abbrev pub has_signature : Container → (first : List ℕ) → Bool

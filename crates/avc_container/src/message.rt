@@ -2,7 +2,9 @@
 
 ghost use Rattle.std.specs.Prelude.{◌≡◌, ◌++◌, IfOk, OnOk, string_bytes};
 ghost use Rattle.avc_container.specs.Containers.{container_of};
-ghost use Rattle.avc_container.specs.Messages.{advice_of, beginning_text, container_line, container_text, has_start_code, name_of, no_picture_line, other_text};
+ghost use Rattle.avc_container.specs.Messages.{advice_of, beginning_text, container_line};
+ghost use Rattle.avc_container.specs.Messages.{container_text, has_start_code, name_of};
+ghost use Rattle.avc_container.specs.Messages.{no_picture_line, other_text};
 
 use crate::container::{Container, container_of, has_at};
 use std::alloc::{AllocError, Global};
@@ -22,7 +24,8 @@ pub fn no_picture_line(alloc: Global, first: &[u8]) -> Result<String, AllocError
     Ok(line)
 }
 
-/// The line that tells that a stream is this container or picture, and what makes a byte stream of it.
+/// The line that tells that a stream is this container or picture, and what makes a byte stream of
+/// it.
 pub fn container_line(alloc: Global, container: Container) -> Result<String, AllocError>
     ensures { IfOk result (λ line. string_bytes line ≡ container_line container) }
 {

@@ -11,7 +11,8 @@ use Rattle.avc_deblock.specs.Edges.{all_filtered, row_lines}
 use Rattle.avc_deblock.specs.FilterInfo.{Names, HasInfo, HaveInfo, IsAt, inter_strength, edge_block, filters_between, p_address}
 use Rattle.avc_deblock.specs.OneEdge.{lines_of_edge, planes_edge}
 
--- bS along edge n of macroblock q in quarter k of the edge; p is the macroblock on the other side, q itself but at edge 0 (8.7.2.1)
+-- bS along edge n of macroblock q in quarter k of the edge; p is the macroblock on the other side,
+-- q itself but at edge 0 (8.7.2.1)
 abbrev pub strength_of : (p q : MbInfo) → Bool → (n k : ℕ) → ℕ
 strength_of p q v n k =
     if p.is_intra || q.is_intra then (if n == 0 then 4 else 3)
@@ -26,8 +27,8 @@ abbrev pub chroma_qp_of : ℤ → (p q : MbInfo) → EdgeQp
 chroma_qp_of offset p q =
     record { p = chroma_qp offset p.qp; q = chroma_qp offset q.qp; offset_a = q.offset_a; offset_b = q.offset_b }
 
--- The planes after edge n of macroblock q, which is in this column and row of macroblocks: from its left side on, or from
--- its upper side on, 0 to 3 (8.7).
+-- The planes after edge n of macroblock q, which is in this column and row of macroblocks: from its
+-- left side on, or from its upper side on, 0 to 3 (8.7).
 abbrev pub edge_by_info : Bool → (column row n : ℕ) → ℤ → (p q : MbInfo) → Planes → Planes
 edge_by_info v column row n offset p q s =
     lines_of_edge v column row n (strength_of p q v n) (luma_qp_of p q) (chroma_qp_of offset p q) s
@@ -60,7 +61,8 @@ no_info = record {
   offset_b = pos 0;
 }
 
--- The planes after the first n macroblocks of a row, from their info and those of the row above (8.7).
+-- The planes after the first n macroblocks of a row, from their info and those of the row above
+-- (8.7).
 abbrev pub row_by_info : ℤ → (row : ℕ) → (above info : List MbInfo) → (n : ℕ) → Planes → Planes
 row_by_info offset row above info zero s = s
 row_by_info offset row above info (suc n) s =
@@ -82,8 +84,8 @@ RowIsThePictures =
     AreOfRow c motion names row offset above info →
     row_by_info offset row above info (length info) s ≡ all_filtered c motion s (row_lines c row)
 
--- By a coded picture's info edge n of macroblock a is filtered as by its line filters: each line of luma, Cb and Cr along that edge with
--- its setting in the picture (8.7, 8.7.1).
+-- By a coded picture's info edge n of macroblock a is filtered as by its line filters: each line of
+-- luma, Cb and Cr along that edge with its setting in the picture (8.7, 8.7.1).
 abbrev pub EdgeIsThePictures : Type 0
 EdgeIsThePictures =
     (c : Coded) (motion : List (List Motion)) (names : Names) (column row a : ℕ) (offset : ℤ) (v : Bool) (n : ℕ) (p q : MbInfo) (s : Planes) →

@@ -45,7 +45,8 @@ pub record HasInfo (c : Coded) (motion : List (List Motion)) (names : Names) (a 
 abbrev pub are_far : Mv → Mv → Bool
 are_far u v = nat_le 4 (nat_abs (u.x -ℤ v.x)) || nat_le 4 (nat_abs (u.y -ℤ v.y))
 
--- bS between two inter blocks: 2 by coefficients, 1 by other pictures or far vectors, else 0 (8.7.2.1)
+-- bS between two inter blocks: 2 by coefficients, 1 by other pictures or far vectors, else 0
+-- (8.7.2.1)
 abbrev pub inter_strength : (p : MbInfo) (kp : ℕ) (q : MbInfo) (kq : ℕ) → ℕ
 inter_strength p kp q kq =
     if has_bit p.coefficients kp || has_bit q.coefficients kq then 2
@@ -66,8 +67,8 @@ pub record IsStill (f : MbInfo) : Type 0 where
   pub pictures_are : (k : ℕ) → k < 4 → slice_index f.pictures k ≡ slice_index f.pictures 0
   pub vectors_are : (k : ℕ) → k < 16 → slice_index_or f.vectors k zero_vector ≡ slice_index_or f.vectors 0 zero_vector
 
--- The luma block on the q side of edge n of a macroblock in the k-th quarter of the edge. The edges of a macroblock are numbered from 0,
--- four luma samples apart.
+-- The luma block on the q side of edge n of a macroblock in the k-th quarter of the edge. The edges
+-- of a macroblock are numbered from 0, four luma samples apart.
 abbrev pub edge_block : Bool → (n k : ℕ) → ℕ
 edge_block true n k = block_at (4 * n) (4 * k)
 edge_block false n k = block_at (4 * k) (4 * n)
@@ -88,7 +89,8 @@ filters_at All same = true
 filters_at NoEdges same = false
 filters_at WithinSlice same = same
 
--- the edge between two macroblocks is filtered, by what the second one's slice says of edges (7.4.3)
+-- the edge between two macroblocks is filtered, by what the second one's slice says of edges
+-- (7.4.3)
 abbrev pub filters_between : MbInfo → MbInfo → Bool
 filters_between f g = filters_at f.filtered_edges (f.slice == g.slice)
 

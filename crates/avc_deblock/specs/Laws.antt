@@ -14,7 +14,8 @@ use Rattle.avc_deblock.specs.ByInfo.{no_info, strength_of, luma_qp_of}
 abbrev pub RowsInOrder : Type 0
 RowsInOrder = (c : Coded) (height : ℕ) → length c.mbs ≡ height * c.width → line_filters c ≡ flat_map (row_lines c) (range_with_len 0 height)
 
--- At the first n addresses picture d has what picture c has: the macroblocks, their slices, and their motion.
+-- At the first n addresses picture d has what picture c has: the macroblocks, their slices, and
+-- their motion.
 pub record AgreeBelow (n : ℕ) (c d : Coded) (motion_c motion_d : List (List Motion)) : Type 0 where
   pub mbs : (a : ℕ) → a < n → mb_at d a ≡ mb_at c a
   pub slices : (a : ℕ) → a < n → slice_at d a ≡ slice_at c a
@@ -33,7 +34,8 @@ InfoOfFirstMacroblocksStays =
 abbrev intra_at_51 : MbInfo
 intra_at_51 = record no_info { qp = 51 }
 
--- one row of luma after the first line of its macroblock's vertical edge n, which lies 4 + 4 * n samples from its left
+-- one row of luma after the first line of its macroblock's vertical edge n, which lies 4 + 4 * n
+-- samples from its left
 abbrev line_of_edge : (n : ℕ) → Plane → Plane
 line_of_edge n s =
     lines_filtered (luma_setting (strength_of intra_at_51 intra_at_51 true n) (luma_qp_of intra_at_51 intra_at_51)) true (4 + 4 * n) 0 (0 ∷ []) s
@@ -41,7 +43,8 @@ line_of_edge n s =
 abbrev one_row : List ℕ → Plane
 one_row samples = record { width = 12; height = 1; samples = samples }
 
--- A step from 100 to 160, at edge 0 at strength 4 and then at edge 1 at strength 3, which reads what edge 0 left.
+-- A step from 100 to 160, at edge 0 at strength 4 and then at edge 1 at strength 3, which reads
+-- what edge 0 left.
 abbrev pub TwoEdgesOfAStep : Type 0
 TwoEdgesOfAStep =
     line_of_edge 1 (line_of_edge 0 (one_row (100 ∷ 100 ∷ 100 ∷ 100 ∷ 160 ∷ 160 ∷ 160 ∷ 160 ∷ 160 ∷ 160 ∷ 160 ∷ 160 ∷ [])))

@@ -27,7 +27,8 @@ pub record AgreesToRow (row : ℕ) (s t : Planes) : Type 0 where
   pub cb : AgreesAbove (8 * row + 8) s.cb t.cb
   pub cr : AgreesAbove (8 * row + 8) s.cr t.cr
 
--- the three planes are those of s but for this row of macroblocks and, above it, three rows of luma and one of chroma
+-- the three planes are those of s but for this row of macroblocks and, above it, three rows of luma
+-- and one of chroma
 pub record ChangesInRow (row : ℕ) (s t : Planes) : Type 0 where
   pub luma : ChangesWithin (16 * row - 3) (16 * row + 16) s.luma t.luma
   pub cb : ChangesWithin (8 * row - 1) (8 * row + 8) s.cb t.cb
@@ -47,7 +48,8 @@ pub record HasRow (row n : ℕ) (s : Planes) : Type 0 where
   pub cr_rows : 8 * row + 8 ≤ s.cr.height
   pub room : (column : ℕ) → column < n → HasRoom column row s
 
--- The filter of a row changes nothing below the row, nor more than three luma rows above it and one of chroma.
+-- The filter of a row changes nothing below the row, nor more than three luma rows above it and one
+-- of chroma.
 abbrev pub RowChangesItsRows : Type 0
 RowChangesItsRows =
     (offset : ℤ) (row : ℕ) (above info : List MbInfo) (s : Planes) → HasRow row (length info) s →

@@ -13,8 +13,8 @@ use Rattle.avc_deblock.specs.declared.edge_strengths.Strengths.TheVariants.{Four
 use Rattle.avc_deblock.specs.declared.thresholds.EdgeQp.{EdgeQp}
 use Rattle.avc_deblock.specs.declared.thresholds.QpLimits.{QpLimits}
 
--- Some lines of an edge, one after another. Line 0 has q0 at (x, y); line i lies i rows below it, or i columns to its right
--- where the edge is horizontal.
+-- Some lines of an edge, one after another. Line 0 has q0 at (x, y); line i lies i rows below it,
+-- or i columns to its right where the edge is horizontal.
 abbrev pub lines_filtered : (ℕ → Setting) → Bool → (x y : ℕ) → List ℕ → Plane → Plane
 lines_filtered setting true x y [] s = s
 lines_filtered setting true x y (i ∷ is) s =
@@ -54,7 +54,8 @@ index_a_of qp = threshold_index ((qp.p + qp.q + 1) / 2) qp.offset_a
 abbrev pub index_b_of : EdgeQp → ℕ
 index_b_of qp = threshold_index ((qp.p + qp.q + 1) / 2) qp.offset_b
 
--- one more than tC0 at a strength of 1 to 3 (Table 8-17), and 0 at strength 0, where nothing is filtered
+-- one more than tC0 at a strength of 1 to 3 (Table 8-17), and 0 at strength 0, where nothing is
+-- filtered
 abbrev pub tc1_of : (strength index : ℕ) → ℕ
 tc1_of strength index = if strength == 0 then 0 else tc0_of strength index + 1
 
@@ -72,7 +73,8 @@ FitsWeak is_luma l strength s = IsWeak is_luma s (if strength == 0 then 0 else l
 
 -- ---- the edges of a macroblock
 
--- The samples of component k after the edge of macroblock a that lies e samples right of its left side, or below its upper side.
+-- The samples of component k after the edge of macroblock a that lies e samples right of its left
+-- side, or below its upper side.
 abbrev pub component_edge : Coded → List (List Motion) → (k : ℕ) → Bool → (a e : ℕ) → Plane → Plane
 component_edge c motion k true a e s =
     let n = 16 / luma_per_sample k in
@@ -85,7 +87,8 @@ component_edge c motion k false a e s =
     let y = n * (a / c.width) + e in
     edge_filtered (λ i. setting_at c motion (record { component = k; is_vertical = false; x = x + i; y = y })) false x y n s
 
--- The planes after edge n of macroblock a, from the left side or the upper side on, 0 to 3. Chroma has every second of them.
+-- The planes after edge n of macroblock a, from the left side or the upper side on, 0 to 3. Chroma
+-- has every second of them.
 abbrev pub planes_edge : Coded → List (List Motion) → Bool → (a n : ℕ) → Planes → Planes
 planes_edge c motion v a n s = record {
   luma = component_edge c motion 0 v a (4 * n) s.luma;
@@ -107,7 +110,8 @@ planes_mb c motion a s =
 
 -- ---- the same from strengths and QPs
 
--- a chroma plane after edge n of the macroblock in this column and row of macroblocks: chroma has every second edge
+-- a chroma plane after edge n of the macroblock in this column and row of macroblocks: chroma has
+-- every second edge
 abbrev pub chroma_of_edge : Bool → (column row n : ℕ) → (ℕ → ℕ) → EdgeQp → Plane → Plane
 chroma_of_edge true column row n strengths qp s =
     if n % 2 == 0 then edge_filtered (chroma_setting strengths qp) true (8 * column + 2 * n) (8 * row) 8 s else s

@@ -17,8 +17,8 @@ abbrev pub line_within : (p3 q3 : ℕ) → (p2 p1 p0 q0 q1 q2 : List ℕ) → �
 line_within p3 q3 p2 p1 p0 q0 q1 q2 i =
     line p3 (slice_index p2 i) (slice_index p1 i) (slice_index p0 i) (slice_index q0 i) (slice_index q1 i) (slice_index q2 i) q3
 
--- A setting of luma, or of chroma, at a strength below 4, has this tC0 and these thresholds; alpha is 0 at strength 0, where nothing
--- is filtered (8.7.2.3).
+-- A setting of luma, or of chroma, at a strength below 4, has this tC0 and these thresholds; alpha
+-- is 0 at strength 0, where nothing is filtered (8.7.2.3).
 pub record IsWeak (is_luma : Bool) (s : Setting) (alpha beta tc0 : ℕ) : Type 0 where
   pub component : s.is_luma ≡ is_luma
   pub weak : s.strength < 4
@@ -78,7 +78,8 @@ pub record IsRowSet (from : ℕ) (r t u : List ℕ) : Type 0 where
 abbrev pub line_inside : (p3 p2 q2 q3 : ℕ) → (p1 p0 q0 q1 : List ℕ) → ℕ → Line
 line_inside p3 p2 q2 q3 p1 p0 q0 q1 i = line p3 p2 (slice_index p1 i) (slice_index p0 i) (slice_index q0 i) (slice_index q1 i) q2 q3
 
--- line i of four rows of sixteen samples that stand from a place of a table on, between samples that stand further off
+-- line i of four rows of sixteen samples that stand from a place of a table on, between samples
+-- that stand further off
 abbrev pub line_near : (p3 p2 q2 q3 : ℕ) → (t : List ℕ) → (from i : ℕ) → Line
 line_near p3 p2 q2 q3 t from i =
     line p3 p2 (slice_index t (from + i)) (slice_index t (from + 16 + i)) (slice_index t (from + 32 + i)) (slice_index t (from + 48 + i)) q2 q3

@@ -1,8 +1,10 @@
 //! Samples across a vertical edge, turned so that each line stands in a lane.
 
-ghost use Rattle.std.specs.Prelude.{◌≡◌, ℕ, ◌+◌, ◌*◌, ◌/◌, ◌%◌, ◌<◌, ◌≤◌, ◌==◌, true, false, if◌then◌else◌, slice_index};
+ghost use Rattle.std.specs.Prelude.{◌≡◌, ℕ, ◌+◌, ◌*◌, ◌/◌, ◌%◌, ◌<◌, ◌≤◌, ◌==◌, true, false};
+ghost use Rattle.std.specs.Prelude.{if◌then◌else◌, slice_index};
 ghost use Rattle.avc_deblock.specs.Line.{Setting, filtered};
-ghost use Rattle.avc_deblock.specs.Rows.{IsRiffled, IsTransposed, IsRowSet, IsWeak, IsStrong, IsNearSet, line_down, line_near};
+ghost use Rattle.avc_deblock.specs.Rows.{IsRiffled, IsTransposed, IsRowSet, IsWeak, IsStrong};
+ghost use Rattle.avc_deblock.specs.Rows.{IsNearSet, line_down, line_near};
 
 use crate::lines::{
     Limits, StrongLimits, strong_chroma_lines, strong_lines, weak_chroma_lines, weak_lines,
@@ -73,7 +75,8 @@ fn by_words(t: &[u8; 64]) -> [u8; 64]
     out
 }
 
-/// The four rows in the middle of a block of eight rows of sixteen samples, each with a row of zeros below it.
+/// The four rows in the middle of a block of eight rows of sixteen samples, each with a row of
+/// zeros below it.
 #[inline(always)]
 fn middle_apart(t: &[u8; 128]) -> [u8; 128]
     ensures first { (k : ℕ) → k < 16 → slice_index result k ≡ slice_index t.now (32 + k) }
@@ -137,7 +140,8 @@ pub(crate) fn spread(v: &[u8; 4]) -> [u8; 16]
     out
 }
 
-/// Filters the sixteen lines of luma down a block of eight rows of sixteen samples, at strengths of 0 to 3.
+/// Filters the sixteen lines of luma down a block of eight rows of sixteen samples, at strengths of
+/// 0 to 3.
 #[inline(always)]
 pub(crate) fn weak_luma(t: &mut [u8; 128], limits: &Limits)
     requires { (i : ℕ) → i < 16 → slice_index limits.now.tc0 i ≤ 92 }
@@ -186,7 +190,8 @@ pub(crate) fn strong_luma(t: &mut [u8; 128], limits: &StrongLimits)
     set_row(t, 96, &q2);
 }
 
-/// Filters the sixteen lines of chroma down four rows of sixteen samples, which stand from a place of a table on, at strengths of 0 to 3.
+/// Filters the sixteen lines of chroma down four rows of sixteen samples, which stand from a place
+/// of a table on, at strengths of 0 to 3.
 #[inline(always)]
 pub(crate) fn weak_chroma(t: &mut [u8; 128], from: usize, limits: &Limits)
     requires tc0 { (i : ℕ) → i < 16 → slice_index limits.now.tc0 i ≤ 92 }
@@ -206,7 +211,8 @@ pub(crate) fn weak_chroma(t: &mut [u8; 128], from: usize, limits: &Limits)
     set_row(t, from + 32, &q0);
 }
 
-/// Filters the sixteen lines of chroma down four rows of sixteen samples, which stand from a place of a table on, at strength 4.
+/// Filters the sixteen lines of chroma down four rows of sixteen samples, which stand from a place
+/// of a table on, at strength 4.
 #[inline(always)]
 pub(crate) fn strong_chroma(t: &mut [u8; 128], from: usize, limits: &StrongLimits)
     requires room { from + 64 ≤ 128 }

@@ -1,6 +1,7 @@
 //! The strength bS between two blocks (8.7.2.1).
 
-ghost use Rattle.std.specs.Prelude.{◌≡◌, ℕ, ◌/◌, ◌<◌, ◌==◌, ◌-ℤ◌, nat_le, nat_abs, List, not, ◌||◌, slice_index, slice_index_or};
+ghost use Rattle.std.specs.Prelude.{◌≡◌, ℕ, ◌/◌, ◌<◌, ◌==◌, ◌-ℤ◌, nat_le, nat_abs, List, not, ◌||◌};
+ghost use Rattle.std.specs.Prelude.{slice_index, slice_index_or};
 ghost use Rattle.avc_types.specs.Pictures.{Coded};
 ghost use Rattle.avc_neigh.specs.declared.neighbour_info.Motion.{Motion};
 ghost use Rattle.avc_motion.specs.Motion.{zero_vector};
@@ -55,8 +56,8 @@ impl MbInfo {
     }
 }
 
-/// The filter strength bS between luma block `p_block` of macroblock `p` and luma block `q_block` of macroblock `q` (8.7.2.1), 0 to 4.
-/// `is_inside` says that they are one macroblock.
+/// The filter strength bS between luma block `p_block` of macroblock `p` and luma block `q_block`
+/// of macroblock `q` (8.7.2.1), 0 to 4. `is_inside` says that they are one macroblock.
 pub fn strength(p: &MbInfo, p_block: usize, q: &MbInfo, q_block: usize, is_inside: bool) -> u8
     requires p { p_block < 16 }
     requires q { q_block < 16 }

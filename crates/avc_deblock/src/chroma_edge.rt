@@ -3,7 +3,8 @@
 ghost use Rattle.std.specs.Prelude.{◌≡◌, ℕ, ◌+◌, ◌*◌, ◌<◌, ◌≤◌, true, false, slice_index};
 ghost use Rattle.avc_deblock.specs.Line.{filtered};
 ghost use Rattle.avc_deblock.specs.Rows.{line_near, IsNearSet};
-ghost use Rattle.avc_deblock.specs.OneEdge.{edge_filtered, chroma_setting, strength_along, AreStrengths, AreLimits};
+ghost use Rattle.avc_deblock.specs.OneEdge.{edge_filtered, chroma_setting, strength_along};
+ghost use Rattle.avc_deblock.specs.OneEdge.{AreStrengths, AreLimits};
 ghost use Rattle.avc_deblock.specs.declared.edge_strengths.Strengths.TheVariants.{Four, BelowFour};
 ghost use Rattle.avc_deblock.specs.declared.thresholds.EdgeQp.{EdgeQp as Qps};
 
@@ -13,8 +14,8 @@ use crate::pair::{beside, half, joined, nearest};
 use crate::thresholds::{QpLimits, chroma_tc1s};
 use avc_plane::Plane;
 
-/// Filters the lines of chroma down four rows of sixteen samples, which stand from a place of a table on, at strengths of 0 to 3: eight
-/// lines of Cb, and then eight of Cr.
+/// Filters the lines of chroma down four rows of sixteen samples, which stand from a place of a
+/// table on, at strengths of 0 to 3: eight lines of Cb, and then eight of Cr.
 #[inline(always)]
 fn filter_below_four(t: &mut [u8; 128], from: usize, strengths: &[u8; 4], limits: &QpLimits)
     requires room { from + 64 ≤ 128 }
@@ -61,8 +62,8 @@ fn filter_chroma(t: &mut [u8; 128], from: usize, strengths: &Strengths, limits: 
     }
 }
 
-/// Filters the eight lines of Cb and the eight of Cr across a vertical edge. The edge has `left + 4` columns left of it, and `top`
-/// rows above its first line.
+/// Filters the eight lines of Cb and the eight of Cr across a vertical edge. The edge has `left +
+/// 4` columns left of it, and `top` rows above its first line.
 #[inline(never)]
 #[tactic(auto, using(crate::proofs::FilteredPictures::edge_off))]
 pub(crate) fn vertical_chroma<const PAD: usize>(
@@ -97,7 +98,8 @@ pub(crate) fn vertical_chroma<const PAD: usize>(
     cr.set_rectangle::<8, 8, 64>(left, top, &new_cr);
 }
 
-/// Filters those across two vertical edges, the second four columns right of the first. The first has `left + 4` columns left of it.
+/// Filters those across two vertical edges, the second four columns right of the first. The first
+/// has `left + 4` columns left of it.
 #[inline(never)]
 pub(crate) fn two_vertical_chroma<const PAD: usize>(
     cb: &mut Plane<PAD>,
@@ -140,8 +142,8 @@ pub(crate) fn two_vertical_chroma<const PAD: usize>(
     cr.set_rectangle::<8, 8, 64>(left + 2, top, &new_cr);
 }
 
-/// Filters the eight lines of Cb and the eight of Cr across a horizontal edge at strengths of 0 to 3. The edge has `top + 4` rows above
-/// it, and `left` columns left of its first line.
+/// Filters the eight lines of Cb and the eight of Cr across a horizontal edge at strengths of 0 to
+/// 3. The edge has `top + 4` rows above it, and `left` columns left of its first line.
 #[inline(never)]
 fn weak_horizontal<const PAD: usize>(
     cb: &mut Plane<PAD>,

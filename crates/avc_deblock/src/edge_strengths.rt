@@ -7,7 +7,8 @@ ghost use Rattle.avc_deblock.specs.ByInfo.{strength_of};
 
 use crate::mb_info::MbInfo;
 
-/// The filter strengths bS along one edge of a macroblock (8.7.2.1). Each is that of four luma lines, which two chroma lines share.
+/// The filter strengths bS along one edge of a macroblock (8.7.2.1). Each is that of four luma
+/// lines, which two chroma lines share.
 #[derive(Clone, Copy)]
 pub(crate) enum Strengths {
     /// 4 at all lines.
@@ -47,7 +48,8 @@ fn inter_strengths(p: &MbInfo, q: &MbInfo, is_vertical: bool, n: usize) -> [u8; 
     strengths
 }
 
-/// The strengths along edge `n` of macroblock `q`, from its left or upper edge with number 0 on; `p` is the macroblock on the other side.
+/// The strengths along edge `n` of macroblock `q`, from its left or upper edge with number 0 on;
+/// `p` is the macroblock on the other side.
 #[inline(always)]
 pub(crate) fn edge_strengths(p: &MbInfo, q: &MbInfo, is_vertical: bool, n: usize) -> Strengths
     requires { n < 4 }

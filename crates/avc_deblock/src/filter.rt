@@ -15,8 +15,8 @@ use crate::mb_info::MbInfo;
 use crate::planes_edge::Place;
 use avc_plane::Planes;
 
-/// Filters the edges of a row of macroblocks, `row` of which lie above it. `info` is that of its macroblocks, and `above` that of the
-/// row above it; for the first row any.
+/// Filters the edges of a row of macroblocks, `row` of which lie above it. `info` is that of its
+/// macroblocks, and `above` that of the row above it; for the first row any.
 pub fn row<const PAD: usize>(
     planes: &mut Planes<PAD>,
     above: &[MbInfo],
@@ -47,7 +47,8 @@ pub fn row<const PAD: usize>(
     }
 }
 
-/// Filters all edges of a picture of `width` columns and `height` rows of macroblocks. `info` is that of its macroblocks by address.
+/// Filters all edges of a picture of `width` columns and `height` rows of macroblocks. `info` is
+/// that of its macroblocks by address.
 pub fn picture<const PAD: usize>(
     planes: &mut Planes<PAD>,
     info: &[MbInfo],

@@ -10,8 +10,8 @@ use crate::pair::half;
 use crate::thresholds::{QpLimits, luma_tc1s};
 use avc_plane::Plane;
 
-/// Filters the sixteen lines of luma across a horizontal edge at strengths of 0 to 3. The edge has `top + 4` rows above it, and `left`
-/// columns left of its first line.
+/// Filters the sixteen lines of luma across a horizontal edge at strengths of 0 to 3. The edge has
+/// `top + 4` rows above it, and `left` columns left of its first line.
 #[inline(always)]
 fn weak_horizontal<const PAD: usize>(
     plane: &mut Plane<PAD>,
@@ -37,7 +37,8 @@ fn weak_horizontal<const PAD: usize>(
     plane.set_rectangle::<16, 4, 64>(left, top + 2, &inner);
 }
 
-/// Filters the sixteen lines of luma across a vertical edge at strengths of 0 to 3, with `left + 4` columns left of it and `top` rows above its first line.
+/// Filters the sixteen lines of luma across a vertical edge at strengths of 0 to 3, with `left + 4`
+/// columns left of it and `top` rows above its first line.
 #[inline(always)]
 fn weak_vertical<const PAD: usize>(
     plane: &mut Plane<PAD>,
@@ -140,7 +141,8 @@ pub(crate) fn one_vertical<const PAD: usize>(
     weak_vertical(plane, left, top, limits, strengths);
 }
 
-/// Those across three horizontal edges with the same strengths, each four rows below the one before, which is filtered first.
+/// Those across three horizontal edges with the same strengths, each four rows below the one
+/// before, which is filtered first.
 #[inline(never)]
 pub(crate) fn three_horizontal<const PAD: usize>(
     plane: &mut Plane<PAD>,

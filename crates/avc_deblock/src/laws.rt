@@ -1,7 +1,8 @@
 //! Laws of the filter: its order, and how far it reaches.
 
 ghost use Rattle.avc_deblock.specs.ByInfo.{EdgeIsThePictures, RowIsThePictures};
-ghost use Rattle.avc_deblock.specs.Locality.{RowChangesItsRows, RowReadsNoneBelow, RowCommutesWithBlocksBelow};
+ghost use Rattle.avc_deblock.specs.Locality.{RowChangesItsRows, RowReadsNoneBelow};
+ghost use Rattle.avc_deblock.specs.Locality.{RowCommutesWithBlocksBelow};
 ghost use Rattle.avc_deblock.specs.Laws.{RowsInOrder, InfoOfFirstMacroblocksStays, TwoEdgesOfAStep};
 
 /// The line filters of a picture are those of its rows of macroblocks, one row after another.
@@ -15,18 +16,20 @@ pub fn info_of_first_macroblocks_stays()
     ensures { InfoOfFirstMacroblocksStays }
 {}
 
-/// Where its info is a coded picture's, an edge is filtered as by the picture's line filters of that edge.
+/// Where its info is a coded picture's, an edge is filtered as by the picture's line filters of
+/// that edge.
 pub fn edge_by_info_is_the_pictures()
     ensures { EdgeIsThePictures }
 {}
 
-/// Where its info is a coded picture's, a row is filtered as by the picture's line filters of that row.
+/// Where its info is a coded picture's, a row is filtered as by the picture's line filters of that
+/// row.
 pub fn row_by_info_is_the_pictures()
     ensures { RowIsThePictures }
 {}
 
-/// The filter of a row of macroblocks neither reads nor changes a sample below the row, and changes none further above it than three
-/// rows of luma and one of chroma.
+/// The filter of a row of macroblocks neither reads nor changes a sample below the row, and changes
+/// none further above it than three rows of luma and one of chroma.
 pub fn row_is_local()
     ensures changes { RowChangesItsRows }
     ensures reads { RowReadsNoneBelow }

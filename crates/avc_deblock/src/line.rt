@@ -1,6 +1,7 @@
 //! The filter of one line of samples across an edge, in bytes (8.7.2.3, 8.7.2.4).
 
-ghost use Rattle.std.specs.Prelude.{◌≡◌, ◌≤◌, ℕ, ◌+◌, ◌*◌, ◌/◌, ◌==◌, pos, ◌+ℤ◌, nat_abs, nat_lt, true, false, if◌then◌else◌, ◌&&◌, ◌||◌, ℤ, Bool};
+ghost use Rattle.std.specs.Prelude.{◌≡◌, ◌≤◌, ℕ, ◌+◌, ◌*◌, ◌/◌, ◌==◌, pos, ◌+ℤ◌, nat_abs, nat_lt};
+ghost use Rattle.std.specs.Prelude.{true, false, if◌then◌else◌, ◌&&◌, ◌||◌, ℤ, Bool};
 ghost use Rattle.avc_types.specs.Arithmetic.{distance};
 ghost use Rattle.avc_deblock.specs.Line.{Setting, filtered, strong_p0, strong_p1, strong_p2};
 ghost use Rattle.avc_deblock.specs.Rows.{line, IsWeak, bend, held, IsStrong};
@@ -10,7 +11,8 @@ use crate::bytes::{
     near_mean, raised, rough_mean,
 };
 
-/// By how much a line is beyond the thresholds: 0 where it is filtered. `a1` and `b1` are one less than alpha and beta.
+/// By how much a line is beyond the thresholds: 0 where it is filtered. `a1` and `b1` are one less
+/// than alpha and beta.
 #[inline(always)]
 fn excess(p1: u8, p0: u8, q0: u8, q1: u8, a1: u8, b1: u8, dead: u8) -> u8
     ensures { (result == 0) ≡ (nat_lt (distance p0 q0) (if dead == 0 then a1 + 1 else 0)

@@ -1,7 +1,8 @@
 //! An edge of luma, at the strengths of its blocks (8.7.2.2 to 8.7.2.4).
 
 ghost use Rattle.std.specs.Prelude.{◌≡◌, ℕ, ◌+◌, ◌<◌, ◌≤◌, true, false, slice_index};
-ghost use Rattle.avc_deblock.specs.OneEdge.{edge_filtered, luma_setting, strength_along, AreStrengths, AreLimits};
+ghost use Rattle.avc_deblock.specs.OneEdge.{edge_filtered, luma_setting, strength_along};
+ghost use Rattle.avc_deblock.specs.OneEdge.{AreStrengths, AreLimits};
 ghost use Rattle.avc_deblock.specs.declared.edge_strengths.Strengths.TheVariants.{BelowFour};
 ghost use Rattle.avc_deblock.specs.declared.thresholds.EdgeQp.{EdgeQp as Qps};
 
@@ -13,8 +14,8 @@ use crate::kernels::{
 use crate::thresholds::QpLimits;
 use avc_plane::Plane;
 
-/// Filters the sixteen lines of luma across a vertical edge. The edge has `left + 4` columns left of it, and `top` rows above its
-/// first line.
+/// Filters the sixteen lines of luma across a vertical edge. The edge has `left + 4` columns left
+/// of it, and `top` rows above its first line.
 #[inline(always)]
 #[tactic(auto, using(crate::proofs::FilteredPictures::edge_off))]
 pub(crate) fn vertical_luma<const PAD: usize>(
@@ -40,8 +41,8 @@ pub(crate) fn vertical_luma<const PAD: usize>(
     }
 }
 
-/// Filters the sixteen lines of luma across a horizontal edge. The edge has `top + 4` rows above it, and `left` columns left of
-/// its first line.
+/// Filters the sixteen lines of luma across a horizontal edge. The edge has `top + 4` rows above
+/// it, and `left` columns left of its first line.
 #[inline(always)]
 #[tactic(auto, using(crate::proofs::FilteredPictures::edge_off))]
 pub(crate) fn horizontal_luma<const PAD: usize>(
@@ -67,8 +68,8 @@ pub(crate) fn horizontal_luma<const PAD: usize>(
     }
 }
 
-/// Filters those across three vertical edges with the same strengths, each four columns right of the one before. The first has
-/// `left + 4` columns left of it.
+/// Filters those across three vertical edges with the same strengths, each four columns right of
+/// the one before. The first has `left + 4` columns left of it.
 #[inline(always)]
 #[tactic(auto, using(crate::proofs::FilteredPictures::edge_off))]
 pub(crate) fn three_vertical_luma<const PAD: usize>(
@@ -93,7 +94,8 @@ pub(crate) fn three_vertical_luma<const PAD: usize>(
     three_vertical(plane, left, top, limits, strengths);
 }
 
-/// Filters sixteen lines of luma across three horizontal edges, each four rows below the one before. The first has `top + 4` rows above it.
+/// Filters sixteen lines of luma across three horizontal edges, each four rows below the one
+/// before. The first has `top + 4` rows above it.
 #[inline(always)]
 #[tactic(auto, using(crate::proofs::FilteredPictures::edge_off))]
 pub(crate) fn three_horizontal_luma<const PAD: usize>(

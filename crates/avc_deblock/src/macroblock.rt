@@ -30,7 +30,8 @@ impl MbInfo {
 }
 
 impl MbInfo {
-    /// The outer edge to `other` is to be filtered, where `other` exists. An edge at strength 0 need not be.
+    /// The outer edge to `other` is to be filtered, where `other` exists. An edge at strength 0
+    /// need not be.
     #[inline(always)]
     fn reaches(&self, other: &MbInfo, is_vertical: bool, exists: bool) -> bool
         ensures on { result ≡ true → (exists && filters_between self.now other.now) ≡ true }
@@ -149,7 +150,8 @@ fn inner_horizontal<const PAD: usize>(
     }
 }
 
-/// Filters all edges of macroblock `mb`. `left` and `above` are the macroblocks there, and any where there is none.
+/// Filters all edges of macroblock `mb`. `left` and `above` are the macroblocks there, and any
+/// where there is none.
 pub(crate) fn macroblock<const PAD: usize>(
     planes: &mut Planes<PAD>,
     mb: &MbInfo,

@@ -8,14 +8,16 @@ pub struct MbInfo {
     /// It is an intra macroblock.
     pub is_intra: bool,
 
-    /// Bit k says that luma block k, in block order, has a transform coefficient level that is not 0. Of an intra macroblock no bit is asked.
+    /// Bit k says that luma block k, in block order, has a transform coefficient level that is not
+    /// 0. Of an intra macroblock no bit is asked.
     pub coefficients: u16,
 
-    /// For each 8x8 quarter the reference picture, as a number that the caller gives each stored frame: equal numbers are one frame. Of
-    /// an intra macroblock none is asked.
+    /// For each 8x8 quarter the reference picture, as a number that the caller gives each stored
+    /// frame: equal numbers are one frame. Of an intra macroblock none is asked.
     pub pictures: [u8; 4],
 
-    /// The vectors of the sixteen luma blocks, in block order. Of an intra macroblock none is asked.
+    /// The vectors of the sixteen luma blocks, in block order. Of an intra macroblock none is
+    /// asked.
     pub vectors: [Mv; 16],
 
     /// QP_Y, and 0 for I_PCM: 0 to 51.

@@ -2,7 +2,8 @@
 
 ghost use Rattle.std.specs.Prelude.{◌≡◌, ℕ, ◌+◌, ◌*◌, ◌^◌, ◌<◌, ◌≤◌, true, false};
 ghost use Rattle.avc_plane.specs.Frames.{planes_of};
-ghost use Rattle.avc_deblock.specs.OneEdge.{AreLimits, AreStrengths, chroma_of_edge, lines_of_edge, strength_along, HasRoom};
+ghost use Rattle.avc_deblock.specs.OneEdge.{AreLimits, AreStrengths, chroma_of_edge, lines_of_edge};
+ghost use Rattle.avc_deblock.specs.OneEdge.{strength_along, HasRoom};
 ghost use Rattle.avc_deblock.specs.MbLimits.{ArePairLimits};
 ghost use Rattle.avc_deblock.specs.declared.thresholds.EdgeQp.{EdgeQp as Qps};
 ghost use Rattle.avc_deblock.specs.ByInfo.{edge_by_info, luma_qp_of, chroma_qp_of, strength_of};
@@ -15,7 +16,8 @@ use crate::thresholds::{EdgeQp, QpLimits};
 use avc_plane::{Plane, Planes};
 use avc_transform::chroma_qp;
 
-/// A macroblock of a picture by its column and its row of macroblocks, with what all chroma QPs of the picture depend on.
+/// A macroblock of a picture by its column and its row of macroblocks, with what all chroma QPs of
+/// the picture depend on.
 #[derive(Clone, Copy)]
 pub struct Place {
     /// Macroblocks left of it.
@@ -251,8 +253,8 @@ fn horizontal<const PAD: usize>(
     );
 }
 
-/// Filters edge `n` of macroblock `q` in all planes, 0 to 3 from its left edge on, or from its upper edge on, at these strengths. `p` is
-/// the macroblock on the other side.
+/// Filters edge `n` of macroblock `q` in all planes, 0 to 3 from its left edge on, or from its
+/// upper edge on, at these strengths. `p` is the macroblock on the other side.
 #[inline(always)]
 pub(crate) fn edge_at<const PAD: usize>(
     planes: &mut Planes<PAD>,
@@ -315,9 +317,9 @@ pub(crate) fn edge_between<const PAD: usize>(
     edge_at(planes, p, q, is_vertical, n, &strengths, limits, place);
 }
 
-/// Filters edge `n` of macroblock `q` in all planes, on the samples as the edge before it left them: 0 to 3 from its left edge on where
-/// it is VERTICAL, else from its upper edge on. `p` is the macroblock on the other side, which is `q` itself but at edge 0. Chroma has
-/// every second edge.
+/// Filters edge `n` of macroblock `q` in all planes, on the samples as the edge before it left
+/// them: 0 to 3 from its left edge on where it is VERTICAL, else from its upper edge on. `p` is the
+/// macroblock on the other side, which is `q` itself but at edge 0. Chroma has every second edge.
 pub fn edge<const VERTICAL: bool, const PAD: usize>(
     planes: &mut Planes<PAD>,
     p: &MbInfo,

@@ -1,6 +1,7 @@
 //! Strengths of an edge, by the info of its macroblocks; most are known without looking at blocks.
 
-ghost use Rattle.std.specs.Prelude.{◌≡◌, ℕ, ◌+◌, ◌%◌, ◌<◌, slice_index, slice_index_or, true, false};
+ghost use Rattle.std.specs.Prelude.{◌≡◌, ℕ, ◌+◌, ◌%◌, ◌<◌, slice_index, slice_index_or, true};
+ghost use Rattle.std.specs.Prelude.{false};
 ghost use Rattle.avc_motion.specs.Motion.{zero_vector};
 ghost use Rattle.avc_deblock.specs.FilterInfo.{edge_block, inter_strength, HaveOneMotion, IsStill};
 ghost use Rattle.avc_deblock.specs.ByInfo.{strength_of};
@@ -70,8 +71,8 @@ impl MbInfo {
         all_three(same_vector, same_picture, !any)
     }
 
-    /// The strengths along edge `n` of `q`, of which `self` is the other side, are 0, as one look tells: no coefficients, and each two blocks
-    /// have one picture and one vector.
+    /// The strengths along edge `n` of `q`, of which `self` is the other side, are 0, as one look
+    /// tells: no coefficients, and each two blocks have one picture and one vector.
     #[inline(always)]
     pub(crate) fn is_quiet(&self, q: &MbInfo, is_vertical: bool, n: usize) -> bool
         requires { n < 4 }
@@ -108,7 +109,8 @@ impl MbInfo {
         any
     }
 
-    /// The strengths along the edge from `self` to `q`, which is another macroblock without coefficients, are 0, as one look tells.
+    /// The strengths along the edge from `self` to `q`, which is another macroblock without
+    /// coefficients, are 0, as one look tells.
     #[inline(always)]
     pub(crate) fn meets_quietly(&self, q: &MbInfo, is_vertical: bool) -> bool
         ensures strengths { result ≡ true → (k : ℕ) → k < 4 → strength_of self.now q.now is_vertical 0 k ≡ 0 }

@@ -22,8 +22,8 @@ const BETA: [u8; 52] = [
     9, 9, 10, 10, 11, 11, 12, 12, 13, 13, 14, 14, 15, 15, 16, 16, 17, 17, 18, 18,
 ];
 
-// Table 8-17: for each index one more than tC0 at the strengths 1 to 3; at strength 0, where nothing is filtered, 0. Twelve zeros let each
-// row be read as the first four of sixteen.
+// Table 8-17: for each index one more than tC0 at the strengths 1 to 3; at strength 0, where
+// nothing is filtered, 0. Twelve zeros let each row be read as the first four of sixteen.
 const TC1: [u8; 220] = [
     0, 1, 1, 1, 0, 1, 1, 1, 0, 1, 1, 1, 0, 1, 1, 1, 0, 1, 1, 1, 0, 1, 1, 1, 0, 1, 1, 1, 0, 1, 1, 1,
     0, 1, 1, 1, 0, 1, 1, 1, 0, 1, 1, 1, 0, 1, 1, 1, 0, 1, 1, 1, 0, 1, 1, 1, 0, 1, 1, 1, 0, 1, 1, 1,
@@ -92,7 +92,8 @@ fn beta(index: u8) -> u8
     BETA[usize::from(index)]
 }
 
-/// The number at a place of the table: one more than tC0 at a strength of 1 to 3, and 0 at strength 0.
+/// The number at a place of the table: one more than tC0 at a strength of 1 to 3, and 0 at strength
+/// 0.
 #[inline(always)]
 #[tactic(auto, using(crate::proofs::FilteredPictures::tc1_at))]
 fn tc1(place: usize) -> u8

@@ -3,7 +3,8 @@
 
 ghost use Rattle.std.specs.Prelude.{◌≡◌, ℕ, ◌+◌, ◌*◌, ◌^◌, ◌<◌, ◌≤◌, true, false};
 ghost use Rattle.avc_plane.specs.Frames.{planes_of};
-ghost use Rattle.avc_deblock.specs.OneEdge.{AreLimits, AreStrengths, edge_filtered, luma_setting, chroma_of_edge, strength_along, HasRoom};
+ghost use Rattle.avc_deblock.specs.OneEdge.{AreLimits, AreStrengths, edge_filtered, luma_setting};
+ghost use Rattle.avc_deblock.specs.OneEdge.{chroma_of_edge, strength_along, HasRoom};
 ghost use Rattle.avc_deblock.specs.MbLimits.{ArePairLimits};
 ghost use Rattle.avc_deblock.specs.ByInfo.{edges_by_info, luma_qp_of, chroma_qp_of, strength_of};
 
@@ -16,7 +17,8 @@ use crate::planes_edge::{PairLimits, Place, vertical_chroma_of};
 use crate::thresholds::QpLimits;
 use avc_plane::{Plane, Planes};
 
-/// Filters the luma lines across edge `n` of macroblock `q`. `p` is the macroblock on the other side.
+/// Filters the luma lines across edge `n` of macroblock `q`. `p` is the macroblock on the other
+/// side.
 #[inline(always)]
 fn luma_between<const PAD: usize>(
     luma: &mut Plane<PAD>,
@@ -49,8 +51,8 @@ fn luma_between<const PAD: usize>(
     vertical_luma(luma, left, 16 * place.row, strengths, limits);
 }
 
-/// Filters the sixteen lines of luma across the three edges inside macroblock `q`, which has these strengths in its middle. Those of an
-/// intra macroblock are equal everywhere.
+/// Filters the sixteen lines of luma across the three edges inside macroblock `q`, which has these
+/// strengths in its middle. Those of an intra macroblock are equal everywhere.
 #[inline(always)]
 fn inner_luma<const PAD: usize>(
     luma: &mut Plane<PAD>,
@@ -121,7 +123,8 @@ fn chroma_between<const PAD: usize>(
     vertical_chroma_of(cb, cr, place, n, strengths, limits);
 }
 
-/// Filters both components of chroma across the left edge of macroblock `q`, which `p` lies left of, and across the edge in its middle.
+/// Filters both components of chroma across the left edge of macroblock `q`, which `p` lies left
+/// of, and across the edge in its middle.
 #[inline(always)]
 fn chroma_edges<const PAD: usize>(
     cb: &mut Plane<PAD>,

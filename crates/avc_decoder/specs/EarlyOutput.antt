@@ -18,8 +18,8 @@ use Rattle.avc_decoder.specs.SeenEvents.{Event}
 
 -- ---- the coded video sequences of a stream (7.4.1.2.2)
 
--- The history of a coded video sequence that is over, and whether what it held was dropped: by no_output_of_prior_pics_flag of the IDR
--- picture with which the next one begins (C.4.4).
+-- The history of a coded video sequence that is over, and whether what it held was dropped: by
+-- no_output_of_prior_pics_flag of the IDR picture with which the next one begins (C.4.4).
 pub record EndedSequence : Type 0 where
   pub history : History
   pub dropped : Bool
@@ -29,7 +29,8 @@ abbrev pub ended_sequence : History → (dropped : Bool) → List EndedSequence
 ended_sequence [] dropped = []
 ended_sequence (e ∷ older) dropped = record { history = e ∷ older; dropped = dropped } ∷ []
 
--- the sequence that ends where the open picture is closed: that before an IDR picture, and at a fault that which is held
+-- the sequence that ends where the open picture is closed: that before an IDR picture, and at a
+-- fault that which is held
 abbrev pub ended_by_closing : OpenPicture → Result History (ℕ × Fault) → List EndedSequence
 ended_by_closing o (Ok h) =
     elim (is_idr (first_header o)) [
@@ -55,7 +56,8 @@ phase_after_closing output closes (running h (Some o)) =
 abbrev pub stopped : (before after : Phase) → List EndedSequence
 stopped before after = if is_running before && is_waiting after then ended_sequence (history_in before) false else []
 
--- The sequences that end with one unit: where it closes the open picture, and where decoding stops by what it does then.
+-- The sequences that end with one unit: where it closes the open picture, and where decoding stops
+-- by what it does then.
 abbrev pub ended_by_unit : State → Unit → List EndedSequence
 ended_by_unit s u =
     let what = step (sets_after s.sets) (is_running s.phase) (open_facts_in s.phase) u in
@@ -70,8 +72,9 @@ abbrev pub sequences_from : State → List Unit → List EndedSequence
 sequences_from s [] = ended_at_end s
 sequences_from s (u ∷ units) = ended_by_unit s u ++ sequences_from (state_after s u (after_unit s u)) units
 
--- The coded video sequences of a whole stream, each with all its pictures and missing frame numbers: one ends where an IDR picture
--- is closed, at a fault, and with the stream. They do not depend on when pictures go out.
+-- The coded video sequences of a whole stream, each with all its pictures and missing frame
+-- numbers: one ends where an IDR picture is closed, at a fault, and with the stream. They do not
+-- depend on when pictures go out.
 abbrev pub sequences : (max : ℕ) → (bytes : List ℕ) → List EndedSequence
 sequences max bytes = sequences_from (first_state Full) (units max bytes true)
 
@@ -90,7 +93,8 @@ pub record HandsOutTheSame (early full : List Event) : Type 0 where
   pub pictures : pictures_in early ≡ pictures_in full
   pub refusals : refusals_in early ≡ refusals_in full
 
--- Where a stream respects its numbers of reordered pictures (E.2.1) and drops none, both modes hand out the same.
+-- Where a stream respects its numbers of reordered pictures (E.2.1) and drops none, both modes hand
+-- out the same.
 abbrev pub EarlyOutputKeepsPictures : Type 0
 EarlyOutputKeepsPictures =
     (max : ℕ) (bytes : List ℕ) → All IsNotDropped (sequences max bytes) → All IsReorderedWithin (sequences max bytes) →

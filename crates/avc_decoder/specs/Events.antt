@@ -99,8 +99,9 @@ closed_picture output o = closed_outcome output o (closing_result o)
 
 -- ---- a slice of the open picture (C.4.2, and this decoder's rule for faults)
 
--- The picture with one slice more, of which the history before was `before` and so many macroblocks had been read. At a fault
--- all pictures go out that `before` holds: first those that missing numbers let out, then the rest, which is one order.
+-- The picture with one slice more, of which the history before was `before` and so many macroblocks
+-- had been read. At a fault all pictures go out that `before` holds: first those that missing
+-- numbers let out, then the rest, which is one order.
 abbrev pub with_slice : Output → (before : History) → (already : ℕ) → OpenPicture → Outcome
 with_slice output before already o =
     elim (first_fault o false) [
@@ -179,7 +180,8 @@ abbrev pub is_waiting : Phase → Bool
 is_waiting waiting = true
 is_waiting (running h o) = false
 
--- After the open picture has been closed: what the step says, unless that was a fault and the step says nothing then.
+-- After the open picture has been closed: what the step says, unless that was a fault and the step
+-- says nothing then.
 abbrev pub after_closing : Output → Sets → (unit : ℕ) → Step → Outcome → Outcome
 after_closing output sets unit what o =
     elim (is_waiting o.phase && not what.even_after_fault) [ true ↦ o | false ↦ followed_by o (after_next output sets unit o.phase what.next) ]
@@ -240,6 +242,7 @@ read_from s (u ∷ units) =
     let o = after_unit s u in
     o.read + read_from (state_after s u o) units
 
--- how many macroblocks of a stream of these bytes are read, as far as a u64 counts (this decoder's rule)
+-- how many macroblocks of a stream of these bytes are read, as far as a u64 counts (this decoder's
+-- rule)
 abbrev pub turns : Output → (max : ℕ) → List ℕ → (ended : Bool) → ℕ
 turns output max bytes ended = saturated (read_from (first_state output) (units max bytes ended))

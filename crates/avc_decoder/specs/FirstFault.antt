@@ -10,7 +10,8 @@ use Rattle.avc_slice.specs.declared.slice.Slice.{Slice}
 use Rattle.avc_picture.specs.Slices.{PictureStart, Progress, progress, is_full, planes_after_slices}
 use Rattle.avc_decoder_core.specs.History.{History, history_at_opening, history_after_closing, stored_frames}
 
--- The open picture: the history that it came to, its parameter sets, its last slice so far, and those before that, the newest first.
+-- The open picture: the history that it came to, its parameter sets, its last slice so far, and
+-- those before that, the newest first.
 pub record OpenPicture : Type 0 where
   pub before : History
   pub sps : Sps

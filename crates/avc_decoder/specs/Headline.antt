@@ -9,7 +9,8 @@ use Rattle.avc_decoder.specs.declared.calls.Reply.{Reply}
 use Rattle.avc_decoder.specs.declared.calls.Reply.TheVariants as replies
 use Rattle.avc_decoder.specs.SeenEvents.{Event}
 
--- Since the last reset: the bytes that were fed, whether they were said to be all, and the events that were taken, in order.
+-- Since the last reset: the bytes that were fed, whether they were said to be all, and the events
+-- that were taken, in order.
 pub record SinceReset : Type 0 where
   pub bytes : List ℕ
   pub ended : Bool
@@ -27,7 +28,8 @@ with_call s Take (replies.Taken (Ok (Some event))) = record s { taken = s.taken 
 with_call s Reset reply = no_call
 with_call s call reply = s
 
--- after these calls, each with its reply; calls without replies, and replies without calls, change nothing
+-- after these calls, each with its reply; calls without replies, and replies without calls, change
+-- nothing
 abbrev pub since_reset : SinceReset → List Call → List Reply → SinceReset
 since_reset s (call ∷ calls) (reply ∷ replies) = since_reset (with_call s call reply) calls replies
 since_reset s _ _ = s
@@ -36,8 +38,8 @@ since_reset s _ _ = s
 abbrev pub defined_events : Output → (max : ℕ) → SinceReset → List Event
 defined_events output max s = events output max s.bytes s.ended
 
--- However a decoder is called, the n-th event that was taken since the last reset is the n-th that is defined on the bytes
--- since then.
+-- However a decoder is called, the n-th event that was taken since the last reset is the n-th that
+-- is defined on the bytes since then.
 abbrev pub TakesThem : Type 0
 TakesThem =
     (output : Output) (max : ℕ) (calls : List Call) (answers : List Reply) (last : Machine) → Run max (new_machine output) calls answers last →

@@ -12,7 +12,8 @@ use Rattle.avc_picture.specs.Decoding.{Decoding, with_slice_more}
 use Rattle.avc_decoder_core.specs.History.{History, stored_frames}
 use Rattle.avc_decoder_core.specs.SequenceState.{SequenceState, AreStoredIn, current_history}
 
--- with which a picture is decoded, a slice of which has this header: an IDR picture needs none, as it has I slices alone (7.4.3)
+-- with which a picture is decoded, a slice of which has this header: an IDR picture needs none, as
+-- it has I slices alone (7.4.3)
 abbrev pub frames_for : Header → SequenceState → List (Frame 16)
 frames_for h s = elim (is_idr h) [ true ↦ [] | false ↦ s.frames ]
 
@@ -20,7 +21,8 @@ frames_for h s = elim (is_idr h) [ true ↦ [] | false ↦ s.frames ]
 abbrev pub IsISlice : Slice → Type 0
 IsISlice s = is_p s.header ≡ false
 
--- The picture, a slice of which has this header, is decoded with its frames, which are those of the history.
+-- The picture, a slice of which has this header, is decoded with its frames, which are those of the
+-- history.
 pub record HasItsFrames (s : SequenceState) (h : Header) (d : Decoding 16) : Type 0 where
   pub frames : d.frames ≡ frames_for h s
   pub intra : is_idr h ≡ true → All IsISlice d.slices

@@ -14,7 +14,8 @@ pub record AddsClosed (old new : MemoryState) : Type 0 where
   pub more : List (Option Planes)
   pub is : new ≡ with_all_closed more old
 
--- The open picture is over, and all that it was decoded in is left over; where none is open the memory stays.
+-- The open picture is over, and all that it was decoded in is left over; where none is open the
+-- memory stays.
 abbrev pub LeavesCurrent : Option CurrentPicture → (old new : MemoryState) → Type 0
 LeavesCurrent None old new = new ≡ old
 LeavesCurrent (Some c) old new = LeavesAll (width_in_mbs (c.decoder).sps) (height_in_mbs (c.decoder).sps) old new

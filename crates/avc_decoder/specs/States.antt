@@ -73,7 +73,8 @@ phase_of s (Running None) = running s.history None
 phase_of s (Running (Some c)) = running s.history (open_picture_from s.history (c.decoder).sps (c.decoder).pps
     (c.decoder).slices)
 
--- A picture is open in the sequence, and its slices so far have no fault; the last one has this header and this unit.
+-- A picture is open in the sequence, and its slices so far have no fault; the last one has this
+-- header and this unit.
 pub record IsOpenIn (s : SequenceState) (c : CurrentPicture) : Type 0 where
   pub last : Slice
   pub earlier : List Slice
@@ -105,7 +106,8 @@ pub record IsNamed (sets : Sets) (c : CurrentPicture) : Type 0 where
 
 -- ---- what a unit does
 
--- Between two units: the sequence has the phase's picture open, which is named by its last slice under the sets in force.
+-- Between two units: the sequence has the phase's picture open, which is named by its last slice
+-- under the sets in force.
 pub record Works (sets : Sets) (s : SequenceState) (phase : PhaseHere) : Type 0 where
   pub stands : IsPhase s phase
   pub named : IfSome (current_in phase) (IsNamed sets)
@@ -119,7 +121,8 @@ abbrev pub more_read : (before more : ℕ) → ℕ
 more_read before zero = before
 more_read before (suc more) = saturated (before + suc more)
 
--- What these stood for has come to this outcome. When pictures go out is as it was, and so are the parameter sets.
+-- What these stood for has come to this outcome. When pictures go out is as it was, and so are the
+-- parameter sets.
 pub record ComesTo (output : Output) (q : QueueState) (read : ℕ) (table : List SetUnit) (o : Outcome)
     (s' : SequenceState) (phase' : PhaseHere) (q' : QueueState) (read' : ℕ) (table' : List SetUnit)
     : Type 0 where
@@ -154,8 +157,8 @@ closed_in output waiting = no_change waiting
 closed_in output (running h None) = no_change (running h None)
 closed_in output (running h (Some o)) = closed_picture output o
 
--- The unit does this in the phase, and the table has what the unit puts into it; a slice leaves it as it is, and its header was read
--- under these sets.
+-- The unit does this in the phase, and the table has what the unit puts into it; a slice leaves it
+-- as it is, and its header was read under these sets.
 pub record HasStep (table : List SetUnit) (phase : PhaseHere) (u : Piece) (what : Step)
     (table' : List SetUnit) : Type 0 where
   pub full : Bool
@@ -165,8 +168,8 @@ pub record HasStep (table : List SetUnit) (phase : PhaseHere) (u : Piece) (what 
   pub under : IfSlice what.next (IsSliceUnder (sets_after table'))
   pub same : IfSlice what.next (λ _. table' ≡ table)
 
--- What comes next can be carried out: a picture begins where none is open, and a further slice is one of the open picture
--- (7.4.1.2.4).
+-- What comes next can be carried out: a picture begins where none is open, and a further slice is
+-- one of the open picture (7.4.1.2.4).
 abbrev pub FitsPhase : Sets → PhaseHere → Next → Type 0
 FitsPhase sets phase (Begins s) = IsSliceUnder sets s × (current_in phase ≡ None)
 FitsPhase sets phase (Continues s) = IsSliceUnder sets s × IfSome (current_in phase)
@@ -240,7 +243,8 @@ DecodesIn old slice new =
 
 -- ---- units
 
--- The units' state, the events so far, how many of them were taken, and how many macroblocks were read, as far as a u64 counts.
+-- The units' state, the events so far, how many of them were taken, and how many macroblocks were
+-- read, as far as a u64 counts.
 pub record StreamState : Type 0 where
   pub state : State
   pub events : List Event
@@ -324,7 +328,8 @@ pub record IsDecoded (output : Output) (max : ℕ) (s : SplitterState) (ended : 
   pub events : f.events ≡ events output max s.bytes ended
   pub read : f.read ≡ turns output max s.bytes ended
 
--- Whichever stream these parts had decoded, they have decoded it with these bytes; no event was taken.
+-- Whichever stream these parts had decoded, they have decoded it with these bytes; no event was
+-- taken.
 pub record HaveDecoded (max : ℕ) {P : Type 0} (old : Parts max P) (bytes : List ℕ) (ended : Bool) (new : Parts max P) : Type 0 where
   pub works : IsStream new.stream
   pub passed : ArePassedOn (new.stream).queue new.outgoing
@@ -387,7 +392,8 @@ pub record AreParts (max : ℕ) (m : Machine) {P : Type 0} (p : Parts max P) : T
   pub bytes : (p.splitter).bytes ≡ m.bytes
   pub taken : (p.outgoing).taken ≡ m.taken
 
--- What a decoder keeps of the machine: the macroblocks that are counted, and as long as memory was not refused, all of it.
+-- What a decoder keeps of the machine: the macroblocks that are counted, and as long as memory was
+-- not refused, all of it.
 pub record IsDecoderState (max : ℕ) (m : Machine) {P : Type 0} (running : PartsOrRefusal max P) (count : ℕ) : Type 0 where
   pub count_is : IsCount max m count
   pub parts : IfOk running (AreParts max m)

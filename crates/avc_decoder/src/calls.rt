@@ -43,8 +43,8 @@ pub fn make_call<const MAX: usize>(decoder: &mut Decoder<MAX>, call: &Call) -> R
     }
 }
 
-/// Makes the calls on a new decoder, one after another: the answers are those of the machine. An `Err` says that the list of
-/// answers found no memory.
+/// Makes the calls on a new decoder, one after another: the answers are those of the machine. An
+/// `Err` says that the list of answers found no memory.
 pub fn run_calls<const MAX: usize>(
     alloc: Global,
     output: Output,

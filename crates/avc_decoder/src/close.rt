@@ -3,7 +3,8 @@
 ghost use Rattle.std.specs.Prelude.{◌≡◌, None, OnOk, Some};
 ghost use Rattle.avc_decoder.specs.Events.{failed_at, pictures};
 ghost use Rattle.avc_decoder.specs.SpareMemory.{LeavesCurrent};
-ghost use Rattle.avc_decoder.specs.States.{closed_in, current_in, phase_of, HasOutcome, IsOpenIn, IsPhase, WaitsAfter};
+ghost use Rattle.avc_decoder.specs.States.{closed_in, current_in, phase_of, HasOutcome, IsOpenIn};
+ghost use Rattle.avc_decoder.specs.States.{IsPhase, WaitsAfter};
 ghost use Rattle.avc_decoder.specs.declared.phase.Phase.TheVariants.{Running, Waiting};
 ghost use Rattle.avc_decoder_core.specs.Pictures.{held_pictures};
 ghost use Rattle.avc_decoder_core.specs.SequenceState.{current_history};
@@ -14,7 +15,8 @@ use avc_picture::PictureMemory;
 use avc_plane::{PADDING, SharedPlanes};
 use avc_types::{Fault, OutOfMemory, PictureError};
 
-/// Closes the open picture, if there is one. At a fault all held pictures go out, and then the refusal.
+/// Closes the open picture, if there is one. At a fault all held pictures go out, and then the
+/// refusal.
 pub fn close(stream: &mut Stream) -> Result<(), OutOfMemory>
     requires { IsPhase stream.old.sequence stream.old.phase }
     ensures { OnOk result (HasOutcome stream.old
@@ -61,8 +63,8 @@ fn close_picture(stream: &mut Stream, current: CurrentPicture) -> Result<(), Out
     }
 }
 
-/// Drops the open picture, and keeps its memory: decoding waits. What is moved takes as much room as a picture: apart from the slices
-/// that are decoded, these pay nothing for it.
+/// Drops the open picture, and keeps its memory: decoding waits. What is moved takes as much room
+/// as a picture: apart from the slices that are decoded, these pay nothing for it.
 #[cold]
 #[inline(never)]
 fn forget(phase: &mut Phase, memory: &mut PictureMemory<PADDING>)
@@ -75,8 +77,8 @@ fn forget(phase: &mut Phase, memory: &mut PictureMemory<PADDING>)
     *phase = Phase::Waiting;
 }
 
-/// A fault of the open picture, or of a unit that is a faulty picture of its own: all held pictures go out, and then the refusal. The
-/// history is forgotten, and decoding waits.
+/// A fault of the open picture, or of a unit that is a faulty picture of its own: all held pictures
+/// go out, and then the refusal. The history is forgotten, and decoding waits.
 pub fn fail(stream: &mut Stream, unit: u64, fault: Fault) -> Result<(), OutOfMemory>
     ensures { OnOk result (WaitsAfter stream.old
         (failed_at stream.old.sequence.output (current_history stream.old.sequence) unit fault 0).events stream.new) }
@@ -86,7 +88,8 @@ pub fn fail(stream: &mut Stream, unit: u64, fault: Fault) -> Result<(), OutOfMem
     Ok(())
 }
 
-/// All held pictures go out. The history is forgotten, with the open picture, if there is one, and decoding waits.
+/// All held pictures go out. The history is forgotten, with the open picture, if there is one, and
+/// decoding waits.
 pub fn empty(stream: &mut Stream) -> Result<(), OutOfMemory>
     ensures { OnOk result (WaitsAfter stream.old
         (pictures (held_pictures stream.old.sequence.output (current_history stream.old.sequence))) stream.new) }

@@ -14,9 +14,9 @@ use avc_types::{History, OutOfMemory, Picture};
 use std::alloc::Global;
 use std::marker::Model;
 
-/// A decoder of one byte stream (Annex B), in whatever pieces its bytes come. `MAX` is the most bytes of a unit. `P` is the kind of
-/// picture that it hands out: `Picture` in memory of its own, or `SharedPicture`, which is shared with the decoder as long as it
-/// predicts from it.
+/// A decoder of one byte stream (Annex B), in whatever pieces its bytes come. `MAX` is the most
+/// bytes of a unit. `P` is the kind of picture that it hands out: `Picture` in memory of its own,
+/// or `SharedPicture`, which is shared with the decoder as long as it predicts from it.
 #[derive(Drop)]
 pub struct Decoder<const MAX: usize, P: OutputPicture = Picture> {
     alloc: Global,
@@ -45,7 +45,8 @@ impl<const MAX: usize, P: OutputPicture> Model for Decoder<MAX, P> {
 }
 
 impl<const MAX: usize> Decoder<MAX> {
-    /// At the start of a stream. `output` says when pictures go out, also after a reset. A picture is handed out in memory of its own.
+    /// At the start of a stream. `output` says when pictures go out, also after a reset. A picture
+    /// is handed out in memory of its own.
     pub fn new(alloc: Global, output: Output) -> Self
         ensures { result ≡ new_machine output }
     {
@@ -61,8 +62,8 @@ impl<const MAX: usize> Decoder<MAX> {
 }
 
 impl<const MAX: usize> Decoder<MAX, SharedPicture> {
-    /// At the start of a stream. `output` says when pictures go out, also after a reset. A picture that is handed out is shared with
-    /// the decoder, and not copied.
+    /// At the start of a stream. `output` says when pictures go out, also after a reset. A picture
+    /// that is handed out is shared with the decoder, and not copied.
     pub fn sharing(alloc: Global, output: Output) -> Self
         ensures { result ≡ new_machine output }
     {
@@ -110,8 +111,9 @@ impl<const MAX: usize, P: OutputPicture> Decoder<MAX, P> {
         Ok(())
     }
 
-    /// Takes the next bytes of the stream up to where a unit has ended, or all where none ends, and answers how many: so at most the
-    /// pictures that one unit lets out wait, where all events are taken after each call. For no bytes no memory is wanted.
+    /// Takes the next bytes of the stream up to where a unit has ended, or all where none ends, and
+    /// answers how many: so at most the pictures that one unit lets out wait, where all events are
+    /// taken after each call. For no bytes no memory is wanted.
     pub fn feed_unit(&mut self, bytes: &[u8]) -> Result<usize, DecodeError>
         ensures { IsFeedUnitAnswer MAX self.old bytes.now result self.new }
     {
@@ -162,7 +164,8 @@ impl<const MAX: usize, P: OutputPicture> Decoder<MAX, P> {
         Ok(())
     }
 
-    /// Forgets everything, parameter sets too: a new stream begins. When pictures go out stays as it was.
+    /// Forgets everything, parameter sets too: a new stream begins. When pictures go out stays as
+    /// it was.
     pub fn reset(&mut self)
         ensures { self.new ≡ new_machine self.old.output }
     {
@@ -173,8 +176,8 @@ impl<const MAX: usize, P: OutputPicture> Decoder<MAX, P> {
         self.taken = History::new();
     }
 
-    /// How many macroblocks of slices have been read since the last reset, as far as a u64 counts. After want of memory they are
-    /// at most those of the bytes given, the refused piece included.
+    /// How many macroblocks of slices have been read since the last reset, as far as a u64 counts.
+    /// After want of memory they are at most those of the bytes given, the refused piece included.
     pub fn turns(&self) -> u64
         ensures { IsCount MAX self.now result }
     {

@@ -8,6 +8,7 @@ pub enum Event<P = Picture> {
     /// A decoded picture, in output order.
     Picture(P),
 
-    /// A refusal: the unit in which the fault stands, by its place among the stream's units from 0, and the fault.
+    /// A refusal: the unit in which the fault stands, by its place among the stream's units from 0,
+    /// and the fault.
     Refused { unit: u64, fault: Fault },
 }

@@ -12,8 +12,8 @@ use std::alloc::Global;
 use std::collections::VecDeque;
 use std::marker::Model;
 
-/// The events that the caller has not taken, with the kind of picture that is handed out, so that taking one wants no memory. A
-/// contract sees all events so far, and how many of them were taken.
+/// The events that the caller has not taken, with the kind of picture that is handed out, so that
+/// taking one wants no memory. A contract sees all events so far, and how many of them were taken.
 #[derive(Drop)]
 pub struct Outgoing<P: OutputPicture> {
     waiting: VecDeque<Event<P>>,

@@ -3,7 +3,8 @@
 ghost use Rattle.std.specs.Prelude.{◌≡◌, false, true, is_err, IfOk, OnErr, OnOk};
 ghost use Rattle.avc_decoder.specs.SeenEvents.{seen_if_any};
 ghost use Rattle.avc_decoder.specs.States.{after_take_in, next_event_in, stream_state};
-ghost use Rattle.avc_decoder.specs.States.{Ends, EndsIn, Feeds, FeedsIn, FeedsUnit, FeedsUnitIn, HandlesAll, IsNew, IsStream, IsWorking};
+ghost use Rattle.avc_decoder.specs.States.{Ends, EndsIn, Feeds, FeedsIn, FeedsUnit, FeedsUnitIn};
+ghost use Rattle.avc_decoder.specs.States.{HandlesAll, IsNew, IsStream, IsWorking};
 
 use crate::event::Event;
 use crate::outgoing::Outgoing;
@@ -14,15 +15,16 @@ use avc_plane::OutputPicture;
 use avc_types::OutOfMemory;
 use std::alloc::Global;
 
-/// What a decoder works with: the units of its bytes, their events, and those of them that the caller has not taken. After want of
-/// memory it may be anything.
+/// What a decoder works with: the units of its bytes, their events, and those of them that the
+/// caller has not taken. After want of memory it may be anything.
 pub struct Parts<const MAX: usize, P: OutputPicture> {
     pub splitter: Splitter<MAX>,
     pub stream: Stream,
     pub outgoing: Outgoing<P>,
 }
 
-// Written out, so that a proof takes the parts apart here alone, and not wherever a decoder is let go.
+// Written out, so that a proof takes the parts apart here alone, and not wherever a decoder is let
+// go.
 impl<const MAX: usize, P: OutputPicture> Drop for Parts<MAX, P> {
     fn drop(self) {
         let Parts {
@@ -94,7 +96,8 @@ impl<const MAX: usize, P: OutputPicture> Parts<MAX, P> {
     }
 }
 
-/// Takes the next bytes of the stream, where it goes on. Answers how many macroblocks of slices have been read.
+/// Takes the next bytes of the stream, where it goes on. Answers how many macroblocks of slices
+/// have been read.
 pub fn feed<const MAX: usize, P: OutputPicture>(
     running: &mut Result<Parts<MAX, P>, OutOfMemory>,
     piece: &[u8],
@@ -108,7 +111,8 @@ pub fn feed<const MAX: usize, P: OutputPicture>(
     }
 }
 
-/// Takes the next bytes of the stream up to where a unit has ended, or all where none ends, where the stream goes on.
+/// Takes the next bytes of the stream up to where a unit has ended, or all where none ends, where
+/// the stream goes on.
 pub fn feed_unit<const MAX: usize, P: OutputPicture>(
     running: &mut Result<Parts<MAX, P>, OutOfMemory>,
     bytes: &[u8],
@@ -148,7 +152,8 @@ pub fn check<const MAX: usize, P: OutputPicture>(
     }
 }
 
-/// Nothing is left but what was refused. What is dropped takes much room, which answers without a refusal don't clear then.
+/// Nothing is left but what was refused. What is dropped takes much room, which answers without a
+/// refusal don't clear then.
 #[cold]
 #[inline(never)]
 fn stop<const MAX: usize, P: OutputPicture>(

@@ -2,7 +2,8 @@
 
 ghost use Rattle.std.specs.Prelude.{◌≡◌, is_some, not, IfSome};
 ghost use Rattle.std.specs.Option.{option_copied};
-ghost use Rattle.avc_decoder.specs.States.{current_in, is_waiting_in, last_header_in, without_picture};
+ghost use Rattle.avc_decoder.specs.States.{current_in, is_waiting_in, last_header_in};
+ghost use Rattle.avc_decoder.specs.States.{without_picture};
 ghost use Rattle.avc_picture.specs.Decoding.{HasNoFault, IsFull};
 
 use avc_picture::PictureDecoder;

@@ -12,7 +12,8 @@ use std::alloc::Global;
 use std::collections::VecDeque;
 use std::marker::Model;
 
-/// The events that were not passed on. A contract sees all events so far, and how many of them were.
+/// The events that were not passed on. A contract sees all events so far, and how many of them
+/// were.
 #[derive(Drop)]
 pub struct Queue {
     waiting: VecDeque<Event<SharedPicture>>,

@@ -1,11 +1,13 @@
 //! The slices of the open picture, and the first of a new one.
 
 ghost use Rattle.std.specs.Prelude.{◌≡◌, false, None, IfSome, OnOk, Some};
-ghost use Rattle.avc_decoder.specs.Events.{after_first_slice, after_next_slice, base_in, sets_named};
+ghost use Rattle.avc_decoder.specs.Events.{after_first_slice, after_next_slice, base_in};
+ghost use Rattle.avc_decoder.specs.Events.{sets_named};
 ghost use Rattle.avc_decoder.specs.SpareMemory.{AddsClosed};
 ghost use Rattle.avc_decoder.specs.PictureFrames.{frames_for, CanHave};
 ghost use Rattle.avc_decoder.specs.States.{current_in, more_read, phase_of, picture_answer};
-ghost use Rattle.avc_decoder.specs.States.{DecodesIn, HasAnswered, HasOutcome, IsAnswerIn, IsPhase, IsStream, WantsNone};
+ghost use Rattle.avc_decoder.specs.States.{DecodesIn, HasAnswered, HasOutcome, IsAnswerIn, IsPhase};
+ghost use Rattle.avc_decoder.specs.States.{IsStream, WantsNone};
 ghost use Rattle.avc_decoder_core.specs.SequenceState.{current_history, AreFramesIn, AreStoredIn};
 ghost use Rattle.avc_params.specs.Tables.{sets_after};
 ghost use Rattle.avc_params.specs.Within.{IsPps, IsSps};
@@ -34,18 +36,20 @@ pub struct ActiveSets<'a> {
     pub pps: &'a Pps,
 }
 
-/// So many frames can have left the buffer since a picture began: those that were stored, and the picture itself.
+/// So many frames can have left the buffer since a picture began: those that were stored, and the
+/// picture itself.
 const MOST_EMPTIED: usize = 17;
 
-/// What a slice is answered by its picture, and how many of its macroblocks were read, a faulty one included.
+/// What a slice is answered by its picture, and how many of its macroblocks were read, a faulty one
+/// included.
 #[derive(Clone, Copy)]
 pub struct SliceAnswer {
     pub answer: Result<(), Fault>,
     pub read: u32,
 }
 
-/// Opens a picture under the parameter sets that its first slice names, and decodes that slice. It is made and decoded in its place,
-/// since it is large.
+/// Opens a picture under the parameter sets that its first slice names, and decodes that slice. It
+/// is made and decoded in its place, since it is large.
 pub fn first_slice(stream: &mut Stream, slice: &Slice) -> Result<(), OutOfMemory>
     requires phase { IsPhase stream.old.sequence stream.old.phase }
     requires rest { current_in stream.old.phase ≡ None }
@@ -76,7 +80,8 @@ pub fn first_slice(stream: &mut Stream, slice: &Slice) -> Result<(), OutOfMemory
                 last_unit: slice.unit,
             }));
             decode_slice(stream, slice)?;
-            // at a fault what the missing numbers let out and what was held then go out in one order
+            // at a fault what the missing numbers let out and what was held then go out in one
+            // order
             missing_numbers_keep_the_order();
             Ok(())
         }
@@ -130,8 +135,8 @@ pub fn next_slice(stream: &mut Stream, slice: &Slice) -> Result<(), OutOfMemory>
     Ok(())
 }
 
-/// The frames with which a picture is decoded, a slice of which has this header. An IDR picture has I slices alone (7.4.3), and
-/// needs none; those that are stored may have another size.
+/// The frames with which a picture is decoded, a slice of which has this header. An IDR picture has
+/// I slices alone (7.4.3), and needs none; those that are stored may have another size.
 fn frames_for<'a>(sequence: &'a Sequence, header: &Header) -> &'a [Frame<PADDING>]
     ensures value { result.now ≡ frames_for header.now sequence.now }
     ensures stored { is_idr header.now ≡ false → sequence.now.failed ≡ false → AreStoredIn (current_history sequence.now) sequence.now.frames }
@@ -143,8 +148,8 @@ fn frames_for<'a>(sequence: &'a Sequence, header: &Header) -> &'a [Frame<PADDING
     sequence.frames()
 }
 
-/// Decodes one slice more of the open picture, if there is one. At a fault the picture is gone, all held pictures go out, and then
-/// the refusal.
+/// Decodes one slice more of the open picture, if there is one. At a fault the picture is gone, all
+/// held pictures go out, and then the refusal.
 fn decode_slice(stream: &mut Stream, slice: &Slice) -> Result<(), OutOfMemory>
     requires can { IfSome (current_in stream.old.phase) (λ c. CanHave stream.old.sequence c.decoder slice.now) }
     requires well { IfSome (current_in stream.old.phase) (λ c. HasNoFault c.decoder) }

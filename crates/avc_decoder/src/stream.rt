@@ -2,7 +2,8 @@
 
 ghost use Rattle.std.specs.Prelude.{◌≡◌, IfOk, IfSome, OnOk};
 ghost use Rattle.avc_decoder.specs.Events.{after_next};
-ghost use Rattle.avc_decoder.specs.States.{after_stream_end, after_unit_in_stream, current_in, new_stream, phase_of, stream_state};
+ghost use Rattle.avc_decoder.specs.States.{after_stream_end, after_unit_in_stream, current_in};
+ghost use Rattle.avc_decoder.specs.States.{new_stream, phase_of, stream_state};
 ghost use Rattle.avc_decoder.specs.States.{FitsPhase, HasOutcome, HasStep, IsStream};
 ghost use Rattle.avc_params.specs.Tables.{sets_after};
 ghost use Rattle.avc_picture.specs.Decoding.{HasNoFault};
@@ -30,8 +31,9 @@ pub struct Stream {
     /// The closed pictures, as far as they are needed.
     pub sequence: Sequence,
     pub phase: Phase,
-    /// What pictures that are over have left, for the next one, which takes planes only where none are left over: so the stored frames, the
-    /// open picture and what is left over are together never more than the frames that were stored and open at once.
+    /// What pictures that are over have left, for the next one, which takes planes only where none
+    /// are left over: so the stored frames, the open picture and what is left over are together
+    /// never more than the frames that were stored and open at once.
     pub memory: PictureMemory<PADDING>,
     /// The events that were not taken.
     pub queue: Queue,
@@ -95,7 +97,8 @@ impl Stream {
     }
 }
 
-/// What a unit does in this phase, and what it puts into the table. Where the next picture begins is decided here (7.4.1.2.4).
+/// What a unit does in this phase, and what it puts into the table. Where the next picture begins
+/// is decided here (7.4.1.2.4).
 fn step_in(
     alloc: Global,
     table: &mut ParamTable,

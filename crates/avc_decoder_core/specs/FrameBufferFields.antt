@@ -61,11 +61,13 @@ Each P (x ∷ xs) = P x × Each P xs
 abbrev pub indices_in : Buffer → List ℕ
 indices_in b = map (λ s. s.decoding_index) b.frames
 
--- Where the entry with this decoding index is a picture it has the size that the parameter set gives.
+-- Where the entry with this decoding index is a picture it has the size that the parameter set
+-- gives.
 abbrev pub IsSizedAt : History → Sps → (index : ℕ) → Type 0
 IsSizedAt history sps index = IfSome (planes_in (entry_at history index)) (AreSized (width_in_mbs sps) (height_in_mbs sps))
 
--- The buffer's frames that have a mark are the reference frames; there are no more than there may be, and all have one size.
+-- The buffer's frames that have a mark are the reference frames; there are no more than there may
+-- be, and all have one size.
 pub record IsStateAfter (history : History) (dpb : Contents) (idx : Option ℕ) (previous : ℕ) : Type 0 where
   pub marks : Marks
   pub marked : marks_of history ≡ Ok marks

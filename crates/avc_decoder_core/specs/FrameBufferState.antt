@@ -14,8 +14,8 @@ use Rattle.avc_marking.specs.Marks.{Marks}
 use Rattle.avc_decoder_core.specs.History.{Entry, History, is_same_sps, marks_of, sequence_sps}
 use Rattle.avc_decoder_core.specs.Pictures.{output_pictures, held_pictures, prior_output}
 
--- The history of decoded pictures and missing numbers, the stored frames with their marks in decoding order, when pictures go out,
--- and whether memory was refused.
+-- The history of decoded pictures and missing numbers, the stored frames with their marks in
+-- decoding order, when pictures go out, and whether memory was refused.
 pub record FrameBufferState : Type 0 where
   pub history : History
   pub frames : List (Frame 16)
@@ -26,8 +26,8 @@ pub record FrameBufferState : Type 0 where
 abbrev pub empty_frame_buffer : Output → FrameBufferState
 empty_frame_buffer output = record { history = []; frames = []; output = output; failed = false }
 
--- The picture is an IDR picture with the marking of one, or it has the parameter set of its sequence (7.4.1.2.1). It has a marking
--- where it is a reference picture (7.3.3).
+-- The picture is an IDR picture with the marking of one, or it has the parameter set of its
+-- sequence (7.4.1.2.1). It has a marking where it is a reference picture (7.3.3).
 pub record CanFollow (history : History) (sps : Sps) (h : Header) : Type 0 where
   pub idr : is_idr h ≡ true → has_idr_marking h ≡ true
   pub same : is_idr h ≡ false → is_same_sps (sequence_sps history) sps ≡ true
@@ -44,8 +44,8 @@ pub record Stores (old : FrameBufferState) (e : Entry) (out : List Picture) (new
 abbrev pub at_sequence_of : Header → FrameBufferState → FrameBufferState
 at_sequence_of h b = elim (is_idr h) [ true ↦ empty_frame_buffer b.output | false ↦ b ]
 
--- An IDR picture begins a sequence: what is needed for output goes out, unless it is dropped (C.4.4), and the history is forgotten. At another
--- picture nothing changes.
+-- An IDR picture begins a sequence: what is needed for output goes out, unless it is dropped
+-- (C.4.4), and the history is forgotten. At another picture nothing changes.
 pub record BeginsSequence (old : FrameBufferState) (h : Header) (out : List Picture) (new : FrameBufferState) : Type 0 where
   pub state : new ≡ at_sequence_of h old
   pub pictures : out ≡ prior_output old.output h old.history

@@ -45,16 +45,16 @@ abbrev pub AreBefore : (index : ℕ) → List Stored → Type 0
 AreBefore index [] = Unit {0}
 AreBefore index (s ∷ frames) = (s.decoding_index < index) × AreBefore index frames
 
--- What stays through a gap: the long-term frames and MaxLongTermFrameIdx, the buffer's frames that are needed for output or long-term, and what has
--- gone out.
+-- What stays through a gap: the long-term frames and MaxLongTermFrameIdx, the buffer's frames that
+-- are needed for output or long-term, and what has gone out.
 pub record Staying : Type 0 where
   pub longs : List Reference
   pub max_long_term_frame_idx : Option ℕ
   pub frames : List Stored
   pub out : List ℕ
 
--- Before the missing number `number` the sliding window is full, and its short-term frames, which are the last of the buffer, are not
--- held, and have rising numbers from `low` on.
+-- Before the missing number `number` the sliding window is full, and its short-term frames, which
+-- are the last of the buffer, are not held, and have rising numbers from `low` on.
 pub record IsSettled (output : Output) (sps : Sps) (h : History) (low number index : ℕ) (stays : Staying) (shorts : List Reference)
     (lasts : List Stored) : Type 0 where
   pub marked : marks_of h ≡ Ok (record { references = stays.longs ++ shorts; max_long_term_frame_idx = stays.max_long_term_frame_idx })
@@ -66,8 +66,8 @@ pub record IsSettled (output : Output) (sps : Sps) (h : History) (low number ind
   pub before : AreBefore index stays.frames
   pub room : length stays.frames + length lasts ≤ dpb_size sps
 
--- These numbers can be missing after the history and leave only the frames of the last of them: its window is settled, and they come
--- to less than MaxFrameNum with the numbers of its frames.
+-- These numbers can be missing after the history and leave only the frames of the last of them: its
+-- window is settled, and they come to less than MaxFrameNum with the numbers of its frames.
 pub record IsLongGap (output : Output) (sps : Sps) (h : History) (numbers : List ℕ) : Type 0 where
   pub low : ℕ
   pub number : ℕ
@@ -95,7 +95,8 @@ is_leaving needed_for_output None = false
 is_leaving needed_for_output (Some Short) = not needed_for_output
 is_leaving needed_for_output (Some (Long index)) = false
 
--- The frame at a place of the buffer stays if that is before `first`; from there on it leaves, and numbers go on from `low`.
+-- The frame at a place of the buffer stays if that is before `first`; from there on it leaves, and
+-- numbers go on from `low`.
 abbrev pub has_its_place : (first low max place : ℕ) → (needed_for_output : Bool) → Frame 16 → Bool
 has_its_place first low max place needed_for_output f =
     if nat_lt place first then is_staying needed_for_output f.mark else is_leaving needed_for_output f.mark && f.frame_num == (low + (place - first)) % max

@@ -19,13 +19,14 @@ use Rattle.avc_marking.specs.Marks.{MarkingEntry, Marks, marks, prev_ref_frame_n
 use Rattle.avc_dpb.specs.declared.output.Output.{Output}
 use Rattle.avc_dpb.specs.Bumping.{PriorPictures, remain, are_output, Arrival, Buffer, buffer_after, needed_in_output_order}
 
--- A closed picture with its parameter set, its first slice's header and its planes; or a frame number
--- that is missing (8.2.5.2).
+-- A closed picture with its parameter set, its first slice's header and its planes; or a frame
+-- number that is missing (8.2.5.2).
 pub data Entry : Type 0 where
   decoded_picture : Sps → Header → Planes → Entry
   missing_frame : Sps → (frame_num : ℕ) → Entry
 
--- all entries of a coded video sequence so far, the newest first: the oldest is its IDR picture (7.4.1.2.2)
+-- all entries of a coded video sequence so far, the newest first: the oldest is its IDR picture
+-- (7.4.1.2.2)
 abbrev pub History : Type 0
 History = List Entry
 
@@ -53,7 +54,8 @@ picture_entry sps h = record {
   marking = h.marking;
 }
 
--- what marking asks of a missing frame number: a non-existing frame, by the sliding window (8.2.5.2)
+-- what marking asks of a missing frame number: a non-existing frame, by the sliding window
+-- (8.2.5.2)
 abbrev missing_frame_entry : Sps → (frame_num : ℕ) → MarkingEntry
 missing_frame_entry sps frame_num = record {
   current = current_in sps frame_num;
@@ -80,7 +82,8 @@ abbrev pub or_no_references : Result Marks Fault → List Reference
 or_no_references (Ok m) = m.references
 or_no_references (Err f) = []
 
--- The reference frames after all entries, in decoding order; none where an entry could not be marked (8.2.5).
+-- The reference frames after all entries, in decoding order; none where an entry could not be
+-- marked (8.2.5).
 abbrev pub references_of : History → List Reference
 references_of h = or_no_references (marks_of h)
 
@@ -97,8 +100,8 @@ order_or_0 (Err f) = pos 0
 abbrev pub reorder_limit : Sps → Option ℕ
 reorder_limit sps = option_map (λ r. r.max_num_reorder_frames) (restriction_of sps)
 
--- What output asks of an entry: PicOrderCnt, and the reference frames once it is marked (C.4.2, C.4.4, C.4.5). A
--- missing frame number sets no limit, since its frame is never held.
+-- What output asks of an entry: PicOrderCnt, and the reference frames once it is marked (C.4.2,
+-- C.4.4, C.4.5). A missing frame number sets no limit, since its frame is never held.
 abbrev pub arrival : Entry → (older : History) → Arrival
 arrival (decoded_picture sps h planes) older = record {
   pic_order_cnt = order_or_0 (order_counts sps h (pasts older));
@@ -132,7 +135,8 @@ buffer_of output h = buffer_after output (arrivals h)
 abbrev pub new_output : Output → (old new : History) → List ℕ
 new_output output old new = drop (length (buffer_of output old).out) (buffer_of output new).out
 
--- the decoding indices of the pictures that are needed for output, in the order in which they go out (C.4.5.3)
+-- the decoding indices of the pictures that are needed for output, in the order in which they go
+-- out (C.4.5.3)
 abbrev pub all_held : Output → History → List ℕ
 all_held output h = map (λ s. s.decoding_index) (needed_in_output_order (buffer_of output h).frames)
 
@@ -158,7 +162,8 @@ stored_frames h = map (stored h) (references_of h)
 
 -- ---- coded video sequences (7.4.1.2.2)
 
--- the entries before a picture in its coded video sequence: none before an IDR picture, which begins one (7.4.1.2.2)
+-- the entries before a picture in its coded video sequence: none before an IDR picture, which
+-- begins one (7.4.1.2.2)
 abbrev pub earlier_in_sequence : Header → (before : History) → History
 earlier_in_sequence h before = elim (is_idr h) [ true ↦ [] | false ↦ before ]
 

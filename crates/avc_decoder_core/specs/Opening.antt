@@ -16,8 +16,8 @@ use Rattle.avc_decoder_core.specs.declared.opening.Opening.{Opening}
 use Rattle.avc_decoder_core.specs.FrameBufferState.{FrameBufferState}
 use Rattle.avc_decoder_core.specs.Pictures.{output_pictures}
 
--- The frame numbers that are missing before a picture of this header that is no IDR picture (7.4.3), or the first of
--- ParameterSetChanged, FrameNumGap and FrameNumRepeated.
+-- The frame numbers that are missing before a picture of this header that is no IDR picture
+-- (7.4.3), or the first of ParameterSetChanged, FrameNumGap and FrameNumRepeated.
 abbrev pub missing_before : Sps → Header → History → Result (List ℕ) Fault
 missing_before sps h history =
     elim (is_same_sps (sequence_sps history) sps) [
@@ -30,7 +30,8 @@ abbrev pub with_all_missing : Sps → List ℕ → History → History
 with_all_missing sps [] history = history
 with_all_missing sps (n ∷ numbers) history = with_all_missing sps numbers (missing_frame sps n ∷ history)
 
--- what opening finds on this history, with these missing numbers: PicOrderCnt, and what order counts keep once the picture has come
+-- what opening finds on this history, with these missing numbers: PicOrderCnt, and what order
+-- counts keep once the picture has come
 abbrev pub opening_on : Sps → Header → (missing : List ℕ) → History → Opening
 opening_on sps h missing history = record {
   missing = missing;
@@ -38,8 +39,8 @@ opening_on sps h missing history = record {
   poc = order_count_state (picture sps h ∷ pasts history);
 }
 
--- What opening a picture finds: the missing numbers, the history with them, and the picture's order count on it. An IDR picture is
--- counted alone.
+-- What opening a picture finds: the missing numbers, the history with them, and the picture's order
+-- count on it. An IDR picture is counted alone.
 pub record IsOpening (sps : Sps) (h : Header) (history : History) (o : Opening) : Type 0 where
   pub full : History
   pub opens : history_at_opening sps h history ≡ Ok full

@@ -53,12 +53,13 @@ abbrev pub no_output_of_prior_pics : Option Marking → Bool
 no_output_of_prior_pics (Some (Idr no_output long_term)) = no_output
 no_output_of_prior_pics _ = false
 
--- what goes out of the sequence before where a picture with this header is closed: before an IDR picture all that is needed for output, or
--- nothing by no_output_of_prior_pics_flag (C.4.4)
+-- what goes out of the sequence before where a picture with this header is closed: before an IDR
+-- picture all that is needed for output, or nothing by no_output_of_prior_pics_flag (C.4.4)
 abbrev pub prior_output : Output → Header → (before : History) → List Picture
 prior_output output h before =
     elim (is_idr h) [ true ↦ (if no_output_of_prior_pics h.marking then [] else held_pictures output before) | false ↦ [] ]
 
--- what goes out where a picture with this header is closed on the history `before`, which then is `after` (C.4.4, C.4.5)
+-- what goes out where a picture with this header is closed on the history `before`, which then is
+-- `after` (C.4.4, C.4.5)
 abbrev pub output_at_closing : Output → Header → (before after : History) → List Picture
 output_at_closing output h before after = prior_output output h before ++ output_pictures output (earlier_in_sequence h before) after

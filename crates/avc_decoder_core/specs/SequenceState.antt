@@ -20,8 +20,9 @@ pub record OpenPictureStart : Type 0 where
   pub sps : Sps
   pub header : Header
 
--- The history of the coded video sequence's closed pictures and missing numbers, the picture that was opened on it, if there
--- is one, the stored frames with their marks in decoding order, when pictures go out, and whether memory was refused.
+-- The history of the coded video sequence's closed pictures and missing numbers, the picture that
+-- was opened on it, if there is one, the stored frames with their marks in decoding order, when
+-- pictures go out, and whether memory was refused.
 pub record SequenceState : Type 0 where
   pub history : History
   pub open_picture : Option OpenPictureStart
@@ -80,7 +81,8 @@ pub record IsCleared (old : SequenceState) (out : List Picture) (new : SequenceS
 abbrev pub HoldsPictures : SequenceState → Type 0
 HoldsPictures s = held_pictures s.output (current_history s) ≢ []
 
--- The frames of the buffer are those of some entries of the history, and those that are used for reference are the history's.
+-- The frames of the buffer are those of some entries of the history, and those that are used for
+-- reference are the history's.
 pub record AreStoredIn {PAD : ℕ} (history : History) (frames : List (Frame PAD)) : Type 0 where
   pub indices : List ℕ
   pub stand : StandAt indices (map marked_frame frames)

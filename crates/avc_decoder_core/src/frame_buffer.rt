@@ -1,14 +1,19 @@
 //! The decoded picture buffer with the marks of its frames (8.2.5, C.4).
 
-ghost use Rattle.std.specs.Prelude.{◌≡◌, ◌≢◌, [], ◌∷◌, ◌++◌, ◌≤◌, false, true, if◌then◌else◌, is_some, length, map, Some};
+ghost use Rattle.std.specs.Prelude.{◌≡◌, ◌≢◌, [], ◌∷◌, ◌++◌, ◌≤◌, false, true, if◌then◌else◌};
+ghost use Rattle.std.specs.Prelude.{is_some, length, map, Some};
 ghost use Rattle.std.specs.Prelude.{IfErr, IfOk, OnErr, OnOk};
 ghost use Rattle.std.specs.Result.{is_ok};
 ghost use Rattle.avc_types.specs.References.{result_map};
-ghost use Rattle.avc_decoder_core.specs.FrameBufferFields.{entry_of, frame_num_of, history_of, with_all_marks, OutputsPrior};
-ghost use Rattle.avc_decoder_core.specs.FrameBufferState.{empty_frame_buffer, BeginsSequence, CanFollow, IsEmptied, Refuses, Stores};
+ghost use Rattle.avc_decoder_core.specs.FrameBufferFields.{entry_of, frame_num_of, history_of};
+ghost use Rattle.avc_decoder_core.specs.FrameBufferFields.{with_all_marks, OutputsPrior};
+ghost use Rattle.avc_decoder_core.specs.FrameBufferState.{empty_frame_buffer, BeginsSequence};
+ghost use Rattle.avc_decoder_core.specs.FrameBufferState.{CanFollow, IsEmptied, Refuses, Stores};
 ghost use Rattle.avc_decoder_core.specs.Frames.{coded_frame, frame_of};
-ghost use Rattle.avc_decoder_core.specs.History.{current_in, decoded_picture, is_same_sps, marking_entries};
-ghost use Rattle.avc_decoder_core.specs.History.{marks_of, missing_frame, order_or_0, pasts, picture_entry};
+ghost use Rattle.avc_decoder_core.specs.History.{current_in, decoded_picture, is_same_sps};
+ghost use Rattle.avc_decoder_core.specs.History.{marking_entries};
+ghost use Rattle.avc_decoder_core.specs.History.{marks_of, missing_frame, order_or_0, pasts};
+ghost use Rattle.avc_decoder_core.specs.History.{picture_entry};
 ghost use Rattle.avc_decoder_core.specs.History.{prior_pictures_of, reorder_limit, sequence_sps};
 ghost use Rattle.avc_decoder_core.specs.Pictures.{held_pictures, no_output_of_prior_pics};
 ghost use Rattle.avc_decoder_core.specs.SequenceState.{AreFramesIn, AreStoredIn};
@@ -40,8 +45,8 @@ use avc_types::{
 use std::alloc::Global;
 use std::marker::Model;
 
-/// The decoded picture buffer (C.4) with the marks of its frames (8.2.5). It stands for the history of closed pictures and
-/// missing frame numbers. After want of memory it answers so from then on.
+/// The decoded picture buffer (C.4) with the marks of its frames (8.2.5). It stands for the history
+/// of closed pictures and missing frame numbers. After want of memory it answers so from then on.
 #[derive(Drop)]
 pub struct FrameBuffer {
     alloc: Global,
@@ -64,7 +69,8 @@ impl Model for FrameBuffer {
 
     ghost Value = { FrameBufferState };
 
-    ghost use Rattle.avc_decoder_core.specs.FrameBufferFields.{frame_buffer_state, IsFrameBufferState};
+    ghost use Rattle.avc_decoder_core.specs.FrameBufferFields.{frame_buffer_state};
+    ghost use Rattle.avc_decoder_core.specs.FrameBufferFields.{IsFrameBufferState};
 
     ghost view = { frame_buffer_state };
 
@@ -184,7 +190,8 @@ fn no_output_of_prior_pics(header: &Header) -> bool
     )
 }
 
-/// What becomes of the pictures needed for output of the sequence before this one is stored (C.4.4). Answers those that go out.
+/// What becomes of the pictures needed for output of the sequence before this one is stored
+/// (C.4.4). Answers those that go out.
 fn output_prior_pictures(
     alloc: Global,
     dpb: &mut Dpb,
@@ -238,7 +245,8 @@ impl FrameBuffer {
         self.dpb.frames()
     }
 
-    /// The frame numbers that are missing before a picture that is no IDR picture, or FrameNumRepeated or FrameNumGap (7.4.3).
+    /// The frame numbers that are missing before a picture that is no IDR picture, or
+    /// FrameNumRepeated or FrameNumGap (7.4.3).
     pub fn missing_frame_nums(&self, sps: &Sps, header: &Header) -> Result<MissingFrameNums, Fault>
         requires going { self.now.failed ≡ false }
         requires sps { IsSps sps.now }
@@ -253,7 +261,8 @@ impl FrameBuffer {
         )
     }
 
-    /// Whether a frame can be marked that stands for a missing number, or TooManyReferences (8.2.5.3).
+    /// Whether a frame can be marked that stands for a missing number, or TooManyReferences
+    /// (8.2.5.3).
     #[tactic(auto, using(crate::proofs::Sequences::few_needed))]
     pub fn can_store_missing(&self, sps: &Sps, frame_num: u32) -> Result<(), Fault>
         requires going { self.now.failed ≡ false }
@@ -264,7 +273,8 @@ impl FrameBuffer {
         sliding_window(&mut marked, new_frame(sps, frame_num, false))
     }
 
-    /// Stores a frame that stands for a missing number (8.2.5.2), which can be marked. Answers the pictures that go out.
+    /// Stores a frame that stands for a missing number (8.2.5.2), which can be marked. Answers the
+    /// pictures that go out.
     #[tactic(auto, using(crate::proofs::Sequences::few_needed))]
     pub fn store_missing(
         &mut self,
@@ -302,8 +312,9 @@ impl FrameBuffer {
         Ok(out)
     }
 
-    /// Whether only the last of these missing numbers matter: the sliding window is full, and takes only frames that are not needed for output. A
-    /// window is so after at most twice as many missing numbers as it has frames.
+    /// Whether only the last of these missing numbers matter: the sliding window is full, and takes
+    /// only frames that are not needed for output. A window is so after at most twice as many
+    /// missing numbers as it has frames.
     #[tactic(auto, using(crate::proofs::Sequences::few_needed))]
     pub fn is_settled(&self, sps: &Sps, numbers: &MissingFrameNums) -> bool
         requires going { self.now.failed ≡ false }
@@ -348,8 +359,9 @@ impl FrameBuffer {
         self.history = history;
     }
 
-    /// Before an IDR picture, which begins a sequence, hands out all pictures needed for output, or drops them by no_output_of_prior_pics_flag, and
-    /// forgets the history (C.4.4). Before another picture it does nothing.
+    /// Before an IDR picture, which begins a sequence, hands out all pictures needed for output, or
+    /// drops them by no_output_of_prior_pics_flag, and forgets the history (C.4.4). Before another
+    /// picture it does nothing.
     pub fn begin_sequence(&mut self, header: &Header) -> Result<Vec<SharedPicture>, OutOfMemory>
         requires { self.old.failed ≡ false }
         ensures ok { IfOk result (λ out. BeginsSequence self.old header.now out.items self.new) }
@@ -377,8 +389,8 @@ impl FrameBuffer {
         self.history = History::new();
     }
 
-    /// Marks a decoded picture (8.2.5.1) with this PicOrderCnt and stores it. `closed` becomes the history with it. Answers the
-    /// pictures that go out.
+    /// Marks a decoded picture (8.2.5.1) with this PicOrderCnt and stores it. `closed` becomes the
+    /// history with it. Answers the pictures that go out.
     #[tactic(auto, using(crate::proofs::Sequences::few_needed))]
     pub fn store_picture(
         &mut self,
@@ -442,7 +454,8 @@ impl FrameBuffer {
         Ok(out)
     }
 
-    /// Hands out all pictures needed for output, and forgets the history. Where none is needed for output no memory is wanted.
+    /// Hands out all pictures needed for output, and forgets the history. Where none is needed for
+    /// output no memory is wanted.
     pub fn empty(&mut self) -> Result<Vec<SharedPicture>, OutOfMemory>
         ensures ok { IfOk result (λ out. IsEmptied self.old out.items self.new) }
         ensures err { OnErr result (self.new.failed ≡ true) }
@@ -456,8 +469,8 @@ impl FrameBuffer {
         Ok(out)
     }
 
-    /// Takes the planes of a frame that has left the buffer, if there is one, so that their memory is used again once no picture shares
-    /// them.
+    /// Takes the planes of a frame that has left the buffer, if there is one, so that their memory
+    /// is used again once no picture shares them.
     pub fn emptied_planes(&mut self) -> Option<EmptiedPlanes<PADDING>>
         ensures { self.new ≡ self.old }
     {

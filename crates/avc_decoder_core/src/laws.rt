@@ -13,8 +13,8 @@ pub fn missing_numbers_keep_the_order()
     ensures { MissingNumbersKeepTheOrder }
 {}
 
-/// Where the reordering of pictures stays within max_num_reorder_frames, early output hands them out in the order of full output
-/// (E.2.1).
+/// Where the reordering of pictures stays within max_num_reorder_frames, early output hands them
+/// out in the order of full output (E.2.1).
 #[tactic(auto, using(crate::proofs::Sequences::early_output_keeps_histories))]
 pub fn early_output_keeps_histories()
     ensures { EarlyOutputKeepsHistories }
@@ -23,8 +23,8 @@ pub fn early_output_keeps_histories()
     marking_keeps_frames();
 }
 
-/// Of a long gap in frame_num only the last 16 missing numbers matter to what is kept, once the sliding window is full of frames that
-/// are not needed for output (8.2.5.2).
+/// Of a long gap in frame_num only the last 16 missing numbers matter to what is kept, once the
+/// sliding window is full of frames that are not needed for output (8.2.5.2).
 pub fn long_gaps_leave_their_end()
     ensures { LongGapsLeaveTheirEnd }
 {}

@@ -28,7 +28,8 @@ fn is_leaving(needed_for_output: bool, mark: Option<Mark>) -> bool
     }
 }
 
-/// The frame at a place of the buffer stays if that is before `first`; from there on it leaves, and numbers go on from `low`.
+/// The frame at a place of the buffer stays if that is before `first`; from there on it leaves, and
+/// numbers go on from `low`.
 fn has_its_place(
     first: usize,
     low: u64,

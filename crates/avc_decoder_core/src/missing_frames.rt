@@ -28,7 +28,8 @@ fn output_more(
     Ok(())
 }
 
-/// Stores a frame for each of these missing numbers, which can be marked. Answers the pictures that go out.
+/// Stores a frame for each of these missing numbers, which can be marked. Answers the pictures that
+/// go out.
 fn store_each(
     alloc: Global,
     buffer: &mut FrameBuffer,
@@ -62,7 +63,8 @@ fn leaves_its_end(buffer: &FrameBuffer, numbers: &MissingFrameNums, sps: &Sps) -
     buffer.is_settled(sps, numbers)
 }
 
-/// Stores frames for the last of these missing numbers, where only they matter. Answers the pictures that go out.
+/// Stores frames for the last of these missing numbers, where only they matter. Answers the
+/// pictures that go out.
 fn store_last(
     alloc: Global,
     buffer: &mut FrameBuffer,
@@ -84,8 +86,8 @@ fn store_last(
     Ok(out)
 }
 
-/// Stores a frame for each of these missing numbers, which can be marked, but not for those of a long gap that leave none. Answers
-/// the pictures that go out.
+/// Stores a frame for each of these missing numbers, which can be marked, but not for those of a
+/// long gap that leave none. Answers the pictures that go out.
 pub fn store_missing(
     alloc: Global,
     buffer: &mut FrameBuffer,

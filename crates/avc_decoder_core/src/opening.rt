@@ -2,7 +2,8 @@
 
 ghost use Rattle.std.specs.Prelude.{◌≡◌, false};
 ghost use Rattle.avc_decoder_core.specs.History.{with_missing};
-ghost use Rattle.avc_decoder_core.specs.Opening.{counts_over, missing_before, CountsMissing, CountsPicture};
+ghost use Rattle.avc_decoder_core.specs.Opening.{counts_over, missing_before, CountsMissing};
+ghost use Rattle.avc_decoder_core.specs.Opening.{CountsPicture};
 ghost use Rattle.avc_decoder_core.specs.History.{pasts, sequence_sps};
 ghost use Rattle.avc_params.specs.Within.{IsSps};
 ghost use Rattle.avc_poc.specs.OrderCountState.{order_count_state};
@@ -39,8 +40,9 @@ pub struct Opening {
     pub poc: Poc,
 }
 
-/// The missing frame numbers before a picture that is no IDR picture, or the first of ParameterSetChanged, FrameNumGap and
-/// FrameNumRepeated. `before` is the parameter set of the sequence.
+/// The missing frame numbers before a picture that is no IDR picture, or the first of
+/// ParameterSetChanged, FrameNumGap and FrameNumRepeated. `before` is the parameter set of the
+/// sequence.
 pub fn missing_frame_nums(
     buffer: &FrameBuffer,
     before: &Option<Sps>,
@@ -58,7 +60,8 @@ pub fn missing_frame_nums(
     }
 }
 
-/// These numbers are missing. As they go on modulo MaxFrameNum, this takes as long for many as for one.
+/// These numbers are missing. As they go on modulo MaxFrameNum, this takes as long for many as for
+/// one.
 fn count_missing(poc: &mut Poc, mut numbers: MissingFrameNums, sps: &Sps)
     requires { IsSps sps.now }
     ensures { CountsMissing sps.now numbers poc.old poc.new }
@@ -75,7 +78,8 @@ fn count_missing(poc: &mut Poc, mut numbers: MissingFrameNums, sps: &Sps)
     }
 }
 
-/// The order counts after these missing numbers, or TooManyReferences where the first of them can't be marked; then all can.
+/// The order counts after these missing numbers, or TooManyReferences where the first of them can't
+/// be marked; then all can.
 pub fn after_missing(
     buffer: &FrameBuffer,
     mut poc: Poc,

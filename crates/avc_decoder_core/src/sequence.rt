@@ -3,8 +3,10 @@
 ghost use Rattle.std.specs.Prelude.{◌≡◌, true, false, IfOk, IfErr, OnErr, None, Some, is_some};
 ghost use Rattle.avc_decoder_core.specs.History.{history_after_closing, history_at_opening};
 ghost use Rattle.avc_decoder_core.specs.Opening.{set_with, Finds};
-ghost use Rattle.avc_decoder_core.specs.SequenceState.{empty_sequence, current_history, Fails, AreFramesIn};
-ghost use Rattle.avc_decoder_core.specs.SequenceState.{AreSizedAs, AreStoredIn, HoldsPictures, IsCleared, IsClosed};
+ghost use Rattle.avc_decoder_core.specs.SequenceState.{empty_sequence, current_history, Fails};
+ghost use Rattle.avc_decoder_core.specs.SequenceState.{AreFramesIn};
+ghost use Rattle.avc_decoder_core.specs.SequenceState.{AreSizedAs, AreStoredIn, HoldsPictures};
+ghost use Rattle.avc_decoder_core.specs.SequenceState.{IsCleared, IsClosed};
 ghost use Rattle.avc_decoder_core.specs.SequenceState.{IsOpened, OpenPictureStart, WantsMemory};
 ghost use Rattle.avc_params.specs.Within.{IsSps};
 ghost use Rattle.avc_slice.specs.Header.{has_idr_marking, is_idr, is_reference};
@@ -23,8 +25,8 @@ use avc_types::{Fault, History, OutOfMemory, PictureError, WantOfMemory};
 use std::alloc::Global;
 use std::marker::Model;
 
-/// The closed pictures of a coded video sequence, as far as later pictures and output need them. After want of memory it answers so
-/// from then on.
+/// The closed pictures of a coded video sequence, as far as later pictures and output need them.
+/// After want of memory it answers so from then on.
 #[derive(Drop)]
 pub struct Sequence {
     alloc: Global,
@@ -85,8 +87,9 @@ impl Sequence {
         }
     }
 
-    /// Opens a picture whose first slice has this header: checks its parameter set, its frame number and its order count, and
-    /// takes in the frame numbers that are missing before it. Answers the pictures that go out.
+    /// Opens a picture whose first slice has this header: checks its parameter set, its frame
+    /// number and its order count, and takes in the frame numbers that are missing before it.
+    /// Answers the pictures that go out.
     pub fn open(&mut self, header: &Header, sps: &Sps) -> Result<Vec<SharedPicture>, PictureError>
         requires rest { self.old.open_picture ≡ None }
         requires marking { is_idr header.now ≡ true → has_idr_marking header.now ≡ true }
@@ -124,8 +127,9 @@ impl Sequence {
         Opening::of_next(missing, poc, header, sps)
     }
 
-    /// Closes the open picture, whose samples are these: marks it, and lets pictures go out. Answers these. With an IDR picture the
-    /// history begins anew. After want of memory it answers so, whether a picture is open or not, and nothing changes.
+    /// Closes the open picture, whose samples are these: marks it, and lets pictures go out.
+    /// Answers these. With an IDR picture the history begins anew. After want of memory it answers
+    /// so, whether a picture is open or not, and nothing changes.
     pub fn close(
         &mut self,
         planes: SharedPlanes<PADDING>,
@@ -166,8 +170,9 @@ impl Sequence {
         }
     }
 
-    /// Hands out all pictures needed for output and forgets the history, with the open picture, if there is one. When pictures go out stays
-    /// as it was. Where no picture is needed for output no memory is wanted.
+    /// Hands out all pictures needed for output and forgets the history, with the open picture, if
+    /// there is one. When pictures go out stays as it was. Where no picture is needed for output no
+    /// memory is wanted.
     pub fn clear(&mut self) -> Result<Vec<SharedPicture>, OutOfMemory>
         ensures ok { IfOk result (λ out. IsCleared self.old out.items self.new) }
         ensures err { OnErr result (self.new.failed ≡ true) }
@@ -191,8 +196,8 @@ impl Sequence {
         self.buffer.frames()
     }
 
-    /// Takes the planes of a frame that has left the buffer, if there is one, so that their memory is used again once no picture shares
-    /// them: until no more come there are at most 17.
+    /// Takes the planes of a frame that has left the buffer, if there is one, so that their memory
+    /// is used again once no picture shares them: until no more come there are at most 17.
     pub fn emptied_planes(&mut self) -> Option<EmptiedPlanes<PADDING>>
         ensures { self.new ≡ self.old }
     {

@@ -43,7 +43,8 @@ is_luma Luma = true
 is_luma Cb = false
 is_luma Cr = false
 
--- The samples at this place differ, they are luma samples, and they are of the macroblock with this address (6.4.1).
+-- The samples at this place differ, they are luma samples, and they are of the macroblock with this
+-- address (6.4.1).
 abbrev pub differs_in_luma : Shape → (most : ℕ) → (ours theirs : List ℕ) → (address place : ℕ) → Bool
 differs_in_luma s most ours theirs address place =
     differs_at most ours theirs place && (is_luma (place_of s place).component && (place_of s place).address == address)
@@ -57,7 +58,8 @@ differs_in_chroma s most ours theirs address place =
 abbrev pub no_mark : Mark
 no_mark = record { luma = false; chroma = false }
 
--- The mark of each macroblock says whether some of its first n samples differ: of luma, and of chroma.
+-- The mark of each macroblock says whether some of its first n samples differ: of luma, and of
+-- chroma.
 pub record AreMarks (s : Shape) (most : ℕ) (ours theirs : List ℕ) (n : ℕ) (marks : List Mark) : Type 0 where
   pub luma : (address : ℕ) → address < length marks
       → (slice_index_or marks address no_mark).luma ≡ any_below n (differs_in_luma s most ours theirs address)

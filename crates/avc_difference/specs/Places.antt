@@ -23,7 +23,8 @@ shown_rows s c = scaled c (s.height - ((s.crop).top + (s.crop).bottom))
 abbrev pub shown_samples : Shape → Component → ℕ
 shown_samples s c = shown_rows s c * shown_columns s c
 
--- how many samples stand before those of a component: luma is first, then Cb, then Cr (this decoder's rule)
+-- how many samples stand before those of a component: luma is first, then Cb, then Cr (this
+-- decoder's rule)
 abbrev pub samples_before : Shape → Component → ℕ
 samples_before s Luma = 0
 samples_before s Cb = shown_samples s Luma
@@ -50,8 +51,9 @@ macroblock_rows s = s.height / 16
 abbrev pub macroblocks : Shape → ℕ
 macroblocks s = macroblock_rows s * macroblock_columns s
 
--- The sample in this column and row of what is shown of a component: where it stands in the coded component, and its macroblock,
--- which has 16 columns and rows of luma samples, and half as many of chroma samples (6.2, 6.4.1, 7.4.2.1.1).
+-- The sample in this column and row of what is shown of a component: where it stands in the coded
+-- component, and its macroblock, which has 16 columns and rows of luma samples, and half as many of
+-- chroma samples (6.2, 6.4.1, 7.4.2.1.1).
 abbrev pub place_at : Shape → Component → (column row : ℕ) → Place
 place_at s c column row = record {
   component = c;

@@ -43,7 +43,8 @@ first_line d =
     codes "first: " ++ macroblock_words d.place ++ codes ", " ++ sample_words d.place ++ codes ": " ++ decimal d.ours ++ codes ", the other's "
     ++ decimal d.theirs ++ newline
 
--- a macroblock on the map: . where nothing differs, L where luma does, C where chroma does, B where both do
+-- a macroblock on the map: . where nothing differs, L where luma does, C where chroma does, B where
+-- both do
 abbrev pub letter_of : (luma chroma : Bool) → List ℕ
 letter_of true true = codes "B"
 letter_of true false = codes "L"

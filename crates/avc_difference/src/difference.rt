@@ -2,7 +2,8 @@
 
 ghost use Rattle.std.specs.Prelude.{◌≡◌, ◌+◌, ◌<◌, ◌^◌, if◌then◌else◌, length, IfOk, MatchOption};
 ghost use Rattle.avc_difference.specs.Places.{sample_count};
-ghost use Rattle.avc_difference.specs.Differences.{count_below, differs_at, AreSame, IsDifference, IsFirst};
+ghost use Rattle.avc_difference.specs.Differences.{count_below, differs_at, AreSame, IsDifference};
+ghost use Rattle.avc_difference.specs.Differences.{IsFirst};
 
 use crate::marks::{Mark, differs, marked, marks_of};
 use crate::place::{Place, Shape, place_of};
@@ -12,7 +13,8 @@ use std::alloc::Global;
 /// What is told of two pictures that differ.
 #[derive(Debug, Drop)]
 pub struct Difference {
-    /// Where the first sample stands that differs: luma comes first, then Cb, then Cr, each row by row.
+    /// Where the first sample stands that differs: luma comes first, then Cb, then Cr, each row by
+    /// row.
     pub place: Place,
 
     /// This sample.
@@ -34,8 +36,8 @@ pub struct Difference {
     pub marks: Vec<Mark>,
 }
 
-/// Compares the samples of two pictures of this shape, both as I420. Those that are at most `most` apart do not differ. Answers None
-/// where none differ.
+/// Compares the samples of two pictures of this shape, both as I420. Those that are at most `most`
+/// apart do not differ. Answers None where none differ.
 pub fn find_difference(
     alloc: Global,
     shape: Shape,

@@ -1,8 +1,10 @@
 //! In which macroblocks two pictures differ.
 
-ghost use Rattle.std.specs.Prelude.{◌≡◌, ◌+◌, ◌<◌, ℕ, count_by, length, replicate, slice_index_or, IfOk};
+ghost use Rattle.std.specs.Prelude.{◌≡◌, ◌+◌, ◌<◌, ℕ, count_by, length, replicate, slice_index_or};
+ghost use Rattle.std.specs.Prelude.{IfOk};
 ghost use Rattle.avc_difference.specs.Places.{macroblocks, sample_count};
-ghost use Rattle.avc_difference.specs.Differences.{differs, is_marked, mark_after, no_mark, AreMarks};
+ghost use Rattle.avc_difference.specs.Differences.{differs, is_marked, mark_after, no_mark};
+ghost use Rattle.avc_difference.specs.Differences.{AreMarks};
 
 use crate::place::{Place, Shape, macroblocks, place_of};
 use avc_plane::Component;

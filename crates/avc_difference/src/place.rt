@@ -2,8 +2,10 @@
 
 ghost use Rattle.std.specs.Prelude.{◌≡◌, ◌*◌, ◌<◌, ◌≤◌, ◌^◌};
 ghost use Rattle.avc_plane.specs.Shown.{scaled};
-ghost use Rattle.avc_difference.specs.Places.{macroblock_columns, macroblock_rows, macroblocks, place_at, place_in, place_of};
-ghost use Rattle.avc_difference.specs.Places.{sample_count, shown_columns, shown_rows, shown_samples};
+ghost use Rattle.avc_difference.specs.Places.{macroblock_columns, macroblock_rows, macroblocks};
+ghost use Rattle.avc_difference.specs.Places.{place_at, place_in, place_of};
+ghost use Rattle.avc_difference.specs.Places.{sample_count, shown_columns, shown_rows};
+ghost use Rattle.avc_difference.specs.Places.{shown_samples};
 
 use avc_plane::Component;
 use avc_types::Crop;
@@ -16,8 +18,8 @@ pub struct Shape {
     pub crop: Crop,
 }
 
-/// Where a sample stands: in what is shown of its component, in the coded component, and in which macroblock (6.4.1). Everything is
-/// counted from 0, columns and rows in samples of the component.
+/// Where a sample stands: in what is shown of its component, in the coded component, and in which
+/// macroblock (6.4.1). Everything is counted from 0, columns and rows in samples of the component.
 #[derive(Clone, Copy, Debug, PartialEq, Eq)]
 pub struct Place {
     pub component: Component,

@@ -2,7 +2,8 @@
 
 ghost use Rattle.std.specs.Prelude.{◌≡◌, ◌*◌, ◌++◌, ◌/◌, length, OnOk, string_bytes};
 ghost use Rattle.avc_difference.specs.Places.{macroblocks};
-ghost use Rattle.avc_difference.specs.Text.{component_name, counts_line, difference_text, first_line, letter};
+ghost use Rattle.avc_difference.specs.Text.{component_name, counts_line, difference_text};
+ghost use Rattle.avc_difference.specs.Text.{first_line, letter};
 ghost use Rattle.avc_difference.specs.Text.{macroblock_words, map_lines, row_line, sample_words};
 
 use crate::difference::Difference;

@@ -10,8 +10,8 @@ use Rattle.avc_dpb.specs.declared.output.Output.{Output}
 use Rattle.avc_dpb.specs.Bumping.{Arrival, remain, Stored, Buffer, is_reference_in, new_output, after_frame, with_all_output}
 use Rattle.avc_dpb.specs.StoredFrame.{is_used_for_reference, shown_frame}
 
--- the stored frames in decoding order, and beside each what output keeps of it; when pictures go out; whether memory was
--- refused
+-- the stored frames in decoding order, and beside each what output keeps of it; when pictures go
+-- out; whether memory was refused
 pub record Contents : Type 0 where
   pub slots : List Slot
   pub frames : List (Frame 16)
@@ -28,8 +28,9 @@ IsRising (s ∷ t ∷ frames) next = (s.decoding_index < t.decoding_index) × Is
 abbrev pub slot_of : Stored → Slot
 slot_of s = record { pic_order_cnt = s.pic_order_cnt; needed_for_output = s.needed_for_output }
 
--- The contents stand for the buffer b before the history's entry whose decoding index is `next`: they have its frames with their order counts, and
--- know which are needed for output. `frame_of` is the frame of each entry.
+-- The contents stand for the buffer b before the history's entry whose decoding index is `next`:
+-- they have its frames with their order counts, and know which are needed for output. `frame_of` is
+-- the frame of each entry.
 pub record IsBuffer (c : Contents) (b : Buffer) (next : ℕ) (frame_of : ℕ → Frame 16) : Type 0 where
   pub works : c.failed ≡ false
   pub slots : c.slots ≡ map slot_of b.frames
@@ -40,8 +41,8 @@ pub record IsBuffer (c : Contents) (b : Buffer) (next : ℕ) (frame_of : ℕ →
 abbrev pub AreReferences : List (Frame 16) → List ℕ → Buffer → Type 0
 AreReferences frames references b = map is_used_for_reference frames ≡ map (is_reference_in references) b.frames
 
--- An arriving frame as an entry of the history, with the decoding indices of the reference frames once it is marked. What becomes of the pictures
--- before it is asked for by other calls.
+-- An arriving frame as an entry of the history, with the decoding indices of the reference frames
+-- once it is marked. What becomes of the pictures before it is asked for by other calls.
 abbrev pub arrival_of : ArrivingFrame → (references : List ℕ) → Arrival
 arrival_of a references = record {
   pic_order_cnt = a.pic_order_cnt;
@@ -57,15 +58,17 @@ arrival_of a references = record {
 abbrev pub IsReferenceAmong : Frame 16 → (index : ℕ) → List ℕ → Type 0
 IsReferenceAmong frame index references = is_used_for_reference frame ≡ list_any (λ r. r == index) references
 
--- The buffer b became the buffer b', for which the contents stand, and what b' has put out was handed out.
+-- The buffer b became the buffer b', for which the contents stand, and what b' has put out was
+-- handed out.
 pub record HasBuffer (new : Contents) (out : List Picture) (b b' : Buffer) (next : ℕ) (frame_of : ℕ → Frame 16) : Type 0 where
   pub buffer : IsBuffer new b' next frame_of
   pub pictures : out ≡ filter_map (λ index. shown_frame (frame_of index)) (new_output b b')
 
 -- ---- what a call makes of every buffer that the contents stand for, and what it hands out
 
--- A frame is stored, or its picture goes out where there is no room, and then no more are needed for output than may stay so (C.4.5); the
--- contents' frames and this one have the marks that they have once this frame is marked.
+-- A frame is stored, or its picture goes out where there is no room, and then no more are needed
+-- for output than may stay so (C.4.5); the contents' frames and this one have the marks that they
+-- have once this frame is marked.
 abbrev pub Stores : (old : Contents) (frame : Frame 16) → ArrivingFrame → (out : List Picture) (new : Contents) → Type 0
 Stores old frame arriving out new =
     (b : Buffer) (next : ℕ) (frame_of : ℕ → Frame 16) (references : List ℕ) → IsBuffer old b next frame_of →

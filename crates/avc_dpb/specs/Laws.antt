@@ -7,7 +7,8 @@ use Rattle.avc_dpb.specs.Contents.{IsRising}
 
 -- ---- C.4.5.3
 
--- It is one of these frames, it is needed for output, and no frame needed for output has a smaller order count; of equals it was decoded first.
+-- It is one of these frames, it is needed for output, and no frame needed for output has a smaller
+-- order count; of equals it was decoded first.
 pub record IsNextOutput (frames : List Stored) (s : Stored) : Type 0 where
   pub index : ℕ
   pub among : slice_get frames index ≡ Some s
@@ -15,7 +16,8 @@ pub record IsNextOutput (frames : List Stored) (s : Stored) : Type 0 where
   pub least : (k : ℕ) (t : Stored) → slice_get frames k ≡ Some t → t.needed_for_output ≡ true → s.pic_order_cnt ≤ℤ t.pic_order_cnt
   pub first : (k : ℕ) (t : Stored) → slice_get frames k ≡ Some t → t.needed_for_output ≡ true → t.pic_order_cnt ≡ s.pic_order_cnt → s.decoding_index ≤ t.decoding_index
 
--- Bumping puts out the picture that goes next; it does nothing only where no picture is needed for output.
+-- Bumping puts out the picture that goes next; it does nothing only where no picture is needed for
+-- output.
 abbrev pub Bumps : (references : List ℕ) → Buffer → Option Stored → Type 0
 Bumps references b (Some s) = IsNextOutput b.frames s × ((after_bumping references b).out ≡ b.out ++ s.decoding_index ∷ [])
 Bumps references b None =
@@ -49,7 +51,8 @@ abbrev pub OutOnlyGrows : Type 0
 OutOnlyGrows = (output : Output) (index : ℕ) (a : Arrival) (b : Buffer)
     → (after_entry output index a b).out ≡ b.out ++ new_output b (after_entry output index a b)
 
--- What an entry puts out is what goes out before it, and then what goes out to make room and for itself.
+-- What an entry puts out is what goes out before it, and then what goes out to make room and for
+-- itself.
 abbrev pub GoesOutInTurn : Type 0
 GoesOutInTurn = (output : Output) (index : ℕ) (a : Arrival) (b : Buffer)
     → new_output b (after_entry output index a b)
@@ -85,7 +88,8 @@ GoesOutOnce = (output : Output) (history : List Arrival) (index : ℕ)
 abbrev pub needed_in_order : Buffer → List ℕ
 needed_in_order b = map (λ s. s.decoding_index) (needed_in_output_order b.frames)
 
--- A non-existing frame is not needed for output: what goes out to make room for it is what goes first of those that are needed for output.
+-- A non-existing frame is not needed for output: what goes out to make room for it is what goes
+-- first of those that are needed for output.
 abbrev pub MissingFramesKeepTheOrder : Type 0
 MissingFramesKeepTheOrder = (output : Output) (index : ℕ) (a : Arrival) (b : Buffer)
     → IsRising b.frames index → a.existing ≡ false → a.prior_pictures ≡ remain
@@ -95,7 +99,8 @@ MissingFramesKeepTheOrder = (output : Output) (index : ℕ) (a : Arrival) (b : B
 abbrev pub indices_of_references : (references : List ℕ) → Buffer → List ℕ
 indices_of_references references b = map (λ s. s.decoding_index) (filter (is_reference_in references) b.frames)
 
--- The arriving frame is stored where bumping makes room for it, and the reference frames beside it leave room for one more.
+-- The arriving frame is stored where bumping makes room for it, and the reference frames beside it
+-- leave room for one more.
 pub record HasRoom (a : Arrival) (b : Buffer) : Type 0 where
   pub stored : (a.is_reference || not a.existing) ≡ true
   pub room : count_by (is_reference_in a.references) b.frames + 1 ≤ a.capacity
@@ -109,7 +114,8 @@ ReferencesStay = (output : Output) (index : ℕ) (a : Arrival) (b : Buffer)
 
 -- ---- missing frame numbers
 
--- a non-existing frame, with the decoding indices of the reference frames once it is marked (8.2.5.2)
+-- a non-existing frame, with the decoding indices of the reference frames once it is marked
+-- (8.2.5.2)
 abbrev pub missing_arrival : (capacity : ℕ) → (references : List ℕ) → Arrival
 missing_arrival capacity references = record {
   pic_order_cnt = pos 0;
@@ -125,7 +131,8 @@ missing_arrival capacity references = record {
 abbrev pub missing_stored : (index : ℕ) → Stored
 missing_stored index = record { decoding_index = index; pic_order_cnt = pos 0; needed_for_output = false }
 
--- Where the frames that are still needed leave room for it, a non-existing frame is stored, and nothing goes out (C.4.2, C.4.5.3).
+-- Where the frames that are still needed leave room for it, a non-existing frame is stored, and
+-- nothing goes out (C.4.2, C.4.5.3).
 abbrev pub MissingFramesFindRoom : Type 0
 MissingFramesFindRoom = (output : Output) (index capacity : ℕ) (references : List ℕ) (b : Buffer)
     → length (needed_frames references b.frames) + 1 ≤ capacity

@@ -11,14 +11,16 @@ use Rattle.avc_dpb.specs.Bumping.{Buffer, after_bumping, after_making_room, hold
 use Rattle.avc_dpb.specs.Contents.{AreReferences, IsReferenceAmong, IsRising, arrival_of, slot_of}
 use Rattle.avc_dpb.specs.StoredFrame.{shown_frame}
 
--- The slots and frames are those of the buffer, whose frames have the marks of these reference frames.
+-- The slots and frames are those of the buffer, whose frames have the marks of these reference
+-- frames.
 pub record StandFor (slots : List Slot) (frames : List (Frame 16)) (references : List ℕ) (b : Buffer) (next : ℕ) (frame_of : ℕ → Frame 16) : Type 0 where
   pub slots_are : slots ≡ map slot_of b.frames
   pub frames_are : frames ≡ map (λ s. frame_of s.decoding_index) b.frames
   pub marks : AreReferences frames references b
   pub rising : IsRising b.frames next
 
--- The buffer b became b', for which the slots and frames stand, and what b' has put out since was added.
+-- The buffer b became b', for which the slots and frames stand, and what b' has put out since was
+-- added.
 pub record Become (slots : List Slot) (frames : List (Frame 16)) (references : List ℕ) (b b' : Buffer) (next : ℕ) (frame_of : ℕ → Frame 16)
     (out out' : List Picture) : Type 0 where
   pub since : List ℕ

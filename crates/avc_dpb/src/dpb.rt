@@ -1,9 +1,11 @@
 //! The decoded picture buffer: frames that are stored, marked and put out (C.4).
 
 ghost use Rattle.avc_plane.specs.declared.frame.Frame.{Frame as StoredFrame};
-ghost use Rattle.std.specs.Prelude.{◌≡◌, ◌+◌, ◌<◌, ◌≤◌, ℕ, [], true, false, length, IfOk, OnErr, OnOk, IsErr};
+ghost use Rattle.std.specs.Prelude.{◌≡◌, ◌+◌, ◌<◌, ◌≤◌, ℕ, [], true, false, length, IfOk, OnErr};
+ghost use Rattle.std.specs.Prelude.{OnOk, IsErr};
 ghost use Rattle.avc_dpb.specs.Bumping.{empty_buffer};
-ghost use Rattle.avc_dpb.specs.Contents.{IsBuffer, OutputsAll, OutputsSome, Stores, is_needed_for_output_at, with_mark};
+ghost use Rattle.avc_dpb.specs.Contents.{IsBuffer, OutputsAll, OutputsSome, Stores};
+ghost use Rattle.avc_dpb.specs.Contents.{is_needed_for_output_at, with_mark};
 ghost use Rattle.avc_dpb.specs.Steps.{PlacesFrame};
 
 use crate::arriving_frame::ArrivingFrame;
@@ -18,7 +20,8 @@ use avc_types::{Mark, OutOfMemory, WantOfMemory};
 use std::alloc::Global;
 use std::marker::Model;
 
-/// The decoded picture buffer (C.4): at most 16 frames, in decoding order. After want of memory it answers so from then on.
+/// The decoded picture buffer (C.4): at most 16 frames, in decoding order. After want of memory it
+/// answers so from then on.
 #[derive(Drop)]
 pub struct Dpb {
     alloc: Global,
@@ -83,9 +86,10 @@ impl Dpb {
         self.frames[place].mark = mark;
     }
 
-    /// Makes room for a frame and stores it, or hands its picture out where there is no room (C.4.5.1, C.4.5.2, C.4.2), and then
-    /// hands out what is needed for output too many (E.2.1). The stored frames have the marks that they have once this frame is marked. Answers
-    /// the pictures that go out, in order.
+    /// Makes room for a frame and stores it, or hands its picture out where there is no room
+    /// (C.4.5.1, C.4.5.2, C.4.2), and then hands out what is needed for output too many (E.2.1).
+    /// The stored frames have the marks that they have once this frame is marked. Answers the
+    /// pictures that go out, in order.
     pub fn store(
         &mut self,
         frame: Frame<PADDING>,
@@ -125,7 +129,8 @@ impl Dpb {
         Ok(out)
     }
 
-    /// Hands out all pictures needed for output, by bumping, and is then empty (C.4.4). Where none is needed for output no memory is wanted.
+    /// Hands out all pictures needed for output, by bumping, and is then empty (C.4.4). Where none
+    /// is needed for output no memory is wanted.
     pub fn empty(&mut self) -> Result<Vec<SharedPicture>, OutOfMemory>
         ensures ok { IfOk result (λ out. OutputsAll self.old out.items self.new) }
         ensures err { OnErr result (self.new.failed ≡ true) }
@@ -154,9 +159,9 @@ impl Dpb {
         empty_all(&mut self.frames, &mut self.emptied);
     }
 
-    /// Takes a frame that has left the buffer, if there is one, so that its memory is used again once no picture shares it. At most 17
-    /// wait to be taken; what else leaves is dropped, and so is what stands for a missing frame number. Contracts say nothing of which
-    /// these are.
+    /// Takes a frame that has left the buffer, if there is one, so that its memory is used again
+    /// once no picture shares it. At most 17 wait to be taken; what else leaves is dropped, and so
+    /// is what stands for a missing frame number. Contracts say nothing of which these are.
     pub fn emptied_frame(&mut self) -> Option<Frame<PADDING>>
         ensures { self.new ≡ self.old }
     {
@@ -173,7 +178,8 @@ fn empty_all(frames: &mut Vec<Frame<PADDING>>, emptied: &mut EmptiedFrames)
     }
 }
 
-// The arriving frame is stored, or where there is no room its picture goes out at once; a non-existing frame never does.
+// The arriving frame is stored, or where there is no room its picture goes out at once; a
+// non-existing frame never does.
 fn place(
     slots: &mut ArrayVec<Slot, 16>,
     frames: &mut Vec<Frame<PADDING>>,

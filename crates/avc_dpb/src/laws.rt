@@ -1,16 +1,20 @@
 //! Laws of the definition of output: they are what C.4 asks for, in its own words.
 
-ghost use Rattle.avc_dpb.specs.Laws.{LeastGoesOut, AllGoOutByBumping, AllHeldGoOut, StandsInDecodingOrder};
+ghost use Rattle.avc_dpb.specs.Laws.{LeastGoesOut, AllGoOutByBumping, AllHeldGoOut};
+ghost use Rattle.avc_dpb.specs.Laws.{StandsInDecodingOrder};
 ghost use Rattle.avc_dpb.specs.Laws.{OutOnlyGrows, GoesOutInTurn, HoldsAtMost, GoesOutOnce};
-ghost use Rattle.avc_dpb.specs.Laws.{MissingFramesKeepTheOrder, MissingFramesFindRoom, ReferencesStay};
+ghost use Rattle.avc_dpb.specs.Laws.{MissingFramesKeepTheOrder, MissingFramesFindRoom};
+ghost use Rattle.avc_dpb.specs.Laws.{ReferencesStay};
 ghost use Rattle.avc_dpb.specs.Reordering.{EarlyOutputKeepsTheOrder};
 
-/// Bumping puts out the picture needed for output with the least order count, of equals the one that was decoded first (C.4.5.3).
+/// Bumping puts out the picture needed for output with the least order count, of equals the one
+/// that was decoded first (C.4.5.3).
 pub fn least_goes_out()
     ensures { LeastGoesOut }
 {}
 
-/// Where the buffer is emptied, all pictures needed for output go out by bumping again and again (C.4.4).
+/// Where the buffer is emptied, all pictures needed for output go out by bumping again and again
+/// (C.4.4).
 pub fn all_go_out_by_bumping()
     ensures { AllGoOutByBumping }
 {}
@@ -50,7 +54,8 @@ pub fn goes_out_once()
     ensures { GoesOutOnce }
 {}
 
-/// What goes out to make room for a non-existing frame goes out first of what is needed for output (C.4.2).
+/// What goes out to make room for a non-existing frame goes out first of what is needed for output
+/// (C.4.2).
 pub fn missing_frames_keep_the_order()
     ensures { MissingFramesKeepTheOrder }
 {}
@@ -66,7 +71,8 @@ pub fn references_stay()
     ensures { ReferencesStay }
 {}
 
-/// Where the reordering of pictures stays within its limits, early output hands them out in the order of full output (E.2.1).
+/// Where the reordering of pictures stays within its limits, early output hands them out in the
+/// order of full output (E.2.1).
 #[tactic(auto, using(crate::proofs::EarlyOrder::early_output_keeps_the_order))]
 pub fn early_output_keeps_the_order()
     ensures { EarlyOutputKeepsTheOrder }

@@ -6,6 +6,7 @@ pub enum Output {
     /// Only where room is needed (C.4.5.3).
     Full,
 
-    /// Also as soon as more pictures are needed for output than max_num_reorder_frames, where the sequence gives it (E.2.1).
+    /// Also as soon as more pictures are needed for output than max_num_reorder_frames, where the
+    /// sequence gives it (E.2.1).
     Early,
 }

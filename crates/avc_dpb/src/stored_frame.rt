@@ -7,7 +7,8 @@ ghost use Rattle.avc_dpb.specs.StoredFrame.{shown_frame};
 use avc_plane::{Frame, PADDING, SharedPicture};
 use avc_types::OutOfMemory;
 
-/// The picture of a frame, which shares its planes. One that stands for a missing frame number shows nothing, and wants no memory.
+/// The picture of a frame, which shares its planes. One that stands for a missing frame number
+/// shows nothing, and wants no memory.
 fn shown_frame(frame: &Frame<PADDING>) -> Result<Option<SharedPicture>, OutOfMemory>
     ensures picture { IfOk result (λ picture. picture ≡ shown_frame frame.now) }
     ensures memory { OnErr result (is_some (shown_frame frame.now) ≡ true) }

@@ -19,7 +19,8 @@ shown events = flat_map i420 (pictures_in events)
 abbrev pub events_defined : Machine → List Event
 events_defined m = events m.output max_unit m.bytes m.ended
 
--- The report on these events: how many pictures there are (or the greatest number, once there), and each refusal.
+-- The report on these events: how many pictures there are (or the greatest number, once there), and
+-- each refusal.
 abbrev pub report_of : List Event → Report
 report_of events = record { pictures = saturated (length (pictures_in events)); refused = refusals_in events }
 

@@ -3,7 +3,8 @@
 ghost use Rattle.std.specs.Prelude.{◌≡◌, take, IfErr, IfOk, OnOk};
 ghost use Rattle.avc_console.specs.Reading.{max_unit};
 ghost use Rattle.avc_console.specs.declared.fault.RunFault.TheVariants as faults;
-ghost use Rattle.avc_decoder.specs.Machine.{after_feed, after_flush, after_take, next_event, IsUpToUnit};
+ghost use Rattle.avc_decoder.specs.Machine.{after_feed, after_flush, after_take, next_event};
+ghost use Rattle.avc_decoder.specs.Machine.{IsUpToUnit};
 
 use avc_console::{MAX_UNIT, RunFault};
 use avc_decoder::{Decoder, Event};

@@ -56,7 +56,8 @@ explained_line (unit, fault) =
 abbrev pub waits_line : (unit : ℕ) → List ℕ
 waits_line unit = codes "waits for an IDR picture from unit " ++ decimal unit ++ codes " on" ++ newline
 
--- how many pictures went out, how many refusals there are, and how many slices were passed over, where that is known
+-- how many pictures went out, how many refusals there are, and how many slices were passed over,
+-- where that is known
 abbrev pub counts_line : (pictures refused : ℕ) → (passed : Option ℕ) → List ℕ
 counts_line pictures refused None =
     decimal pictures ++ codes " pictures, " ++ decimal refused ++ codes " refusals" ++ newline

@@ -8,8 +8,8 @@ use arrayvec::ArrayString;
 use avc_types::Fault;
 use itoa::Buffer;
 
-/// The line that says what a refusal means: the place of a unit among the stream's units, from 0, its fault, and when that is there. It
-/// asks for no memory.
+/// The line that says what a refusal means: the place of a unit among the stream's units, from 0,
+/// its fault, and when that is there. It asks for no memory.
 pub fn explained_line(unit: u64, fault: Fault) -> ArrayString<256>
     ensures { result.bytes ≡ explained_line (unit, fault) }
 {
@@ -27,7 +27,8 @@ pub fn explained_line(unit: u64, fault: Fault) -> ArrayString<256>
     line
 }
 
-/// The line that says that decoding waits, behind the refusal of the unit at this place with its picture. It asks for no memory.
+/// The line that says that decoding waits, behind the refusal of the unit at this place with its
+/// picture. It asks for no memory.
 pub fn waits_line(unit: u64) -> ArrayString<64>
     ensures { result.bytes ≡ waits_line unit }
 {
@@ -39,8 +40,8 @@ pub fn waits_line(unit: u64) -> ArrayString<64>
     line
 }
 
-/// The line that says how many pictures went out, how many refusals there were, and how many slices were passed over while decoding waited,
-/// where that is known. It asks for no memory.
+/// The line that says how many pictures went out, how many refusals there were, and how many slices
+/// were passed over while decoding waited, where that is known. It asks for no memory.
 pub fn counts_line(pictures: u64, refused: u64, passed: Option<u64>) -> ArrayString<128>
     ensures { result.bytes ≡ counts_line pictures refused passed }
 {

@@ -7,8 +7,8 @@ use Rattle.avc_console.specs.Reading.{WritesFirst}
 use Rattle.avc_console.specs.declared.fault.RunFault.{RunFault}
 use Rattle.avc_console.specs.declared.fault.RunFault.TheVariants.{Write, Memory, Size}
 
--- What is written of the picture of a number (from 0; the greatest number, once there), whether it has the one size that the
--- format can have, and whether so many pictures are all that are wanted.
+-- What is written of the picture of a number (from 0; the greatest number, once there), whether it
+-- has the one size that the format can have, and whether so many pictures are all that are wanted.
 pub record Format : Type 0 where
   pub text : (number : ℕ) → Decoded → List ℕ
   pub fits : (number : ℕ) → Decoded → Bool

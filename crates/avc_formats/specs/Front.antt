@@ -32,7 +32,8 @@ abbrev pub first_of : {A : Type 0} → Option A → Option A → Option A
 first_of (Some a) b = Some a
 first_of None b = b
 
--- the set of the first of these units with which decoding can start, where these parameter sets came before
+-- the set of the first of these units with which decoding can start, where these parameter sets
+-- came before
 abbrev pub first_sps : List SetUnit → List Unit → Option Sps
 first_sps sets [] = None
 first_sps sets (u ∷ us) = first_of (starting_sps (sets_after sets) u) (first_sps (sets ++ set_units (u ∷ [])) us)
@@ -49,8 +50,8 @@ front_length = max_unit
 abbrev pub max_read : ℕ
 max_read = 65536
 
--- These bytes were read for such a slice. The last read gave at most 65,536 of them, and none where it is said to be empty. Before it the
--- bytes had no such slice, and were fewer than are looked at.
+-- These bytes were read for such a slice. The last read gave at most 65,536 of them, and none where
+-- it is said to be empty. Before it the bytes had no such slice, and were fewer than are looked at.
 pub record ReadsFront (bytes : List ℕ) (empty : Bool) : Type 0 where
   pub before : List ℕ
   pub last : List ℕ
@@ -60,8 +61,8 @@ pub record ReadsFront (bytes : List ℕ) (empty : Bool) : Type 0 where
   pub unseen : stream_sps before false ≡ None
   pub fewer : length before < front_length
 
--- These bytes were read, and this is what the set says of the first slice in them that is decoded. They go up to the end of that
--- slice, in the last read, or are all, or as many as are looked at.
+-- These bytes were read, and this is what the set says of the first slice in them that is decoded.
+-- They go up to the end of that slice, in the last read, or are all, or as many as are looked at.
 pub record IsFront (unread left : Option (List ℕ)) (bytes : List ℕ) (said : Presentation) : Type 0 where
   pub all : Bool
   pub has_read : HasRead unread left bytes all
@@ -83,8 +84,8 @@ IsSaid None said = said ≡ None
 IsSaid (Some s) None = ⊥
 IsSaid (Some s) (Some p) = IsPresented s p
 
--- All units were taken, none of them with which decoding can start, and their sets. Or this is said by the set of the first with
--- which it can start.
+-- All units were taken, none of them with which decoding can start, and their sets. Or this is said
+-- by the set of the first with which it can start.
 abbrev pub IsFound : (old new : SplitterState) (before now : List SetUnit) → Option Presentation → Type 0
 IsFound old new before now None =
     (first_sps before (units_left max_unit old) ≡ None) × (now ≡ before ++ set_units (units_left max_unit old)) × (new ≡ after_units_left max_unit old)

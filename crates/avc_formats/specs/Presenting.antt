@@ -25,7 +25,8 @@ ratio n d = record { numerator = n; denominator = d }
 abbrev pub default_rate : Ratio
 default_rate = ratio 25 1
 
--- The rate by the clock: a frame takes two ticks, each num_units_in_tick of a clock of time_scale in a second (E.2.1).
+-- The rate by the clock: a frame takes two ticks, each num_units_in_tick of a clock of time_scale
+-- in a second (E.2.1).
 abbrev pub IsRateOf : Option Timing → Ratio → Type 0
 IsRateOf None r = r ≡ default_rate
 IsRateOf (Some t) r =
@@ -74,12 +75,13 @@ sample_aspect (Some a) = aspect_of a
 abbrev pub full_range : Option VideoSignal → Option Bool
 full_range s = option_map (λ v. v.video_full_range_flag) s
 
--- Where chroma samples lie, by chroma_sample_loc_type_top_field, which is the frame's (E.2.1). Y4M has no word for types 3 to 5.
+-- Where chroma samples lie, by chroma_sample_loc_type_top_field, which is the frame's (E.2.1). Y4M
+-- has no word for types 3 to 5.
 abbrev pub site_of_type : (loc_type : ℕ) → ChromaSite
 site_of_type t = if t == 0 then Left else (if t == 2 then TopLeft else Centre)
 
--- Where it is not given it is type 0 (E.2.1). Samples of full range are those of JPEG, where they lie in the centre (this decoder's
--- rule).
+-- Where it is not given it is type 0 (E.2.1). Samples of full range are those of JPEG, where they
+-- lie in the centre (this decoder's rule).
 abbrev pub default_site : (full_range : Option Bool) → ChromaSite
 default_site (Some true) = Centre
 default_site (Some false) = Left

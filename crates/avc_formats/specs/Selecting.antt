@@ -2,7 +2,8 @@
 use Rattle.std.specs.Prelude.{ℕ, ◌+◌, ◌-◌, nat_le, nat_lt, Bool, true, ◌&&◌, if◌then◌else◌, []}
 use Rattle.avc_formats.specs.Formats.{Format}
 
--- The picture of this number is none of the first `skip`, and of those behind them one of the first `limit`.
+-- The picture of this number is none of the first `skip`, and of those behind them one of the first
+-- `limit`.
 abbrev pub is_wanted : (skip limit number : ℕ) → Bool
 is_wanted skip limit number = nat_le skip number && nat_lt (number - skip) limit
 

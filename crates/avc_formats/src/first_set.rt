@@ -14,7 +14,8 @@ use avc_types::OutOfMemory;
 use avc_units::{Brought, HeaderReader, is_start};
 use std::alloc::Global;
 
-/// Takes the units whose end has been seen, up to the first with which decoding can start, and answers what its set says.
+/// Takes the units whose end has been seen, up to the first with which decoding can start, and
+/// answers what its set says.
 pub(crate) fn find_set(
     alloc: Global,
     splitter: &mut Splitter<MAX_UNIT>,
@@ -32,7 +33,8 @@ pub(crate) fn find_set(
     Ok(None)
 }
 
-// Takes a unit, and answers what the set says that its slice refers to, where decoding can start with it.
+// Takes a unit, and answers what the set says that its slice refers to, where decoding can start
+// with it.
 fn said_at(
     alloc: Global,
     reader: &mut HeaderReader,

@@ -16,8 +16,9 @@ pub trait PictureFormat {
     /// What is written of each picture.
     ghost format: { Self → Format };
 
-    /// Writes the picture of a number, from 0. Its rows are gathered in a room, which may hold anything before and after. Want of
-    /// memory, and a picture of another size than the format can have, are told before anything is written.
+    /// Writes the picture of a number, from 0. Its rows are gathered in a room, which may hold
+    /// anything before and after. Want of memory, and a picture of another size than the format can
+    /// have, are told before anything is written.
     fn write<W: Write>(
         &self,
         number: u64,

@@ -8,7 +8,8 @@ ghost use Rattle.avc_types.specs.Whole.{IsWhole};
 ghost use Rattle.avc_yuv.specs.I420.{i420};
 ghost use Rattle.avc_formats.specs.Formats.{StopsPicture};
 ghost use Rattle.avc_console.specs.declared.fault.RunFault.TheVariants as faults;
-ghost use Rattle.avc_formats.specs.FrameMd5.{aspect_line, checksum_line, column, dimensions_line, framemd5_head, framemd5_line};
+ghost use Rattle.avc_formats.specs.FrameMd5.{aspect_line, checksum_line, column, dimensions_line};
+ghost use Rattle.avc_formats.specs.FrameMd5.{framemd5_head, framemd5_line};
 ghost use Rattle.avc_formats.specs.FrameMd5.{size_text, time_base_line, times_text};
 
 use crate::md5_writer::Md5Writer;

@@ -15,7 +15,8 @@ use std::io::Read;
 /// So many bytes are looked at.
 const FRONT: usize = MAX_UNIT;
 
-/// The front of a stream, up to the end of the first slice that is decoded, and what that slice's set says.
+/// The front of a stream, up to the end of the first slice that is decoded, and what that slice's
+/// set says.
 #[derive(Drop)]
 pub struct Front {
     pub bytes: Vec<u8>,

@@ -5,7 +5,8 @@ ghost use Rattle.std.specs.Io.KnownBytes.{Appends};
 ghost use Rattle.avc_types.specs.Whole.{IsWhole};
 ghost use Rattle.avc_yuv.specs.I420.{shown_height, shown_width};
 ghost use Rattle.avc_formats.specs.Formats.{StopsPicture};
-ghost use Rattle.avc_formats.specs.Headed.{has_head, has_size, head_before, head_of, headed, picture_text};
+ghost use Rattle.avc_formats.specs.Headed.{has_head, has_size, head_before, head_of, headed};
+ghost use Rattle.avc_formats.specs.Headed.{picture_text};
 
 use crate::format::PictureFormat;
 use crate::framemd5::{add_framemd5_head, write_line};
@@ -17,7 +18,8 @@ use avc_types::OutOfMemory;
 use std::alloc::Global;
 use std::io::Write;
 
-/// A format with a head in front of the first picture, or of each, which says how pictures are shown. All pictures have the size that it says.
+/// A format with a head in front of the first picture, or of each, which says how pictures are
+/// shown. All pictures have the size that it says.
 #[derive(Clone, Copy, Debug, PartialEq, Eq)]
 pub enum HeadedFormat {
     /// YUV4MPEG2: each picture as I420 behind a line of its own.

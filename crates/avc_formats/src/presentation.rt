@@ -1,14 +1,17 @@
 //! How a sequence is shown: size, shape of samples, frame rate, range and place of chroma (7.4.2.1.1, E.2.1).
 
 ghost use Rattle.std.specs.Prelude.{◌≡◌};
-ghost use Rattle.avc_formats.specs.Presenting.{aspect_of, chroma_site, default_rate, default_site, full_range, in_vui, no_presentation, no_ratio};
-ghost use Rattle.avc_formats.specs.Presenting.{own_aspect, ratio, sample_aspect, site_of_type, IsPresented, IsRateOf};
+ghost use Rattle.avc_formats.specs.Presenting.{aspect_of, chroma_site, default_rate, default_site};
+ghost use Rattle.avc_formats.specs.Presenting.{full_range, in_vui, no_presentation, no_ratio};
+ghost use Rattle.avc_formats.specs.Presenting.{own_aspect, ratio, sample_aspect, site_of_type};
+ghost use Rattle.avc_formats.specs.Presenting.{IsPresented, IsRateOf};
 
 use crate::ratio::{Ratio, lowest_terms};
 use avc_params::{ChromaLocation, SampleAspect, SampleSize, Sps, Timing, VideoSignal};
 use avc_tools::{shown_height, shown_width};
 
-/// Where a chroma sample lies among the four luma samples that it stands for (figure E-1), as far as Y4M has a word for it.
+/// Where a chroma sample lies among the four luma samples that it stands for (figure E-1), as far
+/// as Y4M has a word for it.
 #[derive(Clone, Copy, Debug, PartialEq, Eq)]
 pub enum ChromaSite {
     /// In the middle of the left two: type 0.

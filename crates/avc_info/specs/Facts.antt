@@ -36,7 +36,8 @@ reorder_number s = option_map (λ r. r.max_num_reorder_frames) (restriction_of s
 abbrev pub coded_size : Sps → Size
 coded_size s = record { width = 16 * width_in_mbs s; height = 16 * height_in_mbs s }
 
--- What is cropped at each side, in luma samples: CropUnitX and CropUnitY are 2, since chroma is 4:2:0 and pictures are frames (7.4.2.1.1).
+-- What is cropped at each side, in luma samples: CropUnitX and CropUnitY are 2, since chroma is
+-- 4:2:0 and pictures are frames (7.4.2.1.1).
 abbrev pub crop_of : Option Cropping → Crop
 crop_of None = record { left = 0; right = 0; top = 0; bottom = 0 }
 crop_of (Some c) = record {
@@ -126,7 +127,8 @@ abbrev pub first_of : {A : Type 0} → Option A → Option A → Option A
 first_of (Some a) b = Some a
 first_of None b = b
 
--- with a slice whose header was read under these sets: what is said of the sequence is what the first slice's set says
+-- with a slice whose header was read under these sets: what is said of the sequence is what the
+-- first slice's set says
 abbrev pub after_slice : Sets → Header → StreamFacts → StreamFacts
 after_slice sets h f = record f {
   sequence = first_of f.sequence (option_map said_by (sps_under sets h));

@@ -19,7 +19,8 @@ info_so_far form bytes ended = if ended then form (facts_of bytes) (saturated (l
 
 -- ---- for private clauses
 
--- All units whose end has been seen were taken, and these are the sets that they brought and the facts; so many bytes came.
+-- All units whose end has been seen were taken, and these are the sets that they brought and the
+-- facts; so many bytes came.
 pub record AreNoted (max : ℕ) (s : SplitterState) (ended : Bool) (sets : List SetUnit) (facts : StreamFacts) (bytes : ℕ) : Type 0 where
   pub drained : IsDrained max s
   pub end_is : ended ≡ s.ended

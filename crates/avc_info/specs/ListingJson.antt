@@ -55,7 +55,8 @@ piece_json piece u = line_of_data (piece_data piece u)
 
 -- ---- headers
 
--- of a sequence parameter set: its elements, the size after cropping, and that of the buffer in frames
+-- of a sequence parameter set: its elements, the size after cropping, and that of the buffer in
+-- frames
 abbrev pub sps_data : (unit : ℕ) → Sps → Data
 sps_data unit s =
     object (member (codes "dpb_size") (count (dpb_size s))
@@ -81,7 +82,8 @@ pps_data unit p =
     (member (codes "seq_parameter_set_id") (count p.seq_parameter_set_id)
     (member (codes "unit") (count unit) no_members))))))))
 
--- of a slice, under these parameter sets: elements of its header, IdrPicFlag (7.4.1.2.4), SliceQP_Y (7.4.3) and the name of slice_type
+-- of a slice, under these parameter sets: elements of its header, IdrPicFlag (7.4.1.2.4), SliceQP_Y
+-- (7.4.3) and the name of slice_type
 abbrev pub slice_data : (unit : ℕ) → Sets → Header → Data
 slice_data unit sets h =
     object (member (codes "IdrPicFlag") (count (flag_number (is_idr h)))

@@ -49,7 +49,8 @@ abbrev pub refused_head : Unit → Brought → Option SetHead
 refused_head u (Set (OfSequence (Err refused))) = option_and_then set_head (rbsp_of u)
 refused_head u _ = None
 
--- a unit, under the parameter sets in force before it: what is refused is what `headers` tells as refused
+-- a unit, under the parameter sets in force before it: what is refused is what `headers` tells as
+-- refused
 abbrev pub after_unit : Sets → Unit → StreamFacts → StreamFacts
 after_unit sets u f = with_set (said_in (brought sets u)) (refused_head u (brought sets u)) (after_brought sets u.index (brought sets u) f)
 

@@ -16,7 +16,8 @@ abbrev pub greatest_divisor : (most a b : ℕ) → ℕ
 greatest_divisor zero a b = 0
 greatest_divisor (suc m) a b = if divides_both (suc m) a b then suc m else greatest_divisor m a b
 
--- a to b in lowest terms: each divided by the greatest number that divides both, which is none above b
+-- a to b in lowest terms: each divided by the greatest number that divides both, which is none
+-- above b
 abbrev pub lowest : (a b : ℕ) → Ratio
 lowest a b = ratio (a / greatest_divisor b a b) (b / greatest_divisor b a b)
 

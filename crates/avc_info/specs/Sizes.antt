@@ -24,7 +24,8 @@ shown_size s = record { width = shown_width s; height = shown_height s }
 abbrev pub has_size : Size → List Size → Bool
 has_size s sizes = list_any (λ other. other.width == s.width && other.height == s.height) sizes
 
--- With a size more: each stands once, in the order of their first coming; of those behind the eighth it is said only that they came.
+-- With a size more: each stands once, in the order of their first coming; of those behind the
+-- eighth it is said only that they came.
 abbrev pub with_size : Sizes → Size → Sizes
 with_size s size =
     if has_size size s.first then s

@@ -132,7 +132,8 @@ abbrev pub refused_set_line : Option SetHead → List ℕ
 refused_set_line None = []
 refused_set_line (Some h) = refused_profile_text h ++ refused_level_text h ++ newline
 
--- what is said of the pictures: by the set of the first slice, or without a slice that is read by the first set
+-- what is said of the pictures: by the set of the first slice, or without a slice that is read by
+-- the first set
 abbrev pub sequence_of : StreamFacts → Option SequenceFacts
 sequence_of f = elim f.sequence [ Some s ↦ Some s | None ↦ f.first_set ]
 

@@ -20,8 +20,8 @@ use std::marker::Model;
 // No unit in memory has more bytes.
 const MAX_UNIT: usize = usize::MAX;
 
-/// The facts of a stream (Annex B) that comes in pieces, told in a form at its end. It keeps the unit that is not over and the
-/// parameter sets in force. A contract sees what came of the stream.
+/// The facts of a stream (Annex B) that comes in pieces, told in a form at its end. It keeps the
+/// unit that is not over and the parameter sets in force. A contract sees what came of the stream.
 #[derive(Drop)]
 pub struct InfoLines<F> {
     alloc: Global,
@@ -66,7 +66,8 @@ impl<F> InfoLines<F> {
         }
     }
 
-    /// What the sequence parameter set of the first slice says, once the end of that slice has come.
+    /// What the sequence parameter set of the first slice says, once the end of that slice has
+    /// come.
     pub fn sequence(&self) -> &Option<SequenceFacts>
         ensures { self.now.failed ≡ false → result.now ≡ (facts_so_far self.now.bytes self.now.ended).sequence }
     {

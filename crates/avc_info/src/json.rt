@@ -3,8 +3,10 @@
 ghost use Rattle.std.specs.Prelude.{◌≡◌, IfOk, OnOk, codes, map, string_bytes};
 ghost use Rattle.serde_json.specs.Data.{put as with_member, string};
 ghost use Rattle.serde_json.specs.View.{members_view, view};
-ghost use Rattle.avc_info.specs.Json.{clock_of, colour_data, count as count_data, count_if_given, crop_data, facts_data, flag_data, json_line};
-ghost use Rattle.avc_info.specs.Json.{ratio_data, refusal_data, sequence_data, sequence_if_given, set_head_data, size_data, sizes_data};
+ghost use Rattle.avc_info.specs.Json.{clock_of, colour_data, count as count_data, count_if_given};
+ghost use Rattle.avc_info.specs.Json.{crop_data, facts_data, flag_data, json_line};
+ghost use Rattle.avc_info.specs.Json.{ratio_data, refusal_data, sequence_data, sequence_if_given};
+ghost use Rattle.avc_info.specs.Json.{set_head_data, size_data, sizes_data};
 ghost use Rattle.avc_info.specs.Text.{level_name, profile_name};
 
 use crate::rates::{bit_rate, duration, rate_ratio};

@@ -5,8 +5,10 @@ ghost use Rattle.avc_params.specs.Tables.{sets_after};
 ghost use Rattle.avc_units.specs.Grouping.{set_units};
 ghost use Rattle.serde_json.specs.View.{view};
 ghost use Rattle.serde_json.specs.Written.{has_float};
-ghost use Rattle.avc_info.specs.ListingJson.{header_data, header_json, line_of_data, line_of_data_if, piece_data, piece_json};
-ghost use Rattle.avc_info.specs.ListingJson.{pps_data, refused_data, set_data, slice_data, sps_data, unit_data, unit_json};
+ghost use Rattle.avc_info.specs.ListingJson.{header_data, header_json, line_of_data};
+ghost use Rattle.avc_info.specs.ListingJson.{line_of_data_if, piece_data, piece_json};
+ghost use Rattle.avc_info.specs.ListingJson.{pps_data, refused_data, set_data, slice_data};
+ghost use Rattle.avc_info.specs.ListingJson.{sps_data, unit_data, unit_json};
 
 use crate::form::ForPrograms;
 use crate::json::{put_count, put_text};

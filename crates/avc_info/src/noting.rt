@@ -3,7 +3,8 @@
 ghost use Rattle.std.specs.Prelude.{◌≡◌, ◌++◌, ◌∷◌, [], IfOk, OnOk};
 ghost use Rattle.avc_params.specs.Tables.{sets_after};
 ghost use Rattle.avc_units.specs.Grouping.{set_units};
-ghost use Rattle.avc_info.specs.Noting.{after_brought, after_set, after_unit, refused_head, said_in, set_head};
+ghost use Rattle.avc_info.specs.Noting.{after_brought, after_set, after_unit, refused_head};
+ghost use Rattle.avc_info.specs.Noting.{said_in, set_head};
 
 use crate::sequence_facts::SequenceFacts;
 use crate::stream_facts::{SetHead, StreamFacts};

@@ -1,7 +1,8 @@
 //! The text that tells people how a stream's pictures are coded and shown, and how many bits and seconds they take.
 
 ghost use Rattle.std.specs.Prelude.{◌≡◌, ◌++◌, OnOk, string_bytes};
-ghost use Rattle.avc_info.specs.PictureText.{aspect_text, coded_line, coded_text, colour_line, colour_text, crop_text};
+ghost use Rattle.avc_info.specs.PictureText.{aspect_text, coded_line, coded_text, colour_line};
+ghost use Rattle.avc_info.specs.PictureText.{colour_text, crop_text};
 ghost use Rattle.avc_info.specs.PictureText.{picture_text, range_text, rates_line, samples_line};
 
 use crate::rates::{bit_rate, duration};

@@ -10,8 +10,9 @@ use avc_console::{Console, Ending, RunFault, end_listing, write_stream};
 use std::alloc::Global;
 use std::io::{Read, Write};
 
-/// The command `info`: reads a byte stream (Annex B) to its end, writes what its parameter sets and slice headers say of it, in
-/// this form, and tells of a fault on the console. No picture is decoded.
+/// The command `info`: reads a byte stream (Annex B) to its end, writes what its parameter sets and
+/// slice headers say of it, in this form, and tells of a fault on the console. No picture is
+/// decoded.
 pub fn info<F: InfoForm + Drop, R: Read, W: Write, E: Write, V>(
     alloc: Global,
     form: F,
@@ -26,7 +27,8 @@ pub fn info<F: InfoForm + Drop, R: Read, W: Write, E: Write, V>(
     end_listing(run, &console.names, &mut console.errors)
 }
 
-/// Reads a byte stream (Annex B) to its end and writes what its parameter sets and slice headers say of it, in this form.
+/// Reads a byte stream (Annex B) to its end and writes what its parameter sets and slice headers
+/// say of it, in this form.
 pub fn run_info<F: InfoForm + Drop, R: Read, W: Write>(
     alloc: Global,
     form: F,

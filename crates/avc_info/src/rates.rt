@@ -2,7 +2,8 @@
 
 ghost use Rattle.std.specs.Prelude.{◌≡◌, ◌<◌};
 ghost use Rattle.avc_annexb.specs.Units.{saturated};
-ghost use Rattle.avc_info.specs.Rates.{bit_rate, bit_rate_by, duration, duration_by, lowest, rate_by, rate_ratio, stands_still};
+ghost use Rattle.avc_info.specs.Rates.{bit_rate, bit_rate_by, duration, duration_by, lowest};
+ghost use Rattle.avc_info.specs.Rates.{rate_by, rate_ratio, stands_still};
 
 use avc_formats::{Ratio, lowest_terms};
 use avc_params::Timing;
@@ -36,7 +37,8 @@ fn lowest(numerator: u64, denominator: u64) -> Ratio
     lowest_terms(numerator, denominator)
 }
 
-/// Thousandths of a second that so many pictures take, rounded down, where there is a frame rate. It stays at the greatest number.
+/// Thousandths of a second that so many pictures take, rounded down, where there is a frame rate.
+/// It stays at the greatest number.
 pub fn duration(timing: Option<Timing>, pictures: u64) -> Option<u64>
     ensures { result ≡ duration timing pictures }
 {
@@ -56,8 +58,8 @@ fn duration_by(pictures: u64, timing: Timing) -> Option<u64>
     Some(narrowed(1000 * units / u128::from(timing.time_scale)))
 }
 
-/// Bits in a second, rounded down, where so many pictures take so many bytes, and there are a frame rate and pictures. It stays at the
-/// greatest number.
+/// Bits in a second, rounded down, where so many pictures take so many bytes, and there are a frame
+/// rate and pictures. It stays at the greatest number.
 pub fn bit_rate(timing: Option<Timing>, bytes: u64, pictures: u64) -> Option<u64>
     ensures { result ≡ bit_rate timing bytes pictures }
 {

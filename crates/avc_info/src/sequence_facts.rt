@@ -1,7 +1,8 @@
 //! What a sequence parameter set says of the pictures (7.3.2.1.1, E.1.1).
 
 ghost use Rattle.std.specs.Prelude.{◌≡◌};
-ghost use Rattle.avc_info.specs.Facts.{chroma_place, coded_size, colour_of, crop_of, ratio_given, reorder_number, said_by, timing_of};
+ghost use Rattle.avc_info.specs.Facts.{chroma_place, coded_size, colour_of, crop_of, ratio_given};
+ghost use Rattle.avc_info.specs.Facts.{reorder_number, said_by, timing_of};
 
 use avc_formats::{Presentation, Ratio};
 use avc_params::{Colour, Cropping, Sps, Timing};
@@ -39,7 +40,8 @@ pub struct SequenceFacts {
     /// The width of a luma sample to its height, where it is given (Table E-1).
     pub sample_aspect: Option<Ratio>,
 
-    /// video_full_range_flag, where it is given: whether samples take all values from 0 to 255 (E.2.1).
+    /// video_full_range_flag, where it is given: whether samples take all values from 0 to 255
+    /// (E.2.1).
     pub full_range: Option<bool>,
 
     /// Where it is given.

@@ -1,11 +1,13 @@
 //! Pictures, sequences and slices, counted by slice headers (7.4.1.2.4).
 
 ghost use Rattle.std.specs.Prelude.{◌≡◌, Some};
-ghost use Rattle.avc_info.specs.Facts.{begins_after, no_slices, one_more_if, slices_with, with_slice};
+ghost use Rattle.avc_info.specs.Facts.{begins_after, no_slices, one_more_if, slices_with};
+ghost use Rattle.avc_info.specs.Facts.{with_slice};
 
 use avc_slice::{Header, begins_picture};
 
-/// How many pictures there are, and how many slices in each. A number stays at the greatest one, once there.
+/// How many pictures there are, and how many slices in each. A number stays at the greatest one,
+/// once there.
 #[derive(Drop)]
 pub struct SliceCounts {
     /// Of the slice that came last.

@@ -74,7 +74,8 @@ impl StreamFacts {
         }
     }
 
-    /// What the sequence parameter set of the first slice says; of a stream without a slice that is read, the first set.
+    /// What the sequence parameter set of the first slice says; of a stream without a slice that is
+    /// read, the first set.
     pub fn sequence(&self) -> &Option<SequenceFacts>
         ensures { result.now ≡ sequence_of self.now }
     {

@@ -2,11 +2,14 @@
 
 ghost use Rattle.std.specs.Prelude.{◌≡◌, ◌++◌, IfOk, OnOk, codes, string_bytes};
 ghost use Rattle.avc_info.specs.PictureText.{info_text};
-ghost use Rattle.avc_info.specs.Text.{clock_text, counts_line, frame_rate, frames_line, if_given, is_level_1b};
+ghost use Rattle.avc_info.specs.Text.{clock_text, counts_line, frame_rate, frames_line, if_given};
+ghost use Rattle.avc_info.specs.Text.{is_level_1b};
 ghost use Rattle.avc_info.specs.Text.{level_name, level_text, profile_name, profile_text, rate_of};
 ghost use Rattle.avc_info.specs.Text.{newline, other_profile_name, references_text, refusal_text};
-ghost use Rattle.avc_info.specs.Text.{refused_level_text, refused_line, refused_profile_text, refused_set_line, refused_text};
-ghost use Rattle.avc_info.specs.Text.{sequence_text, shape_line, size_text, stream_text, thousandths, thousandths_if_given};
+ghost use Rattle.avc_info.specs.Text.{refused_level_text, refused_line, refused_profile_text};
+ghost use Rattle.avc_info.specs.Text.{refused_set_line, refused_text};
+ghost use Rattle.avc_info.specs.Text.{sequence_text, shape_line, size_text, stream_text};
+ghost use Rattle.avc_info.specs.Text.{thousandths, thousandths_if_given};
 
 use crate::picture_text::add_picture;
 use crate::sequence_facts::SequenceFacts;

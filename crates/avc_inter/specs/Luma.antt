@@ -86,7 +86,8 @@ quarter s x y fx (suc zero) = at_row_1 s x y fx
 quarter s x y fx (suc (suc zero)) = at_row_2 s x y fx
 quarter s x y fx (suc (suc (suc f))) = at_row_3 s x y fx
 
--- The prediction of the luma sample (x, y) of the picture by a vector in quarter samples (8.4.2.2.1).
+-- The prediction of the luma sample (x, y) of the picture by a vector in quarter samples
+-- (8.4.2.2.1).
 abbrev pub inter_luma : (width height : ℕ) → (ℕ → ℕ → ℕ) → Mv → ℕ → ℕ → ℕ
 inter_luma width height f mv x y =
     quarter (clamped width height f) (pos x +ℤ (mv.x >>ℤ 2)) (pos y +ℤ (mv.y >>ℤ 2)) (low_bits mv.x 2) (low_bits mv.y 2)

@@ -26,8 +26,9 @@ sums_along m at step = six_taps (slice_index_or m at (pos 0)) (slice_index_or m 
 abbrev pub centre_along : List ℤ → (at step : ℕ) → ℕ
 centre_along m at step = clip1 (sums_along m at step +ℤ pos 512 >>ℤ 10)
 
--- A block in a list of samples with S of them in a row, which has two columns and two rows of samples more in front and three behind.
--- k is the place of a sample's two rows and columns before it.
+-- A block in a list of samples with S of them in a row, which has two columns and two rows of
+-- samples more in front and three behind. k is the place of a sample's two rows and columns before
+-- it.
 
 -- the sample itself, that right of it, and that below it
 abbrev pub whole : List ℕ → (stride k : ℕ) → ℕ
@@ -97,11 +98,13 @@ quarter_of p stride k fx (suc zero) = row_1_of p stride k fx
 quarter_of p stride k fx (suc (suc zero)) = row_2_of p stride k fx
 quarter_of p stride k fx (suc (suc (suc f))) = row_3_of p stride k fx
 
--- p shows the samples of the map s in so many columns from `left` on and rows from `top` on, row by row
+-- p shows the samples of the map s in so many columns from `left` on and rows from `top` on, row by
+-- row
 pub record IsPatch (s : Wide) (left top : ℤ) (columns rows : ℕ) (p : List ℕ) : Type 0 where
   pub at : (i j : ℕ) → i < columns → j < rows → slice_index p (j * columns + i) ≡ s (left +ℤ pos i) (top +ℤ pos j)
 
--- the samples of the map s in so many columns and rows from `left` and `top` on are in rows that lie `stride` apart, from place `first` on
+-- the samples of the map s in so many columns and rows from `left` and `top` on are in rows that
+-- lie `stride` apart, from place `first` on
 pub record IsThere (s : Wide) (left top : ℤ) (columns count first stride : ℕ) (rows : List ℕ) : Type 0 where
   pub row : (j : ℕ) → j < count → first + j * stride + columns ≤ length rows
   pub at : (i j : ℕ) → i < columns → j < count → slice_index rows (first + j * stride + i) ≡ s (left +ℤ pos i) (top +ℤ pos j)

@@ -4,7 +4,8 @@ use Rattle.avc_types.specs.Arithmetic.{◌>>ℤ◌, clip1}
 use Rattle.avc_inter.specs.Bounds.{IsSum}
 use Rattle.avc_inter.specs.Luma.{six_taps}
 
--- where sample k of a block of so many columns is behind its first one, in rows that begin a stride apart
+-- where sample k of a block of so many columns is behind its first one, in rows that begin a stride
+-- apart
 abbrev pub place_of : (columns stride k : ℕ) → ℕ
 place_of columns stride k = k / columns * stride + k % columns
 
@@ -18,7 +19,8 @@ pub record AreLanes (columns : ℕ) : Type 0 where
   pub most : columns ≤ 16
   pub all : 16 / columns * columns ≡ 16
 
--- so many times sixteen samples of a block from this place on are there, five rows more, and five columns right of them
+-- so many times sixteen samples of a block from this place on are there, five rows more, and five
+-- columns right of them
 abbrev pub HasRoom : (columns stride count at : ℕ) → List ℕ → Type 0
 HasRoom columns stride count at p = HasPlaces columns stride (16 * (count + (5 * columns + 15) / 16)) (at + 5) p
 

@@ -43,8 +43,8 @@ fn lay_far<const L: usize, const W: usize, const PAD: usize, const P: usize>(
     quarters::<L, W>(&patch, 0, L + 5, count, fx, fy, out, to);
 }
 
-/// Lays the samples between whole ones, in rows of L columns of which W are wanted: `count` times sixteen of them, by a patch of `P`
-/// samples where the plane has not all that they ask for.
+/// Lays the samples between whole ones, in rows of L columns of which W are wanted: `count` times
+/// sixteen of them, by a patch of `P` samples where the plane has not all that they ask for.
 #[inline(always)]
 pub fn lay_between<const L: usize, const W: usize, const PAD: usize, const P: usize>(
     reference: &PaddedPlane<PAD>,

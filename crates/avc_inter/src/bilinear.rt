@@ -9,7 +9,8 @@ use crate::row::{multiples, sums, widened};
 use crate::rows::{put_rows, sixteen};
 use avc_plane::RowsPlace;
 
-/// The weights in 64ths of a sample, that right of it, that below it and that across, which are 64 together.
+/// The weights in 64ths of a sample, that right of it, that below it and that across, which are 64
+/// together.
 #[derive(Clone, Copy, Debug)]
 pub struct BilinearWeights {
     here: u16,

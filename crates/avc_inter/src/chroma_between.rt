@@ -43,7 +43,8 @@ fn lay_far<const L: usize, const W: usize, const PAD: usize>(
     blend_rows::<L, W>(&patch, 0, L + 1, count, weights, out, to);
 }
 
-/// Lays the samples between whole ones, in rows of L columns of which W are wanted: `count` times sixteen of them.
+/// Lays the samples between whole ones, in rows of L columns of which W are wanted: `count` times
+/// sixteen of them.
 #[inline(always)]
 pub fn lay_eighths<const L: usize, const W: usize, const PAD: usize>(
     reference: &PaddedPlane<PAD>,

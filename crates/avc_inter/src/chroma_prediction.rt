@@ -42,8 +42,9 @@ fn set_between<const W: usize, const H: usize, const PAD: usize>(
     block.set_rows(&samples, 0, 8);
 }
 
-/// Predicts the chroma block of W columns and H rows (each 1 to 8) whose upper left sample stands in column `x` and row `y` of a
-/// chroma plane, by a luma vector, which counts eighths of chroma samples, into that plane of a reference picture (8.4.2.2.2).
+/// Predicts the chroma block of W columns and H rows (each 1 to 8) whose upper left sample stands
+/// in column `x` and row `y` of a chroma plane, by a luma vector, which counts eighths of chroma
+/// samples, into that plane of a reference picture (8.4.2.2.2).
 pub fn chroma<const W: usize, const H: usize, const PAD: usize>(
     reference: &PaddedPlane<PAD>,
     x: usize,
@@ -72,7 +73,8 @@ pub fn chroma<const W: usize, const H: usize, const PAD: usize>(
     }
 }
 
-/// Lays the prediction of a chroma block into rows, by all samples that one between whole ones needs.
+/// Lays the prediction of a chroma block into rows, by all samples that one between whole ones
+/// needs.
 #[inline(always)]
 fn lay_chroma<const W: usize, const H: usize, const PAD: usize>(
     reference: &PaddedPlane<PAD>,
@@ -107,7 +109,8 @@ fn lay_chroma<const W: usize, const H: usize, const PAD: usize>(
     }
 }
 
-/// Lays the prediction of a chroma block into its place in a plane, by all samples that one between whole ones needs.
+/// Lays the prediction of a chroma block into its place in a plane, by all samples that one between
+/// whole ones needs.
 #[inline(never)]
 fn predict_between<const W: usize, const H: usize, const PAD: usize>(
     reference: &PaddedPlane<PAD>,
@@ -129,7 +132,8 @@ fn predict_between<const W: usize, const H: usize, const PAD: usize>(
     lay_chroma::<W, H, PAD>(reference, x, y, mv, rows, to);
 }
 
-/// The prediction of an even number of rows, laid into its place in the chroma plane of the picture.
+/// The prediction of an even number of rows, laid into its place in the chroma plane of the
+/// picture.
 pub fn predict_chroma<const W: usize, const H: usize, const PAD: usize>(
     reference: &PaddedPlane<PAD>,
     x: usize,
@@ -158,7 +162,8 @@ pub fn predict_chroma<const W: usize, const H: usize, const PAD: usize>(
     }
 }
 
-/// The prediction by the vector 0 of a block that lies in the reference picture, whose samples it takes over.
+/// The prediction by the vector 0 of a block that lies in the reference picture, whose samples it
+/// takes over.
 #[inline(always)]
 pub fn copy_chroma<const W: usize, const H: usize, const PAD: usize>(
     reference: &PaddedPlane<PAD>,

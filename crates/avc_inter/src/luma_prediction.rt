@@ -25,8 +25,8 @@ fn count_of(columns: usize, rows: usize) -> usize
     (rows * columns + 15) / 16
 }
 
-/// Gives a block the samples between whole ones: in rows of L columns, of which N are room enough, and by a patch of `P` samples where the
-/// plane has not all that they ask for.
+/// Gives a block the samples between whole ones: in rows of L columns, of which N are room enough,
+/// and by a patch of `P` samples where the plane has not all that they ask for.
 #[inline(always)]
 fn set_between<
     const W: usize,
@@ -68,9 +68,10 @@ fn set_between<
     block.set_rows(&samples, 0, L);
 }
 
-/// Predicts the luma block of W columns and H rows (each 1 to 16) whose upper left sample stands in column `x` and row `y` of the
-/// picture, by a vector in quarter samples into the luma plane of a reference picture (8.4.2.2.1). Wherever the vector leads, places
-/// outside the plane have its nearest sample.
+/// Predicts the luma block of W columns and H rows (each 1 to 16) whose upper left sample stands in
+/// column `x` and row `y` of the picture, by a vector in quarter samples into the luma plane of a
+/// reference picture (8.4.2.2.1). Wherever the vector leads, places outside the plane have its
+/// nearest sample.
 pub fn luma<const W: usize, const H: usize, const PAD: usize>(
     reference: &PaddedPlane<PAD>,
     x: usize,
@@ -138,7 +139,8 @@ fn lay_luma<const W: usize, const H: usize, const PAD: usize>(
     }
 }
 
-/// Lays the prediction of a luma block into its place in a plane, by all samples that one between whole ones needs.
+/// Lays the prediction of a luma block into its place in a plane, by all samples that one between
+/// whole ones needs.
 #[inline(never)]
 fn predict_between<const W: usize, const H: usize, const PAD: usize>(
     reference: &PaddedPlane<PAD>,
@@ -189,7 +191,8 @@ pub fn predict_luma<const W: usize, const H: usize, const PAD: usize>(
     }
 }
 
-/// The prediction by the vector 0 of a block that lies in the reference picture, whose samples it takes over.
+/// The prediction by the vector 0 of a block that lies in the reference picture, whose samples it
+/// takes over.
 #[inline(always)]
 pub fn copy_luma<const W: usize, const H: usize, const PAD: usize>(
     reference: &PaddedPlane<PAD>,

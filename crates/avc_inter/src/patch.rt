@@ -1,6 +1,7 @@
 //! Samples of a reference plane around a block, fetched into one list.
 
-ghost use Rattle.std.specs.Prelude.{◌≡◌, ℕ, ℤ, ◌+◌, ◌*◌, ◌<◌, ◌≤◌, ◌^◌, pos, neg_ℤ, nat_abs, ◌+ℤ◌, ◌-ℤ◌, ◌≤ℤ◌, IfSome, List, length, slice_index};
+ghost use Rattle.std.specs.Prelude.{◌≡◌, ℕ, ℤ, ◌+◌, ◌*◌, ◌<◌, ◌≤◌, ◌^◌, pos, neg_ℤ, nat_abs, ◌+ℤ◌};
+ghost use Rattle.std.specs.Prelude.{◌-ℤ◌, ◌≤ℤ◌, IfSome, List, length, slice_index};
 ghost use Rattle.avc_types.specs.Arithmetic.{clip3};
 ghost use Rattle.avc_plane.specs.Plane.{sample, clamped};
 ghost use Rattle.avc_types.specs.Blocks.{block_of};
@@ -84,8 +85,8 @@ fn behind_edge(place: i64, pad: usize) -> usize
     (place + pad as i64) as usize
 }
 
-/// Where the padded rows of a plane have the samples in `columns` columns from `left` on and `count` rows from `top` on; None where they
-/// don't have them all.
+/// Where the padded rows of a plane have the samples in `columns` columns from `left` on and
+/// `count` rows from `top` on; None where they don't have them all.
 #[inline(always)]
 pub fn find_within<const PAD: usize>(
     plane: &PaddedPlane<PAD>,
@@ -117,7 +118,8 @@ pub fn find_within<const PAD: usize>(
     })
 }
 
-/// Where the padded rows of a plane have the rectangle whose upper left sample is in column `x` and row `y`.
+/// Where the padded rows of a plane have the rectangle whose upper left sample is in column `x` and
+/// row `y`.
 #[inline(always)]
 pub fn place_inside<const PAD: usize>(plane: &PaddedPlane<PAD>, x: usize, y: usize) -> RowsPlace
     requires column { x < plane.now.width }

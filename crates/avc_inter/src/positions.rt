@@ -1,12 +1,15 @@
 //! The sixteen quarter positions of a block (Table 8-12).
 //!
-//! `at` is the place two rows above the block's first sample and two columns left of it, in rows that begin `stride` apart. L is how many
-//! columns the block has, and `count` how many times sixteen samples. What is read is in the `count_around` rows of sixteen from there on.
-//! W columns of the block are written into rows, from the place `to` on.
+//! `at` is the place two rows above the block's first sample and two columns left of it, in rows
+//! that begin `stride` apart. L is how many columns the block has, and `count` how many times
+//! sixteen samples. What is read is in the `count_around` rows of sixteen from there on. W columns
+//! of the block are written into rows, from the place `to` on.
 
-ghost use Rattle.std.specs.Prelude.{◌≡◌, ℕ, ◌+◌, ◌*◌, ◌/◌, ◌<◌, ◌≤◌, ◌^◌, pos, length, slice_index, slice_index_or};
+ghost use Rattle.std.specs.Prelude.{◌≡◌, ℕ, ◌+◌, ◌*◌, ◌/◌, ◌<◌, ◌≤◌, ◌^◌, pos, length, slice_index};
+ghost use Rattle.std.specs.Prelude.{slice_index_or};
 ghost use Rattle.avc_plane.specs.Strided.{IsRoom, IsStridedSet};
-ghost use Rattle.avc_inter.specs.Patch.{taps_along, row_0_of, row_1_of, row_2_of, row_3_of, quarter_of};
+ghost use Rattle.avc_inter.specs.Patch.{taps_along, row_0_of, row_1_of, row_2_of, row_3_of};
+ghost use Rattle.avc_inter.specs.Patch.{quarter_of};
 ghost use Rattle.avc_inter.specs.SixRows.{place_of, AreLanes, AreSums, HasRoom};
 
 use crate::rows::{

@@ -1,6 +1,7 @@
 //! The six-tap filter over a row of samples, sixteen at a time.
 
-ghost use Rattle.std.specs.Prelude.{◌≡◌, ℕ, ℤ, FitsSigned, ◌+◌, ◌<◌, ◌≤◌, ◌*◌, ◌-ℤ◌, pos, length, slice_index, slice_index_or};
+ghost use Rattle.std.specs.Prelude.{◌≡◌, ℕ, ℤ, FitsSigned, ◌+◌, ◌<◌, ◌≤◌, ◌*◌, ◌-ℤ◌, pos, length};
+ghost use Rattle.std.specs.Prelude.{slice_index, slice_index_or};
 ghost use Rattle.std.specs.Int.{w16, w32};
 ghost use Rattle.std.specs.Simd.Lanes.{chunk, Each1};
 ghost use Rattle.avc_inter.specs.SixTapRow.{taps_at};
@@ -75,7 +76,8 @@ fn taps16(src: &[u8], at: usize) -> i32x16
     differences(sums(outer, multiples(inner, 20)), multiples(middle, 5))
 }
 
-/// The six-tap filter (8.4.2.2.1) over a row: what it is, unrounded, over each six neighbours of `src`.
+/// The six-tap filter (8.4.2.2.1) over a row: what it is, unrounded, over each six neighbours of
+/// `src`.
 pub fn six_tap_row(src: &[u8], dst: &mut [i32])
     requires { length src.now ≡ length dst.old + 5 }
     ensures { (i : ℕ) → i < length dst.old → slice_index_or dst.new i (pos 0) ≡ taps_at src.now i }

@@ -1,15 +1,18 @@
 //! The six-tap filter over rows of sixteen samples, read where they lie (8.4.2.2.1).
 //!
-//! Sixteen samples are one row of a block of 16 columns or two rows of a block of 8. L is how many columns the block has, of which W are
-//! wanted. Its rows begin `stride` apart in the list that they are read from, and at the place `to` in the rows that they are written into.
-//! `count` is how many times sixteen samples the block has.
+//! Sixteen samples are one row of a block of 16 columns or two rows of a block of 8. L is how many
+//! columns the block has, of which W are wanted. Its rows begin `stride` apart in the list that
+//! they are read from, and at the place `to` in the rows that they are written into. `count` is how
+//! many times sixteen samples the block has.
 
-ghost use Rattle.std.specs.Prelude.{◌≡◌, ℕ, ◌+◌, ◌*◌, ◌/◌, ◌<◌, ◌≤◌, ◌^◌, pos, length, slice_index, slice_index_or};
+ghost use Rattle.std.specs.Prelude.{◌≡◌, ℕ, ◌+◌, ◌*◌, ◌/◌, ◌<◌, ◌≤◌, ◌^◌, pos, length, slice_index};
+ghost use Rattle.std.specs.Prelude.{slice_index_or};
 ghost use Rattle.avc_types.specs.Arithmetic.{mean_of_two};
 ghost use Rattle.avc_plane.specs.Strided.{IsRoom, IsStridedSet};
 ghost use Rattle.avc_inter.specs.Bounds.{IsSum};
 ghost use Rattle.avc_inter.specs.Patch.{taps_along, half_along, centre_along, rounded_sum};
-ghost use Rattle.avc_inter.specs.SixRows.{place_of, HasPlaces, AreLanes, half_of, taps_of, centre_of, AreSums, AreSumsPut};
+ghost use Rattle.avc_inter.specs.SixRows.{place_of, HasPlaces, AreLanes, half_of, taps_of};
+ghost use Rattle.avc_inter.specs.SixRows.{centre_of, AreSums, AreSumsPut};
 
 use crate::row::{multiples, narrow_differences, sums, widened};
 use crate::taps::{centre, half, mean, rounded_half};
@@ -138,7 +141,8 @@ pub fn whole_rows<const L: usize, const W: usize>(
     }
 }
 
-/// Half samples: b or s with step 1, h or m with the stride. The first of the six samples is `by` behind place `at`.
+/// Half samples: b or s with step 1, h or m with the stride. The first of the six samples is `by`
+/// behind place `at`.
 #[inline(always)]
 pub fn half_rows<const L: usize, const W: usize>(
     p: &[u8],
@@ -211,7 +215,8 @@ pub fn quarter_rows<const L: usize, const W: usize>(
     }
 }
 
-/// The means of two half samples: b or s, whose six samples begin `across` behind place `at`, and h or m, `down` behind it.
+/// The means of two half samples: b or s, whose six samples begin `across` behind place `at`, and h
+/// or m, `down` behind it.
 #[inline(always)]
 pub fn diagonal_rows<const L: usize, const W: usize>(
     p: &[u8],

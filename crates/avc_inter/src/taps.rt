@@ -99,7 +99,8 @@ fn sum_within(a: i16, b: i16) -> i16
     nearest(wide_sum(a, b))
 }
 
-/// The rounded and clipped sample of the three sums of two: a quarter first, then a sixteenth, then the whole.
+/// The rounded and clipped sample of the three sums of two: a quarter first, then a sixteenth, then
+/// the whole.
 fn finished(outer: i16, middle: i16, inner: i16) -> u8
     requires outer { IsPair outer }
     requires middle { IsPair middle }

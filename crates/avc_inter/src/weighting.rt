@@ -1,6 +1,7 @@
 //! Weighted sample prediction (8.4.2.3.2).
 
-ghost use Rattle.std.specs.Prelude.{◌≡◌, ℕ, ◌+◌, ◌*◌, ◌<◌, ◌≤◌, ◌^◌, pos, neg_ℤ, ◌+ℤ◌, ◌*ℤ◌, ◌≤ℤ◌, length, slice_index, map};
+ghost use Rattle.std.specs.Prelude.{◌≡◌, ℕ, ◌+◌, ◌*◌, ◌<◌, ◌≤◌, ◌^◌, pos, neg_ℤ, ◌+ℤ◌, ◌*ℤ◌, ◌≤ℤ◌};
+ghost use Rattle.std.specs.Prelude.{length, slice_index, map};
 ghost use Rattle.avc_types.specs.Arithmetic.{◌>>ℤ◌, clip1};
 ghost use Rattle.avc_inter.specs.Weight.{weighted};
 ghost use Rattle.avc_inter.specs.Bounds.{IsWithin};
@@ -53,8 +54,8 @@ fn weighted_sample(sample: u8, log2_denom: u8, weight: i32, offset: i32) -> u8
     }
 }
 
-/// The weighted samples of a block (8.4.2.3.2): times `weight` (-128 to 128), divided by two to the power of `log2_denom` (0 to 7) and
-/// rounded, plus `offset` (-128 to 127), held between 0 and 255.
+/// The weighted samples of a block (8.4.2.3.2): times `weight` (-128 to 128), divided by two to the
+/// power of `log2_denom` (0 to 7) and rounded, plus `offset` (-128 to 127), held between 0 and 255.
 pub fn weight<const W: usize, const H: usize>(
     block: &Block<W, H>,
     log2_denom: u8,

@@ -3,7 +3,8 @@ use Rattle.std.specs.Prelude.{◌≡◌, ℕ, ◌+◌, ◌-◌, ◌*◌, ◌<◌
 use Rattle.avc_intra.specs.declared.sides.Sides.{Sides}
 use Rattle.avc_intra.specs.Neighbourhood.{Around, top, left_of}
 
--- The samples around p's block of this size stand in rows around the place of its first sample, as far as their side is available.
+-- The samples around p's block of this size stand in rows around the place of its first sample, as
+-- far as their side is available.
 pub record IsSeen (p : Around) (sides : Sides) (size first stride : ℕ) (rows : List ℕ) : Type 0 where
   pub tops : sides.above ≡ true → (stride ≤ first) × ((i : ℕ) → i < size → top p (pos i) ≡ slice_index rows (first - stride + i))
   pub lefts : sides.left ≡ true → (0 < first) × (size < stride) × ((i : ℕ) → i < size → left_of p (pos i) ≡ slice_index rows (first + i * stride - 1))

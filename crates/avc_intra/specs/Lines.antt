@@ -4,8 +4,8 @@ use Rattle.std.specs.List.{range_with_len}
 use Rattle.avc_types.specs.Arithmetic.{mean_of_two, mean_of_three}
 use Rattle.avc_intra.specs.Neighbourhood.{Around, top, left_of}
 
--- nine samples each: the eight above with the last one twice; those on the left with the last one going on; and those from
--- the lowest on the left up to the corner and on above the block
+-- nine samples each: the eight above with the last one twice; those on the left with the last one
+-- going on; and those from the lowest on the left up to the corner and on above the block
 abbrev pub line_above : Around → List ℕ
 line_above p = top p (pos 0) ∷ top p (pos 1) ∷ top p (pos 2) ∷ top p (pos 3) ∷ top p (pos 4) ∷ top p (pos 5) ∷ top p (pos 6) ∷ top p (pos 7) ∷ top p (pos 7) ∷ []
 

@@ -12,7 +12,8 @@ pub record IsWithin (n : ℕ) (z : ℤ) : Type 0 where
   pub low : neg_ℤ (pos n) ≤ℤ z
   pub high : z ≤ℤ pos n
 
--- the sample of a plane with this height at its middle, in 32nds, and these rises a column and a row (8.3.3.4, 8.3.4.4)
+-- the sample of a plane with this height at its middle, in 32nds, and these rises a column and a
+-- row (8.3.3.4, 8.3.4.4)
 abbrev pub plane_sample : (middle : ℕ) → (height across down : ℤ) → ℕ → ℕ → ℕ
 plane_sample middle height across down x y =
     clip1 (height +ℤ across *ℤ (pos x -ℤ pos middle) +ℤ down *ℤ (pos y -ℤ pos middle) +ℤ pos 16 >>ℤ 5)

@@ -1,9 +1,11 @@
 //! The prediction of chroma (8.3.4).
 
-ghost use Rattle.std.specs.Prelude.{◌≡◌, ℕ, ◌+◌, ◌*◌, ◌/◌, ◌<◌, ◌≤◌, pos, ◌+ℤ◌, ◌*ℤ◌, true, length, slice_index};
+ghost use Rattle.std.specs.Prelude.{◌≡◌, ℕ, ◌+◌, ◌*◌, ◌/◌, ◌<◌, ◌≤◌, pos, ◌+ℤ◌, ◌*ℤ◌, true, length};
+ghost use Rattle.std.specs.Prelude.{slice_index};
 ghost use Rattle.avc_types.specs.Arithmetic.{◌>>ℤ◌};
 ghost use Rattle.avc_intra.specs.Neighbourhood.{Around, Predicts};
-ghost use Rattle.avc_intra.specs.Chroma.{ShowsChroma, can_predict_chroma, intra_chroma, predict_chroma, predict_dc_chroma, predict_plane_chroma};
+ghost use Rattle.avc_intra.specs.Chroma.{ShowsChroma, can_predict_chroma, intra_chroma};
+ghost use Rattle.avc_intra.specs.Chroma.{predict_chroma, predict_dc_chroma, predict_plane_chroma};
 ghost use Rattle.avc_intra.specs.Chroma.{sum_above, sum_left};
 ghost use Rattle.avc_intra.specs.Slopes.{IsWithin};
 ghost use Rattle.avc_intra.specs.InRows.{IsSeen};
@@ -41,8 +43,8 @@ impl ModeChroma {
     }
 }
 
-/// The samples of one chroma component around a macroblock, before deblocking. What stands on a side that is not available
-/// counts for nothing.
+/// The samples of one chroma component around a macroblock, before deblocking. What stands on a
+/// side that is not available counts for nothing.
 #[derive(Clone, Copy, Debug)]
 pub struct AroundChroma {
     /// The samples above, from left to right.
@@ -64,8 +66,8 @@ fn gradient(slope: i32) -> i32
     (34 * slope + 32) >> 6
 }
 
-/// The DC of the 4x4 block in this column and row of blocks, from the sums of its sides: off the diagonal one side goes before the
-/// other.
+/// The DC of the 4x4 block in this column and row of blocks, from the sums of its sides: off the
+/// diagonal one side goes before the other.
 #[inline(always)]
 fn dc_of_block(sides: Sides, above: u16, left: u16, column: usize, row: usize) -> u8
     requires column { column < 2 }
@@ -168,8 +170,8 @@ impl AroundChroma {
     }
 }
 
-/// Predicts the samples of one chroma component of an intra macroblock (clause 8.3.4), row by row; `IntraUnavailable` where the
-/// mode needs a side that is not available.
+/// Predicts the samples of one chroma component of an intra macroblock (clause 8.3.4), row by row;
+/// `IntraUnavailable` where the mode needs a side that is not available.
 pub fn predict_chroma(around: &AroundChroma, mode: ModeChroma) -> Result<[u8; 64], Fault>
     ensures { (p : Around) → ShowsChroma p around.now → Predicts 8 8 (intra_chroma around.now.sides p mode) result }
 {
@@ -221,8 +223,8 @@ fn lay_dc(rows: &mut [u8], at: RowsPlace, sides: Sides)
     lay_same_lines::<8, 4>(&lower, rows, middle);
 }
 
-/// Lays the prediction of one chroma component of a macroblock (clause 8.3.4) into its place in rows, by a mode whose sides are
-/// available, from the samples that stand around it there.
+/// Lays the prediction of one chroma component of a macroblock (clause 8.3.4) into its place in
+/// rows, by a mode whose sides are available, from the samples that stand around it there.
 pub fn lay_chroma(rows: &mut [u8], at: RowsPlace, sides: Sides, mode: ModeChroma)
     requires apart { 8 ≤ at.stride }
     requires room { IsRoom 8 8 at.first at.stride (length rows.old) }

@@ -8,7 +8,8 @@ ghost use Rattle.avc_intra.specs.Neighbourhood.{Around};
 ghost use Rattle.avc_intra.specs.Luma4x4.{predict_diagonal_down_left, predict_diagonal_down_right};
 ghost use Rattle.avc_intra.specs.Luma4x4.{predict_vertical_right, predict_vertical_left};
 ghost use Rattle.avc_intra.specs.Luma4x4.{predict_horizontal_up, exchanged};
-ghost use Rattle.avc_intra.specs.Lines.{line_above, line_left, line_round, pairs_of, triples_of, block4x4};
+ghost use Rattle.avc_intra.specs.Lines.{line_above, line_left, line_round, pairs_of, triples_of};
+ghost use Rattle.avc_intra.specs.Lines.{block4x4};
 
 use crate::means::{mean_of_three, mean_of_two};
 

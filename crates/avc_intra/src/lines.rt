@@ -5,7 +5,8 @@ ghost use Rattle.avc_plane.specs.Strided.{IsRoom, IsStridedSet};
 
 use avc_plane::RowsPlace;
 
-// a line by itself: of it is known that it does not overlap the rows, so that it is loaded and stored at once
+// a line by itself: of it is known that it does not overlap the rows, so that it is loaded and
+// stored at once
 #[inline(always)]
 pub fn line_at<const W: usize>(p: &[u8], first: usize) -> [u8; W]
     requires { first + W ≤ length p.now }

@@ -1,9 +1,11 @@
 //! The prediction of Intra 16x16 macroblocks (8.3.3).
 
-ghost use Rattle.std.specs.Prelude.{◌≡◌, ℕ, ◌+◌, ◌*◌, ◌<◌, ◌≤◌, pos, ◌+ℤ◌, ◌*ℤ◌, true, length, slice_index};
+ghost use Rattle.std.specs.Prelude.{◌≡◌, ℕ, ◌+◌, ◌*◌, ◌<◌, ◌≤◌, pos, ◌+ℤ◌, ◌*ℤ◌, true, length};
+ghost use Rattle.std.specs.Prelude.{slice_index};
 ghost use Rattle.avc_types.specs.Arithmetic.{◌>>ℤ◌};
 ghost use Rattle.avc_intra.specs.Neighbourhood.{Around, Predicts};
-ghost use Rattle.avc_intra.specs.Luma16x16.{Shows16x16, can_predict16x16, intra16x16, predict16x16, predict_dc16x16, predict_plane16x16};
+ghost use Rattle.avc_intra.specs.Luma16x16.{Shows16x16, can_predict16x16, intra16x16, predict16x16};
+ghost use Rattle.avc_intra.specs.Luma16x16.{predict_dc16x16, predict_plane16x16};
 ghost use Rattle.avc_intra.specs.Slopes.{IsWithin};
 ghost use Rattle.avc_intra.specs.InRows.{IsSeen};
 ghost use Rattle.avc_plane.specs.Strided.{IsRoom, IsStridedSet};
@@ -40,8 +42,8 @@ impl Mode16x16 {
     }
 }
 
-/// The samples around the luma of a macroblock, before deblocking. What stands on a side that is not available counts for
-/// nothing.
+/// The samples around the luma of a macroblock, before deblocking. What stands on a side that is
+/// not available counts for nothing.
 #[derive(Clone, Copy, Debug)]
 pub struct Around16x16 {
     /// The samples above, from left to right.
@@ -120,8 +122,8 @@ impl Around16x16 {
     }
 }
 
-/// Predicts the luma samples of an Intra 16x16 macroblock (clause 8.3.3), row by row; `IntraUnavailable` where the mode needs a
-/// side that is not available.
+/// Predicts the luma samples of an Intra 16x16 macroblock (clause 8.3.3), row by row;
+/// `IntraUnavailable` where the mode needs a side that is not available.
 pub fn predict16(around: &Around16x16, mode: Mode16x16) -> Result<[u8; 256], Fault>
     ensures { (p : Around) → Shows16x16 p around.now → Predicts 16 16 (intra16x16 around.now.sides p mode) result }
 {
@@ -147,8 +149,8 @@ fn read_around(rows: &[u8], at: RowsPlace, sides: Sides) -> Around16x16
     }
 }
 
-/// Lays the prediction of the luma of a macroblock (clause 8.3.3) into its place in rows, by a mode whose sides are available, from the
-/// samples that stand around it there.
+/// Lays the prediction of the luma of a macroblock (clause 8.3.3) into its place in rows, by a mode
+/// whose sides are available, from the samples that stand around it there.
 pub fn lay16x16(rows: &mut [u8], at: RowsPlace, sides: Sides, mode: Mode16x16)
     requires apart { 16 ≤ at.stride }
     requires room { IsRoom 16 16 at.first at.stride (length rows.old) }

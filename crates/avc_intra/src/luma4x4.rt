@@ -4,7 +4,8 @@ ghost use Rattle.std.specs.Prelude.{◌≡◌, ℕ, ◌≤◌, length, pos, true
 ghost use Rattle.avc_plane.specs.Strided.{IsRoom, IsStridedSet};
 ghost use Rattle.avc_intra.specs.InRows.{IsSeen4x4};
 ghost use Rattle.avc_intra.specs.Neighbourhood.{Around, Predicts, top, left_of};
-ghost use Rattle.avc_intra.specs.Luma4x4.{Shows4x4, can_predict4x4, extended, intra4x4, predict4x4, predict_dc4x4};
+ghost use Rattle.avc_intra.specs.Luma4x4.{Shows4x4, can_predict4x4, extended, intra4x4, predict4x4};
+ghost use Rattle.avc_intra.specs.Luma4x4.{predict_dc4x4};
 ghost use Rattle.avc_intra.specs.Lines.{block4x4, line_above, line_left, line_round};
 
 use crate::beside::{above, corner, left, sum_above4, sum_left4};
@@ -45,7 +46,8 @@ impl Mode4x4 {
     }
 }
 
-/// The samples around a 4x4 luma block, before deblocking. What stands on a side that is not available counts for nothing.
+/// The samples around a 4x4 luma block, before deblocking. What stands on a side that is not
+/// available counts for nothing.
 #[derive(Clone, Copy, Debug)]
 pub struct Around4x4 {
     /// The four samples above the block and the four above to the right, from left to right.
@@ -59,8 +61,8 @@ pub struct Around4x4 {
 }
 
 impl Around4x4 {
-    /// The eight samples above, with the last of all twice. Where those to the right are not available, the last one above
-    /// the block stands for them.
+    /// The eight samples above, with the last of all twice. Where those to the right are not
+    /// available, the last one above the block stands for them.
     fn line_above(&self) -> [u8; 9]
         requires { self.now.sides.above ≡ true }
         ensures { (p : Around) → Shows4x4 p self.now → result ≡ line_above (extended self.now.sides p) }
@@ -140,8 +142,8 @@ impl Around4x4 {
     }
 }
 
-/// Predicts a 4x4 luma block (clause 8.3.1.2): its samples row by row, or `IntraUnavailable` where the mode needs a side that
-/// is not available.
+/// Predicts a 4x4 luma block (clause 8.3.1.2): its samples row by row, or `IntraUnavailable` where
+/// the mode needs a side that is not available.
 pub fn predict4(around: &Around4x4, mode: Mode4x4) -> Result<[u8; 16], Fault>
     ensures { (p : Around) → Shows4x4 p around.now → Predicts 4 4 (intra4x4 around.now.sides p mode) result }
 {
@@ -167,8 +169,8 @@ fn read_around(rows: &[u8], at: RowsPlace, sides: Sides) -> Around4x4
     }
 }
 
-/// Lays the prediction of a 4x4 luma block (clause 8.3.1.2) into its place in rows, by a mode whose sides are available, from the
-/// samples that stand around it there.
+/// Lays the prediction of a 4x4 luma block (clause 8.3.1.2) into its place in rows, by a mode whose
+/// sides are available, from the samples that stand around it there.
 pub fn lay4x4(rows: &mut [u8], at: RowsPlace, sides: Sides, mode: Mode4x4)
     requires apart { 4 ≤ at.stride }
     requires room { IsRoom 4 4 at.first at.stride (length rows.old) }

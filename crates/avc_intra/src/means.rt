@@ -17,7 +17,8 @@ pub fn mean_of_three(a: u8, b: u8, c: u8) -> u8
     ((u16::from(a) + 2 * u16::from(b) + u16::from(c) + 2) / 4) as u8
 }
 
-/// The mean of the sides that count, from their sums of four samples each; the middle grey where none does.
+/// The mean of the sides that count, from their sums of four samples each; the middle grey where
+/// none does.
 pub fn mean_of_sides4(counts_above: bool, counts_left: bool, above: u16, left: u16) -> u8
     requires above { above ≤ 1020 }
     requires left { left ≤ 1020 }

@@ -1,6 +1,7 @@
 //! Prediction by a plane (clauses 8.3.3.4 and 8.3.4.4), for a block of W columns and rows.
 
-ghost use Rattle.std.specs.Prelude.{◌≡◌, ℕ, ◌+◌, ◌-◌, ◌*◌, ◌/◌, ◌<◌, ◌≤◌, pos, ◌+ℤ◌, ◌-ℤ◌, ◌*ℤ◌, ◌≤ℤ◌, length, slice_index, slice_index_or};
+ghost use Rattle.std.specs.Prelude.{◌≡◌, ℕ, ◌+◌, ◌-◌, ◌*◌, ◌/◌, ◌<◌, ◌≤◌, pos, ◌+ℤ◌, ◌-ℤ◌, ◌*ℤ◌};
+ghost use Rattle.std.specs.Prelude.{◌≤ℤ◌, length, slice_index, slice_index_or};
 ghost use Rattle.avc_types.specs.Arithmetic.{◌>>ℤ◌, clip1};
 ghost use Rattle.avc_intra.specs.Luma16x16.{slope};
 ghost use Rattle.avc_intra.specs.Slopes.{IsWithin, plane_sample, side_of};
@@ -46,7 +47,8 @@ pub fn slope<const W: usize>(side: &[u8; W], corner: u8) -> i32
     sum
 }
 
-/// How high the plane lies in the middle of the block, in 32nds, by the last samples of the two sides.
+/// How high the plane lies in the middle of the block, in 32nds, by the last samples of the two
+/// sides.
 pub fn height_between(left: u8, above: u8) -> i32
     ensures value { result ≡ pos (16 * (left + above)) }
     ensures small { IsWithin 10000 result }

@@ -1,7 +1,7 @@
 //! The sides of a block on which samples are available for intra prediction.
 
-/// The sides of a block whose samples are available for intra prediction (clauses 8.3.1.2, 8.3.3 and 8.3.4). A side is of
-/// one block or macroblock, so its samples are available together.
+/// The sides of a block whose samples are available for intra prediction (clauses 8.3.1.2, 8.3.3
+/// and 8.3.4). A side is of one block or macroblock, so its samples are available together.
 #[derive(Clone, Copy, Debug, PartialEq, Eq)]
 pub struct Sides {
     /// The samples above the block.

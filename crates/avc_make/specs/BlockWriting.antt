@@ -9,7 +9,8 @@ use Rattle.avc_vlc.specs.Writing.{run_word, token_word, zeros_word}
 
 -- ---- what is coded
 
--- the levels that are not 0, each with how many zeros stand right before it, where so many stand before them all
+-- the levels that are not 0, each with how many zeros stand right before it, where so many stand
+-- before them all
 abbrev pub after_zeros : (before : ℕ) → List ℤ → List (ℤ × ℕ)
 after_zeros before [] = []
 after_zeros before (l ∷ levels) = if nat_abs l == 0 then after_zeros (before + 1) levels else (l, before) ∷ after_zeros 0 levels
@@ -38,7 +39,8 @@ ones_first (suc most) (l ∷ values) = if nat_abs l == 1 then suc (ones_first mo
 abbrev pub sign_bits : (n : ℕ) → List ℤ → List Bool
 sign_bits n values = map (λ l. int_lt l (pos 0)) (take n values)
 
--- levelCode: 0, 1, 2, 3, .. for 1, -1, 2, -2, .., and 2 less where the level's size is known to be above 1
+-- levelCode: 0, 1, 2, 3, .. for 1, -1, 2, -2, .., and 2 less where the level's size is known to be
+-- above 1
 abbrev pub code_of_level : (above_one : Bool) → ℤ → ℕ
 code_of_level above_one (pos n) = 2 * n - 2 - (if above_one then 2 else 0)
 code_of_level above_one (negsuc n) = 2 * n + 1 - (if above_one then 2 else 0)

@@ -21,7 +21,8 @@ abbrev pub last_run_bits : (run : ℕ) → List Bool
 last_run_bits zero = []
 last_run_bits (suc run) = ue_word (suc run)
 
--- The data of an I slice after so many bits; `before` is the picture up to its next macroblock, qp that of the macroblock before.
+-- The data of an I slice after so many bits; `before` is the picture up to its next macroblock, qp
+-- that of the macroblock before.
 unfoldable pub i_data_bits : SliceStart → (before : List PicMb) → (qp position : ℕ) → List Mb → List Bool
 i_data_bits s before qp position [] = []
 i_data_bits s before qp position (m ∷ ms) =
@@ -40,8 +41,8 @@ p_data_bits s before qp position run (m ∷ ms) =
           w ++ (w' ++ p_data_bits s (before ++ placed s m ∷ []) m.qp (position + length w + length w') 0 ms)
     ]
 
--- slice_data of these macroblocks, from a position of the unit on (7.3.4). In a P slice mb_skip_run stands first, so it
--- stands where there is no macroblock too.
+-- slice_data of these macroblocks, from a position of the unit on (7.3.4). In a P slice mb_skip_run
+-- stands first, so it stands where there is no macroblock too.
 abbrev pub data_bits : SliceStart → (before : List PicMb) → (position : ℕ) → List Mb → List Bool
 data_bits s before position [] = elim s.is_p [ true ↦ ue_word 0 | false ↦ [] ]
 data_bits s before position (m ∷ ms) =
@@ -50,8 +51,8 @@ data_bits s before position (m ∷ ms) =
       | false ↦ i_data_bits s before s.qp position (m ∷ ms)
     ]
 
--- A macroblock that can stand in this context: one that is skipped in a P slice alone, each other with its elements in
--- their ranges.
+-- A macroblock that can stand in this context: one that is skipped in a P slice alone, each other
+-- with its elements in their ranges.
 abbrev pub CanStand : Context → MbSyntax → Type 0
 CanStand c p_skip = c.is_p ≡ true
 CanStand c (i_pcm luma cb cr) = HasRanges c (i_pcm luma cb cr)
@@ -65,8 +66,8 @@ CanFollow s before qp [] = Unit {0}
 CanFollow s before qp (m ∷ ms) =
     CanStand (context s before qp) m.syntax × (m.qp ≡ qp_of qp m.syntax) × CanFollow s (before ++ placed s m ∷ []) m.qp ms
 
--- The data of macroblocks that can follow one another, in an I slice at least one, is read as they are, with no fault, in a
--- picture that has room for one and for all of them.
+-- The data of macroblocks that can follow one another, in an I slice at least one, is read as they
+-- are, with no fault, in a picture that has room for one and for all of them.
 abbrev pub DataIsRead : Type 0
 DataIsRead =
     (s : SliceStart) (before : List PicMb) (position : ℕ) (ms : List Mb) → (s.is_p ≡ false → 1 ≤ length ms) → length ms < 4294967295 → length before < s.size

@@ -1,7 +1,8 @@
 -- Emulation prevention in a unit that is written.
 use Rattle.std.specs.Prelude.{◌≡◌, ℕ, ◌+◌, ◌≤◌, nat_le, ◌==◌, ◌&&◌, if◌then◌else◌, List, [], ◌∷◌, ◌++◌}
 
--- how many zeros stand before what follows this byte, after so many zeros; after two of them a 03 is put before a byte to 03
+-- how many zeros stand before what follows this byte, after so many zeros; after two of them a 03
+-- is put before a byte to 03
 abbrev pub zeros_with : ℕ → ℕ → ℕ
 zeros_with count b = if b == 0 then (if count == 2 then 1 else count + 1) else 0
 

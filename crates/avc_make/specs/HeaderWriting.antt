@@ -61,7 +61,8 @@ modification_bits (LongTerm n) = joined (ue_word 2 ∷ ue_word n ∷ [])
 abbrev pub modifications_bits : List Modification → List Bool
 modifications_bits list = joined (flat_map modification_bits list ∷ ue_word 3 ∷ [])
 
--- num_ref_idx_active_override_flag and ref_pic_list_modification_flag_l0 with what they bring, and the weights, in P slices
+-- num_ref_idx_active_override_flag and ref_pic_list_modification_flag_l0 with what they bring, and
+-- the weights, in P slices
 abbrev pub list_bits : Header → List Bool
 list_bits h = joined (optional_bits ue_word h.active_override ∷ optional_bits modifications_bits h.modifications ∷ where_bits pred_weight_table_bits h.pred_weight_table ∷ [])
 
@@ -211,7 +212,8 @@ pub record IsIdr (h : Header) (idr_pic_id : ℕ) : Type 0 where
   pub i : is_p h ≡ false
   pub frame_num : h.frame_num ≡ 0
 
--- A header that can be written under these sets: what reading it asks for, and each field within its code.
+-- A header that can be written under these sets: what reading it asks for, and each field within
+-- its code.
 pub record IsHeader (sps : Sps) (pps : Pps) (h : Header) : Type 0 where
   pub sps_within : IsSps sps
   pub pps_within : IsPps pps

@@ -127,7 +127,8 @@ qp_delta_bits (suc p) delta = se_word delta
 abbrev pub pattern_bits : Context → (intra : Bool) → Residual → List Bool
 pattern_bits c intra r = joined (ue_word (pattern_number intra (pattern_of r)) ∷ qp_delta_bits (pattern_of r) r.mb_qp_delta ∷ residual_bits c false r ∷ [])
 
--- the residual of a macroblock with coded_block_pattern; where that is 0, mb_qp_delta is not coded (7.3.5)
+-- the residual of a macroblock with coded_block_pattern; where that is 0, mb_qp_delta is not coded
+-- (7.3.5)
 pub record IsPattern (r : Residual) : Type 0 where
   pub residual : IsResidual false r
   pub no_delta : pattern_of r ≡ 0 → r.mb_qp_delta ≡ pos 0
@@ -275,7 +276,8 @@ pub record IsIPcm (luma cb cr : List ℕ) : Type 0 where
   pub cb_samples : AreSamples 64 cb
   pub cr_samples : AreSamples 64 cr
 
--- an inter macroblock that can be written: an index for each partition and a vector for each part, in a P slice
+-- an inter macroblock that can be written: an index for each partition and a vector for each part,
+-- in a P slice
 pub record IsPInter (c : Context) (t : PMbType) (indices : List ℕ) (mvds : List Mvd) (r : Residual) : Type 0 where
   pub in_p : c.is_p ≡ true
   pub quarters : HasQuarters t
@@ -300,7 +302,8 @@ qp_of previous (i_nxn modes chroma_mode r) = qp_after previous r.mb_qp_delta
 qp_of previous (i_16x16 mode chroma_mode r) = qp_after previous r.mb_qp_delta
 qp_of previous (p_inter t ref_idx mvd r) = qp_after previous r.mb_qp_delta
 
--- The bits of a macroblock whose elements are in their ranges are read as it is, whatever comes after it.
+-- The bits of a macroblock whose elements are in their ranges are read as it is, whatever comes
+-- after it.
 abbrev pub MbIsRead : Type 0
 MbIsRead =
     (c : Context) (position : ℕ) (rest : List Bool) (syntax : MbSyntax) → HasRanges c syntax →

@@ -14,7 +14,8 @@ use Rattle.avc_make.specs.SliceUnits.{AreInForce, placed_header}
 use Rattle.avc_make.specs.Units.{IsUnit}
 use Rattle.avc_make.specs.declared.slice.CodedSlice.{CodedSlice}
 
--- What its data is written under: it is slice 1 of its picture, and slice 0 has all macroblocks before.
+-- What its data is written under: it is slice 1 of its picture, and slice 0 has all macroblocks
+-- before.
 abbrev pub own_start : CodedSlice → SliceStart
 own_start c = record {
   is_p = is_p c.header;
@@ -35,17 +36,18 @@ coded_slice_bits c =
     let header = header_bits c.sps c.pps c.header in
     header ++ data_bits (own_start c) (earlier_mbs c) (length header) c.macroblocks
 
--- A slice that can be written: its header is in its ranges, and its macroblocks can follow one another. The data of an I slice
--- has one at least (7.3.4); that of a P slice may be mb_skip_run alone.
+-- A slice that can be written: its header is in its ranges, and its macroblocks can follow one
+-- another. The data of an I slice has one at least (7.3.4); that of a P slice may be mb_skip_run
+-- alone.
 pub record IsCodedSlice (c : CodedSlice) : Type 0 where
   pub header : IsHeader c.sps c.pps c.header
   pub some : is_p c.header ≡ false → 1 ≤ length c.macroblocks
   pub few : length c.macroblocks ≤ max_macroblocks
   pub follow : CanFollow (own_start c) (earlier_mbs c) (own_start c).qp c.macroblocks
 
--- The unit is read as the slice: its header at its place, under any sets of which its own are in force, and the bits after the
--- header as its macroblocks, with no fault. The picture has room for one and for all of them, and none of its macroblocks before
--- is of the slice.
+-- The unit is read as the slice: its header at its place, under any sets of which its own are in
+-- force, and the bits after the header as its macroblocks, with no fault. The picture has room for
+-- one and for all of them, and none of its macroblocks before is of the slice.
 pub record IsReadBack (c : CodedSlice) (unit : List ℕ) : Type 0 where
   pub header_read : (sets : Sets) → AreInForce sets c.sps c.pps →
       header_in_rbsp (slice_unit_header c.header) sets (rbsp (drop 1 unit)) ≡ Ok (placed_header c.sps c.pps c.header)

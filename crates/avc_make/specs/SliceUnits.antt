@@ -18,7 +18,8 @@ pub record AreInForce (sets : Sets) (sps : Sps) (pps : Pps) : Type 0 where
 abbrev pub placed_header : Sps → Pps → Header → Header
 placed_header sps pps h = record h { position = length (header_bits sps pps h) }
 
--- In a unit of a header that can be written and of further bits, the header is read as it was, under any sets of which its own are in force.
+-- In a unit of a header that can be written and of further bits, the header is read as it was,
+-- under any sets of which its own are in force.
 abbrev pub HeaderIsRead : Type 0
 HeaderIsRead =
     (sets : Sets) (sps : Sps) (pps : Pps) (h : Header) (others : List Bool) (unit : List ℕ) →

@@ -58,7 +58,8 @@ sps_bits sps =
 abbrev pub max_written_side : ℕ
 max_written_side = 4096
 
--- A set that can be written: each field within its code and its range. Its size may be one that no set is read with.
+-- A set that can be written: each field within its code and its range. Its size may be one that no
+-- set is read with.
 pub record IsWritable (sps : Sps) : Type 0 where
   pub profile : (sps.profile_idc == 66 || sps.profile_idc == 77 || sps.profile_idc == 88) ≡ true
   pub profile_fits : sps.profile_idc < 256

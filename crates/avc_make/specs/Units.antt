@@ -18,7 +18,8 @@ sps_header = 0x67
 abbrev pub pps_header : ℕ
 pps_header = 0x68
 
--- A unit: its header byte, and the body of an RBSP that has these bits, the stop bit and 0 bits to the end of its last byte (7.3.1, 7.3.2.11).
+-- A unit: its header byte, and the body of an RBSP that has these bits, the stop bit and 0 bits to
+-- the end of its last byte (7.3.1, 7.3.2.11).
 pub record IsUnit (header : ℕ) (bits : List Bool) (unit : List ℕ) : Type 0 where
   pub raw : List ℕ
   pub padding : ℕ
@@ -29,6 +30,7 @@ pub record IsUnit (header : ℕ) (bits : List Bool) (unit : List ℕ) : Type 0 w
 abbrev pub PpsIsRead : Type 0
 PpsIsRead = (pps : Pps) (unit : List ℕ) → IsPps pps → IsUnit pps_header (pps_bits pps) unit → pps_of (rbsp (drop 1 unit)) ≡ Ok pps
 
--- The unit of a sequence parameter set in its ranges and of a size that is taken is read as that set.
+-- The unit of a sequence parameter set in its ranges and of a size that is taken is read as that
+-- set.
 abbrev pub SpsIsRead : Type 0
 SpsIsRead = (sps : Sps) (unit : List ℕ) → IsWritable sps → IsSps sps → IsUnit sps_header (sps_bits sps) unit → sps_of (rbsp (drop 1 unit)) ≡ Ok sps

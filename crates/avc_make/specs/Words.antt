@@ -7,7 +7,8 @@ use Rattle.avc_bits.specs.Bits.{Read, bits_of}
 abbrev pub bits_after_one : ℕ → ℕ
 bits_after_one n = 31 - count_leading_zeros 32 n
 
--- ue(v) of a value below 2 ^ 32 - 1: the value and 1 in binary, after as many zeros as bits follow its first 1
+-- ue(v) of a value below 2 ^ 32 - 1: the value and 1 in binary, after as many zeros as bits follow
+-- its first 1
 unfoldable pub ue_word : ℕ → List Bool
 ue_word v = replicate (bits_after_one (v + 1)) false ++ true ∷ bits_of (bits_after_one (v + 1)) (v + 1)
 

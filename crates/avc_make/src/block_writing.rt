@@ -14,9 +14,10 @@ use crate::run_writing::{put_runs, put_zeros};
 use avc_types::{Levels, OutOfMemory};
 use avc_vlc::{Codeword, Token, coeff_token_word};
 
-/// Puts the MAXN levels of a block (residual_block_cavlc): 4 of chroma DC, where `nc` is -1, or 15 or 16, where it is nC.
-/// Nothing is chosen: each level and each run has one code. All that `read_block` answers can be written, and gives the
-/// bits that were read; levels up to 2,063 in size can be written in any block.
+/// Puts the MAXN levels of a block (residual_block_cavlc): 4 of chroma DC, where `nc` is -1, or 15
+/// or 16, where it is nC. Nothing is chosen: each level and each run has one code. All that
+/// `read_block` answers can be written, and gives the bits that were read; levels up to 2,063 in
+/// size can be written in any block.
 pub fn write_block<const MAXN: usize>(
     maker: &mut BitMaker,
     nc: i8,

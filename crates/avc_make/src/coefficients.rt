@@ -1,11 +1,13 @@
 //! The levels of a block that are not 0.
-ghost use Rattle.std.specs.Prelude.{◌≡◌, ◌+◌, ◌≤◌, ◌<◌, ℕ, ℤ, pos, List, [], ◌∷◌, length, reverse, slice_index_or, take};
+ghost use Rattle.std.specs.Prelude.{◌≡◌, ◌+◌, ◌≤◌, ◌<◌, ℕ, ℤ, pos, List, [], ◌∷◌, length, reverse};
+ghost use Rattle.std.specs.Prelude.{slice_index_or, take};
 ghost use Rattle.std.specs.List.{sum};
 ghost use Rattle.avc_make.specs.BlockWriting.{coded, ones_first, runs_of, values_of};
 
 use std::marker::Model;
 
-/// Up to 16 levels with the zeros right before each, the highest frequency first, seen as their list.
+/// Up to 16 levels with the zeros right before each, the highest frequency first, seen as their
+/// list.
 #[derive(Drop)]
 pub(crate) struct Coefficients {
     // the lowest frequency first

@@ -9,8 +9,8 @@ use avc_bits::BitReader;
 use avc_types::OutOfMemory;
 use std::alloc::Global;
 
-/// The RBSP of the first `n` bits before the stop bit of another, or of all of them where there are fewer. It has no
-/// escapes.
+/// The RBSP of the first `n` bits before the stop bit of another, or of all of them where there are
+/// fewer. It has no escapes.
 pub fn cut_bits(alloc: Global, rbsp: &[u8], n: usize) -> Result<Vec<u8>, OutOfMemory>
     ensures { IfOk result (λ cut. IsRbsp (take n (bits_before_stop rbsp.now)) cut.items) }
 {

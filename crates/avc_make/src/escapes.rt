@@ -6,7 +6,8 @@ ghost use Rattle.avc_make.specs.Escaping.{escaped, escaped_byte, zeros_with};
 use avc_types::OutOfMemory;
 use std::alloc::Global;
 
-/// The body of a unit with this RBSP: a 03 stands in each place where a start code could be seen (7.3.1, 7.4.1).
+/// The body of a unit with this RBSP: a 03 stands in each place where a start code could be seen
+/// (7.3.1, 7.4.1).
 pub fn escape(alloc: Global, rbsp: &[u8]) -> Result<Vec<u8>, OutOfMemory>
     ensures { IfOk result (λ body. body.items ≡ escaped rbsp.now) }
 {

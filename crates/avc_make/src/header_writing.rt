@@ -1,9 +1,12 @@
 //! Slice headers, written (7.3.3).
 
 ghost use Rattle.std.specs.Prelude.{◌≡◌, ◌<◌, ◌≤◌, ◌++◌, false, IfSome};
-ghost use Rattle.avc_make.specs.HeaderWriting.{IsDeblocking, IsHeader, IsModification, IsOffset, IsOrderOf};
-ghost use Rattle.avc_make.specs.HeaderWriting.{IsSeWhere, coded_order_bits, deblocking_bits, filtering_bits};
-ghost use Rattle.avc_make.specs.HeaderWriting.{front_bits, header_bits, list_bits_where, numbers_bits};
+ghost use Rattle.avc_make.specs.HeaderWriting.{IsDeblocking, IsHeader, IsModification, IsOffset};
+ghost use Rattle.avc_make.specs.HeaderWriting.{IsOrderOf};
+ghost use Rattle.avc_make.specs.HeaderWriting.{IsSeWhere, coded_order_bits, deblocking_bits};
+ghost use Rattle.avc_make.specs.HeaderWriting.{filtering_bits};
+ghost use Rattle.avc_make.specs.HeaderWriting.{front_bits, header_bits, list_bits_where};
+ghost use Rattle.avc_make.specs.HeaderWriting.{numbers_bits};
 ghost use Rattle.avc_make.specs.HeaderWriting.{se_where, slice_type_number, slice_unit_header};
 ghost use Rattle.avc_make.specs.Made.{Puts};
 ghost use Rattle.avc_make.specs.SpsWriting.{IsSeValue};

@@ -4,8 +4,10 @@ ghost use Rattle.std.specs.List.{flat_map};
 ghost use Rattle.avc_types.specs.Macroblock.{parts_of, partitions};
 ghost use Rattle.avc_types.specs.MacroblockFields.{residual_of};
 ghost use Rattle.avc_make.specs.Made.{Puts};
-ghost use Rattle.avc_make.specs.MbWriting.{IsMvd, IsPInter, IsRefIdx, has_ref_idx, mvd_bits, p_inter_bits};
-ghost use Rattle.avc_make.specs.MbWriting.{p_mb_number, ref_idx_bits, sub_mb_number, sub_mb_types_bits};
+ghost use Rattle.avc_make.specs.MbWriting.{IsMvd, IsPInter, IsRefIdx, has_ref_idx, mvd_bits};
+ghost use Rattle.avc_make.specs.MbWriting.{p_inter_bits};
+ghost use Rattle.avc_make.specs.MbWriting.{p_mb_number, ref_idx_bits, sub_mb_number};
+ghost use Rattle.avc_make.specs.MbWriting.{sub_mb_types_bits};
 ghost use Rattle.avc_make.specs.VuiWriting.{Each};
 ghost use Rattle.avc_make.specs.Words.{te_word, ue_word};
 

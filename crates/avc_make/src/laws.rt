@@ -1,6 +1,7 @@
 //! What is written, read again: laws of the definitions alone.
 
-ghost use Rattle.std.specs.Prelude.{◌≡◌, ◌<◌, ◌≤◌, ◌<ℤ◌, ℕ, ◌^◌, ℤ, Bool, List, pos, neg_ℤ, ◌∷◌, []};
+ghost use Rattle.std.specs.Prelude.{◌≡◌, ◌<◌, ◌≤◌, ◌<ℤ◌, ℕ, ◌^◌, ℤ, Bool, List, pos, neg_ℤ, ◌∷◌};
+ghost use Rattle.std.specs.Prelude.{[]};
 ghost use Rattle.avc_annexb.specs.Escapes.{rbsp};
 ghost use Rattle.avc_bits.specs.Bits.{bits_of};
 ghost use Rattle.avc_bits.specs.Codes.{IsSe, IsTe, IsUe, flag, se, te, u, ue};
@@ -47,7 +48,8 @@ pub fn pps_is_read()
     ensures { PpsIsRead }
 {}
 
-/// The unit of a sequence parameter set in its ranges and of a size that is taken is read as that set, with no fault.
+/// The unit of a sequence parameter set in its ranges and of a size that is taken is read as that
+/// set, with no fault.
 #[tactic(auto, using(crate::proofs::Slices::sps_unit_is_read))]
 pub fn sps_is_read()
     ensures { SpsIsRead }
@@ -70,18 +72,21 @@ pub fn blocks_are_written_as_read()
     ensures { BlocksAreWritable }
 {}
 
-/// In the unit of a slice whose header is in its ranges, the header is read as it is, at its place, with no fault.
+/// In the unit of a slice whose header is in its ranges, the header is read as it is, at its place,
+/// with no fault.
 pub fn header_is_read()
     ensures { HeaderIsRead }
 {}
 
-/// The bits of a macroblock whose elements are in their ranges are read as that macroblock, with no fault.
+/// The bits of a macroblock whose elements are in their ranges are read as that macroblock, with no
+/// fault.
 #[tactic(auto, using(crate::proofs::Slices::mb_is_read))]
 pub fn macroblocks_are_read()
     ensures { MbIsRead }
 {}
 
-/// The data of a slice of macroblocks that can follow one another is read as those macroblocks, with no fault.
+/// The data of a slice of macroblocks that can follow one another is read as those macroblocks,
+/// with no fault.
 #[tactic(auto, using(crate::proofs::Slices::all_data_is_read))]
 pub fn data_is_read()
     ensures { DataIsRead }
@@ -92,8 +97,8 @@ pub fn data_stands_alone()
     ensures { DataStandsAlone }
 {}
 
-/// In the unit of a slice of any macroblocks that can follow one another, header and macroblocks are read as they are, with no
-/// fault, whatever the picture's earlier slices are.
+/// In the unit of a slice of any macroblocks that can follow one another, header and macroblocks
+/// are read as they are, with no fault, whatever the picture's earlier slices are.
 #[tactic(auto, using(crate::proofs::Slices::coded_slice_back))]
 pub fn coded_slices_are_read()
     ensures { CodedSlicesAreRead }

@@ -1,6 +1,8 @@
 //! Levels that are no trailing ones (9.2.2).
 ghost use Rattle.std.specs.Prelude.{◌≡◌, ◌≤◌, nat_abs, nat_lt, false, drop, length, All};
-ghost use Rattle.avc_make.specs.BlockWriting.{HasCodes, IsCode, code_of_level, first_length, level_bits, levels_bits, ones_first, prefix_of, values_of};
+ghost use Rattle.avc_make.specs.BlockWriting.{HasCodes, IsCode, code_of_level, first_length};
+ghost use Rattle.avc_make.specs.BlockWriting.{level_bits, levels_bits, ones_first, prefix_of};
+ghost use Rattle.avc_make.specs.BlockWriting.{values_of};
 ghost use Rattle.avc_make.specs.Made.{Puts};
 
 use crate::coefficients::Coefficients;

@@ -2,8 +2,10 @@
 ghost use Rattle.std.specs.Prelude.{◌≡◌, ◌≤◌, ◌<◌, ◌+◌, ◌++◌, true, false, [], length};
 ghost use Rattle.avc_types.specs.MacroblockFields.{residual_of, syntax_of};
 ghost use Rattle.avc_make.specs.Made.{Puts};
-ghost use Rattle.avc_make.specs.MbWriting.{HasRanges, IsCodedMode, IsI16x16, IsINxN, IsPattern, i_16x16_bits};
-ghost use Rattle.avc_make.specs.MbWriting.{i_nxn_bits, i_pcm_bits, i_type, mb_bits, mode_bits, pattern_bits};
+ghost use Rattle.avc_make.specs.MbWriting.{HasRanges, IsCodedMode, IsI16x16, IsINxN, IsPattern};
+ghost use Rattle.avc_make.specs.MbWriting.{i_16x16_bits};
+ghost use Rattle.avc_make.specs.MbWriting.{i_nxn_bits, i_pcm_bits, i_type, mb_bits, mode_bits};
+ghost use Rattle.avc_make.specs.MbWriting.{pattern_bits};
 ghost use Rattle.avc_make.specs.MbWriting.{pattern_number, pattern_of, qp_delta_bits, type_16x16};
 ghost use Rattle.avc_make.specs.Words.{se_word, ue_word};
 
@@ -25,8 +27,8 @@ const P_TYPES: u32 = 5;
 // how many values coded_block_pattern has (Table 9-4)
 const PATTERNS: u32 = 48;
 
-/// Puts mb_type and what follows it (macroblock_layer): of each macroblock but one that is skipped. `read_macroblock` reads
-/// it again.
+/// Puts mb_type and what follows it (macroblock_layer): of each macroblock but one that is skipped.
+/// `read_macroblock` reads it again.
 pub fn write_macroblock(
     maker: &mut BitMaker,
     context: &Context,

@@ -1,7 +1,9 @@
 //! Bits and codes, written one after another (7.2, 9.1).
 
-ghost use Rattle.std.specs.Prelude.{◌≡◌, ◌-◌, ◌/◌, ◌%◌, ◌*◌, ◌^◌, ◌<◌, ◌≤◌, ◌<ℤ◌, ℕ, Bool, List, pos, neg_ℤ};
-ghost use Rattle.std.specs.Prelude.{true, false, [], ◌∷◌, ◌++◌, ◌==◌, length, replicate, IfOk, OnErr, OnOk};
+ghost use Rattle.std.specs.Prelude.{◌≡◌, ◌-◌, ◌/◌, ◌%◌, ◌*◌, ◌^◌, ◌<◌, ◌≤◌, ◌<ℤ◌, ℕ, Bool, List};
+ghost use Rattle.std.specs.Prelude.{pos, neg_ℤ};
+ghost use Rattle.std.specs.Prelude.{true, false, [], ◌∷◌, ◌++◌, ◌==◌, length, replicate, IfOk};
+ghost use Rattle.std.specs.Prelude.{OnErr, OnOk};
 ghost use Rattle.avc_bits.specs.Bits.{bits_of};
 ghost use Rattle.avc_make.specs.Made.{nothing, IsFilled, Puts};
 ghost use Rattle.avc_make.specs.Words.{bits_after_one, se_word, signed_index, te_word, ue_word};
@@ -11,8 +13,8 @@ use smallvec::SmallVec;
 use std::alloc::Global;
 use std::marker::Model;
 
-/// Puts bits and codes one after another (7.2, 9.1). Short runs of bits take no memory. Once memory was refused, each
-/// further call answers so.
+/// Puts bits and codes one after another (7.2, 9.1). Short runs of bits take no memory. Once memory
+/// was refused, each further call answers so.
 #[derive(Drop)]
 pub struct BitMaker {
     // the last byte filled up with 0 bits

@@ -1,7 +1,9 @@
 //! What a slice header says of reference pictures: how its list is modified, and how pictures are marked.
 
 ghost use Rattle.std.specs.Prelude.{Bool};
-ghost use Rattle.avc_make.specs.HeaderWriting.{IsMarkingOf, IsModification, IsOperation, marking_bits, modification_bits, modifications_bits, operation_bits};
+ghost use Rattle.avc_make.specs.HeaderWriting.{IsMarkingOf, IsModification, IsOperation};
+ghost use Rattle.avc_make.specs.HeaderWriting.{marking_bits, modification_bits, modifications_bits};
+ghost use Rattle.avc_make.specs.HeaderWriting.{operation_bits};
 ghost use Rattle.avc_make.specs.VuiWriting.{Each};
 
 use crate::maker::BitMaker;

@@ -6,7 +6,8 @@ ghost use Rattle.avc_types.specs.MacroblockFields.{residual_of};
 ghost use Rattle.avc_mbsyntax.specs.Reading.{cb_side, cr_side, is_coded};
 ghost use Rattle.avc_make.specs.Made.{Puts};
 ghost use Rattle.avc_make.specs.MbWriting.{AreBlocks, IsBlock, IsChromaDc, IsResidual, ac_words};
-ghost use Rattle.avc_make.specs.MbWriting.{bits_where_coded, blocks_bits, chroma_dc_bits, chroma_words};
+ghost use Rattle.avc_make.specs.MbWriting.{bits_where_coded, blocks_bits, chroma_dc_bits};
+ghost use Rattle.avc_make.specs.MbWriting.{chroma_words};
 ghost use Rattle.avc_make.specs.MbWriting.{luma_dc_bits, luma_words, residual_bits};
 
 use crate::block_writing::write_block;

@@ -36,8 +36,8 @@ impl Macroblocks {
     }
 }
 
-/// A coded slice (7.3.2.8): the parameter sets under which it is written, its header, and its macroblocks from
-/// first_mb_in_slice on.
+/// A coded slice (7.3.2.8): the parameter sets under which it is written, its header, and its
+/// macroblocks from first_mb_in_slice on.
 #[derive(Drop)]
 pub struct CodedSlice {
     pub sps: Sps,

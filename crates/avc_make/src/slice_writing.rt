@@ -4,8 +4,10 @@ ghost use Rattle.avc_types.specs.MacroblockFields.{syntax_of};
 ghost use Rattle.avc_make.specs.DataWriting.{CanStand, data_bits, is_skip};
 ghost use Rattle.avc_make.specs.HeaderWriting.{slice_unit_header};
 ghost use Rattle.avc_make.specs.Made.{Puts};
-ghost use Rattle.avc_make.specs.SliceMbs.{IsCodedSlice, IsReadBack, coded_slice_bits, earlier_mbs, own_start};
-ghost use Rattle.avc_make.specs.SliceSteps.{AreInfoOf, coded_bits, last_run_bits_where, own_bits, run_after, run_bits, some_bits};
+ghost use Rattle.avc_make.specs.SliceMbs.{IsCodedSlice, IsReadBack, coded_slice_bits, earlier_mbs};
+ghost use Rattle.avc_make.specs.SliceMbs.{own_start};
+ghost use Rattle.avc_make.specs.SliceSteps.{AreInfoOf, coded_bits, last_run_bits_where, own_bits};
+ghost use Rattle.avc_make.specs.SliceSteps.{run_after, run_bits, some_bits};
 ghost use Rattle.avc_make.specs.Units.{IsUnit};
 
 use crate::header_writing::{header_byte, put_header};
@@ -19,8 +21,8 @@ use avc_neigh::Row;
 use avc_types::{OutOfMemory, Syntax};
 use std::alloc::Global;
 
-/// The unit of a slice, from its header byte on: type 5 where the header has an idr_pic_id, else type 1. It is read as the
-/// slice.
+/// The unit of a slice, from its header byte on: type 5 where the header has an idr_pic_id, else
+/// type 1. It is read as the slice.
 pub fn write_slice(alloc: Global, slice: &CodedSlice) -> Result<Vec<u8>, OutOfMemory>
     requires { IsCodedSlice slice.now }
     ensures unit { IfOk result (λ unit. IsUnit (slice_unit_header slice.now.header) (coded_slice_bits slice.now) unit.items) }

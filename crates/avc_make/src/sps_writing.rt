@@ -3,7 +3,9 @@
 ghost use Rattle.std.specs.Prelude.{◌≡◌, Ok, IfOk, drop};
 ghost use Rattle.avc_annexb.specs.Escapes.{rbsp};
 ghost use Rattle.avc_make.specs.Made.{Puts};
-ghost use Rattle.avc_make.specs.SpsWriting.{HasSeValues, IsWritable, constraint_bits, cropping_bits, identity_bits, order_bits, size_bits, sps_bits};
+ghost use Rattle.avc_make.specs.SpsWriting.{HasSeValues, IsWritable, constraint_bits};
+ghost use Rattle.avc_make.specs.SpsWriting.{cropping_bits, identity_bits, order_bits, size_bits};
+ghost use Rattle.avc_make.specs.SpsWriting.{sps_bits};
 ghost use Rattle.avc_make.specs.Units.{IsUnit, sps_header};
 ghost use Rattle.avc_params.specs.Reading.{sps_of};
 ghost use Rattle.avc_params.specs.Within.{IsOrderCount, IsSps};
@@ -18,8 +20,8 @@ use std::alloc::Global;
 // nal_ref_idc 3 and nal_unit_type 7
 const SPS_HEADER: u8 = 0x67;
 
-/// The unit of a sequence parameter set (7.3.2.1.1), from its header byte on. frame_mbs_only_flag is 1 in it. Width and
-/// height are 1 to 4,096 macroblocks, more than a decoder takes.
+/// The unit of a sequence parameter set (7.3.2.1.1), from its header byte on. frame_mbs_only_flag
+/// is 1 in it. Width and height are 1 to 4,096 macroblocks, more than a decoder takes.
 pub fn write_sps(alloc: Global, sps: &Sps) -> Result<Vec<u8>, OutOfMemory>
     requires { IsWritable sps.now }
     ensures unit { IfOk result (λ unit. IsUnit sps_header (sps_bits sps.now) unit.items) }

@@ -1,9 +1,13 @@
 //! VUI parameters and HRD parameters, written (E.1.1, E.1.2).
 
-ghost use Rattle.avc_make.specs.VuiWriting.{IsAspect, IsChromaLocation, IsColour, IsHrd, IsHrdEntry};
-ghost use Rattle.avc_make.specs.VuiWriting.{IsRestriction, IsSampleSize, IsTiming, IsVideoSignal, IsVui};
-ghost use Rattle.avc_make.specs.VuiWriting.{aspect_bits, chroma_location_bits, colour_bits, hrd_bits};
-ghost use Rattle.avc_make.specs.VuiWriting.{hrd_entry_bits, restriction_bits, sample_size_bits, timing_bits};
+ghost use Rattle.avc_make.specs.VuiWriting.{IsAspect, IsChromaLocation, IsColour, IsHrd};
+ghost use Rattle.avc_make.specs.VuiWriting.{IsHrdEntry};
+ghost use Rattle.avc_make.specs.VuiWriting.{IsRestriction, IsSampleSize, IsTiming, IsVideoSignal};
+ghost use Rattle.avc_make.specs.VuiWriting.{IsVui};
+ghost use Rattle.avc_make.specs.VuiWriting.{aspect_bits, chroma_location_bits, colour_bits};
+ghost use Rattle.avc_make.specs.VuiWriting.{hrd_bits};
+ghost use Rattle.avc_make.specs.VuiWriting.{hrd_entry_bits, restriction_bits, sample_size_bits};
+ghost use Rattle.avc_make.specs.VuiWriting.{timing_bits};
 ghost use Rattle.avc_make.specs.VuiWriting.{video_signal_bits, vui_bits};
 
 use crate::maker::BitMaker;

@@ -1,8 +1,10 @@
 //! The table of explicit weights (7.3.3.2).
 
 ghost use Rattle.std.specs.Prelude.{ℕ};
-ghost use Rattle.avc_make.specs.WeightsWriting.{chroma_weights_bits, coded_weight_bits, entry_weights_bits, pred_weight_table_bits};
-ghost use Rattle.avc_slice.specs.Within.{IsChromaWeights, IsCodedWeight, IsEntryWeights, IsPredWeightTable};
+ghost use Rattle.avc_make.specs.WeightsWriting.{chroma_weights_bits, coded_weight_bits};
+ghost use Rattle.avc_make.specs.WeightsWriting.{entry_weights_bits, pred_weight_table_bits};
+ghost use Rattle.avc_slice.specs.Within.{IsChromaWeights, IsCodedWeight, IsEntryWeights};
+ghost use Rattle.avc_slice.specs.Within.{IsPredWeightTable};
 
 use crate::maker::BitMaker;
 use crate::part::{Part, put_each, put_optional};

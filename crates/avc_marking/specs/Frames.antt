@@ -22,7 +22,8 @@ marking_entry new marking = record {
   marking = marking;
 }
 
--- The frames are these entries of the history, in decoding order, and a later entry is the new frame.
+-- The frames are these entries of the history, in decoding order, and a later entry is the new
+-- frame.
 pub record StandBefore (indices : List ℕ) (decoding_index : ℕ) (frames : List MarkedFrame) : Type 0 where
   pub each : length indices ≡ length frames
   pub rising : IsStrictlyIncreasing (indices ++ decoding_index ∷ [])
@@ -110,13 +111,15 @@ MayChangeFrames change old result new =
     (indices : List ℕ) → StandAt indices old →
     change (references_at indices old) ≡ or_fault result (references_at indices new)
 
--- The current picture's frame has come last, and the reference frames are what `change` makes of its entry and those before.
+-- The current picture's frame has come last, and the reference frames are what `change` makes of
+-- its entry and those before.
 abbrev pub AddsFrame : (change : ℕ → List Reference → List Reference) → (old new : List MarkedFrame) → Type 0
 AddsFrame change old new =
     (indices : List ℕ) (decoding_index : ℕ) → StandBefore indices decoding_index old →
     references_at (indices ++ decoding_index ∷ []) new ≡ change decoding_index (references_at indices old)
 
--- `step` takes the state of operations from the frames before to those after, or the call has its fault.
+-- `step` takes the state of operations from the frames before to those after, or the call has its
+-- fault.
 abbrev pub Operates : (assigned : Bool) → (step : ℕ → OperationState → Result OperationState Fault) →
     (old : List MarkedFrame) (old_idx : Option ℕ) → Result Bool Fault → (new : List MarkedFrame) (new_idx : Option ℕ) → Type 0
 Operates assigned step old old_idx result new new_idx =
@@ -130,14 +133,15 @@ OperatesAll steps old old_idx result new new_idx =
     (indices : List ℕ) (own : ℕ) → StandBefore indices own old →
     steps own (operation_state indices own old old_idx false) ≡ result_map (operation_state indices own new new_idx) result
 
--- The current picture's frame stands last, and is short-term where the operations have not marked it.
+-- The current picture's frame stands last, and is short-term where the operations have not marked
+-- it.
 abbrev pub MarksCurrent : MarkingEntry → (assigned : Bool) → (old new : List MarkedFrame) → Type 0
 MarksCurrent s assigned old new =
     (indices : List ℕ) (decoding_index : ℕ) (idx : Option ℕ) → StandWith assigned indices decoding_index old →
     with_current_frame s decoding_index (operation_state indices decoding_index old idx assigned) ≡ marks_at (indices ++ decoding_index ∷ []) new idx
 
--- The current picture's frame has come last, and the marks are what `marking` makes of its entry and those before; or the call
--- has its fault.
+-- The current picture's frame has come last, and the marks are what `marking` makes of its entry
+-- and those before; or the call has its fault.
 abbrev pub MarksFrame : (marking : ℕ → Marks → Result Marks Fault) →
     (old : List MarkedFrame) (old_idx : Option ℕ) → Result (Unit {0}) Fault → (new : List MarkedFrame) (new_idx : Option ℕ) → Type 0
 MarksFrame marking old old_idx result new new_idx =
@@ -146,7 +150,8 @@ MarksFrame marking old old_idx result new new_idx =
 
 -- ---- the sliding window
 
--- Of two frames, whether `later`, which was decoded after `earlier`, becomes unused first, whichever entries they are.
+-- Of two frames, whether `later`, which was decoded after `earlier`, becomes unused first,
+-- whichever entries they are.
 abbrev pub LaterPrecedes : CurrentFrameNum → (later earlier : MarkedFrame) → Bool → Type 0
 LaterPrecedes current later earlier does =
     (e e' : ℕ) → e' < e → does ≡ precedes_in_window current (reference_of e later) (reference_of e' earlier)

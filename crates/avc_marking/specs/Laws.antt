@@ -8,7 +8,8 @@ use Rattle.avc_types.specs.declared.references.Marking.TheVariants.{Idr, Sliding
 use Rattle.avc_types.specs.References.{Reference, is_short}
 use Rattle.avc_marking.specs.Marks.{MarkingEntry, Marks, limit_of, current_frame, is_unmark_all, marks_after, marks}
 
--- An entry leaves no more reference frames than n, where there were no more before it and it allows no more.
+-- An entry leaves no more reference frames than n, where there were no more before it and it allows
+-- no more.
 abbrev pub StaysLimited : Type 0
 StaysLimited =
     (n : ℕ) (s : MarkingEntry) (decoding_index : ℕ) (m m' : Marks) → limit_of s ≤ n → length m.references ≤ n →
@@ -41,7 +42,8 @@ AddsOwnFrameAlone =
     marks_after s decoding_index s.marking m ≡ Ok m' →
     IsPartUpToMarks m'.references (m.references ++ current_frame s decoding_index Short ∷ [])
 
--- It marks all earlier frames as unused for reference: an IDR picture, or one with operation 5 (8.2.5.1,
+-- It marks all earlier frames as unused for reference: an IDR picture, or one with operation 5
+-- (8.2.5.1,
 -- 8.2.5.4.5).
 abbrev pub unmarks_all : Option Marking → Bool
 unmarks_all None = false
@@ -56,8 +58,8 @@ LeavesOwnFrameAlone =
     marks_after s decoding_index s.marking m ≡ Ok m' →
     IsPartUpToMarks m'.references (current_frame s decoding_index Short ∷ [])
 
--- After an entry that was marked by the sliding window the window can slide again: that entry's frame is a
--- short-term one (8.2.5.3).
+-- After an entry that was marked by the sliding window the window can slide again: that entry's
+-- frame is a short-term one (8.2.5.3).
 abbrev pub SlidesAgain : Type 0
 SlidesAgain =
     (s s' : MarkingEntry) (decoding_index decoding_index' : ℕ) (m m' : Marks) → marks_after s decoding_index (Some SlidingWindow) m ≡ Ok m' →
@@ -80,20 +82,22 @@ pub record IsShortTerm (max number : ℕ) (r : Reference) : Type 0 where
   pub frame_num : r.frame_num ≡ number % max
   pub short : r.mark ≡ Short
 
--- They are short-term, and later ones have greater numbers: from `low` on and below `next`, where numbers go on past MaxFrameNum.
+-- They are short-term, and later ones have greater numbers: from `low` on and below `next`, where
+-- numbers go on past MaxFrameNum.
 abbrev pub CountFrom : (max low next : ℕ) → List Reference → Type 0
 CountFrom max low next [] = low ≤ next
 CountFrom max low next (r ∷ rs) = (number : ℕ) × (low ≤ number × IsShortTerm max number r × CountFrom max (number + 1) next rs)
 
--- As many frames are marked as may be: long-term ones, whose decoding indices are below `start`, and short-term ones, from there on and before `next`.
+-- As many frames are marked as may be: long-term ones, whose decoding indices are below `start`,
+-- and short-term ones, from there on and before `next`.
 pub record IsFullWindow (start next limit : ℕ) (longs shorts : List Reference) : Type 0 where
   pub long : filter is_short longs ≡ []
   pub full : length longs + length shorts ≡ limit
   pub indices : StandFrom start next shorts
   pub longs_before : StandBelow start longs
 
--- The sliding window takes the first of short-term frames whose numbers rise up to the current one, if less than MaxFrameNum apart
--- (8.2.5.3).
+-- The sliding window takes the first of short-term frames whose numbers rise up to the current one,
+-- if less than MaxFrameNum apart (8.2.5.3).
 abbrev pub WindowTakesTheFirst : Type 0
 WindowTakesTheFirst =
     (s : MarkingEntry) (decoding_index max low number start : ℕ) (longs shorts : List Reference) (first : Reference) (m : Marks) →

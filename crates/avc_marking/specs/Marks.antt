@@ -14,8 +14,8 @@ use Rattle.avc_types.specs.declared.references.Operation.TheVariants.{UnmarkShor
 use Rattle.avc_types.specs.References.{Reference, is_short, long_term_frame_idx, has_long_term_frame_idx, short_term_frame, long_term_frame, sorted_by, has_greater_pic_num}
 use Rattle.avc_types.specs.Results.{◌>>=◌}
 
--- What marking asks of an entry of the history: a closed picture, or a frame that stands for a missing frame
--- number (8.2.5.2). Such a frame is not existing and has the marking `sliding`.
+-- What marking asks of an entry of the history: a closed picture, or a frame that stands for a
+-- missing frame number (8.2.5.2). Such a frame is not existing and has the marking `sliding`.
 pub record MarkingEntry : Type 0 where
   -- its frame_num, and MaxFrameNum and max_num_ref_frames of its sequence parameter set
   pub current : CurrentFrameNum
@@ -24,7 +24,8 @@ pub record MarkingEntry : Type 0 where
   -- dec_ref_pic_marking; none where nal_ref_idc is 0
   pub marking : Option Marking
 
--- The reference frames in decoding order, and MaxLongTermFrameIdx, if there may be long-term frames (8.2.5).
+-- The reference frames in decoding order, and MaxLongTermFrameIdx, if there may be long-term frames
+-- (8.2.5).
 pub record Marks : Type 0 where
   pub references : List Reference
   pub max_long_term_frame_idx : Option ℕ
@@ -72,7 +73,8 @@ is_index_allowed index (Some max_long_term_frame_idx) = nat_le index max_long_te
 
 -- ---- sliding window (8.2.5.3)
 
--- a has the smaller PicNum (8.2.5.3), or the same one and was decoded first, which is this decoder's rule
+-- a has the smaller PicNum (8.2.5.3), or the same one and was decoded first, which is this
+-- decoder's rule
 abbrev pub precedes_in_window : CurrentFrameNum → Reference → Reference → Bool
 precedes_in_window current a b = has_greater_pic_num current b a
 
@@ -129,7 +131,8 @@ with_long_term s d index max_long_term_frame_idx references =
 abbrev pub with_max_long_term_frame_idx : (plus1 : ℕ) → List Reference → List Reference
 with_max_long_term_frame_idx plus1 references = filter (λ r. is_short r || nat_lt (long_term_frame_idx r) plus1) references
 
--- MaxLongTermFrameIdx from max_long_term_frame_idx_plus1; 0 is no long-term frame indices (8.2.5.4.4)
+-- MaxLongTermFrameIdx from max_long_term_frame_idx_plus1; 0 is no long-term frame indices
+-- (8.2.5.4.4)
 abbrev pub max_long_term_frame_idx_below : (plus1 : ℕ) → Option ℕ
 max_long_term_frame_idx_below zero = None
 max_long_term_frame_idx_below (suc max_long_term_frame_idx) = Some max_long_term_frame_idx
@@ -152,8 +155,8 @@ abbrev pub with_long_term_current : MarkingEntry → (index decoding_index : ℕ
 with_long_term_current s index decoding_index references =
     without_long_term_frame_idx index references ++ long_term_current s decoding_index index ∷ []
 
--- One memory_management_control_operation (8.2.5.4, Table 7-9): s is the picture's own entry, of this
--- decoding index. 5 (UnmarkAll) leaves no frame and no long-term indices (8.2.5.4.5).
+-- One memory_management_control_operation (8.2.5.4, Table 7-9): s is the picture's own entry, of
+-- this decoding index. 5 (UnmarkAll) leaves no frame and no long-term indices (8.2.5.4.5).
 abbrev pub after_operation : MarkingEntry → (decoding_index : ℕ) → OperationState → Operation → Result OperationState Fault
 after_operation s decoding_index t (UnmarkShortTerm d) = with_references t (without_short_term s d t.references)
 after_operation s decoding_index t (UnmarkLongTerm index) = with_references t (without_long_term index t.references)
@@ -201,7 +204,8 @@ current_frame s decoding_index mark = record {
   mark = mark;
 }
 
--- the operations leave this, where the frame that has got no mark by them becomes short-term (8.2.5.1)
+-- the operations leave this, where the frame that has got no mark by them becomes short-term
+-- (8.2.5.1)
 abbrev pub with_current_frame : MarkingEntry → (decoding_index : ℕ) → OperationState → Marks
 with_current_frame s decoding_index t =
     record {

@@ -2,11 +2,13 @@
 
 ghost use Rattle.std.specs.Prelude.{◌≡◌, ◌<◌, filter, length, not};
 ghost use Rattle.avc_types.specs.References.{is_marked};
-ghost use Rattle.avc_marking.specs.Frames.{ChangesFrames, UnmarksEach, UnmarksPlace, is_to_unmark, unmarked_if};
+ghost use Rattle.avc_marking.specs.Frames.{ChangesFrames, UnmarksEach, UnmarksPlace, is_to_unmark};
+ghost use Rattle.avc_marking.specs.Frames.{unmarked_if};
 
 use avc_types::{CurrentFrameNum, Mark, MarkedFrame, has_long_term_frame_idx};
 
-/// What marking asks of a frame that comes to the buffer: of a decoded picture, or of one that stands for a missing frame number.
+/// What marking asks of a frame that comes to the buffer: of a decoded picture, or of one that
+/// stands for a missing frame number.
 #[derive(Clone, Copy, Debug, PartialEq, Eq)]
 pub struct NewFrame {
     /// Its frame_num, and MaxFrameNum of its sequence parameter set.

@@ -1,6 +1,7 @@
 //! Missing frame numbers (7.4.3, 8.2.5.2).
 
-ghost use Rattle.std.specs.Prelude.{◌≡◌, ℕ, ◌+◌, ◌%◌, [], ◌<◌, ◌≤◌, true, drop, length, slice_get, IfSome, Some};
+ghost use Rattle.std.specs.Prelude.{◌≡◌, ℕ, ◌+◌, ◌%◌, [], ◌<◌, ◌≤◌, true, drop, length, slice_get};
+ghost use Rattle.std.specs.Prelude.{IfSome, Some};
 ghost use Rattle.avc_marking.specs.Marks.{frame_nums_from, missing_frame_nums, AreCountedFrom};
 ghost use Rattle.avc_marking.specs.Frames.{marking_entry};
 
@@ -128,8 +129,9 @@ impl MissingFrameNums {
     }
 }
 
-/// The frame numbers that are missing before a picture that is no IDR picture (7.4.3, 8.2.5.2), where `previous` is PrevRefFrameNum.
-/// FrameNumRepeated where a reference picture has PrevRefFrameNum itself, FrameNumGap where numbers are missing and may not be.
+/// The frame numbers that are missing before a picture that is no IDR picture (7.4.3, 8.2.5.2),
+/// where `previous` is PrevRefFrameNum. FrameNumRepeated where a reference picture has
+/// PrevRefFrameNum itself, FrameNumGap where numbers are missing and may not be.
 #[tactic(auto, using(crate::proofs::KeptFrames::gap_numbers))]
 pub fn missing_frame_nums(
     previous: u32,

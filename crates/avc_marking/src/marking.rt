@@ -1,9 +1,12 @@
 //! The marking of a decoded picture (8.2.5.1).
 
-ghost use Rattle.std.specs.Prelude.{◌≡◌, ◌+◌, ◌≤◌, ◌∷◌, [], true, false, None, length, OnOk, if◌then◌else◌};
+ghost use Rattle.std.specs.Prelude.{◌≡◌, ◌+◌, ◌≤◌, ◌∷◌, [], true, false, None, length, OnOk};
+ghost use Rattle.std.specs.Prelude.{if◌then◌else◌};
 ghost use Rattle.std.specs.List.{list_any};
-ghost use Rattle.avc_marking.specs.Marks.{after_adaptive_marking, frame_num_after_marking, is_unmark_all, marks_after};
-ghost use Rattle.avc_marking.specs.Frames.{AddsFrame, MarksCurrent, MarksFrame, marked_frame, marking_entry};
+ghost use Rattle.avc_marking.specs.Marks.{after_adaptive_marking, frame_num_after_marking};
+ghost use Rattle.avc_marking.specs.Marks.{is_unmark_all, marks_after};
+ghost use Rattle.avc_marking.specs.Frames.{AddsFrame, MarksCurrent, MarksFrame, marked_frame};
+ghost use Rattle.avc_marking.specs.Frames.{marking_entry};
 
 use crate::frame::{FramesToUnmark, NewFrame, unmark_frames};
 use crate::operations::operate_all;
@@ -19,7 +22,8 @@ fn has_unmark_all(operations: &[Operation]) -> bool
         .any(|operation| matches!(operation, Operation::UnmarkAll))
 }
 
-/// FrameNum of the frame once it is marked: 0 after operation 5. It is PrevRefFrameNum for what follows, unless the marking is none.
+/// FrameNum of the frame once it is marked: 0 after operation 5. It is PrevRefFrameNum for what
+/// follows, unless the marking is none.
 pub fn frame_num_after_marking(new: NewFrame, marking: &Option<Marking>) -> u32
     ensures { result ≡ frame_num_after_marking (marking_entry new marking.now) }
 {
@@ -49,7 +53,8 @@ fn mark_idr(frames: &mut ArrayVec<MarkedFrame, 17>, new: NewFrame, mark: Mark)
     });
 }
 
-/// After the operations: the picture's frame, with its number from then on, is short-term where they have not marked it.
+/// After the operations: the picture's frame, with its number from then on, is short-term where
+/// they have not marked it.
 #[tactic(auto, using(crate::proofs::KeptFrames::references_added))]
 fn mark_current(
     frames: &mut ArrayVec<MarkedFrame, 17>,
@@ -80,7 +85,8 @@ fn mark_current(
     }
 }
 
-/// Adaptive marking: the operations in their order, and no more frames than may be used for reference.
+/// Adaptive marking: the operations in their order, and no more frames than may be used for
+/// reference.
 fn adaptive_marking(
     frames: &mut ArrayVec<MarkedFrame, 17>,
     max_long_term_frame_idx: &mut Option<u32>,
@@ -102,12 +108,15 @@ fn adaptive_marking(
     }
 }
 
-/// The marks after a decoded picture (8.2.5.1), from those before it. `frames` are the frames of the buffer in decoding order, of
-/// which some may be unused for reference; the picture's frame comes last, with its mark, and with frame_num 0 after operation 5.
-/// `max_long_term_frame_idx` is the greatest long-term index, none where there may be no long-term frames. `marking` is none where nal_ref_idc is 0.
-/// BadMarking where an operation names no frame, makes a frame long-term that stands for a missing frame number, gives an index that
-/// may not be given, sets more indices than max_num_ref_frames, or marks the picture twice; TooManyReferences where the sliding
-/// window finds no short-term frame, or where the operations leave more frames than may be. After a fault the frames are of no use.
+/// The marks after a decoded picture (8.2.5.1), from those before it. `frames` are the frames of
+/// the buffer in decoding order, of which some may be unused for reference; the picture's frame
+/// comes last, with its mark, and with frame_num 0 after operation 5. `max_long_term_frame_idx` is
+/// the greatest long-term index, none where there may be no long-term frames. `marking` is none
+/// where nal_ref_idc is 0. BadMarking where an operation names no frame, makes a frame long-term
+/// that stands for a missing frame number, gives an index that may not be given, sets more indices
+/// than max_num_ref_frames, or marks the picture twice; TooManyReferences where the sliding window
+/// finds no short-term frame, or where the operations leave more frames than may be. After a fault
+/// the frames are of no use.
 #[tactic(auto, using(crate::proofs::KeptFrames::unmarked_added))]
 pub fn mark(
     frames: &mut ArrayVec<MarkedFrame, 17>,

@@ -1,11 +1,16 @@
 //! Adaptive memory control marking: its operations 1 to 6 (8.2.5.4).
 
-ghost use Rattle.std.specs.Prelude.{◌≡◌, ◌+◌, ◌≤◌, true, false, not, ◌&&◌, pos, ◌-ℤ◌, None, length, IfOk, if◌then◌else◌};
+ghost use Rattle.std.specs.Prelude.{◌≡◌, ◌+◌, ◌≤◌, true, false, not, ◌&&◌, pos, ◌-ℤ◌, None, length};
+ghost use Rattle.std.specs.Prelude.{IfOk, if◌then◌else◌};
 ghost use Rattle.avc_types.specs.References.{IsPlaceIn, IsShortTermIn, NamesFrames, result_map};
-ghost use Rattle.avc_marking.specs.Marks.{after_operation, after_operations, frame_with_pic_num_x, is_index_allowed};
-ghost use Rattle.avc_marking.specs.Marks.{long_term_frame_or_fault, max_long_term_frame_idx_below, with_long_term};
-ghost use Rattle.avc_marking.specs.Marks.{with_long_term_current, without_long_term, without_short_term};
-ghost use Rattle.avc_marking.specs.Frames.{AddsFrame, MayChangeFrames, Operates, OperatesAll, marking_entry};
+ghost use Rattle.avc_marking.specs.Marks.{after_operation, after_operations, frame_with_pic_num_x};
+ghost use Rattle.avc_marking.specs.Marks.{is_index_allowed};
+ghost use Rattle.avc_marking.specs.Marks.{long_term_frame_or_fault, max_long_term_frame_idx_below};
+ghost use Rattle.avc_marking.specs.Marks.{with_long_term};
+ghost use Rattle.avc_marking.specs.Marks.{with_long_term_current, without_long_term};
+ghost use Rattle.avc_marking.specs.Marks.{without_short_term};
+ghost use Rattle.avc_marking.specs.Frames.{AddsFrame, MayChangeFrames, Operates, OperatesAll};
+ghost use Rattle.avc_marking.specs.Frames.{marking_entry};
 
 use crate::frame::{FramesToUnmark, NewFrame, unmark, unmark_frames};
 use arrayvec::ArrayVec;
@@ -136,7 +141,8 @@ fn current_to_long_term(frames: &mut ArrayVec<MarkedFrame, 17>, new: NewFrame, i
     });
 }
 
-/// One memory_management_control_operation (8.2.5.4), and whether the current picture has been marked then.
+/// One memory_management_control_operation (8.2.5.4), and whether the current picture has been
+/// marked then.
 #[tactic(auto, using(crate::proofs::KeptFrames::operating))]
 fn operate(
     frames: &mut ArrayVec<MarkedFrame, 17>,

@@ -1,11 +1,13 @@
 //! Sliding window marking, and how many reference frames there may be (8.2.5.3).
 
-ghost use Rattle.std.specs.Prelude.{◌≡◌, ℕ, ◌+◌, ◌<◌, ◌≤◌, true, false, max, Option, Some, None, length, IfSome, OnOk};
+ghost use Rattle.std.specs.Prelude.{◌≡◌, ℕ, ◌+◌, ◌<◌, ◌≤◌, true, false, max, Option, Some, None};
+ghost use Rattle.std.specs.Prelude.{length, IfSome, OnOk};
 ghost use Rattle.std.specs.Option.{option_map};
 ghost use Rattle.avc_types.specs.References.{IsPlaceIn, NamesFrames};
 ghost use Rattle.avc_types.specs.declared.references.Marking.TheVariants.{SlidingWindow};
 ghost use Rattle.avc_marking.specs.Marks.{after_sliding_window, first_in_window, marks_after};
-ghost use Rattle.avc_marking.specs.Frames.{CountsReferences, IsFirstOf, IsShortAt, LaterPrecedes, MarksFrame, MayChangeFrames, marking_entry};
+ghost use Rattle.avc_marking.specs.Frames.{CountsReferences, IsFirstOf, IsShortAt, LaterPrecedes};
+ghost use Rattle.avc_marking.specs.Frames.{MarksFrame, MayChangeFrames, marking_entry};
 
 use crate::frame::{NewFrame, unmark};
 use arrayvec::ArrayVec;
@@ -31,7 +33,8 @@ pub fn limit(new: NewFrame) -> usize
     new.max_num_ref_frames.max(1) as usize
 }
 
-/// The place of the short-term frame that goes first, among a frame and those that were decoded later.
+/// The place of the short-term frame that goes first, among a frame and those that were decoded
+/// later.
 fn first_in_window_with(
     frames: &[MarkedFrame],
     new: NewFrame,
@@ -63,7 +66,8 @@ fn precedes_in_window(later: MarkedFrame, earlier: MarkedFrame, new: NewFrame) -
     new.current.pic_num(later.frame_num) < new.current.pic_num(earlier.frame_num)
 }
 
-/// The place of the short-term frame with the least PicNum, of equals the one that was decoded first.
+/// The place of the short-term frame with the least PicNum, of equals the one that was decoded
+/// first.
 fn first_in_window(frames: &[MarkedFrame], new: NewFrame) -> Option<usize>
     ensures within { IfSome result (IsPlaceIn frames.now) }
     ensures first { NamesFrames frames.now option_map (first_in_window new.current) result }
@@ -75,7 +79,8 @@ fn first_in_window(frames: &[MarkedFrame], new: NewFrame) -> Option<usize>
     first
 }
 
-/// Where as many frames are used for reference as may be, the short-term one with the least PicNum becomes unused.
+/// Where as many frames are used for reference as may be, the short-term one with the least PicNum
+/// becomes unused.
 fn free_a_frame(frames: &mut [MarkedFrame], new: NewFrame) -> Result<(), Fault>
     ensures { MayChangeFrames (after_sliding_window (marking_entry new None)) frames.old result frames.new }
 {
@@ -91,9 +96,10 @@ fn free_a_frame(frames: &mut [MarkedFrame], new: NewFrame) -> Result<(), Fault>
     }
 }
 
-/// Sliding window (8.2.5.3), for a picture or for a frame that stands for a missing frame number (8.2.5.2): where as many of the
-/// frames are used for reference as may be, the short-term one with the least PicNum becomes unused, of equals the one that was
-/// decoded first, TooManyReferences where there is none. The new frame comes last, short-term. After a fault the frames are of no
+/// Sliding window (8.2.5.3), for a picture or for a frame that stands for a missing frame number
+/// (8.2.5.2): where as many of the frames are used for reference as may be, the short-term one with
+/// the least PicNum becomes unused, of equals the one that was decoded first, TooManyReferences
+/// where there is none. The new frame comes last, short-term. After a fault the frames are of no
 /// use.
 pub fn sliding_window(frames: &mut ArrayVec<MarkedFrame, 17>, new: NewFrame) -> Result<(), Fault>
     requires { length frames.old.items ≤ 16 }

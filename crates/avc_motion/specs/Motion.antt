@@ -48,8 +48,9 @@ else_motion absent d = d
 else_motion intra d = intra
 else_motion (inter r v) d = inter r v
 
--- What the block has that covers this luma sample, counted from the upper left sample of the macroblock in hand. The list is
--- that of the macroblock's own sixteen blocks, absent where they are not decoded yet (6.4.12).
+-- What the block has that covers this luma sample, counted from the upper left sample of the
+-- macroblock in hand. The list is that of the macroblock's own sixteen blocks, absent where they
+-- are not decoded yet (6.4.12).
 abbrev pub Near : Type 0
 Near = List Motion → ℤ → ℤ → Motion
 
@@ -140,7 +141,8 @@ abbrev pub motion_of_part : Near → PMbType → ℕ → List Motion → Part �
 motion_of_part near shape r mine part mvd =
     inter r (sum_with_mvd (predicted_vector shape part.partition r (neighbours_of near mine part.x part.y part.width)) mvd)
 
--- the parts in decoding order, each with its prediction from what is decoded before it and its mvd (8.4.1)
+-- the parts in decoding order, each with its prediction from what is decoded before it and its mvd
+-- (8.4.1)
 abbrev pub motion_of_parts : Near → PMbType → List ℕ → List Motion → List Part → List Mvd → List Motion
 motion_of_parts near shape ref_idx mine [] mvds = mine
 motion_of_parts near shape ref_idx mine (part ∷ parts) [] = mine
@@ -152,7 +154,8 @@ motion_of_parts near shape ref_idx mine (part ∷ parts) (mvd ∷ mvds) =
 abbrev pub no_motion : List Motion
 no_motion = replicate 16 absent
 
--- the sixteen blocks of a macroblock: intra ones have no vector, skipped ones one for all (8.4.1, 8.4.1.1)
+-- the sixteen blocks of a macroblock: intra ones have no vector, skipped ones one for all (8.4.1,
+-- 8.4.1.1)
 abbrev pub motion_by : Near → MbSyntax → List Motion
 motion_by near (i_pcm luma cb cr) = replicate 16 intra
 motion_by near (i_nxn modes chroma residual) = replicate 16 intra
@@ -255,6 +258,7 @@ no_slice = record { is_p = false; references = []; weights = []; disable_deblock
 abbrev pub slice_info : Coded → ℕ → SliceInfo
 slice_info p slice = slice_index_or p.slices slice no_slice
 
--- the frame that a reference index names in a slice; no frame where the entry is empty or missing (8.4.2.1)
+-- the frame that a reference index names in a slice; no frame where the entry is empty or missing
+-- (8.4.2.1)
 abbrev pub frame_named : Coded → (slice reference : ℕ) → Option Frame
 frame_named p slice r = slice_index_or (slice_info p slice).references r None

@@ -7,9 +7,12 @@ ghost use Rattle.avc_types.specs.References.{result_map};
 ghost use Rattle.avc_neigh.specs.Around.{info_of};
 ghost use Rattle.avc_neigh.specs.BlockNear.{motion_near};
 ghost use Rattle.avc_neigh.specs.declared.neighbour_info.Motion.TheVariants.{Absent as absent};
-ghost use Rattle.avc_motion.specs.Motion.{AreOfOneMotion, HasMotion, HasVectors, is_in_range, motion_by, vector_of as motion_vector};
-ghost use Rattle.avc_motion.specs.Motion.{has_one_motion as has_one_motion_by, is_one_partition as is_one_partition_by};
-ghost use Rattle.avc_motion.specs.Motion.{is_held, neighbours_of, skip_vector, still_blocks, zero_vector};
+ghost use Rattle.avc_motion.specs.Motion.{AreOfOneMotion, HasMotion, HasVectors, is_in_range};
+ghost use Rattle.avc_motion.specs.Motion.{motion_by, vector_of as motion_vector};
+ghost use Rattle.avc_motion.specs.Motion.{has_one_motion as has_one_motion_by};
+ghost use Rattle.avc_motion.specs.Motion.{is_one_partition as is_one_partition_by};
+ghost use Rattle.avc_motion.specs.Motion.{is_held, neighbours_of, skip_vector, still_blocks};
+ghost use Rattle.avc_motion.specs.Motion.{zero_vector};
 ghost use Rattle.avc_motion.specs.Decoding.{blocks_or_fault, decoded_whole, HasFourQuarters};
 
 use crate::neighbouring::{NeighbouringPartitions, above, left_of};
@@ -57,7 +60,8 @@ fn is_held(neighbours: &Neighbours<'_>) -> bool
     is_still(left_of(neighbours, &mine, 0, 0)) || is_still(above(neighbours, &mine, 0, 0))
 }
 
-/// Whether a skipped macroblock with these neighbours stands still by what A and B have alone (8.4.1.1).
+/// Whether a skipped macroblock with these neighbours stands still by what A and B have alone
+/// (8.4.1.1).
 #[inline]
 pub fn stands_still(neighbours: &Neighbours<'_>) -> bool
     ensures motion { result ≡ true → HasMotion (info_of neighbours.now) p_skip (Ok still_blocks) }
@@ -77,7 +81,8 @@ fn set_moving(neighbours: &Neighbours<'_>, blocks: &mut [Motion; 16])
     set_all(blocks, Motion::Inter { ref_idx: 0, mv });
 }
 
-/// The blocks of a skipped macroblock that does not move. In memory, whose bytes are copied sixteen at a time.
+/// The blocks of a skipped macroblock that does not move. In memory, whose bytes are copied sixteen
+/// at a time.
 static STILL: [Motion; 16] = [Motion::Inter {
     ref_idx: 0,
     mv: Mv { x: 0, y: 0 },
@@ -119,8 +124,9 @@ fn set_inter(
     Ok(())
 }
 
-/// Writes into `blocks` the reference index and the vector of each luma block of a macroblock (8.4.1), in block order. `neighbours`
-/// are those of the macroblock. `VectorRange` where a component of a vector is no 16-bit number; the blocks are then any.
+/// Writes into `blocks` the reference index and the vector of each luma block of a macroblock
+/// (8.4.1), in block order. `neighbours` are those of the macroblock. `VectorRange` where a
+/// component of a vector is no 16-bit number; the blocks are then any.
 pub fn motion(mb: &Mb, neighbours: &Neighbours<'_>, blocks: &mut [Motion; 16]) -> Result<(), Fault>
     ensures motion { HasMotion (info_of neighbours.now) mb.now.syntax (result_map (λ _. blocks.new) result) }
     ensures alike { has_one_motion_by mb.now.syntax ≡ true → OnOk result (AreOfOneMotion blocks.new) }
@@ -154,8 +160,9 @@ fn vectors_of(motion: &[Motion; 16]) -> [Mv; 16]
     vectors
 }
 
-/// The vector of each luma block of a macroblock (8.4.1), in block order, in quarter luma samples: 0 in an intra macroblock.
-/// `neighbours` are those of the macroblock. `VectorRange` where a component of a vector is no 16-bit number.
+/// The vector of each luma block of a macroblock (8.4.1), in block order, in quarter luma samples:
+/// 0 in an intra macroblock. `neighbours` are those of the macroblock. `VectorRange` where a
+/// component of a vector is no 16-bit number.
 pub fn vectors(mb: &Mb, neighbours: &Neighbours<'_>) -> Result<[Mv; 16], Fault>
     ensures { HasVectors (info_of neighbours.now) mb.now.syntax result }
 {

@@ -1,8 +1,10 @@
 //! Parts of a macroblock whose vectors are coded (8.4.1.3, 7.4.5.1).
 
-ghost use Rattle.std.specs.Prelude.{◌≡◌, ℕ, ◌≤◌, ◌<◌, ◌+◌, ◌*◌, pos, ◌+ℤ◌, true, false, if◌then◌else◌, length, slice_index_or, Some, None};
+ghost use Rattle.std.specs.Prelude.{◌≡◌, ℕ, ◌≤◌, ◌<◌, ◌+◌, ◌*◌, pos, ◌+ℤ◌, true, false};
+ghost use Rattle.std.specs.Prelude.{if◌then◌else◌, length, slice_index_or, Some, None};
 ghost use Rattle.std.specs.List.{All};
-ghost use Rattle.avc_neigh.specs.declared.neighbour_info.Motion.TheVariants.{Absent as absent, Inter as inter};
+ghost use Rattle.avc_neigh.specs.declared.neighbour_info.Motion.TheVariants.{Absent as absent};
+ghost use Rattle.avc_neigh.specs.declared.neighbour_info.Motion.TheVariants.{Inter as inter};
 ghost use Rattle.avc_types.specs.Macroblock as macroblocks;
 ghost use Rattle.avc_motion.specs.Motion as motions;
 ghost use Rattle.avc_motion.specs.Decoding.{in_range_only, IsOfQuarter, IsQuarterFilled};
@@ -109,7 +111,8 @@ fn fill_blocks(mine: &mut [Motion; 16], part: Part, quarter: usize, motion: Moti
     }
 }
 
-/// Gives the blocks of a quarter that lie in the part this motion. Each is looked at only where some lie in it and some do not.
+/// Gives the blocks of a quarter that lie in the part this motion. Each is looked at only where
+/// some lie in it and some do not.
 #[inline(always)]
 fn fill_quarter(mine: &mut [Motion; 16], part: Part, quarter: usize, motion: Motion)
     requires { quarter < 4 }
@@ -156,7 +159,8 @@ fn part_count(sub_mb_type: SubMbType) -> usize
 }
 
 impl Inter<'_> {
-    ghost use Rattle.avc_motion.specs.Decoding.{Decodes, HasFourQuarters, IsInside, decoded_by, moved_by, parts_in_quarter};
+    ghost use Rattle.avc_motion.specs.Decoding.{Decodes, HasFourQuarters, IsInside, decoded_by};
+    ghost use Rattle.avc_motion.specs.Decoding.{moved_by, parts_in_quarter};
 
     /// What the blocks of a part have.
     fn motion_of_part(&self, mine: &[Motion; 16], part: Part, mvd: Mvd) -> Result<Motion, Fault>
@@ -176,7 +180,8 @@ impl Inter<'_> {
         motion_by(ref_idx, predicted, mvd)
     }
 
-    /// Gives the blocks of these parts their motion, one part after another, up to the first vector that leaves 16 bits.
+    /// Gives the blocks of these parts their motion, one part after another, up to the first vector
+    /// that leaves 16 bits.
     fn decode_parts(
         &self,
         mine: &mut [Motion; 16],

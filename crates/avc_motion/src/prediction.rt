@@ -67,7 +67,8 @@ impl NeighbouringPartitions {
         }
     }
 
-    /// The vector of the only neighbour that has the reference index, or the median of all three (8.4.1.3).
+    /// The vector of the only neighbour that has the reference index, or the median of all three
+    /// (8.4.1.3).
     fn median_prediction(self, ref_idx: u8) -> Mv
         ensures { result ≡ motions.median_prediction ref_idx self }
     {
@@ -96,7 +97,8 @@ impl NeighbouringPartitions {
         }
     }
 
-    /// The prediction of the vector of a part with this reference index, in quarter luma samples (8.4.1.3).
+    /// The prediction of the vector of a part with this reference index, in quarter luma samples
+    /// (8.4.1.3).
     pub(crate) fn predicted_vector(self, mb_type: &PMbType, partition: usize, ref_idx: u8) -> Mv
         ensures { result ≡ motions.predicted_vector mb_type.now partition ref_idx self }
     {

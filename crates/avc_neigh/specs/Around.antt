@@ -52,11 +52,13 @@ mb_a p slice = if next_address p % p.width == 0 then None else of_slice slice (b
 abbrev pub mb_b : PictureInfo → (slice : ℕ) → Option NeighbourInfo
 mb_b p slice = of_slice slice (back p.info p.width)
 
--- mbAddrC, CurrMbAddr - PicWidthInMbs + 1: above right, and not available from the last column (6.4.9)
+-- mbAddrC, CurrMbAddr - PicWidthInMbs + 1: above right, and not available from the last column
+-- (6.4.9)
 abbrev pub mb_c : PictureInfo → (slice : ℕ) → Option NeighbourInfo
 mb_c p slice = if (next_address p + 1) % p.width == 0 then None else of_slice slice (back p.info (p.width - 1))
 
--- mbAddrD, CurrMbAddr - PicWidthInMbs - 1: above left, and not available from the first column (6.4.9)
+-- mbAddrD, CurrMbAddr - PicWidthInMbs - 1: above left, and not available from the first column
+-- (6.4.9)
 abbrev pub mb_d : PictureInfo → (slice : ℕ) → Option NeighbourInfo
 mb_d p slice = if next_address p % p.width == 0 then None else of_slice slice (back p.info (p.width + 1))
 

@@ -16,9 +16,9 @@ abbrev pub block_of : {X : Type 0} → X → (NeighbourInfo → List X) → Opti
 block_of absent blocks None k = absent
 block_of absent blocks (Some f) k = slice_index_or (blocks f) k absent
 
--- The block that covers the sample (x, y) as seen from the upper left one of the macroblock: x from -1
--- to 16 and y from -1 to 15 (6.4.12.1, Table 6-3). `mine` has the macroblock's own blocks, and `blocks`
--- says what a neighbour's have.
+-- The block that covers the sample (x, y) as seen from the upper left one of the macroblock: x from
+-- -1 to 16 and y from -1 to 15 (6.4.12.1, Table 6-3). `mine` has the macroblock's own blocks, and
+-- `blocks` says what a neighbour's have.
 abbrev pub block_near : {X : Type 0} → X → (NeighbourInfo → List X) → Around → (mine : List X) → (x y : ℤ) → X
 block_near absent blocks n mine (pos x) (pos y) = if nat_lt x 16 then slice_index_or mine (block_at x y) absent else absent
 block_near absent blocks n mine (negsuc _) (pos y) = block_of absent blocks n.a (block_at 15 y)
@@ -41,8 +41,8 @@ pub record IsAsked (x y : ℤ) : Type 0 where
   pub top : negsuc 0 ≤ℤ y
   pub bottom : y ≤ℤ pos 15
 
--- These are the neighbours of macroblock a: their blocks are those that are found by sample coordinates
--- (6.4.12.1). `known` has the blocks of the macroblocks before a.
+-- These are the neighbours of macroblock a: their blocks are those that are found by sample
+-- coordinates (6.4.12.1). `known` has the blocks of the macroblocks before a.
 pub record AreAround {X : Type 0} (absent : X) (blocks : NeighbourInfo → List X) (n : Around)
     (mbs : List PicMb) (width : ℕ) (known : List (List X)) (a : ℕ) : Type 0 where
   pub block : (mine : List X) (x y : ℤ) → IsAsked x y
@@ -56,7 +56,8 @@ MotionIsAround = AreAround motions.Absent (λ f. f.motion)
 abbrev pub ModesAreAround : Around → List PicMb → (width : ℕ) → (known : List (List NearMode)) → (a : ℕ) → Type 0
 ModesAreAround = AreAround modes.Absent (λ f. f.modes)
 
--- These are the modes of an I_NxN macroblock, in whichever picture it has these neighbours (8.3.1.1).
+-- These are the modes of an I_NxN macroblock, in whichever picture it has these neighbours
+-- (8.3.1.1).
 abbrev pub AreNxnModes : Around → (constrained_intra_pred : Bool) → (coded : List (Option ℕ)) → (modes : List NearMode) → Type 0
 AreNxnModes n constrained_intra_pred coded modes =
     (c : Coded) (known : List (List NearMode)) (a : ℕ) → c.constrained_intra_pred ≡ constrained_intra_pred

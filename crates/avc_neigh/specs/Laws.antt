@@ -22,7 +22,8 @@ TellSlices = InfoTell (λ m. m.slice) (λ f. f.slice)
 abbrev pub TellTotalCoeffs : List PicMb → List NeighbourInfo → Type 0
 TellTotalCoeffs = InfoTell (λ m. total_coeffs_of m.mb.syntax) (λ f. f.total_coeffs)
 
--- p has the info of the macroblocks of a picture before the next one, which is of this slice. Later ones may be there.
+-- p has the info of the macroblocks of a picture before the next one, which is of this slice. Later
+-- ones may be there.
 pub record IsNext (mbs : List PicMb) (p : PictureInfo) (slice : ℕ) : Type 0 where
   pub wide : 0 < p.width
   pub slices : TellSlices mbs p.info
@@ -42,15 +43,17 @@ MotionIsFound = BlocksAreFound motions.Absent (λ f. f.motion)
 abbrev pub ModesAreFound : Type 0
 ModesAreFound = BlocksAreFound modes.Absent (λ f. f.modes)
 
--- total_coeff of the neighbours A and B is that of the macroblocks that are found so. The next macroblock need not be there.
+-- total_coeff of the neighbours A and B is that of the macroblocks that are found so. The next
+-- macroblock need not be there.
 abbrev pub TotalCoeffsAreFound : Type 0
 TotalCoeffsAreFound =
     (mbs : List PicMb) (p : PictureInfo) (slice : ℕ) → 0 < p.width → TellSlices mbs p.info → TellTotalCoeffs mbs p.info
     → (option_map (λ m. total_coeffs_of m.syntax) (left_of mbs p.width slice (next_address p)) ≡ option_map (λ f. f.total_coeffs) (mb_a p slice))
     × (option_map (λ m. total_coeffs_of m.syntax) (above mbs p.width slice (next_address p)) ≡ option_map (λ f. f.total_coeffs) (mb_b p slice))
 
--- The sample at this location is there for a block of macroblock a: of its slice, decoded before the block, and of a macroblock
--- that passes the test. `earlier` says which samples of macroblock a itself are decoded before the block.
+-- The sample at this location is there for a block of macroblock a: of its slice, decoded before
+-- the block, and of a macroblock that passes the test. `earlier` says which samples of macroblock a
+-- itself are decoded before the block.
 abbrev pub is_there_by : (test : Option PicMb → Bool) → (earlier : (x y : ℕ) → Bool) → List PicMb → (a : ℕ) → Option Location → Bool
 is_there_by test earlier mbs a None = false
 is_there_by test earlier mbs a (Some s) =
@@ -63,14 +66,16 @@ abbrev pub holds_of : (NeighbourInfo → Bool) → Option NeighbourInfo → Bool
 holds_of told None = false
 holds_of told (Some f) = told f
 
--- the same by the neighbour that covers the sample (6.4.12.1, Table 6-3); `mine` is for samples of the macroblock itself
+-- the same by the neighbour that covers the sample (6.4.12.1, Table 6-3); `mine` is for samples of
+-- the macroblock itself
 abbrev pub is_there_near : (told : NeighbourInfo → Bool) → (mine : (x y : ℕ) → Bool) → Around → (x y : ℤ) → Bool
 is_there_near told mine n (pos x) (pos y) = if nat_lt x 16 then mine x y else false
 is_there_near told mine n (negsuc _) (pos y) = holds_of told n.a
 is_there_near told mine n (pos x) (negsuc _) = if nat_lt x 16 then holds_of told n.b else holds_of told n.c
 is_there_near told mine n (negsuc _) (negsuc _) = holds_of told n.d
 
--- Where the info tells what the test says, as whether a macroblock is intra, the neighbours say which samples are there.
+-- Where the info tells what the test says, as whether a macroblock is intra, the neighbours say
+-- which samples are there.
 abbrev pub AvailabilityIsFound : Type 0
 AvailabilityIsFound =
     (test : Option PicMb → Bool) (told : NeighbourInfo → Bool) (earlier : (x y : ℕ) → Bool) (mbs : List PicMb) (p : PictureInfo) (slice : ℕ)

@@ -11,8 +11,8 @@ place_after p width =
     then record { column = p.column + 1; first = p.first; first_above = p.first_above }
     else record { column = 0; first = p.first_above; first_above = p.first }
 
--- From `first` on stand the macroblocks left of the next one in its row, from `first_above` on those of the row above, where the
--- picture has one.
+-- From `first` on stand the macroblocks left of the next one in its row, from `first_above` on
+-- those of the row above, where the picture has one.
 pub record AreRowEntries (info : List NeighbourInfo) (width : ℕ) (p : Place) (has_above : Bool) (entries : List (Option NeighbourInfo)) : Type 0 where
   pub inside : p.column < width
   pub address : p.column ≡ length info % width

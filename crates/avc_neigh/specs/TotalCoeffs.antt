@@ -21,9 +21,10 @@ total_coeffs_of (i_nxn modes chroma_mode r) = residual_total_coeffs r
 total_coeffs_of (i_16x16 mode chroma_mode r) = residual_total_coeffs r
 total_coeffs_of (p_inter shape ref_idx mvd r) = residual_total_coeffs r
 
--- nA for block k of a component (9.2.1): that of the block which covers the sample to the left of it. Inside
--- the macroblock it is in `mine`, which has the blocks before k; else in the neighbouring macroblock, where
--- that is available. A macroblock has size x size samples of the component.
+-- nA for block k of a component (9.2.1): that of the block which covers the sample to the left of
+-- it. Inside the macroblock it is in `mine`, which has the blocks before k; else in the
+-- neighbouring macroblock, where that is available. A macroblock has size x size samples of the
+-- component.
 abbrev pub nA : (size : ℕ) → Option (List ℕ) → (mine : List ℕ) → ℕ → Option ℕ
 nA size left mine k =
     elim (block_x k) [

@@ -29,8 +29,8 @@ pub fn is_topmost(k: usize) -> bool
     k & 10 == 0
 }
 
-/// The luma block to the left of block `k` (6.4.11.4): in the first column that of the macroblock to the left, else an
-/// earlier one of the same macroblock.
+/// The luma block to the left of block `k` (6.4.11.4): in the first column that of the macroblock
+/// to the left, else an earlier one of the same macroblock.
 #[inline]
 pub fn left_block(k: usize) -> usize
     requires { k < 16 }
@@ -41,8 +41,8 @@ pub fn left_block(k: usize) -> usize
     LEFT[k] as usize
 }
 
-/// The luma block above block `k` (6.4.11.4): in the first row that of the macroblock above, else an earlier one of the
-/// same macroblock.
+/// The luma block above block `k` (6.4.11.4): in the first row that of the macroblock above, else
+/// an earlier one of the same macroblock.
 #[inline]
 pub fn above_block(k: usize) -> usize
     requires { k < 16 }

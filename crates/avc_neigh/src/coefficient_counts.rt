@@ -53,8 +53,9 @@ fn luma_b(up: Option<&[u8; 16]>, done: &[u8; 16], k: usize) -> Option<u8>
     }
 }
 
-/// nC of luma block `k` (9.2.1). `left` and `up` have total_coeff of the luma blocks of mbAddrA and mbAddrB, where these are
-/// available, and `done` that of the macroblock's own, of which those before block `k` count.
+/// nC of luma block `k` (9.2.1). `left` and `up` have total_coeff of the luma blocks of mbAddrA and
+/// mbAddrB, where these are available, and `done` that of the macroblock's own, of which those
+/// before block `k` count.
 #[inline]
 pub fn nc_luma(left: Option<&[u8; 16]>, up: Option<&[u8; 16]>, done: &[u8; 16], k: usize) -> u8
     requires { k < 16 }

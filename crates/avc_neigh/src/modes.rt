@@ -5,7 +5,8 @@ ghost use Rattle.std.specs.Option.{option_copied};
 ghost use Rattle.avc_neigh.specs.Around.{info_of};
 ghost use Rattle.avc_neigh.specs.BlockNear.{mode_near, AreNxnModes, HasModes};
 ghost use Rattle.avc_neigh.specs.Blocks.{block_x, block_y};
-ghost use Rattle.avc_neigh.specs.Modes.{chosen_mode, mode_of_neighbour, predicted_mode, IsMode, IsRem};
+ghost use Rattle.avc_neigh.specs.Modes.{chosen_mode, mode_of_neighbour, predicted_mode, IsMode};
+ghost use Rattle.avc_neigh.specs.Modes.{IsRem};
 
 use crate::block_order::{above_block, is_leftmost, is_topmost, left_block};
 use crate::neighbour_info::NearMode;
@@ -87,9 +88,9 @@ fn mode_above(neighbours: &Neighbours, modes: &[NearMode; 16], k: usize) -> Near
     }
 }
 
-/// Intra4x4PredMode of the sixteen blocks of an I_NxN macroblock (8.3.1.1), in block order. `coded` has for each block
-/// rem_intra4x4_pred_mode, 0 to 7, or nothing where prev_intra4x4_pred_mode_flag is 1. Each mode is at most 8 where those of
-/// the neighbours are.
+/// Intra4x4PredMode of the sixteen blocks of an I_NxN macroblock (8.3.1.1), in block order. `coded`
+/// has for each block rem_intra4x4_pred_mode, 0 to 7, or nothing where prev_intra4x4_pred_mode_flag
+/// is 1. Each mode is at most 8 where those of the neighbours are.
 pub fn intra4x4_modes(
     neighbours: &Neighbours,
     constrained_intra_pred: bool,

@@ -26,7 +26,8 @@ pub enum NearMode {
     /// In an inter macroblock.
     Inter,
 
-    /// In an intra macroblock: Intra4x4PredMode, which counts as 2 (DC) where the macroblock is not I_NxN.
+    /// In an intra macroblock: Intra4x4PredMode, which counts as 2 (DC) where the macroblock is not
+    /// I_NxN.
     Mode(u8),
 }
 

@@ -2,8 +2,8 @@
 
 use crate::neighbour_info::NeighbourInfo;
 
-/// The neighbouring macroblocks of the one that comes next (6.4.9), each where it is available: in the picture, decoded
-/// earlier and of the same slice.
+/// The neighbouring macroblocks of the one that comes next (6.4.9), each where it is available: in
+/// the picture, decoded earlier and of the same slice.
 #[derive(Clone, Copy)]
 pub struct Neighbours<'a> {
     /// mbAddrA, to the left.

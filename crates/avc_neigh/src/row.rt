@@ -23,9 +23,10 @@ struct Place {
     first_above: usize,
 }
 
-/// What is known of a picture's macroblocks so far, for the neighbours of the one that comes next. A contract sees the info
-/// of all of them, in decoding order; the row itself keeps those that can still be asked for: those of the row of the macroblock
-/// that comes next, and those of the row above.
+/// What is known of a picture's macroblocks so far, for the neighbours of the one that comes next.
+/// A contract sees the info of all of them, in decoding order; the row itself keeps those that can
+/// still be asked for: those of the row of the macroblock that comes next, and those of the row
+/// above.
 #[derive(Drop)]
 pub struct Row {
     /// One for each column and each of two rows; nothing where no macroblock was yet.
@@ -36,7 +37,8 @@ pub struct Row {
 
     next: Place,
 
-    /// Whether a row of this picture has ended: else what stands in the row above is of none of its macroblocks.
+    /// Whether a row of this picture has ended: else what stands in the row above is of none of its
+    /// macroblocks.
     has_above: bool,
 
     info: History<NeighbourInfo>,
@@ -63,7 +65,8 @@ fn in_slice<'a>(info: Option<&'a NeighbourInfo>, slice: u32) -> Option<&'a Neigh
     }
 }
 
-/// The place after one, in rows of this width: behind the end of a row its entries are those of the row above.
+/// The place after one, in rows of this width: behind the end of a row its entries are those of the
+/// row above.
 fn place_after(place: Place, width: usize) -> Place
     requires { place.column < width }
     ensures { result ≡ place_after place width }
@@ -95,7 +98,8 @@ fn write(entry: &mut Option<NeighbourInfo>, info: &NeighbourInfo)
 impl Row {
     ghost use Rattle.avc_neigh.specs.Around.{around, info_of};
 
-    /// A row for a picture of this width in macroblocks, at least 1, before its first macroblock. Only this call takes memory.
+    /// A row for a picture of this width in macroblocks, at least 1, before its first macroblock.
+    /// Only this call takes memory.
     pub fn new(alloc: Global, width: u32) -> Result<Row, OutOfMemory>
         requires { 0 < width }
         ensures { IfOk result (λ row. row ≡ no_info width) }
@@ -121,8 +125,8 @@ impl Row {
         self.width
     }
 
-    /// Forgets all macroblocks, for a picture of the same width. What is kept of them is not cleared, since it is asked for only where
-    /// this picture has a macroblock.
+    /// Forgets all macroblocks, for a picture of the same width. What is kept of them is not
+    /// cleared, since it is asked for only where this picture has a macroblock.
     pub fn restart(&mut self)
         ensures { self.new ≡ no_info self.old.width }
     {

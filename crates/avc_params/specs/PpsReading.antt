@@ -8,7 +8,8 @@ use Rattle.avc_params.specs.declared.pps_reading.DefaultCounts.{DefaultCounts}
 use Rattle.avc_params.specs.declared.pps_reading.Quantisation.{Quantisation}
 use Rattle.avc_params.specs.declared.pps_reading.Switches.{Switches}
 
--- num_ref_idx_l0_default_active_minus1 and num_ref_idx_l1_default_active_minus1, each 0 to 31 (7.4.2.2)
+-- num_ref_idx_l0_default_active_minus1 and num_ref_idx_l1_default_active_minus1, each 0 to 31
+-- (7.4.2.2)
 abbrev pub default_counts : Read DefaultCounts
 default_counts = do
   num_ref_idx_l0_default_active_minus1 ← ue_to 31
@@ -43,7 +44,8 @@ switches = do
     redundant_pic_cnt_present_flag = redundant_pic_cnt_present_flag;
   })
 
--- what follows the id (7.3.2.2); that Cabac, SliceGroups and PpsExtension are refused is this decoder's rule
+-- what follows the id (7.3.2.2); that Cabac, SliceGroups and PpsExtension are refused is this
+-- decoder's rule
 abbrev pub pps_after : (pic_parameter_set_id : ℕ) → Read Pps
 pps_after pic_parameter_set_id = do
   seq_parameter_set_id ← ue_to 31

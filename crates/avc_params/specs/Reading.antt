@@ -22,7 +22,8 @@ sps_id rbsp = option_map (λ head. head.seq_parameter_set_id) (read_value identi
 abbrev pub pps_id : List ℕ → Option ℕ
 pps_id rbsp = read_value (ue_to 255) (start rbsp)
 
--- the value, or why the set is refused, with its id where that was read in range (this decoder's rule)
+-- the value, or why the set is refused, with its id where that was read in range (this decoder's
+-- rule)
 abbrev pub whole : {A : Type 0} → Read A → Option ℕ → Bits → Result A SetFault
 whole part id b = elim (part b) [ Ok r ↦ Ok r.0 | Err f ↦ Err (record { id = id; fault = f }) ]
 

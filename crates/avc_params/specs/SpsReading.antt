@@ -32,7 +32,8 @@ constraint_flags = do
     constraint_set5_flag = constraint_set5_flag;
   })
 
--- what a set begins with, profile_idc to seq_parameter_set_id, which is 0 to 31 (7.3.2.1.1, 7.4.2.1.1)
+-- what a set begins with, profile_idc to seq_parameter_set_id, which is 0 to 31 (7.3.2.1.1,
+-- 7.4.2.1.1)
 abbrev pub identity : Read Identity
 identity = do
   profile_idc ← u 8
@@ -73,7 +74,8 @@ order_count_of kind =
 abbrev pub order_count : Read OrderCount
 order_count = ue_to 2 >>= λ pic_order_cnt_type. order_count_of pic_order_cnt_type
 
--- pic_width_in_mbs_minus1 and pic_height_in_map_units_minus1 (7.3.2.1.1); the limits are those of A.3.1
+-- pic_width_in_mbs_minus1 and pic_height_in_map_units_minus1 (7.3.2.1.1); the limits are those of
+-- A.3.1
 abbrev pub size : Read Size
 size = do
   pic_width_in_mbs_minus1 ← ue
@@ -82,7 +84,8 @@ size = do
   check (nat_lt pic_height_in_map_units_minus1 max_side && nat_le ((pic_width_in_mbs_minus1 + 1) * (pic_height_in_map_units_minus1 + 1)) max_macroblocks) faults.PictureSize
   give (record { pic_width_in_mbs_minus1 = pic_width_in_mbs_minus1; pic_height_in_map_units_minus1 = pic_height_in_map_units_minus1 })
 
--- The four offsets, of a picture of so many luma samples, of which some have to be left (7.3.2.1.1, 7.4.2.1.1).
+-- The four offsets, of a picture of so many luma samples, of which some have to be left (7.3.2.1.1,
+-- 7.4.2.1.1).
 abbrev pub cropping : (width height : ℕ) → Read Cropping
 cropping width height = do
   left ← ue

@@ -21,8 +21,8 @@ pub record IsCropping (width height : ℕ) (c : Cropping) : Type 0 where
   pub columns : 2 * (c.frame_crop_left_offset + c.frame_crop_right_offset) < width
   pub rows : 2 * (c.frame_crop_top_offset + c.frame_crop_bottom_offset) < height
 
--- A sequence parameter set whose elements are in their ranges (7.4.2.1.1), and whose size is within this decoder's
--- limits (A.3.1).
+-- A sequence parameter set whose elements are in their ranges (7.4.2.1.1), and whose size is within
+-- this decoder's limits (A.3.1).
 pub record IsSps (sps : Sps) : Type 0 where
   pub level : IsSome (max_dpb_mbs sps.level_idc sps.constraint_flags.constraint_set3_flag)
   pub id : sps.seq_parameter_set_id ≤ 31

@@ -3,8 +3,8 @@
 ghost use Rattle.std.specs.Prelude.{◌≡◌};
 ghost use Rattle.avc_params.specs.Limits.{max_dpb_mbs as most_in_table};
 
-/// MaxDpbMbs of a level (Table A-1): how many macroblocks the decoded picture buffer holds. Level 11 with
-/// constraint_set3_flag is level 1b.
+/// MaxDpbMbs of a level (Table A-1): how many macroblocks the decoded picture buffer holds. Level
+/// 11 with constraint_set3_flag is level 1b.
 pub(crate) fn max_dpb_mbs(level_idc: u8, constraint_set3_flag: bool) -> Option<u32>
     ensures { result ≡ most_in_table level_idc constraint_set3_flag }
 {

@@ -1,6 +1,7 @@
 //! A picture parameter set (7.3.2.2).
 
-/// A picture parameter set (7.3.2.2). In each entropy_coding_mode_flag and num_slice_groups_minus1 are 0.
+/// A picture parameter set (7.3.2.2). In each entropy_coding_mode_flag and num_slice_groups_minus1
+/// are 0.
 #[derive(Clone, Copy)]
 pub struct Pps {
     /// 0 to 255.

@@ -36,8 +36,8 @@ pub(crate) struct Switches {
     pub redundant_pic_cnt_present_flag: bool,
 }
 
-/// The picture parameter set that an RBSP holds (7.3.2.2), or the first fault in it: Truncated, CodeTooLong, OutOfRange,
-/// Cabac, SliceGroups or PpsExtension.
+/// The picture parameter set that an RBSP holds (7.3.2.2), or the first fault in it: Truncated,
+/// CodeTooLong, OutOfRange, Cabac, SliceGroups or PpsExtension.
 pub fn read_pps(rbsp: &[u8]) -> Result<Pps, SetFault>
     ensures { result ≡ pps_of rbsp.now }
 {

@@ -3,7 +3,8 @@
 ghost use Rattle.std.specs.Prelude.{◌≡◌, ◌≤◌};
 ghost use Rattle.std.specs.Option.{option_map};
 ghost use Rattle.avc_params.specs.Limits.{dpb_size, height_in_mbs, max_dpb_frames, max_frame_num};
-ghost use Rattle.avc_params.specs.Limits.{max_macroblocks, reference_limit, restriction_of, size_in_mbs};
+ghost use Rattle.avc_params.specs.Limits.{max_macroblocks, reference_limit, restriction_of};
+ghost use Rattle.avc_params.specs.Limits.{size_in_mbs};
 ghost use Rattle.avc_params.specs.Limits.{width_in_mbs};
 
 use crate::levels::max_dpb_mbs;

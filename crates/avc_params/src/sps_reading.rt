@@ -5,7 +5,8 @@ ghost use Rattle.avc_bits.specs.Reader.{Reads};
 ghost use Rattle.avc_params.specs.Limits.{max_side};
 ghost use Rattle.avc_params.specs.Parsing.{optional};
 ghost use Rattle.avc_params.specs.Reading.{sps_of};
-ghost use Rattle.avc_params.specs.SpsReading.{constraint_flags, cropping, cycle, identity, lsb, order_count, size, sps_after};
+ghost use Rattle.avc_params.specs.SpsReading.{constraint_flags, cropping, cycle, identity, lsb};
+ghost use Rattle.avc_params.specs.SpsReading.{order_count, size, sps_after};
 
 use crate::levels::max_dpb_mbs;
 use crate::set_unit::SetFault;
@@ -37,8 +38,8 @@ pub(crate) struct Size {
     pub pic_height_in_map_units_minus1: u16,
 }
 
-/// The sequence parameter set that an RBSP holds (7.3.2.1.1), or the first fault in it: Truncated, CodeTooLong,
-/// OutOfRange, Profile, Level, PictureSize or Interlaced.
+/// The sequence parameter set that an RBSP holds (7.3.2.1.1), or the first fault in it: Truncated,
+/// CodeTooLong, OutOfRange, Profile, Level, PictureSize or Interlaced.
 pub fn read_sps(rbsp: &[u8]) -> Result<Sps, SetFault>
     ensures { result ≡ sps_of rbsp.now }
 {

@@ -16,8 +16,8 @@ use avc_types::{History, OutOfMemory};
 use std::alloc::Global;
 use std::marker::Model;
 
-/// The parameter sets in force (7.4.1.2.1). A contract sees all units that were put, in order; the table itself keeps the
-/// sets in force alone, by their ids.
+/// The parameter sets in force (7.4.1.2.1). A contract sees all units that were put, in order; the
+/// table itself keeps the sets in force alone, by their ids.
 #[derive(Drop)]
 pub struct ParamTable {
     sps: Vec<Option<Sps>>,
@@ -51,8 +51,9 @@ impl ParamTable {
         }
     }
 
-    /// Takes the RBSP of a sequence parameter set. A set that is refused erases the one of its id, where that had been
-    /// read in range; the answer says why. Where memory is refused nothing changes.
+    /// Takes the RBSP of a sequence parameter set. A set that is refused erases the one of its id,
+    /// where that had been read in range; the answer says why. Where memory is refused nothing
+    /// changes.
     pub fn put_sps(&mut self, rbsp: &[u8]) -> Result<Option<SetFault>, OutOfMemory>
         ensures fault { IfOk result (λ fault. fault ≡ refused (sps_of rbsp.now)) }
         ensures put { OnOk result (self.new ≡ self.old ++ OfSps rbsp.now ∷ []) }

@@ -2,7 +2,8 @@
 
 use avc_types::UpTo;
 
-/// sar_width and sar_height: the size of a sample, in units of which only their ratio matters (E.2.1).
+/// sar_width and sar_height: the size of a sample, in units of which only their ratio matters
+/// (E.2.1).
 #[derive(Clone, Copy, PartialEq)]
 pub struct SampleSize {
     pub sar_width: u16,

@@ -3,7 +3,9 @@
 ghost use Rattle.std.specs.Prelude.{◌≡◌, ◌+◌};
 ghost use Rattle.avc_bits.specs.Bits.{times};
 ghost use Rattle.avc_bits.specs.Reader.{Reads};
-ghost use Rattle.avc_params.specs.VuiReading.{chroma_location, colour, hrd, hrd_entry, restriction, sample_aspect, sample_size, timing, video_signal, vui};
+ghost use Rattle.avc_params.specs.VuiReading.{chroma_location, colour, hrd, hrd_entry, restriction};
+ghost use Rattle.avc_params.specs.VuiReading.{sample_aspect, sample_size, timing, video_signal};
+ghost use Rattle.avc_params.specs.VuiReading.{vui};
 
 use crate::syntax::{Syntax, read_optional, read_times, read_where};
 use crate::vui::{

@@ -47,7 +47,8 @@ abbrev pub IsListAt : {PAD : ℕ} → PictureStart → (indices : List ℕ) → 
 IsListAt p indices frames h (Ok places) = (list : List (Option Reference)) × (list_of p h ≡ Ok list) × HasPlaces indices frames list places
 IsListAt p indices frames h (Err f) = list_of p h ≡ Err f
 
--- The answer is RefPicList0 as places among the frames, or its fault (8.2.4), whatever entries the frames have.
+-- The answer is RefPicList0 as places among the frames, or its fault (8.2.4), whatever entries the
+-- frames have.
 abbrev pub HasList : {PAD : ℕ} → Sps → List (Frame PAD) → Header → Result (List (Option ℕ)) Fault → Type 0
 HasList sps frames h answer =
     (pps : Pps) (indices : List ℕ) → FramesStandAt indices frames → IsListAt (picture_start sps pps indices frames) indices frames h answer
@@ -64,7 +65,8 @@ abbrev pub planes_at : {PAD : ℕ} → List (Frame PAD) → Option ℕ → Optio
 planes_at frames None = None
 planes_at frames (Some place) = planes_in (slice_get frames place)
 
--- The reference picture is the one at the place, with the weights of reference index r; none where no picture is there.
+-- The reference picture is the one at the place, with the weights of reference index r; none where
+-- no picture is there.
 abbrev pub IsPictureAt : {PAD : ℕ} → List (Frame PAD) → Header → (r : ℕ) → Option ℕ → Option (ReferencePicture PAD) → Type 0
 IsPictureAt frames h r place None = planes_at frames place ≡ None
 IsPictureAt frames h r place (Some p) = (planes_at frames place ≡ Some (padded_planes_of p.planes.now)) × (slice_get (weights h) r ≡ p.weights)
@@ -76,16 +78,19 @@ ArePicturesAt frames h count places pictures =
 
 -- ---- the whole
 
--- In every picture in which the slice with this number has the info of the header and the list, this is what the code knows of it.
+-- In every picture in which the slice with this number has the info of the header and the list,
+-- this is what the code knows of it.
 abbrev pub IsContextOf : {PAD : ℕ} → PictureStart → (indices : List ℕ) → Header → List (Option Reference) → SliceContext PAD → Type 0
 IsContextOf p indices h list s =
     (c : Coded) (names : Names) → AreNames indices names → slice_info c s.number ≡ info_of p h list → IsSlice c names s
 
--- each of the first `count` reference indices has the place of its frame as its number; 0 without a place
+-- each of the first `count` reference indices has the place of its frame as its number; 0 without a
+-- place
 abbrev pub AreNumbersAt : (count : ℕ) → List (Option ℕ) → (numbers : List ℕ) → Type 0
 AreNumbersAt count places numbers = (r : ℕ) → r < count → slice_index_or numbers r 0 ≡ unwrap_or (slice_index_or places r None) 0
 
--- What the code knows of the slice with this number: of its header, and of the frames at the places of its RefPicList0.
+-- What the code knows of the slice with this number: of its header, and of the frames at the places
+-- of its RefPicList0.
 pub record IsContextAt {PAD : ℕ} (number : ℕ) (frames : List (Frame PAD)) (h : Header) (places : List (Option ℕ)) (s : SliceContext PAD) : Type 0 where
   pub number_is : s.number ≡ number
   pub full : length s.references ≡ 16

@@ -24,12 +24,14 @@ use Rattle.avc_picture.specs.declared.slice_context.SliceContext.{SliceContext}
 
 -- ---- a slice's data
 
--- how many macroblocks of a slice's data are read, and the fault that ends it: that of the first faulty macroblock, or the data's own
+-- how many macroblocks of a slice's data are read, and the fault that ends it: that of the first
+-- faulty macroblock, or the data's own
 abbrev pub first_of : Option (ℕ × Fault) → SliceMbs → ℕ × Option Fault
 first_of None ms = (length ms.mbs, ms.fault)
 first_of (Some found) ms = (found.0, Some found.1)
 
--- how many macroblocks of a slice's data count as read, and the first fault, where they begin at this address
+-- how many macroblocks of a slice's data count as read, and the first fault, where they begin at
+-- this address
 abbrev pub outcome : Coded → (address : ℕ) → SliceMbs → ℕ × Option Fault
 outcome c address ms = first_of (first_mb_fault c address (length ms.mbs)) ms
 
@@ -53,8 +55,8 @@ pub record CanGoOn {PAD : ℕ} (m : MbsState) (d : SliceData) (context : SliceCo
   pub start : SliceStart
   pub goes_on : GoesOn coded names start m d context
 
--- The first macroblock of the data has been read, and the picture goes on with the data as it was before, under whatever the code then
--- knows of the slice.
+-- The first macroblock of the data has been read, and the picture goes on with the data as it was
+-- before, under whatever the code then knows of the slice.
 pub record HasFirst {PAD : ℕ} (Knows : SliceContext PAD → Type 0) (c : Coded) (names : Names) (s : SliceStart) (d : SliceData) (m : MbsState) (mb : Mb) (d' : SliceData) : Type 0 where
   pub goes_on : (context : SliceContext PAD) → Knows context → GoesOn c names s m d context
   pub first : IsHandedOut s (take m.next c.mbs) (Ok (Some mb)) d d'
@@ -107,7 +109,8 @@ pub record IsWellSoFar (p : PictureStart) (indices : List ℕ) (g : Progress) (s
   pub few : slice_count ≤ read
   pub decoded : AreDecoded p indices g slice_count m
 
--- the number of the slice behind one with this number, in which the picture goes from so many macroblocks to so many
+-- the number of the slice behind one with this number, in which the picture goes from so many
+-- macroblocks to so many
 abbrev pub number_after : (number before after : ℕ) → ℕ
 number_after number before after = if before == after then number else suc number
 
@@ -138,8 +141,8 @@ abbrev pub IsKeptAfter : PictureStart → (indices : List ℕ) → Progress → 
 IsKeptAfter p indices g None slice_count read m = IsWellSoFar p indices g slice_count read m
 IsKeptAfter p indices g (Some f) slice_count read m = (option_map (λ found. found.1) g.fault ≡ Some f) × (g.read ≡ read)
 
--- The decoder's fields say of the slices so far, the newest first, how many macroblocks have been read, the first
--- fault, and, where there is none, what the macroblocks are.
+-- The decoder's fields say of the slices so far, the newest first, how many macroblocks have been
+-- read, the first fault, and, where there is none, what the macroblocks are.
 pub record IsDecoderState {PAD : ℕ} (sps : Sps) (pps : Pps) (frames : List (Frame PAD)) (slices : List Slice) (slice_count read : ℕ) (fault : Option Fault) (m : MbsState) : Type 0 where
   pub of_sps : IsSps sps
   pub of_pps : IsPps pps

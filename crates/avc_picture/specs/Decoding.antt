@@ -15,7 +15,8 @@ use Rattle.avc_plane.specs.declared.frame.Frame.{Frame}
 use Rattle.avc_plane.specs.declared.frame.PaddedPlanes.{PaddedPlanes}
 use Rattle.avc_picture.specs.Slices.{PictureStart, Progress, progress, is_full, planes_after_slices}
 
--- The picture's parameter sets, the frames of the buffer in decoding order, and its slices so far, the newest first.
+-- The picture's parameter sets, the frames of the buffer in decoding order, and its slices so far,
+-- the newest first.
 pub record Decoding (PAD : ℕ) : Type 0 where
   pub sps : Sps
   pub pps : Pps
@@ -50,8 +51,8 @@ progress_at indices d = progress (start_at indices d) d.slices
 abbrev pub HasNoFault : {PAD : ℕ} → Decoding PAD → Type 0
 HasNoFault d = (indices : List ℕ) → CanStandAt indices d → (progress_at indices d).fault ≡ None
 
--- One slice more was refused with this fault: it is the first fault in the slices so far, and it stands in this slice where none
--- was in those before.
+-- One slice more was refused with this fault: it is the first fault in the slices so far, and it
+-- stands in this slice where none was in those before.
 pub record Refuses {PAD : ℕ} (old : Decoding PAD) (s : Slice) (f : Fault) (new : Decoding PAD) : Type 0 where
   pub fault : (indices : List ℕ) → CanStandAt indices new → option_map (λ found. found.1) (progress_at indices new).fault ≡ Some f
   pub unit : HasNoFault old → (indices : List ℕ) → CanStandAt indices new → (progress_at indices new).fault ≡ Some (s.unit, f)
@@ -70,7 +71,8 @@ IsFull full d = (indices : List ℕ) → CanStandAt indices d → is_full (start
 abbrev pub HasRead : {PAD : ℕ} → (count : ℕ) → Decoding PAD → Type 0
 HasRead count d = (indices : List ℕ) → CanStandAt indices d → (progress_at indices d).read ≡ count
 
--- why there is no picture of the slices so far: the first fault in them, or else macroblocks that are missing
+-- why there is no picture of the slices so far: the first fault in them, or else macroblocks that
+-- are missing
 abbrev pub fault_at_end : (first_fault : Option (ℕ × Fault)) → (full : Bool) → Option Fault
 fault_at_end (Some found) full = Some found.1
 fault_at_end None true = None

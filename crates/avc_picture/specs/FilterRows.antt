@@ -12,8 +12,8 @@ abbrev pub AreFrom : (info : List MbInfo) → (address n : ℕ) → (kept : List
 AreFrom info address n kept =
     (k : ℕ) (other : MbInfo) → k < n → slice_index_or kept k other ≡ slice_index_or info (address + k) other
 
--- Of all info so far that is kept of the row of the macroblock that comes next, which is in this column and row, and of
--- the two rows above it.
+-- Of all info so far that is kept of the row of the macroblock that comes next, which is in this
+-- column and row, and of the two rows above it.
 pub record AreLastRows (info : List MbInfo) (width column row : ℕ) (current last above : List MbInfo) : Type 0 where
   pub narrow : column < width
   pub count : length info ≡ row * width + column

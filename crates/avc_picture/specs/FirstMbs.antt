@@ -67,8 +67,8 @@ pub record HasNeighbourInfo (c : Coded) (n : ℕ) (info : List NeighbourInfo) : 
   pub motion : map (λ f. f.motion) info ≡ motion_before c n
   pub modes : map (λ f. f.modes) info ≡ modes_before c n
 
--- The first macroblocks of picture c have been decoded: their samples, filtered one row late, and their info for neighbours and filter.
--- `names` has the numbers of the stored frames.
+-- The first macroblocks of picture c have been decoded: their samples, filtered one row late, and
+-- their info for neighbours and filter. `names` has the numbers of the stored frames.
 pub record HoldsFirst (c : Coded) (names : Names) (m : MbsState) : Type 0 where
   pub within : m.next ≤ length c.mbs
   pub width : m.canvas.width ≡ c.width

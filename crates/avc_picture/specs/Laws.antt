@@ -7,8 +7,8 @@ use Rattle.avc_plane.specs.Planes.{Planes}
 use Rattle.avc_picture_core.specs.Built.{built, built_on}
 use Rattle.avc_picture.specs.Sizes.{IsSized}
 
--- A full picture's samples before deblocking are the same, whatever planes of its size its macroblocks are built on: each is built
--- from samples of those before it.
+-- A full picture's samples before deblocking are the same, whatever planes of its size its
+-- macroblocks are built on: each is built from samples of those before it.
 abbrev pub PicturesComeFromTheirMacroblocks : Type 0
 PicturesComeFromTheirMacroblocks =
     (c : Coded) (s : Planes) → 0 < c.width → length c.mbs ≡ c.width * c.height → IsSized c.width c.height s

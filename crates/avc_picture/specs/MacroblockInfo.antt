@@ -33,7 +33,8 @@ HasRems (i_nxn modes chroma_mode r) = All IsRem modes
 HasRems (i_16x16 mode chroma_mode r) = Unit {0}
 HasRems (p_inter mb_type ref_idx mvd r) = Unit {0}
 
--- These are the modes of a macroblock with this syntax, in whichever picture it has these neighbours (8.3.1.1).
+-- These are the modes of a macroblock with this syntax, in whichever picture it has these
+-- neighbours (8.3.1.1).
 abbrev pub AreModes : Around → (constrained_intra_pred : Bool) → MbSyntax → List NearMode → Type 0
 AreModes n constrained_intra_pred syntax modes =
     (c : Coded) (known : List (List NearMode)) (a : ℕ) → c.constrained_intra_pred ≡ constrained_intra_pred
@@ -50,7 +51,8 @@ pub record IsNeighbourInfo (slice : ℕ) (n : Around) (constrained_intra_pred : 
 abbrev pub still_info : (slice : ℕ) → NeighbourInfo
 still_info slice = record { slice = slice; total_coeffs = all_total_coeffs 0; modes = replicate 16 inter_mode; motion = still_blocks }
 
--- the number of the frame that a block is predicted from, by the slice's numbers; 0 of a block that is not
+-- the number of the frame that a block is predicted from, by the slice's numbers; 0 of a block that
+-- is not
 abbrev pub number_of : (frame_numbers : List ℕ) → Motion → ℕ
 number_of numbers absent = 0
 number_of numbers intra = 0

@@ -5,7 +5,8 @@ use Rattle.avc_plane.specs.Spare.{Spare, no_spare, with_closed, with_open, HasOp
 use Rattle.avc_plane.specs.declared.frame.PaddedPlanes.{PaddedPlanes}
 use Rattle.avc_types.specs.declared.picture_error.PictureError.{PictureError}
 
--- The planes that are left over, and the rows of info of one picture, if there are such: how many macroblocks they are wide.
+-- The planes that are left over, and the rows of info of one picture, if there are such: how many
+-- macroblocks they are wide.
 pub record MemoryState : Type 0 where
   pub planes : Spare
   pub info_width : Option ℕ
@@ -40,7 +41,8 @@ pub record LeavesAll (width height : ℕ) (old new : MemoryState) : Type 0 where
   pub memory : HasMemoryFor width height new
   pub closed : (new.planes).closed ≡ (old.planes).closed
 
--- A picture of this size was closed: its rows of info are left over, and its planes too where it became no frame.
+-- A picture of this size was closed: its rows of info are left over, and its planes too where it
+-- became no frame.
 abbrev pub LeavesMemory : {PAD : ℕ} → (width height : ℕ) → MemoryState → Result (PaddedPlanes PAD) PictureError → MemoryState → Type 0
 LeavesMemory width height old (Ok planes) new = new ≡ with_info width old
 LeavesMemory width height old (Err error) new = LeavesAll width height old new

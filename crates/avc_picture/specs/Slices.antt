@@ -25,7 +25,8 @@ use Rattle.avc_plane.specs.Planes.{Planes, StoredFrame, samples_of}
 use Rattle.avc_picture_core.specs.Faults.{macroblock_fault}
 use Rattle.avc_picture.specs.Decoded.{deblocked}
 
--- What a picture's slices are decoded with: its parameter sets, and the reference frames with their samples.
+-- What a picture's slices are decoded with: its parameter sets, and the reference frames with their
+-- samples.
 pub record PictureStart : Type 0 where
   pub sps : Sps
   pub pps : Pps
@@ -39,7 +40,8 @@ data_of s = at s.rbsp (s.header).position
 abbrev pub references_in : PictureStart → List Reference
 references_in p = map (λ f. f.reference) p.frames
 
--- the samples of a frame that has none, a non-existing one (8.2.5.2): no prediction reads them (this decoder's rule)
+-- the samples of a frame that has none, a non-existing one (8.2.5.2): no prediction reads them
+-- (this decoder's rule)
 abbrev no_samples : Samples
 no_samples c x y = 0
 
@@ -80,8 +82,9 @@ list_of p h =
       | false ↦ Ok []
     ]
 
--- what decoding asks of a slice: its RefPicList0, its weights (8.4.2.3), and FilterOffsetA and FilterOffsetB, which are
--- slice_alpha_c0_offset_div2 and slice_beta_offset_div2 shifted by one (7.4.3)
+-- what decoding asks of a slice: its RefPicList0, its weights (8.4.2.3), and FilterOffsetA and
+-- FilterOffsetB, which are slice_alpha_c0_offset_div2 and slice_beta_offset_div2 shifted by one
+-- (7.4.3)
 abbrev pub info_of : PictureStart → Header → List (Option Reference) → SliceInfo
 info_of p h list =
     let d = deblocking_of h.deblocking in
@@ -107,8 +110,8 @@ start_of p h n = record {
 
 -- ---- the slices so far
 
--- The macroblocks that could be read, what is known of each slice that they lie in, the first fault with its unit, and how
--- many macroblocks have been read up to there (this decoder's rule).
+-- The macroblocks that could be read, what is known of each slice that they lie in, the first fault
+-- with its unit, and how many macroblocks have been read up to there (this decoder's rule).
 pub record Progress : Type 0 where
   pub mbs : List PicMb
   pub slices : List SliceInfo
@@ -130,8 +133,9 @@ coded_of p progress = record {
   mbs = progress.mbs;
 }
 
--- The first of n macroblocks from address a on that has VectorRange, RefMissing or IntraUnavailable, as the number of
--- macroblocks up to it, itself included, and its fault (this decoder's rule).
+-- The first of n macroblocks from address a on that has VectorRange, RefMissing or
+-- IntraUnavailable, as the number of macroblocks up to it, itself included, and its fault (this
+-- decoder's rule).
 abbrev pub first_mb_fault : Coded → (a n : ℕ) → Option (ℕ × Fault)
 first_mb_fault c a zero = None
 first_mb_fault c a (suc n) =
@@ -145,7 +149,8 @@ refused progress unit f = record progress { fault = Some (unit, f) }
 abbrev pub with_unit : (unit : ℕ) → Option Fault → Option (ℕ × Fault)
 with_unit unit f = option_map (λ g. (unit, g)) f
 
--- the slices that macroblocks lie in, with one more where these macroblocks are its own: without any it takes no number
+-- the slices that macroblocks lie in, with one more where these macroblocks are its own: without
+-- any it takes no number
 abbrev pub with_info : List SliceInfo → SliceInfo → List Mb → List SliceInfo
 with_info slices info [] = slices
 with_info slices info (mb ∷ mbs) = slices ++ info ∷ []
@@ -159,14 +164,14 @@ read_whole s before info ms = record {
   read = before.read + length ms.mbs;
 }
 
--- the fault of the first macroblock that has one comes before that of the data; the macroblocks up to it, itself
--- included, count as read (this decoder's rule)
+-- the fault of the first macroblock that has one comes before that of the data; the macroblocks up
+-- to it, itself included, count as read (this decoder's rule)
 abbrev pub with_first_fault : Slice → (before whole : Progress) → Option (ℕ × Fault) → Progress
 with_first_fault s before whole None = whole
 with_first_fault s before whole (Some found) = record whole { fault = Some (s.unit, found.1); read = before.read + found.0 }
 
--- The slice's data has been read: its faults are those of its macroblocks, lowest address first, and then its own (this
--- decoder's rule).
+-- The slice's data has been read: its faults are those of its macroblocks, lowest address first,
+-- and then its own (this decoder's rule).
 abbrev pub with_slice_data : PictureStart → Slice → (before : Progress) → SliceInfo → SliceMbs → Progress
 with_slice_data p s before info ms =
     let whole = read_whole s before info ms in
@@ -178,8 +183,8 @@ with_reference_list p s before (Err f) = refused before s.unit f
 with_reference_list p s before (Ok list) =
     with_slice_data p s before (info_of p s.header list) (slice_data (start_of p s.header (length before.slices)) before.mbs (data_of s))
 
--- One slice more where there is no fault yet: its first address, its list, its macroblocks. It has to go on where
--- the slice before it ended, in a picture's first slice at 0 (this decoder's rule).
+-- One slice more where there is no fault yet: its first address, its list, its macroblocks. It has
+-- to go on where the slice before it ended, in a picture's first slice at 0 (this decoder's rule).
 abbrev with_next_slice : PictureStart → Slice → Progress → Progress
 with_next_slice p s before =
     let expected = length before.mbs in

@@ -75,8 +75,8 @@ impl CurrentInfo {
         &self.info
     }
 
-    /// That of a skipped macroblock of this slice that stands still. Where it is that already nothing is written: who reads it next need
-    /// not wait until it is.
+    /// That of a skipped macroblock of this slice that stands still. Where it is that already
+    /// nothing is written: who reads it next need not wait until it is.
     fn set_still(&mut self, slice: u32)
         ensures { self.new ≡ still_info slice }
     {
@@ -86,8 +86,8 @@ impl CurrentInfo {
         }
     }
 
-    /// Writes what is told of a macroblock of this slice with these neighbours. `VectorRange` where a component of one of its vectors is
-    /// no 16-bit number; the info is then any.
+    /// Writes what is told of a macroblock of this slice with these neighbours. `VectorRange` where
+    /// a component of one of its vectors is no 16-bit number; the info is then any.
     pub(crate) fn set(
         &mut self,
         mb: &Mb,

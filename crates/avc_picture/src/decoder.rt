@@ -6,7 +6,8 @@ ghost use Rattle.avc_params.specs.Within.{IsPps, IsSps};
 ghost use Rattle.avc_slice.specs.Within.{IsHeader};
 ghost use Rattle.avc_plane.specs.Frames.{padded_planes_of, AreSized};
 ghost use Rattle.avc_picture_core.specs.Built.{size_of};
-ghost use Rattle.avc_picture.specs.Decoding.{no_slice_yet, AreFramesOf, HasNoFault, HasRead, IsFinishAnswer, IsFull, IsSliceAnswer};
+ghost use Rattle.avc_picture.specs.Decoding.{no_slice_yet, AreFramesOf, HasNoFault, HasRead};
+ghost use Rattle.avc_picture.specs.Decoding.{IsFinishAnswer, IsFull, IsSliceAnswer};
 ghost use Rattle.avc_picture.specs.DecoderState.{number_after};
 ghost use Rattle.avc_picture.specs.Memory.{HasMemoryFor, LeavesMemory, LeavesAll};
 ghost use Rattle.avc_picture.specs.OpenPicture.{HasFiltered, HasSample, IsCovered};
@@ -50,7 +51,8 @@ impl<const PAD: usize> Model for PictureDecoder<PAD> {
     ghost invariant = { λ d. IsDecoderState d.sps d.pps d.frames.items d.slices.items d.slice_count d.read d.fault d.macroblocks };
 }
 
-/// The number of the slice behind one with this number, in which the picture went from `before` macroblocks to `after`.
+/// The number of the slice behind one with this number, in which the picture went from `before`
+/// macroblocks to `after`.
 fn number_after(number: u32, before: u32, after: u32) -> u32
     requires few { number ≤ before }
     requires small { before < 2 ^ 31 }
@@ -60,8 +62,9 @@ fn number_after(number: u32, before: u32, after: u32) -> u32
 }
 
 impl<const PAD: usize> PictureDecoder<PAD> {
-    /// A picture with these parameter sets, and no slice yet. `frames` are those of the buffer in decoding order. It asks for no memory
-    /// where all that a picture of this size is decoded in is left over.
+    /// A picture with these parameter sets, and no slice yet. `frames` are those of the buffer in
+    /// decoding order. It asks for no memory where all that a picture of this size is decoded in is
+    /// left over.
     pub fn begin(
         alloc: Global,
         sps: &Sps,
@@ -89,8 +92,9 @@ impl<const PAD: usize> PictureDecoder<PAD> {
         })
     }
 
-    /// Decodes one slice more, or answers the first fault in the slices so far, and the same from then on. It takes no memory, and
-    /// never wants any. `frames` are those that the picture began with.
+    /// Decodes one slice more, or answers the first fault in the slices so far, and the same from
+    /// then on. It takes no memory, and never wants any. `frames` are those that the picture began
+    /// with.
     pub fn slice(&mut self, slice: &Slice, frames: &[Frame<PAD>]) -> Result<(), PictureError>
         requires within { IsHeader self.old.sps self.old.pps slice.now.rbsp slice.now.header }
         requires frames { frames.now ≡ self.old.frames }
@@ -138,7 +142,8 @@ impl<const PAD: usize> PictureDecoder<PAD> {
         self.read == self.sps.size_in_mbs()
     }
 
-    /// How many rows of macroblocks are deblocked so far, from the top: all whole rows but the last (8.7).
+    /// How many rows of macroblocks are deblocked so far, from the top: all whole rows but the last
+    /// (8.7).
     pub fn filtered(&self) -> u32
         requires { HasNoFault self.now }
         ensures { HasFiltered result self.now }
@@ -146,8 +151,9 @@ impl<const PAD: usize> PictureDecoder<PAD> {
         (self.read / self.sps.width_in_mbs()).max(1) - 1
     }
 
-    /// The sample in column `x` and row `y` of a component of the picture so far: 0 is luma, 1 Cb, 2 Cr. It is of a macroblock that has
-    /// been read, and deblocked as far as the lines of those rows do it.
+    /// The sample in column `x` and row `y` of a component of the picture so far: 0 is luma, 1 Cb,
+    /// 2 Cr. It is of a macroblock that has been read, and deblocked as far as the lines of those
+    /// rows do it.
     pub fn sample(&self, component: usize, x: usize, y: usize) -> u8
         requires fault { HasNoFault self.now }
         requires column { x < size_of component * width_in_mbs self.now.sps }
@@ -158,8 +164,9 @@ impl<const PAD: usize> PictureDecoder<PAD> {
         self.macroblocks.sample(component, x, y)
     }
 
-    /// The samples of the picture after deblocking. Where the slices have a fault it answers the first, and else
-    /// MissingMacroblocks where they do not hold all macroblocks. It takes no memory, and never wants any.
+    /// The samples of the picture after deblocking. Where the slices have a fault it answers the
+    /// first, and else MissingMacroblocks where they do not hold all macroblocks. It takes no
+    /// memory, and never wants any.
     pub fn finish(self, memory: &mut PictureMemory<PAD>) -> Result<PaddedPlanes<PAD>, PictureError>
         ensures answer { IsFinishAnswer self.entry result }
         ensures sized { IfOk result (λ planes. AreSized (width_in_mbs self.entry.sps) (height_in_mbs self.entry.sps) (padded_planes_of planes)) }

@@ -1,6 +1,7 @@
 //! What the deblocking filter asks of one macroblock (8.7).
 
-ghost use Rattle.std.specs.Prelude.{◌≡◌, ℕ, ◌*◌, ◌<◌, true, not, ◌==◌, [], List, length, map, slice_index, slice_index_or};
+ghost use Rattle.std.specs.Prelude.{◌≡◌, ℕ, ◌*◌, ◌<◌, true, not, ◌==◌, [], List, length, map};
+ghost use Rattle.std.specs.Prelude.{slice_index, slice_index_or};
 ghost use Rattle.avc_types.specs.Macroblock.{total_coeff};
 ghost use Rattle.avc_neigh.specs.declared.neighbour_info.Motion.TheVariants.{Absent as absent};
 ghost use Rattle.avc_motion.specs.Motion as motions;
@@ -30,7 +31,8 @@ fn coded_blocks(levels: &BlockLevels<16>) -> u16
     bits
 }
 
-/// Bit k is set where luma block `k` of a macroblock has a level that is not 0; of an intra macroblock none is.
+/// Bit k is set where luma block `k` of a macroblock has a level that is not 0; of an intra
+/// macroblock none is.
 fn coefficients(mb: &Mb) -> u16
     ensures { (k : ℕ) → k < 16 → has_bit result k ≡ has_coefficients mb.now.syntax k }
 {
@@ -106,8 +108,8 @@ fn set_vectors(vectors: &mut [Mv; 16], motion: &[Motion; 16])
     }
 }
 
-/// Writes for each quarter the number of its frame and for each block its vector. The blocks are looked at one by one only where they are
-/// not known to have one motion.
+/// Writes for each quarter the number of its frame and for each block its vector. The blocks are
+/// looked at one by one only where they are not known to have one motion.
 fn set_motion(
     pictures: &mut [u8; 4],
     vectors: &mut [Mv; 16],

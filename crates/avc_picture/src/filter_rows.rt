@@ -34,9 +34,9 @@ const NO_FACTS: MbInfo = MbInfo {
     offset_b: 0,
 };
 
-/// What the filter asks of a picture's macroblocks so far. A contract sees the info of all of them, in decoding order; three rows
-/// keep those that can still be asked for: a row is filtered when the one below it is built, by its own info and those of the row
-/// above it.
+/// What the filter asks of a picture's macroblocks so far. A contract sees the info of all of them,
+/// in decoding order; three rows keep those that can still be asked for: a row is filtered when the
+/// one below it is built, by its own info and those of the row above it.
 #[derive(Drop)]
 pub(crate) struct FilterRows {
     /// In macroblocks.
@@ -70,7 +70,8 @@ impl Model for FilterRows {
 }
 
 impl FilterRows {
-    /// For a picture of this width in macroblocks, before its first macroblock. Only this call takes memory.
+    /// For a picture of this width in macroblocks, before its first macroblock. Only this call
+    /// takes memory.
     pub(crate) fn new(alloc: Global, width: usize) -> Result<Self, OutOfMemory>
         requires { 0 < width }
         ensures { IfOk result (λ rows. rows ≡ record { width = width; info = [] }) }
@@ -104,7 +105,8 @@ impl FilterRows {
         }
     }
 
-    /// Forgets all macroblocks. What is kept of them is not cleared: a row is asked for only once it is there.
+    /// Forgets all macroblocks. What is kept of them is not cleared: a row is asked for only once
+    /// it is there.
     pub(crate) fn restart(&mut self)
         ensures { self.new ≡ record { width = self.old.width; info = [] } }
     {
@@ -136,7 +138,8 @@ impl FilterRows {
         }
     }
 
-    /// Filters the row above that of the macroblock that comes next, where this is the last of its row and is built.
+    /// Filters the row above that of the macroblock that comes next, where this is the last of its
+    /// row and is built.
     pub(crate) fn filter_late<const PAD: usize>(
         &self,
         planes: &mut Planes<PAD>,

@@ -8,7 +8,8 @@ ghost use Rattle.avc_neigh.specs.Around.{info_of};
 ghost use Rattle.avc_neigh.specs.BlockNear.{HasModes};
 ghost use Rattle.avc_neigh.specs.Modes.{IsMode};
 ghost use Rattle.avc_neigh.specs.TotalCoeffs as total_coeffs_;
-ghost use Rattle.avc_neigh.specs.TotalCoeffs.{all_total_coeffs as each_total_coeff, total_coeffs_of};
+ghost use Rattle.avc_neigh.specs.TotalCoeffs.{all_total_coeffs as each_total_coeff};
+ghost use Rattle.avc_neigh.specs.TotalCoeffs.{total_coeffs_of};
 ghost use Rattle.avc_motion.specs.Motion.{AreOfOneMotion, HasMotion, has_one_motion};
 ghost use Rattle.avc_picture.specs.MacroblockInfo.{AreModes, HasRems, IsNeighbourInfo};
 
@@ -83,8 +84,8 @@ fn set_modes(
     }
 }
 
-/// Writes into `info` what is told of a macroblock of this slice with these neighbours. `VectorRange` where a component of one of its
-/// vectors is no 16-bit number; the info is then any.
+/// Writes into `info` what is told of a macroblock of this slice with these neighbours.
+/// `VectorRange` where a component of one of its vectors is no 16-bit number; the info is then any.
 pub(crate) fn set_neighbour_info(
     info: &mut NeighbourInfo,
     mb: &Mb,

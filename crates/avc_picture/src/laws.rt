@@ -9,7 +9,8 @@ pub fn pictures_are_sized()
     ensures { PicturesAreSized }
 {}
 
-/// The samples of a full picture before deblocking do not depend on the planes that its macroblocks are built on.
+/// The samples of a full picture before deblocking do not depend on the planes that its macroblocks
+/// are built on.
 #[tactic(auto, using(crate::proofs::Slices::built_anyhow))]
 pub fn pictures_come_from_their_macroblocks()
     ensures { PicturesComeFromTheirMacroblocks }

@@ -1,6 +1,7 @@
 //! The macroblocks of a picture, decoded one after another (8.3 to 8.7).
 
-ghost use Rattle.std.specs.Prelude.{◌≡◌, ℕ, suc, ◌*◌, ◌+◌, ◌^◌, ◌<◌, ◌≤◌, length, take, Some, None, slice_get, IfOk, IsOk, OnOk};
+ghost use Rattle.std.specs.Prelude.{◌≡◌, ℕ, suc, ◌*◌, ◌+◌, ◌^◌, ◌<◌, ◌≤◌, length, take, Some, None};
+ghost use Rattle.std.specs.Prelude.{slice_get, IfOk, IsOk, OnOk};
 ghost use Rattle.std.specs.Option.{option_copied, option_map};
 ghost use Rattle.avc_types.specs.Pictures.{Coded};
 ghost use Rattle.avc_params.specs.Limits.{height_in_mbs, width_in_mbs};
@@ -31,7 +32,8 @@ use avc_types::{Fault, Mb, OutOfMemory};
 use std::alloc::Global;
 use std::marker::Model;
 
-/// The macroblocks of a picture so far, with all that later ones and the deblocking filter ask of them.
+/// The macroblocks of a picture so far, with all that later ones and the deblocking filter ask of
+/// them.
 #[derive(Drop)]
 pub(crate) struct Macroblocks<const PAD: usize> {
     canvas: Canvas,
@@ -67,7 +69,8 @@ fn total_coeffs_of(info: Option<&NeighbourInfo>) -> Option<&TotalCoeffs>
     }
 }
 
-/// What a macroblock with these neighbours is predicted from. A call is what gives both one lifetime.
+/// What a macroblock with these neighbours is predicted from. A call is what gives both one
+/// lifetime.
 fn sources<'a, const PAD: usize>(
     neighbours: Neighbours<'a>,
     references: &'a [Option<ReferencePicture<'a, PAD>>],
@@ -95,7 +98,8 @@ fn sample_of<const PAD: usize>(planes: &Planes<PAD>, component: usize, x: usize,
 }
 
 impl<const PAD: usize> Macroblocks<PAD> {
-    /// Before the first macroblock of a picture of these sets. Only this call takes memory, where there is none of this size.
+    /// Before the first macroblock of a picture of these sets. Only this call takes memory, where
+    /// there is none of this size.
     pub(crate) fn new(
         alloc: Global,
         sps: &Sps,
@@ -133,8 +137,8 @@ impl<const PAD: usize> Macroblocks<PAD> {
         })
     }
 
-    /// total_coeff of the blocks of the macroblocks to the left of the next one and above it, where these are available to
-    /// this slice (9.2.1).
+    /// total_coeff of the blocks of the macroblocks to the left of the next one and above it, where
+    /// these are available to this slice (9.2.1).
     pub(crate) fn left_and_above(&self, slice: u32) -> (Option<&TotalCoeffs>, Option<&TotalCoeffs>)
         ensures left { (c : Coded) (names : Names) (s : SliceStart) → HoldsFirst c names self.now → s.width ≡ c.width → s.slice ≡ slice
             → option_copied result.0 ≡ left_total_coeffs s (take self.now.next c.mbs) }
@@ -145,10 +149,11 @@ impl<const PAD: usize> Macroblocks<PAD> {
         (total_coeffs_of(around.a), total_coeffs_of(around.b))
     }
 
-    /// Decodes the macroblock that comes next, and filters the row above where it is the last of its own (8.7). `VectorRange` where a
-    /// component of one of its vectors is no 16-bit number, `RefMissing` where a block has no reference picture, `IntraUnavailable` where
-    /// an intra prediction has not the samples that it needs: the first of these. After a fault nothing more is to be asked of the
-    /// macroblocks. Anything may stand in `info`, which is where what its
+    /// Decodes the macroblock that comes next, and filters the row above where it is the last of
+    /// its own (8.7). `VectorRange` where a component of one of its vectors is no 16-bit number,
+    /// `RefMissing` where a block has no reference picture, `IntraUnavailable` where an intra
+    /// prediction has not the samples that it needs: the first of these. After a fault nothing more
+    /// is to be asked of the macroblocks. Anything may stand in `info`, which is where what its
     /// neighbours are told is written.
     #[tactic(auto, using(crate::proofs::Slices::asked, crate::proofs::Slices::late_room, crate::proofs::Slices::row_below))]
     pub(crate) fn decode(
@@ -185,7 +190,8 @@ impl<const PAD: usize> Macroblocks<PAD> {
         Ok(())
     }
 
-    /// The sample in column `x` and row `y` of a component, which is of a macroblock so far: 0 is luma, 1 Cb, 2 Cr.
+    /// The sample in column `x` and row `y` of a component, which is of a macroblock so far: 0 is
+    /// luma, 1 Cb, 2 Cr.
     pub(crate) fn sample(&self, component: usize, x: usize, y: usize) -> u8
         requires column { x < size_of component * self.now.canvas.width }
         requires row { y < size_of component * self.now.canvas.height }

@@ -1,10 +1,12 @@
 //! What a picture is decoded in, kept from one picture to the next.
 
-ghost use Rattle.std.specs.Prelude.{◌≡◌, ◌+◌, ◌*◌, ◌^◌, ◌<◌, [], None, Some, IfOk, IsOk, IsOkAnd, OnErr};
+ghost use Rattle.std.specs.Prelude.{◌≡◌, ◌+◌, ◌*◌, ◌^◌, ◌<◌, [], None, Some, IfOk, IsOk, IsOkAnd};
+ghost use Rattle.std.specs.Prelude.{OnErr};
 ghost use Rattle.avc_neigh.specs.Around.{no_info};
 ghost use Rattle.avc_plane.specs.Frames.{planes_of, AreSized};
 ghost use Rattle.avc_plane.specs.Spare.{left_over, AreHad, HasOpen};
-ghost use Rattle.avc_picture.specs.Memory.{no_memory, with_closed_planes, with_info, with_open_planes, without_info};
+ghost use Rattle.avc_picture.specs.Memory.{no_memory, with_closed_planes, with_info};
+ghost use Rattle.avc_picture.specs.Memory.{with_open_planes, without_info};
 
 use crate::filter_rows::FilterRows;
 use avc_neigh::Row;
@@ -13,7 +15,8 @@ use avc_types::OutOfMemory;
 use std::alloc::Global;
 use std::marker::Model;
 
-/// What is known of a picture's macroblocks so far: for the neighbours of the next one, and for the deblocking filter.
+/// What is known of a picture's macroblocks so far: for the neighbours of the next one, and for the
+/// deblocking filter.
 #[derive(Drop)]
 pub(crate) struct FactRows {
     pub(crate) row: Row,
@@ -45,8 +48,9 @@ impl FactRows {
     }
 }
 
-/// The memory of pictures that are over: planes and info, in which later pictures are decoded. A picture takes memory only where
-/// there is none of its size. A contract sees the planes, and how wide the info is; what else stands in it counts for nothing.
+/// The memory of pictures that are over: planes and info, in which later pictures are decoded. A
+/// picture takes memory only where there is none of its size. A contract sees the planes, and how
+/// wide the info is; what else stands in it counts for nothing.
 #[derive(Drop)]
 pub struct PictureMemory<const PAD: usize> {
     planes: SparePlanes<PAD>,
@@ -73,7 +77,8 @@ impl<const PAD: usize> PictureMemory<PAD> {
         }
     }
 
-    /// Keeps the planes of a frame that has left the buffer. They are used again once nobody else holds them.
+    /// Keeps the planes of a frame that has left the buffer. They are used again once nobody else
+    /// holds them.
     pub fn keep(&mut self, planes: EmptiedPlanes<PAD>)
         ensures { self.new ≡ with_closed_planes planes.entry self.old }
     {

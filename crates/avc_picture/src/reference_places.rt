@@ -1,6 +1,7 @@
 //! RefPicList0 of a slice by the places of its frames in the buffer (8.2.4).
 
-ghost use Rattle.std.specs.Prelude.{◌≡◌, ℕ, ◌<◌, ◌≤◌, List, length, map, None, All, IfSome, IfOk, slice_get, slice_index_or, unwrap_or};
+ghost use Rattle.std.specs.Prelude.{◌≡◌, ℕ, ◌<◌, ◌≤◌, List, length, map, None, All, IfSome, IfOk};
+ghost use Rattle.std.specs.Prelude.{slice_get, slice_index_or, unwrap_or};
 ghost use Rattle.avc_types.specs.References.{NamesFrames};
 ghost use Rattle.avc_params.specs.Limits.{max_frame_num};
 ghost use Rattle.avc_params.specs.Within.{IsSps};
@@ -21,7 +22,8 @@ use avc_types::{CurrentFrameNum, Fault, MarkedFrame, Modification};
 /// The most entries of RefPicList0.
 pub(crate) const MAX_ENTRIES: usize = 16;
 
-/// RefPicList0 by reference index: the place of each frame among the frames of the buffer, nothing where an entry is empty.
+/// RefPicList0 by reference index: the place of each frame among the frames of the buffer, nothing
+/// where an entry is empty.
 pub(crate) type Places = [Option<usize>; MAX_ENTRIES];
 
 /// What reference lists know of the frames.
@@ -81,7 +83,8 @@ fn places_of(list: &ReferenceList) -> Places
     places
 }
 
-/// The list of a slice, which is empty in an I slice. BadRefList where its header names a frame that there is not.
+/// The list of a slice, which is empty in an I slice. BadRefList where its header names a frame
+/// that there is not.
 pub(crate) fn reference_places<const PAD: usize>(
     sps: &Sps,
     header: &Header,

@@ -1,6 +1,7 @@
 //! What is the same for all macroblocks of a slice.
 
-ghost use Rattle.std.specs.Prelude.{◌≡◌, ℕ, ◌<◌, ◌≤◌, pos, negsuc, ◌≤ℤ◌, ◌+ℤ◌, None, All, IfSome, length, slice_get, slice_index_or, unwrap_or};
+ghost use Rattle.std.specs.Prelude.{◌≡◌, ℕ, ◌<◌, ◌≤◌, pos, negsuc, ◌≤ℤ◌, ◌+ℤ◌, None, All, IfSome};
+ghost use Rattle.std.specs.Prelude.{length, slice_get, slice_index_or, unwrap_or};
 ghost use Rattle.avc_slice.specs.Within.{IsDeblocking, IsPredWeightTable};
 ghost use Rattle.avc_picture.specs.Context.{ArePicturesAt, ArePlacesIn, IsContextAt, IsPictureAt};
 ghost use Rattle.avc_picture.specs.Slices.{deblocking_of};
@@ -20,7 +21,8 @@ pub(crate) struct SliceContext<'a, const PAD: usize> {
     /// RefPicList0 by reference index; nothing where an index names no picture.
     pub(crate) references: [Option<ReferencePicture<'a, PAD>>; 16],
 
-    /// For each reference index a number of the frame that it names, for the deblocking filter: equal numbers are one frame.
+    /// For each reference index a number of the frame that it names, for the deblocking filter:
+    /// equal numbers are one frame.
     pub(crate) frame_numbers: [u8; 16],
 
     /// disable_deblocking_filter_idc.

@@ -1,8 +1,10 @@
 //! The macroblocks of one slice (7.3.4).
 
-ghost use Rattle.std.specs.Prelude.{◌≡◌, ℕ, ◌-◌, ◌*◌, ◌≤◌, suc, pos, ◌≤ℤ◌, nat_abs, IfSome, List, length, take};
+ghost use Rattle.std.specs.Prelude.{◌≡◌, ℕ, ◌-◌, ◌*◌, ◌≤◌, suc, pos, ◌≤ℤ◌, nat_abs, IfSome, List};
+ghost use Rattle.std.specs.Prelude.{length, take};
 ghost use Rattle.avc_types.specs.Pictures.{Coded, PicMb};
-ghost use Rattle.avc_params.specs.Limits.{height_in_mbs, max_macroblocks, size_in_mbs, width_in_mbs};
+ghost use Rattle.avc_params.specs.Limits.{height_in_mbs, max_macroblocks, size_in_mbs};
+ghost use Rattle.avc_params.specs.Limits.{width_in_mbs};
 ghost use Rattle.avc_params.specs.Within.{IsPps, IsSps};
 ghost use Rattle.avc_slice.specs.Header.{slice_qp};
 ghost use Rattle.avc_slice.specs.Within.{IsDeblocking, IsHeader, IsPredWeightTable};
@@ -16,7 +18,8 @@ ghost use Rattle.avc_picture_core.specs.References.{AreUsable};
 ghost use Rattle.avc_picture.specs.Context.{ArePlacesIn, IsContextAt};
 ghost use Rattle.avc_picture.specs.Decoding.{AreFramesOf};
 ghost use Rattle.avc_picture.specs.DecoderState.{CanGoOn, CanHaveFirst, GoesOn, HasFirst};
-ghost use Rattle.avc_picture.specs.DecoderState.{IsDataAnswer, IsDataOf, IsDecodedSlice, IsWellSomewhere, outcome_from};
+ghost use Rattle.avc_picture.specs.DecoderState.{IsDataAnswer, IsDataOf, IsDecodedSlice};
+ghost use Rattle.avc_picture.specs.DecoderState.{IsWellSomewhere, outcome_from};
 ghost use Rattle.avc_picture.specs.FirstMbs.{HasSameSize, HoldsFirst};
 ghost use Rattle.avc_picture.specs.Slices.{data_of, start_of};
 
@@ -63,7 +66,8 @@ fn slice_data<'a>(sps: &Sps, pps: &Pps, slice: &'a Slice, read: u32) -> SliceDat
     )
 }
 
-/// Reads the next macroblock of the data into `mb`, as its neighbours in the picture have it read. Answers whether there was one.
+/// Reads the next macroblock of the data into `mb`, as its neighbours in the picture have it read.
+/// Answers whether there was one.
 fn next_macroblock<const PAD: usize>(
     unread: &mut SliceData<'_>,
     macroblocks: &Macroblocks<PAD>,
@@ -81,8 +85,9 @@ fn next_macroblock<const PAD: usize>(
     unread.next(left, up, mb)
 }
 
-/// Decodes the macroblocks of a slice, and counts in `read` those that are read, a faulty one included. Answers the first fault.
-/// Anything may stand in `mb`, which is where they are read, and in `info`, which is where the info of each is written.
+/// Decodes the macroblocks of a slice, and counts in `read` those that are read, a faulty one
+/// included. Answers the first fault. Anything may stand in `mb`, which is where they are read, and
+/// in `info`, which is where the info of each is written.
 fn decode_data<const PAD: usize>(
     unread: &mut SliceData<'_>,
     context: &SliceContext<'_, PAD>,
@@ -108,8 +113,8 @@ fn decode_data<const PAD: usize>(
     Ok(())
 }
 
-/// Likewise from the first macroblock on, which stands in `mb`. What all macroblocks of a slice are decoded with is large: it is made
-/// here, so that a slice without any pays nothing for it.
+/// Likewise from the first macroblock on, which stands in `mb`. What all macroblocks of a slice are
+/// decoded with is large: it is made here, so that a slice without any pays nothing for it.
 #[inline(never)]
 fn decode_macroblocks<const PAD: usize>(
     unread: &mut SliceData<'_>,
@@ -141,7 +146,8 @@ fn decode_macroblocks<const PAD: usize>(
     decode_data(unread, &context, macroblocks, read, mb, &mut info)
 }
 
-/// Decodes slice `number` of a picture, of which `read` macroblocks have been read. Answers the first fault.
+/// Decodes slice `number` of a picture, of which `read` macroblocks have been read. Answers the
+/// first fault.
 pub(crate) fn decode_slice<const PAD: usize>(
     sps: &Sps,
     pps: &Pps,

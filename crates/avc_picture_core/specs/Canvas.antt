@@ -16,7 +16,8 @@ use Rattle.avc_picture_core.specs.References.{AreReferences}
 use Rattle.avc_picture_core.specs.declared.inter.ReferencePicture.{ReferencePicture}
 use Rattle.avc_picture_core.specs.declared.places.MbPlace.{MbPlace}
 
--- Its size in macroblocks, what its picture parameter set says of all its macroblocks, and its planes with those so far in them.
+-- Its size in macroblocks, what its picture parameter set says of all its macroblocks, and its
+-- planes with those so far in them.
 pub record CanvasState : Type 0 where
   pub width : ℕ
   pub height : ℕ
@@ -34,8 +35,9 @@ blank width height offset constrained = record {
   planes = empty_planes width height;
 }
 
--- The sides of block k of an intra macroblock with these neighbours: samples of macroblocks that are there and, where
--- constrained_intra_pred_flag asks for that, intra; and of the macroblock's own blocks before it (6.4.12, 8.3.1.2).
+-- The sides of block k of an intra macroblock with these neighbours: samples of macroblocks that
+-- are there and, where constrained_intra_pred_flag asks for that, intra; and of the macroblock's
+-- own blocks before it (6.4.12, 8.3.1.2).
 abbrev pub sides_near : (constrained_intra_pred : Bool) → Around → (k : ℕ) → Sides
 sides_near constrained n k =
     let at : ℤ → ℤ → Bool = is_there_near (λ f. not constrained || is_intra_info f) (λ x y. nat_lt (block_at x y) k) n in
@@ -52,7 +54,8 @@ sides_near constrained n k =
 abbrev pub address_of : (width : ℕ) → MbPlace → ℕ
 address_of width p = p.row * width + p.column
 
--- The place of the macroblock at this address of the canvas, with these modes, motion, neighbours and reference pictures.
+-- The place of the macroblock at this address of the canvas, with these modes, motion, neighbours
+-- and reference pictures.
 pub record IsPlaceOn {PAD : ℕ} (canvas : CanvasState) (address : ℕ) (mb : Mb) (info : NeighbourInfo) (n : Around)
     (references : List (Option (ReferencePicture PAD))) (p : Place) : Type 0 where
   pub width : p.coded.width ≡ canvas.width
@@ -73,8 +76,9 @@ IsInRange (i_nxn modes chroma r) = (chroma ≤ 3) × IsResidual r
 IsInRange (i_16x16 mode chroma r) = (mode ≤ 3) × (chroma ≤ 3) × IsResidual r
 IsInRange (p_inter mb_type ref_idx mvd r) = IsResidual r
 
--- The macroblock at the place was built, or refused: where it has no reference picture, or no samples for an intra prediction.
--- Nothing is said of the samples then, since its picture is dropped whole (this decoder's rule).
+-- The macroblock at the place was built, or refused: where it has no reference picture, or no
+-- samples for an intra prediction. Nothing is said of the samples then, since its picture is
+-- dropped whole (this decoder's rule).
 abbrev pub IsBuilt : Place → Result (Unit {0}) Fault → (old new : CanvasState) → Type 0
 IsBuilt p (Ok done) old new = (refusal p ≡ None) × (new ≡ record old { planes = planes_after p old.planes })
 IsBuilt p (Err f) old new = refusal p ≡ Some f

@@ -44,7 +44,8 @@ refusal p =
     else (if not (has_sides p p.mb.syntax) then Some IntraUnavailable
     else None)
 
--- why a macroblock has no samples, if it has none: its vectors come first (8.4.1; the order is this decoder's rule)
+-- why a macroblock has no samples, if it has none: its vectors come first (8.4.1; the order is this
+-- decoder's rule)
 abbrev pub fault_of : Place → Option Fault
 fault_of p = if not (list_all is_in_range p.motion) then Some VectorRange else refusal p
 

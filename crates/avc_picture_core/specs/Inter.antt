@@ -24,8 +24,9 @@ use Rattle.avc_picture_core.specs.declared.shape.Shape.TheVariants.{Whole, WideH
 
 -- ---- the samples of a macroblock
 
--- Planes with the samples f of each component in a rectangle of luma samples of the macroblock in this column and row, and in its half of
--- chroma: f(k, x, y) is that of component k, x and y counted inside the macroblock (6.2, 6.4.1).
+-- Planes with the samples f of each component in a rectangle of luma samples of the macroblock in
+-- this column and row, and in its half of chroma: f(k, x, y) is that of component k, x and y
+-- counted inside the macroblock (6.2, 6.4.1).
 abbrev pub with_part : (column row left top width height : ℕ) → (ℕ → ℕ → ℕ → ℕ) → Planes → Planes
 with_part column row left top width height f s = record {
   luma = with_block s.luma (16 * column + left) (16 * row + top) width height (λ x y. f 0 (left + x) (top + y));
@@ -37,7 +38,8 @@ with_part column row left top width height f s = record {
 abbrev pub motion_at : List Motion → (k x y : ℕ) → Motion
 motion_at motion k x y = slice_index_or motion (block_at (luma_place k x) (luma_place k y)) motions.Absent
 
--- the inter prediction of the sample (x, y) of component k of the macroblock in this column and row (8.4.2)
+-- the inter prediction of the sample (x, y) of component k of the macroblock in this column and row
+-- (8.4.2)
 abbrev pub predicted_at : Coded → (slice column row : ℕ) → List Motion → (k x y : ℕ) → ℕ
 predicted_at c slice column row motion k x y =
     inter_predicted c slice (motion_at motion k x y) k (size_of k * column + x) (size_of k * row + y)
@@ -62,7 +64,8 @@ picture_in references (motions.Inter r v) = slice_index_or references r None
 abbrev pub have_pictures : {PAD : ℕ} → List (Option (ReferencePicture PAD)) → List Motion → Bool
 have_pictures references motion = list_all (λ m. is_some (picture_in references m)) motion
 
--- the prediction of the sample (x, y) of component k of a picture of the size of these planes, by a vector into them
+-- the prediction of the sample (x, y) of component k of a picture of the size of these planes, by a
+-- vector into them
 abbrev pub fetched_from : Planes → Mv → (k x y : ℕ) → ℕ
 fetched_from p v zero x y = inter_luma p.luma.width p.luma.height (sample p.luma) v x y
 fetched_from p v (suc zero) x y = inter_chroma p.cb.width p.cb.height (sample p.cb) v x y
@@ -100,7 +103,8 @@ pub record IsUsableAt {PAD : ℕ} (column row : ℕ) (p : ReferencePicture PAD) 
 pub record AreUsableAt {PAD : ℕ} (column row : ℕ) (references : List (Option (ReferencePicture PAD))) : Type 0 where
   pub each : (r : ℕ) → IfSome (slice_index_or references r None) (IsUsableAt column row)
 
--- By a vector of 0 the samples of the picture are taken over from their places (8.4.2.2), and they are not weighted.
+-- By a vector of 0 the samples of the picture are taken over from their places (8.4.2.2), and they
+-- are not weighted.
 pub record IsCopied {PAD : ℕ} (p : ReferencePicture PAD) (v : Mv) : Type 0 where
   pub across : v.x ≡ pos 0
   pub down : v.y ≡ pos 0
@@ -117,7 +121,8 @@ wanted references column row motion k x y =
 abbrev pub block_motion : List Motion → (k : ℕ) → Motion
 block_motion motion k = slice_index_or motion k motions.Absent
 
--- The quarters of a square, in block order, have these motions: those that are predicted together have the same.
+-- The quarters of a square, in block order, have these motions: those that are predicted together
+-- have the same.
 abbrev pub IsShape : (a b c d : Motion) → Shape → Type 0
 IsShape a b c d Whole = (a ≡ b) × (c ≡ d) × (a ≡ c)
 IsShape a b c d WideHalves = (a ≡ b) × (c ≡ d)
@@ -140,7 +145,8 @@ IsMacroblockShape motion Whole = HasWholeQuarters motion × IsShape (block_motio
 IsMacroblockShape motion WideHalves = HasWholeQuarters motion × IsShape (block_motion motion 0) (block_motion motion 4) (block_motion motion 8) (block_motion motion 12) WideHalves
 IsMacroblockShape motion TallHalves = HasWholeQuarters motion × IsShape (block_motion motion 0) (block_motion motion 4) (block_motion motion 8) (block_motion motion 12) TallHalves
 
--- Each of the blocks in a rectangle of luma samples has the motion of the block in its upper left corner.
+-- Each of the blocks in a rectangle of luma samples has the motion of the block in its upper left
+-- corner.
 pub record HaveOneMotion (motion : List Motion) (left top width height : ℕ) : Type 0 where
   pub same : (x y : ℕ) → is_inside left top width height x y ≡ true →
       block_motion motion (block_at x y) ≡ block_motion motion (block_at left top)

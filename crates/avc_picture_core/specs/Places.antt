@@ -45,7 +45,8 @@ AreSameSize old new = IsSameSize old.luma new.luma × IsSameSize old.cb new.cb �
 
 -- ---- all of it
 
--- p is the place of a macroblock of a picture of this size, with these elements, quantisers, info, neighbours and reference pictures.
+-- p is the place of a macroblock of a picture of this size, with these elements, quantisers, info,
+-- neighbours and reference pictures.
 pub record IsPlaceIn {PAD : ℕ} (column row width height : ℕ) (syntax : MbSyntax) (qp qp_of_chroma : ℕ) (info : NeighbourInfo) (r : ReadableNeighbours)
     (references : List (Option (ReferencePicture PAD))) (p : Place) : Type 0 where
   pub at : IsAt column row syntax qp qp_of_chroma p

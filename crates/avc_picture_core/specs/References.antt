@@ -16,7 +16,8 @@ pub record IsReference {PAD : ℕ} (c : Coded) (slice r : ℕ) (p : ReferencePic
   pub frame : frame_named c slice r ≡ Some (record { decoding_index = decoding_index; existing = true; samples = samples_of (padded_planes_of p.planes.now) })
   pub weights : slice_get (slice_info c slice).weights r ≡ p.weights
 
--- the entry is the frame that reference index r names in the slice; there is none where it names no picture (8.4.2.1)
+-- the entry is the frame that reference index r names in the slice; there is none where it names no
+-- picture (8.4.2.1)
 abbrev pub ShowsReference : {PAD : ℕ} → Coded → (slice r : ℕ) → Option (ReferencePicture PAD) → Type 0
 ShowsReference c slice r None = is_picture (frame_named c slice r) ≡ false
 ShowsReference c slice r (Some p) = IsReference c slice r p

@@ -15,8 +15,8 @@ readable_near constrained n = record {
   d = holds_of (λ f. not constrained || is_intra_info f) n.d;
 }
 
--- Block k may read the sample (x, y), counted from the upper left one of the macroblock: of a neighbour (Table 6-4), or of the
--- macroblock's own blocks before it.
+-- Block k may read the sample (x, y), counted from the upper left one of the macroblock: of a
+-- neighbour (Table 6-4), or of the macroblock's own blocks before it.
 abbrev pub is_readable : ReadableNeighbours → (k : ℕ) → (x y : ℤ) → Bool
 is_readable r k (pos x) (pos y) = if nat_lt x 16 then nat_lt (block_at x y) k else false
 is_readable r k (negsuc _) (pos y) = r.a

@@ -31,8 +31,8 @@ pub struct Sources<'a, const PAD: usize> {
     pub references: &'a [Option<ReferencePicture<'a, PAD>>],
 }
 
-/// What all macroblocks of a picture that is being built (8.3 to 8.5) have in common, beside its planes: its size in macroblocks, and
-/// what its picture parameter set says.
+/// What all macroblocks of a picture that is being built (8.3 to 8.5) have in common, beside its
+/// planes: its size in macroblocks, and what its picture parameter set says.
 #[derive(Clone, Copy)]
 pub struct Canvas {
     pub width: usize,
@@ -44,7 +44,8 @@ pub struct Canvas {
     pub constrained_intra_pred: bool,
 }
 
-/// Which neighbours of an intra macroblock have samples that it may read. An inter one reads none, and these are not sought for it.
+/// Which neighbours of an intra macroblock have samples that it may read. An inter one reads none,
+/// and these are not sought for it.
 fn readable_neighbours(
     syntax: &Syntax,
     neighbours: &Neighbours<'_>,
@@ -66,8 +67,9 @@ fn readable_neighbours(
 }
 
 impl Canvas {
-    /// Builds the macroblock at this place in the planes, of which `info` is known. RefMissing where a block has no reference picture,
-    /// IntraUnavailable where an intra prediction needs samples that are not there: any samples may stand in the planes then.
+    /// Builds the macroblock at this place in the planes, of which `info` is known. RefMissing
+    /// where a block has no reference picture, IntraUnavailable where an intra prediction needs
+    /// samples that are not there: any samples may stand in the planes then.
     pub fn build<const PAD: usize>(
         &self,
         planes: &mut Planes<PAD>,

@@ -8,9 +8,11 @@ ghost use Rattle.avc_motion.specs.Motion.{AreOfOneMotion, vector_of};
 ghost use Rattle.avc_picture_core.specs.Places.{AreSameSize};
 ghost use Rattle.avc_picture_core.specs.References.{AreReferences, AreUsable};
 ghost use Rattle.avc_plane.specs.Frames.{planes_of};
-ghost use Rattle.avc_picture_core.specs.Inter.{AreUsableAt, CoverMacroblock, HaveOneMotion, IsInterPredicted};
+ghost use Rattle.avc_picture_core.specs.Inter.{AreUsableAt, CoverMacroblock, HaveOneMotion};
+ghost use Rattle.avc_picture_core.specs.Inter.{IsInterPredicted};
 ghost use Rattle.avc_picture_core.specs.declared.shape.Shape.TheVariants.{Whole};
-ghost use Rattle.avc_picture_core.specs.Inter.{IsMacroblockShape, have_pictures, picture_in, wanted, with_part};
+ghost use Rattle.avc_picture_core.specs.Inter.{IsMacroblockShape, have_pictures, picture_in};
+ghost use Rattle.avc_picture_core.specs.Inter.{wanted, with_part};
 
 use crate::parts::{set_macroblock, set_part};
 use crate::places::{Corner, MbPlace, PictureSize};
@@ -88,7 +90,8 @@ fn block_at(x: usize, y: usize) -> usize
     8 * (y / 8) + 4 * (x / 8) + 2 * (y / 4 % 2) + x / 4 % 2
 }
 
-/// Predicts a rectangle of W columns and H rows of luma, and of CW and CH of each chroma component, whose blocks have one motion.
+/// Predicts a rectangle of W columns and H rows of luma, and of CW and CH of each chroma component,
+/// whose blocks have one motion.
 fn predict_part<const W: usize, const H: usize, const CW: usize, const CH: usize, const PAD: usize>(
     references: &[Option<ReferencePicture<'_, PAD>>],
     place: MbPlace,
@@ -112,7 +115,8 @@ fn predict_part<const W: usize, const H: usize, const CW: usize, const CH: usize
     }
 }
 
-/// Predicts a square of luma, and half as wide a square of each chroma component, in an upper and a lower half.
+/// Predicts a square of luma, and half as wide a square of each chroma component, in an upper and a
+/// lower half.
 fn predict_wide_halves<
     const S: usize,
     const H: usize,
@@ -146,7 +150,8 @@ fn predict_wide_halves<
     predict_part::<S, H, CS, CH, PAD>(references, place, motion, lower, planes);
 }
 
-/// Predicts a square of luma, and half as wide a square of each chroma component, in a left and a right half.
+/// Predicts a square of luma, and half as wide a square of each chroma component, in a left and a
+/// right half.
 fn predict_tall_halves<
     const S: usize,
     const W: usize,
@@ -290,7 +295,8 @@ fn predict_macroblock<const PAD: usize>(
     }
 }
 
-/// Predicts a macroblock part by part. RefMissing where a block has no reference picture; nothing is changed then.
+/// Predicts a macroblock part by part. RefMissing where a block has no reference picture; nothing
+/// is changed then.
 // apart from one that is predicted at once: what its parts need is not laid by for that
 #[inline(never)]
 fn predict_parts<const PAD: usize>(
@@ -343,8 +349,9 @@ fn predict_whole<const PAD: usize>(
     }
 }
 
-/// Predicts the samples of an inter macroblock in this column and row of macroblocks into the planes (8.4.2). RefMissing where a block
-/// has no reference picture; nothing is changed then. `has_one_motion` says that all blocks are known to have one motion.
+/// Predicts the samples of an inter macroblock in this column and row of macroblocks into the
+/// planes (8.4.2). RefMissing where a block has no reference picture; nothing is changed then.
+/// `has_one_motion` says that all blocks are known to have one motion.
 pub(crate) fn predict_inter<const PAD: usize>(
     references: &[Option<ReferencePicture<'_, PAD>>],
     size: PictureSize,

@@ -1,5 +1,6 @@
 //! Intra macroblocks (8.3).
-ghost use Rattle.std.specs.Prelude.{◌≡◌, ℕ, ◌+◌, ◌*◌, ◌<◌, ◌≤◌, ◌&&◌, true, [], All, Option, slice_index_or, List};
+ghost use Rattle.std.specs.Prelude.{◌≡◌, ℕ, ◌+◌, ◌*◌, ◌<◌, ◌≤◌, ◌&&◌, true, [], All, Option};
+ghost use Rattle.std.specs.Prelude.{slice_index_or, List};
 ghost use Rattle.std.specs.List.{list_all, range_with_len};
 ghost use Rattle.std.specs.Option.{unwrap_or};
 ghost use Rattle.avc_types.specs.Macroblock.{i_16x16, i_nxn};
@@ -15,7 +16,8 @@ ghost use Rattle.avc_intra.specs.Luma16x16.{can_predict16x16, intra16x16};
 ghost use Rattle.avc_intra.specs.Chroma.{can_predict_chroma, intra_chroma};
 ghost use Rattle.avc_picture_core.specs.Built.{Place, mode_number, seen_from, sum_of};
 ghost use Rattle.avc_picture_core.specs.Inter.{CoverMacroblock};
-ghost use Rattle.avc_picture_core.specs.Places.{ArePlanesBuilt, AreSameSize, IsSameSize, IsAt, MayRead};
+ghost use Rattle.avc_picture_core.specs.Places.{ArePlanesBuilt, AreSameSize, IsSameSize, IsAt};
+ghost use Rattle.avc_picture_core.specs.Places.{MayRead};
 ghost use Rattle.avc_picture_core.specs.Sides.{AreInside, readable_sides};
 
 use crate::chroma::predict_component;
@@ -100,7 +102,8 @@ fn has_sides16x16(sides: Sides, luma: Mode16x16, chroma: ModeChroma) -> bool
     luma.is_available(sides) & chroma.is_available(sides)
 }
 
-/// Builds an I_NxN macroblock whose blocks have these modes. IntraUnavailable where a prediction needs samples that are not there.
+/// Builds an I_NxN macroblock whose blocks have these modes. IntraUnavailable where a prediction
+/// needs samples that are not there.
 pub(crate) fn build_i_nxn<const PAD: usize>(
     planes: &mut Planes<PAD>,
     place: MbPlace,
@@ -149,7 +152,8 @@ pub(crate) fn build_i_nxn<const PAD: usize>(
     Ok(())
 }
 
-/// Builds an Intra 16x16 macroblock. IntraUnavailable where a prediction needs samples that are not there.
+/// Builds an Intra 16x16 macroblock. IntraUnavailable where a prediction needs samples that are not
+/// there.
 pub(crate) fn build_i_16x16<const PAD: usize>(
     planes: &mut Planes<PAD>,
     place: MbPlace,

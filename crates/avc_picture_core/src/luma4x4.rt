@@ -10,7 +10,8 @@ ghost use Rattle.avc_transform.specs.Residual.{residual4x4};
 ghost use Rattle.avc_transform.specs.MacroblockResidual.{luma_residual};
 ghost use Rattle.avc_plane.specs.Plane.{with_block};
 ghost use Rattle.avc_intra.specs.Luma4x4.{can_predict4x4, intra4x4, mode4x4_of};
-ghost use Rattle.avc_picture_core.specs.Built.{Place, mode_number, seen_from, sum_of, with_blocks4x4};
+ghost use Rattle.avc_picture_core.specs.Built.{Place, mode_number, seen_from, sum_of};
+ghost use Rattle.avc_picture_core.specs.Built.{with_blocks4x4};
 ghost use Rattle.avc_picture_core.specs.Nxn.{IsNxnAt};
 ghost use Rattle.avc_picture_core.specs.Sides.{AreInside, readable_sides};
 

@@ -1,6 +1,7 @@
 //! The inter prediction of one rectangle of a macroblock (8.4.2).
 
-ghost use Rattle.std.specs.Prelude.{◌≡◌, ◌+◌, ◌*◌, ◌/◌, ◌%◌, ◌<◌, ◌≤◌, true, None, Some, IfSome, length, map, slice_index};
+ghost use Rattle.std.specs.Prelude.{◌≡◌, ◌+◌, ◌*◌, ◌/◌, ◌%◌, ◌<◌, ◌≤◌, true, None, Some, IfSome};
+ghost use Rattle.std.specs.Prelude.{length, map, slice_index};
 ghost use Rattle.std.specs.Option.{option_map};
 ghost use Rattle.avc_plane.specs.Frames.{planes_of};
 ghost use Rattle.avc_plane.specs.Plane.{sample, with_block};
@@ -8,7 +9,8 @@ ghost use Rattle.avc_inter.specs.Luma.{inter_luma};
 ghost use Rattle.avc_inter.specs.Chroma.{inter_chroma};
 ghost use Rattle.avc_picture_core.specs.Built.{component_weight, size_of, weighted_by};
 ghost use Rattle.avc_picture_core.specs.References.{AreWeights, IsWeight};
-ghost use Rattle.avc_picture_core.specs.Inter.{CoverMacroblock, IsCopied, IsUsableAt, predicted_from, with_part};
+ghost use Rattle.avc_picture_core.specs.Inter.{CoverMacroblock, IsCopied, IsUsableAt};
+ghost use Rattle.avc_picture_core.specs.Inter.{predicted_from, with_part};
 
 use crate::inter::ReferencePicture;
 use crate::places::{Corner, MbPlace};
@@ -140,7 +142,8 @@ fn set_chroma<const W: usize, const H: usize, const PAD: usize>(
     }
 }
 
-/// Whether the samples of a picture are taken over from their places by this vector (8.4.2.2), without a weight (8.4.2.3).
+/// Whether the samples of a picture are taken over from their places by this vector (8.4.2.2),
+/// without a weight (8.4.2.3).
 #[inline(always)]
 fn is_copied<const PAD: usize>(picture: &ReferencePicture<'_, PAD>, mv: Mv) -> bool
     ensures { result ≡ true → IsCopied picture.now mv }
@@ -148,8 +151,8 @@ fn is_copied<const PAD: usize>(picture: &ReferencePicture<'_, PAD>, mv: Mv) -> b
     mv.x == 0 && mv.y == 0 && picture.weights.is_none()
 }
 
-/// Predicts a rectangle of W columns and H rows of luma, and of CW and CH of each chroma component, from one picture by a vector of 0,
-/// without weights.
+/// Predicts a rectangle of W columns and H rows of luma, and of CW and CH of each chroma component,
+/// from one picture by a vector of 0, without weights.
 #[inline(never)]
 fn copy_part<const W: usize, const H: usize, const CW: usize, const CH: usize, const PAD: usize>(
     picture: &ReferencePicture<'_, PAD>,
@@ -181,8 +184,8 @@ fn copy_part<const W: usize, const H: usize, const CW: usize, const CH: usize, c
     copy_chroma::<CW, CH, PAD>(&reference.cr, x, y, &mut planes.cr);
 }
 
-/// Predicts a rectangle of W columns and H rows of luma, and of CW and CH of each chroma component, from one picture by one vector, without
-/// weights.
+/// Predicts a rectangle of W columns and H rows of luma, and of CW and CH of each chroma component,
+/// from one picture by one vector, without weights.
 #[inline(always)]
 fn set_plain_part<
     const W: usize,

@@ -1,5 +1,6 @@
 //! Predicted samples and their residual (8.5.14), 4x4 block by block.
-ghost use Rattle.std.specs.Prelude.{◌≡◌, ℕ, ◌+◌, ◌*◌, ◌/◌, ◌^◌, ◌<◌, ◌≤◌, pos, ◌+ℤ◌, false, [], All, slice_index_or};
+ghost use Rattle.std.specs.Prelude.{◌≡◌, ℕ, ◌+◌, ◌*◌, ◌/◌, ◌^◌, ◌<◌, ◌≤◌, pos, ◌+ℤ◌, false, []};
+ghost use Rattle.std.specs.Prelude.{All, slice_index_or};
 ghost use Rattle.avc_types.specs.Arithmetic.{◌>>ℤ◌};
 ghost use Rattle.avc_types.specs.Macroblock.{total_coeff};
 ghost use Rattle.avc_types.specs.MacroblockFields.{residual_of};
@@ -7,7 +8,8 @@ ghost use Rattle.avc_neigh.specs.Blocks.{block_x, block_y};
 ghost use Rattle.avc_mbsyntax.specs.Ranges.{AreSmall, IsResidual};
 ghost use Rattle.avc_transform.specs.Bounds.{IsBelow, AllBelow, matrix};
 ghost use Rattle.avc_transform.specs.Residual.{residual4x4, residual4x4_with_dc};
-ghost use Rattle.avc_transform.specs.MacroblockResidual.{luma_residual, luma_residual_16x16, chroma_residual};
+ghost use Rattle.avc_transform.specs.MacroblockResidual.{luma_residual, luma_residual_16x16};
+ghost use Rattle.avc_transform.specs.MacroblockResidual.{chroma_residual};
 ghost use Rattle.avc_picture_core.specs.Residuals.{with_residual};
 
 use crate::corner::{first_column, first_row};
@@ -96,7 +98,8 @@ fn add_levels_to_square<const PAD: usize>(
     plane.set_rectangle::<8, 8, 64>(left, top, &sums);
 }
 
-/// The residuals of four blocks without levels, from their DC values, which stand from this place on.
+/// The residuals of four blocks without levels, from their DC values, which stand from this place
+/// on.
 #[inline(always)]
 fn residuals_of_dc<const N: usize>(values: &[i32; N], first: usize) -> [i32; 4]
     requires within { first + 4 ≤ N }
@@ -154,8 +157,8 @@ pub(crate) fn add_block4x4<const PAD: usize>(
     }
 }
 
-/// Adds the residual of a DC value and fifteen levels to a 4x4 block (8.5.2, 8.5.4). It is one value everywhere where the levels are
-/// all 0, and nothing is done where the DC value is 0 too.
+/// Adds the residual of a DC value and fifteen levels to a 4x4 block (8.5.2, 8.5.4). It is one
+/// value everywhere where the levels are all 0, and nothing is done where the DC value is 0 too.
 fn add_block4x4_with_dc<const PAD: usize>(
     plane: &mut Plane<PAD>,
     left: usize,
@@ -216,7 +219,8 @@ fn has_luma_levels(levels: &[Levels<15>; 16]) -> bool
     false
 }
 
-/// Adds the luma residual to an Intra 16x16 macroblock that has DC values alone, four blocks beside one another at once.
+/// Adds the luma residual to an Intra 16x16 macroblock that has DC values alone, four blocks beside
+/// one another at once.
 fn add_luma_levels<const PAD: usize>(plane: &mut Plane<PAD>, place: MbPlace, values: &[i32; 16])
     requires columns { 16 * place.column + 16 ≤ plane.old.width }
     requires rows { 16 * place.row + 16 ≤ plane.old.height }
@@ -262,7 +266,8 @@ pub(crate) fn add_luma_residual_16x16<const PAD: usize>(
     }
 }
 
-/// Adds the residual of a chroma component block by block, or of all four at once where they have DC values alone.
+/// Adds the residual of a chroma component block by block, or of all four at once where they have
+/// DC values alone.
 fn add_chroma_blocks4x4<const PAD: usize>(
     plane: &mut Plane<PAD>,
     place: MbPlace,
@@ -292,8 +297,8 @@ fn add_chroma_blocks4x4<const PAD: usize>(
     }
 }
 
-/// Adds its residual to a chroma component of a macroblock (8.5.4), by the quantiser of chroma. Nothing is done where it has no level
-/// but 0.
+/// Adds its residual to a chroma component of a macroblock (8.5.4), by the quantiser of chroma.
+/// Nothing is done where it has no level but 0.
 pub(crate) fn add_chroma_residual<const PAD: usize>(
     plane: &mut Plane<PAD>,
     place: MbPlace,

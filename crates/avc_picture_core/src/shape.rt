@@ -2,7 +2,8 @@
 
 ghost use Rattle.std.specs.Prelude.{◌≡◌, ◌<◌, true};
 ghost use Rattle.avc_motion.specs.Motion.{AreOfOneMotion};
-ghost use Rattle.avc_picture_core.specs.Inter.{HasWholeQuarters, IsMacroblockShape, IsQuarterShape, IsShape};
+ghost use Rattle.avc_picture_core.specs.Inter.{HasWholeQuarters, IsMacroblockShape, IsQuarterShape};
+ghost use Rattle.avc_picture_core.specs.Inter.{IsShape};
 
 use avc_neigh::Motion;
 
@@ -93,7 +94,8 @@ fn shape_of_blocks(motion: &[Motion; 16]) -> Shape
     }
 }
 
-/// How a macroblock is predicted. Its blocks are looked at only where they are not known to have one motion.
+/// How a macroblock is predicted. Its blocks are looked at only where they are not known to have
+/// one motion.
 #[tactic(auto, using(crate::proofs::InterTiles::one_shape))]
 #[inline]
 pub(crate) fn macroblock_shape(motion: &[Motion; 16], has_one_motion: bool) -> Shape

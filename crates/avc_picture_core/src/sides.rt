@@ -55,7 +55,8 @@ impl ReadableNeighbours {
         }
     }
 
-    /// The three neighbours that meet at the upper left corner have samples. Each block then has the sides that any mode needs.
+    /// The three neighbours that meet at the upper left corner have samples. Each block then has
+    /// the sides that any mode needs.
     #[tactic(auto, using(crate::proofs::InterTiles::surrounded))]
     pub(crate) fn has_corner_neighbours(self) -> bool
         ensures { result ≡ true → (mode : Mode4x4) (k : ℕ) → k < 16 → can_predict4x4 (readable_sides self k) mode ≡ true }
@@ -86,7 +87,8 @@ impl ReadableNeighbours {
         }
     }
 
-    /// The sides of luma block `k`. Those of block 0 are the sides of the macroblock too, for its luma and its chroma.
+    /// The sides of luma block `k`. Those of block 0 are the sides of the macroblock too, for its
+    /// luma and its chroma.
     pub(crate) fn sides(self, k: usize) -> Sides
         requires { k < 16 }
         ensures { result ≡ readable_sides self k }

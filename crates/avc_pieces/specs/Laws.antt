@@ -30,7 +30,8 @@ drop_flags before (u ∷ after) =
     let others = drop_flags (before ++ u ∷ []) after in
     elim (is_start u) [ true ↦ drops_prior (slice_in (tables before) u) ∷ others | false ↦ others ]
 
--- Where a stream has no refusal, and no IDR picture but the first drops what is held, its pictures are those of its pieces.
+-- Where a stream has no refusal, and no IDR picture but the first drops what is held, its pictures
+-- are those of its pieces.
 abbrev pub PiecesDecodeAlike : Type 0
 PiecesDecodeAlike =
     (output : Output) (max : ℕ) (bytes : List ℕ) →

@@ -7,10 +7,11 @@ use avc_annexb::laws::{units_are_whole, units_are_within, written_units_stand_al
 use avc_decoder::laws::{pictures_name_no_units, start_units_begin_anew};
 use avc_units::laws::{sets_are_in_force_again, sets_in_force_are_units};
 
-/// Where a whole stream has no refusal, and no IDR picture but the first drops the pictures before it, its pictures are those of its
-/// pieces, each ended, joined in order.
+/// Where a whole stream has no refusal, and no IDR picture but the first drops the pictures before
+/// it, its pictures are those of its pieces, each ended, joined in order.
 ///
-/// It says nothing of streams with a refusal: a piece may decode what the whole refuses, since each begins anew.
+/// It says nothing of streams with a refusal: a piece may decode what the whole refuses, since each
+/// begins anew.
 pub fn pieces_decode_alike()
     ensures { PiecesDecodeAlike }
 {

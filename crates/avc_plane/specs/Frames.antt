@@ -15,7 +15,8 @@ marked_frame f = record { frame_num = f.frame_num; existing = is_some f.planes; 
 abbrev pub stored_frame : {PAD : ℕ} → (index : ℕ) → Frame PAD → StoredFrame
 stored_frame index f = record { reference = reference_of index (marked_frame f); planes = f.planes }
 
--- Of frames in decoding order, which have these decoding indices, the ones that are used for reference.
+-- Of frames in decoding order, which have these decoding indices, the ones that are used for
+-- reference.
 abbrev pub stored_at : {PAD : ℕ} → (indices : List ℕ) → List (Frame PAD) → List StoredFrame
 stored_at [] frames = []
 stored_at (e ∷ indices) [] = []

@@ -6,12 +6,14 @@ use Rattle.avc_plane.specs.Plane.{Plane, plane_of, sample, clamped}
 abbrev pub off_1024 : ℕ → ℕ
 off_1024 n = if n % 1024 == 0 then n + 64 else n
 
--- How far apart the rows of a plane of this width are that have pad more on each side: whole lines of a cache, which have 64 bytes, but
--- never a multiple of 1,024, at which the rows of a block would push one another out of it.
+-- How far apart the rows of a plane of this width are that have pad more on each side: whole lines
+-- of a cache, which have 64 bytes, but never a multiple of 1,024, at which the rows of a block
+-- would push one another out of it.
 unfoldable pub stride_of : (pad width : ℕ) → ℕ
 stride_of pad width = off_1024 ((width + 2 * pad + 63) / 64 * 64)
 
--- where the sample in column x and row y is stored: in rows this far apart, with pad more on the left, and pad rows more above
+-- where the sample in column x and row y is stored: in rows this far apart, with pad more on the
+-- left, and pad rows more above
 abbrev pub place_in : (pad stride x y : ℕ) → ℕ
 place_in pad stride x y = (y + pad) * stride + (x + pad)
 
@@ -36,8 +38,8 @@ pub record HaveSamples (pad : ℕ) (p : Plane) (rows : List ℕ) : Type 0 where
   pub long : length rows ≡ (p.height + 2 * pad) * stride_of pad p.width
   pub at : (x y : ℕ) → x < p.width → y < p.height → slice_index rows (stored_place pad p.width x y) ≡ sample p x y
 
--- samples from the one in column x and row y of p on, whose rows are `stride` apart: each of p that is not left of it or above it
--- stands at its distance in columns and rows
+-- samples from the one in column x and row y of p on, whose rows are `stride` apart: each of p that
+-- is not left of it or above it stands at its distance in columns and rows
 pub record HaveRowsFrom (p : Plane) (x y : ℕ) (samples : List ℕ) (stride : ℕ) : Type 0 where
   pub apart : p.width ≤ stride
   pub inside : (i j : ℕ) → x + i < p.width → y + j < p.height → j * stride + i < length samples
@@ -47,8 +49,8 @@ pub record HaveRowsFrom (p : Plane) (x y : ℕ) (samples : List ℕ) (stride : �
 abbrev pub nearest : (pad size x : ℕ) → ℕ
 nearest pad size x = min (x - pad) (size - 1)
 
--- The samples of p row by row, with pad more on the left and at least as many on the right, and pad rows more above and below, each of
--- them the sample of p that is nearest (8.4.2.2.1, 8.4.2.2.2).
+-- The samples of p row by row, with pad more on the left and at least as many on the right, and pad
+-- rows more above and below, each of them the sample of p that is nearest (8.4.2.2.1, 8.4.2.2.2).
 pub record IsSurrounded (pad : ℕ) (p : Plane) (rows : List ℕ) : Type 0 where
   pub long : length rows ≡ (p.height + 2 * pad) * stride_of pad p.width
   pub near : (x y : ℕ) → x < stride_of pad p.width → y < p.height + 2 * pad →

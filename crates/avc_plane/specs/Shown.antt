@@ -6,7 +6,8 @@ use Rattle.avc_plane.specs.Planes.{Planes}
 use Rattle.avc_plane.specs.declared.component.Component.{Component}
 use Rattle.avc_plane.specs.declared.component.Component.TheVariants.{Luma, Cb, Cr}
 
--- the picture of these planes, of which the crop is not shown: its size is that of the luma plane (6.2)
+-- the picture of these planes, of which the crop is not shown: its size is that of the luma plane
+-- (6.2)
 abbrev pub picture_of : Planes → Crop → Picture
 picture_of p crop = record {
   width = (p.luma).width;
@@ -23,7 +24,8 @@ samples_of p Luma = p.luma
 samples_of p Cb = p.cb
 samples_of p Cr = p.cr
 
--- a number of luma samples as one of a component's: at 4:2:0 a chroma component has half as many in each direction (6.2)
+-- a number of luma samples as one of a component's: at 4:2:0 a chroma component has half as many in
+-- each direction (6.2)
 abbrev pub scaled : Component → ℕ → ℕ
 scaled Luma n = n
 scaled Cb n = n / 2
@@ -37,8 +39,8 @@ columns_of p c = scaled c p.width
 abbrev pub rows_of : Picture → Component → ℕ
 rows_of p c = scaled c p.height
 
--- Samples of a component from the first that is shown on (7.4.2.1.1), whose rows are `stride` apart: each one that is shown
--- stands at its column and row.
+-- Samples of a component from the first that is shown on (7.4.2.1.1), whose rows are `stride`
+-- apart: each one that is shown stands at its column and row.
 pub record IsLent (p : Picture) (c : Component) (lent : List ℕ) (stride : ℕ) : Type 0 where
   pub apart : scaled c (p.width - ((p.crop).left + (p.crop).right)) ≤ stride
   pub inside : (x y : ℕ) → x < scaled c (p.width - ((p.crop).left + (p.crop).right)) → y < scaled c (p.height - ((p.crop).top + (p.crop).bottom))

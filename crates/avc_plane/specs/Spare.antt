@@ -5,7 +5,8 @@ use Rattle.avc_plane.specs.Plane.{Plane}
 use Rattle.avc_plane.specs.Planes.{Planes, empty_planes}
 use Rattle.avc_plane.specs.Frames.{AreSized}
 
--- Closed planes, each in its place, in the order in which they came, and open ones: those of a picture that became no frame.
+-- Closed planes, each in its place, in the order in which they came, and open ones: those of a
+-- picture that became no frame.
 pub record Spare : Type 0 where
   pub closed : List (Option Planes)
   pub open_planes : Option Planes
@@ -52,7 +53,8 @@ count_sized width height places = sum_by (λ place. one_if_sized width height pl
 abbrev pub left_over : (width height : ℕ) → Spare → ℕ
 left_over width height s = one_if_sized width height s.open_planes + count_sized width height s.closed
 
--- Planes of this size were had: one of those that are left over is used again, or all of them stay and the planes are new.
+-- Planes of this size were had: one of those that are left over is used again, or all of them stay
+-- and the planes are new.
 abbrev pub AreHad : (width height : ℕ) → (old new : Spare) → Planes → Type 0
 AreHad width height old new p =
     (left_over width height old ≡ left_over width height new + 1)

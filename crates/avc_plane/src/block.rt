@@ -5,7 +5,8 @@ ghost use Rattle.avc_plane.specs.Plane.{sample, with_block, with_sample};
 
 use crate::plane::Plane;
 
-/// A block of W columns and H rows of a plane, lent. All other samples of the plane stay as they are.
+/// A block of W columns and H rows of a plane, lent. All other samples of the plane stay as they
+/// are.
 #[derive(Drop)]
 pub struct BlockMut<'a, const W: usize, const H: usize, const PAD: usize> {
     plane: &'a mut Plane<PAD>,

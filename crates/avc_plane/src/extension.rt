@@ -14,8 +14,8 @@ fn repeat(stored: &mut [u8], first: usize, count: usize, sample: u8)
     stored[first..first + count].fill(sample);
 }
 
-/// Repeats the outer samples of a row on both sides of it, `pad` times on the left and up to the next row on the right. `first` is the
-/// place of its first sample with the padding.
+/// Repeats the outer samples of a row on both sides of it, `pad` times on the left and up to the
+/// next row on the right. `first` is the place of its first sample with the padding.
 #[inline(always)]
 fn extend_row(stored: &mut [u8], first: usize, width: usize, pad: usize, stride: usize)
     requires some { 0 < width }
@@ -75,8 +75,8 @@ fn extend_ends(stored: &mut [u8], height: usize, pad: usize, stride: usize)
     }
 }
 
-/// Gives each place around a plane the sample inside that is nearest. Where it is called `pad` is a constant, and a side of that many
-/// samples is stored without a loop.
+/// Gives each place around a plane the sample inside that is nearest. Where it is called `pad` is a
+/// constant, and a side of that many samples is stored without a loop.
 #[inline(always)]
 pub fn extend(stored: &mut [u8], width: usize, height: usize, pad: usize, stride: usize)
     requires some_column { 0 < width }

@@ -13,7 +13,8 @@ use crate::shared::SharedPlanes;
 use avc_types::{Crop, Mark, MarkedFrame, OutOfMemory};
 use std::alloc::Global;
 
-/// The planes of a picture at 4:2:0 (6.2). Those of chroma are half as wide and half as high as that of luma.
+/// The planes of a picture at 4:2:0 (6.2). Those of chroma are half as wide and half as high as
+/// that of luma.
 #[derive(Drop)]
 pub struct Planes<const PAD: usize> {
     pub luma: Plane<PAD>,

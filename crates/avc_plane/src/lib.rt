@@ -25,6 +25,6 @@ pub use plane::{Plane, RowsPlace};
 pub use shared::{EmptiedPlanes, SharedPicture, SharedPlanes};
 pub use spare::SparePlanes;
 
-/// How many samples a stored frame has on each side of each plane, copies of the nearest ones: a prediction that leads no further is
-/// read without a look at the edges.
+/// How many samples a stored frame has on each side of each plane, copies of the nearest ones: a
+/// prediction that leads no further is read without a look at the edges.
 pub const PADDING: usize = 16;

@@ -2,7 +2,8 @@
 
 ghost use Rattle.std.specs.Prelude.{◌≡◌, ◌+◌, ◌*◌, ◌^◌, ◌<◌, ◌≤◌, IfOk, length, slice_range};
 ghost use Rattle.avc_plane.specs.Plane.{sample};
-ghost use Rattle.avc_plane.specs.Padded.{inner_plane, stride_of, HaveRowsFrom, IsPadded, IsSurrounded};
+ghost use Rattle.avc_plane.specs.Padded.{inner_plane, stride_of, HaveRowsFrom, IsPadded};
+ghost use Rattle.avc_plane.specs.Padded.{IsSurrounded};
 
 use crate::lent::LentPlane;
 use crate::plane::Plane;
@@ -10,8 +11,9 @@ use avc_types::{Bytes, OutOfMemory};
 use std::alloc::Global;
 use std::marker::Model;
 
-/// A plane of samples that can't be changed any more, as inter prediction reads it: in memory with PAD more on each side, each of
-/// them the nearest sample inside (8.4.2.2.1). A contract sees it as the plane that it was made of, without the padding.
+/// A plane of samples that can't be changed any more, as inter prediction reads it: in memory with
+/// PAD more on each side, each of them the nearest sample inside (8.4.2.2.1). A contract sees it as
+/// the plane that it was made of, without the padding.
 #[derive(Drop)]
 pub struct PaddedPlane<const PAD: usize> {
     width: usize,

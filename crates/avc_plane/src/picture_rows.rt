@@ -1,6 +1,7 @@
 //! Pictures that are read row by row.
 
-ghost use Rattle.std.specs.Prelude.{◌≡◌, ◌+◌, ◌*◌, ◌^◌, ◌<◌, ◌≤◌, true, nat_le, length, slice_range};
+ghost use Rattle.std.specs.Prelude.{◌≡◌, ◌+◌, ◌*◌, ◌^◌, ◌<◌, ◌≤◌, true, nat_le, length};
+ghost use Rattle.std.specs.Prelude.{slice_range};
 ghost use Rattle.avc_types.specs.Whole.{IsWhole};
 ghost use Rattle.avc_plane.specs.Shown.{samples_of, columns_of, rows_of};
 

@@ -1,6 +1,7 @@
 //! A plane of samples, of which the rows stand some way apart.
 
-ghost use Rattle.std.specs.Prelude.{◌≡◌, ◌==◌, ◌&&◌, ◌+◌, ◌*◌, ◌^◌, ◌<◌, ◌≤◌, IfOk, length, replicate, slice_index, slice_range};
+ghost use Rattle.std.specs.Prelude.{◌≡◌, ◌==◌, ◌&&◌, ◌+◌, ◌*◌, ◌^◌, ◌<◌, ◌≤◌, IfOk, length};
+ghost use Rattle.std.specs.Prelude.{replicate, slice_index, slice_range};
 ghost use Rattle.avc_plane.specs.Plane.{sample, HasSamples, with_block, with_sample, plane_of};
 ghost use Rattle.avc_plane.specs.Padded.{inner_plane, IsStored};
 
@@ -17,7 +18,8 @@ pub use lending::RowsPlace;
 use std::alloc::Global;
 use std::marker::Model;
 
-/// How many samples are cleared at once: where they are many, the C library takes an instruction that goes from byte to byte.
+/// How many samples are cleared at once: where they are many, the C library takes an instruction
+/// that goes from byte to byte.
 const PIECE: usize = 1024;
 
 /// This many zeros.
@@ -32,8 +34,8 @@ fn zeros(alloc: Global, count: usize) -> Result<Vec<u8>, OutOfMemory>
     Ok(zeros)
 }
 
-/// A plane of samples, in memory with PAD more on each side. A contract sees it as its size and its samples row by row,
-/// without the padding.
+/// A plane of samples, in memory with PAD more on each side. A contract sees it as its size and its
+/// samples row by row, without the padding.
 #[derive(Drop)]
 pub struct Plane<const PAD: usize> {
     width: usize,
@@ -129,8 +131,8 @@ impl<const PAD: usize> Plane<PAD> {
         self.stored[place] = value;
     }
 
-    /// Changes the samples of a rectangle with `left` columns left of it and `top` rows above it, and no other. `samples` are those of its
-    /// rows from the top on, each from the left.
+    /// Changes the samples of a rectangle with `left` columns left of it and `top` rows above it,
+    /// and no other. `samples` are those of its rows from the top on, each from the left.
     pub fn set_block(
         &mut self,
         left: usize,
@@ -150,7 +152,8 @@ impl<const PAD: usize> Plane<PAD> {
         }
     }
 
-    /// Lends the block of W columns and H rows that has `left` columns left of it and `top` rows above it.
+    /// Lends the block of W columns and H rows that has `left` columns left of it and `top` rows
+    /// above it.
     pub fn block_mut<const W: usize, const H: usize>(
         &mut self,
         left: usize,

@@ -17,8 +17,8 @@ use std::alloc::Global;
 use std::marker::Model;
 use std::rc::Rc;
 
-/// The closed planes of a picture, held together with others. Their memory is given back once the last holder has let go. A contract
-/// sees them as the planes.
+/// The closed planes of a picture, held together with others. Their memory is given back once the
+/// last holder has let go. A contract sees them as the planes.
 #[derive(Drop)]
 pub struct SharedPlanes<const PAD: usize> {
     planes: Rc<PaddedPlanes<PAD>>,
@@ -58,7 +58,8 @@ impl<const PAD: usize> SharedPlanes<PAD> {
         planes
     }
 
-    /// One holder more of the same planes. This takes no memory. Err where there are more holders than can be counted.
+    /// One holder more of the same planes. This takes no memory. Err where there are more holders
+    /// than can be counted.
     pub fn share(&self) -> Result<Self, OutOfMemory>
         ensures { IfOk result (λ shared. shared ≡ self.now) }
     {
@@ -79,8 +80,8 @@ impl<const PAD: usize> SharedPlanes<PAD> {
     }
 }
 
-/// The closed planes of a frame that has left the buffer. Who has them can't drop them: they go to `SparePlanes::put`, which keeps
-/// them for later pictures.
+/// The closed planes of a frame that has left the buffer. Who has them can't drop them: they go to
+/// `SparePlanes::put`, which keeps them for later pictures.
 pub struct EmptiedPlanes<const PAD: usize> {
     planes: SharedPlanes<PAD>,
 }
@@ -110,7 +111,8 @@ impl<const PAD: usize> EmptiedPlanes<PAD> {
     }
 }
 
-/// A decoded picture whose planes others may hold too. A contract sees it as the `Picture` that it is.
+/// A decoded picture whose planes others may hold too. A contract sees it as the `Picture` that it
+/// is.
 #[derive(Drop)]
 pub struct SharedPicture {
     planes: SharedPlanes<PADDING>,

@@ -1,11 +1,13 @@
 //! Planes of pictures that are over, for later ones.
 
-ghost use Rattle.std.specs.Prelude.{◌≡◌, ℕ, ◌+◌, ◌*◌, ◌^◌, ◌<◌, ◌≤◌, ◌∷◌, [], if◌then◌else◌, None, Some, is_some, length};
+ghost use Rattle.std.specs.Prelude.{◌≡◌, ℕ, ◌+◌, ◌*◌, ◌^◌, ◌<◌, ◌≤◌, ◌∷◌, [], if◌then◌else◌, None};
+ghost use Rattle.std.specs.Prelude.{Some, is_some, length};
 ghost use Rattle.std.specs.Prelude.{IfErr, IfOk, IfSome, IsOkAnd, IsSomeAnd, OnErr, OnSome};
 ghost use Rattle.std.specs.Option.{option_map};
 ghost use Rattle.avc_plane.specs.Closed.{planes_of};
 ghost use Rattle.avc_plane.specs.Frames.{AreSized};
-ghost use Rattle.avc_plane.specs.Spare.{count_sized, is_sized, left_over, most_closed, no_spare, one_if_sized, with_closed, with_open, AreHad, HasOpen};
+ghost use Rattle.avc_plane.specs.Spare.{count_sized, is_sized, left_over, most_closed, no_spare};
+ghost use Rattle.avc_plane.specs.Spare.{one_if_sized, with_closed, with_open, AreHad, HasOpen};
 
 use crate::frame::Planes;
 use crate::shared::{EmptiedPlanes, SharedPlanes};
@@ -14,15 +16,16 @@ use avc_types::OutOfMemory;
 use std::alloc::Global;
 use std::marker::Model;
 
-/// As many as a decoder has at once: 16 stored frames, and the picture that is decoded. Of planes that are held still beyond that number
-/// no part is kept: they are not used again, but given back by who holds them last.
+/// As many as a decoder has at once: 16 stored frames, and the picture that is decoded. Of planes
+/// that are held still beyond that number no part is kept: they are not used again, but given back
+/// by who holds them last.
 const MOST: usize = 17;
 
 /// Closed planes, each in its place.
 type Places<const PAD: usize> = ArrayVec<Option<SharedPlanes<PAD>>, MOST>;
 
-/// Planes of pictures that are over, in which later ones are decoded. Some may be held still by who shows them: those are used once he has
-/// let go. A contract sees the planes.
+/// Planes of pictures that are over, in which later ones are decoded. Some may be held still by who
+/// shows them: those are used once he has let go. A contract sees the planes.
 #[derive(Drop)]
 pub struct SparePlanes<const PAD: usize> {
     closed: Places<PAD>,
@@ -55,7 +58,8 @@ impl<const PAD: usize> SparePlanes<PAD> {
         }
     }
 
-    /// Keeps the planes of a frame, also where others hold them still. Those that find no room are let go.
+    /// Keeps the planes of a frame, also where others hold them still. Those that find no room are
+    /// let go.
     pub fn put(&mut self, planes: EmptiedPlanes<PAD>)
         ensures kept { self.new ≡ with_closed planes.entry self.old }
         ensures few { length self.new.closed ≤ most_closed }
@@ -63,15 +67,17 @@ impl<const PAD: usize> SparePlanes<PAD> {
         let _full = self.closed.try_push(Some(planes.into_shared())).is_err();
     }
 
-    /// Keeps the planes of a picture that became no frame. Those that were kept so before are dropped.
+    /// Keeps the planes of a picture that became no frame. Those that were kept so before are
+    /// dropped.
     pub fn put_open(&mut self, planes: Planes<PAD>)
         ensures { self.new ≡ with_open (planes_of planes.entry) self.old }
     {
         self.open_planes = Some(planes);
     }
 
-    /// Planes of a picture of this size in macroblocks that nobody else holds: the open ones, or else the closed ones that were put last.
-    /// Those of another size that are met on the way are let go.
+    /// Planes of a picture of this size in macroblocks that nobody else holds: the open ones, or
+    /// else the closed ones that were put last. Those of another size that are met on the way are
+    /// let go.
     fn take(&mut self, width: usize, height: usize) -> Option<Planes<PAD>>
         requires narrow { 16 * width + 2 * PAD < 2 ^ 31 }
         requires low { 16 * height + 2 * PAD < 2 ^ 31 }
@@ -115,8 +121,8 @@ fn take_place<const PAD: usize>(closed: &mut Places<PAD>, place: usize) -> Optio
     closed.swap_pop(place)?
 }
 
-/// The last of these planes that are of a picture of this size in macroblocks and that nobody else holds. Those of another size that are met
-/// on the way are let go.
+/// The last of these planes that are of a picture of this size in macroblocks and that nobody else
+/// holds. Those of another size that are met on the way are let go.
 fn take_closed<const PAD: usize>(
     closed: &mut Places<PAD>,
     width: usize,
@@ -141,7 +147,8 @@ fn take_closed<const PAD: usize>(
     None
 }
 
-/// The planes, to be changed again, where they are of a picture of this size in macroblocks. Err where others hold them still.
+/// The planes, to be changed again, where they are of a picture of this size in macroblocks. Err
+/// where others hold them still.
 fn sole_of_size<const PAD: usize>(
     shared: SharedPlanes<PAD>,
     width: usize,
@@ -172,8 +179,8 @@ impl<const PAD: usize> Planes<PAD> {
         }
     }
 
-    /// The planes of a picture of this size in macroblocks, with any samples: some that are spare, and new ones only where there are none
-    /// of this size that nobody else holds.
+    /// The planes of a picture of this size in macroblocks, with any samples: some that are spare,
+    /// and new ones only where there are none of this size that nobody else holds.
     pub fn of_size(
         alloc: Global,
         width: usize,

@@ -9,7 +9,8 @@ const LINE: usize = 64;
 /// Rows as many bytes apart fall into the same lines of a cache.
 const COLLIDING: usize = 1_024;
 
-/// From a row of a plane of this width to the next, where each has `pad` samples more on both sides.
+/// From a row of a plane of this width to the next, where each has `pad` samples more on both
+/// sides.
 #[tactic(auto, unfolding(crate::specs::Padded::stride_of))]
 pub fn stride_of(width: usize, pad: usize) -> usize
     requires { width + 2 * pad < 2 ^ 31 }

@@ -97,8 +97,9 @@ abbrev pub with_missing_from : Sps → (first n : ℕ) → (older : List Past) �
 with_missing_from sps first zero older = older
 with_missing_from sps first (suc n) older = with_missing_from sps (first + 1) n (missing sps (first % max_frame_num sps) ∷ older)
 
--- What one missing number and n more leave, where the first is below MaxFrameNum: FrameNumOffset is greater by MaxFrameNum each time
--- that they have come round (8.2.1.2, 8.2.1.3). Nothing else changes but prevFrameNum.
+-- What one missing number and n more leave, where the first is below MaxFrameNum: FrameNumOffset is
+-- greater by MaxFrameNum each time that they have come round (8.2.1.2, 8.2.1.3). Nothing else
+-- changes but prevFrameNum.
 abbrev pub after_missing_from : (max first n : ℕ) → OrderCountState → OrderCountState
 after_missing_from max first n s = record {
   previous = s.previous;

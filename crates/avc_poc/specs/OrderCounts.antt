@@ -107,8 +107,8 @@ abbrev pub resets_order_counts : Past → Bool
 resets_order_counts (picture sps h) = has_operation_5 h
 resets_order_counts (missing sps frame_num) = false
 
--- FrameNumOffset after an entry whose own is `offset`: one MaxFrameNum more where its frame_num is the
--- greater (8.2.1.2, 8.2.1.3)
+-- FrameNumOffset after an entry whose own is `offset`: one MaxFrameNum more where its frame_num is
+-- the greater (8.2.1.2, 8.2.1.3)
 abbrev offset_after : (offset : ℕ) → (older newer : Past) → ℕ
 offset_after offset older newer =
     if resets_order_counts older then 0
@@ -169,8 +169,8 @@ counts_2 h number =
 abbrev pub previous_for : Header → Previous → Previous
 previous_for h previous = elim (is_idr h) [ true ↦ no_previous | false ↦ previous ]
 
--- Of the picture with this header, before any lowering: from what the last reference picture leaves, and from
--- FrameNumOffset + frame_num (8.2.1).
+-- Of the picture with this header, before any lowering: from what the last reference picture
+-- leaves, and from FrameNumOffset + frame_num (8.2.1).
 abbrev pub counts_by : OrderCount → Sps → Header → Previous → (number : ℕ) → Counts
 counts_by (orders.Type0 log2_minus4) sps h previous number = counts_0 sps h previous
 counts_by (orders.Type1 always_zero non_ref top_to_bottom cycle) sps h previous number = counts_1 non_ref top_to_bottom cycle h number
@@ -193,7 +193,8 @@ number_in_range _ number = nat_lt number (2 ^ 31)
 abbrev pub final_counts : Header → Counts → Counts
 final_counts h c = if has_operation_5 h then lowered_by_operation_5 c else c
 
--- both, before and after lowering, are in the range that 8.2.1 gives; else PocRange (this decoder's rule)
+-- both, before and after lowering, are in the range that 8.2.1 gives; else PocRange (this decoder's
+-- rule)
 abbrev pub in_range : Header → Counts → Result Counts Fault
 in_range h c = if both_in_32_bits c && both_in_32_bits (final_counts h c) then Ok (final_counts h c) else Err faults.PocRange
 

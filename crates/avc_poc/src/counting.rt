@@ -48,7 +48,8 @@ fn raw_counts(
     }
 }
 
-/// The counts of a picture, from what the last reference picture leaves to it and from FrameNumOffset + frame_num.
+/// The counts of a picture, from what the last reference picture leaves to it and from
+/// FrameNumOffset + frame_num.
 pub(crate) fn counts_from(
     header: &Header,
     sps: &Sps,

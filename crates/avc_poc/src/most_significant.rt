@@ -57,7 +57,8 @@ pub(crate) fn delta_bottom(order: CodedOrder) -> i64
     }
 }
 
-/// PicOrderCntMsb (8.2.1.1): of the counts with these low bits, that which is closest to the previous one.
+/// PicOrderCntMsb (8.2.1.1): of the counts with these low bits, that which is closest to the
+/// previous one.
 pub(crate) fn msb_of(max: i64, previous: Previous, lsb: i64) -> i64
     requires max_small { IsNear 17 max }
     requires msb_small { IsNear 34 previous.msb }

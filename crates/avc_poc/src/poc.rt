@@ -19,8 +19,9 @@ use avc_slice::Header;
 use avc_types::Fault;
 use std::marker::Model;
 
-/// Picture order counts (8.2.1) of pictures in decoding order. It stands for what the earlier pictures and missing frame
-/// numbers leave to the next: prevPicOrderCntMsb, prevPicOrderCntLsb, prevFrameNumOffset and prevFrameNum.
+/// Picture order counts (8.2.1) of pictures in decoding order. It stands for what the earlier
+/// pictures and missing frame numbers leave to the next: prevPicOrderCntMsb, prevPicOrderCntLsb,
+/// prevFrameNumOffset and prevFrameNum.
 #[derive(Drop)]
 pub struct Poc {
     previous: Previous,
@@ -135,7 +136,8 @@ impl Poc {
         }
     }
 
-    /// TopFieldOrderCnt and BottomFieldOrderCnt of the next picture (8.2.1), or PocRange, and then nothing has changed.
+    /// TopFieldOrderCnt and BottomFieldOrderCnt of the next picture (8.2.1), or PocRange, and then
+    /// nothing has changed.
     pub fn next(&mut self, header: &Header, sps: &Sps) -> Result<(i32, i32), Fault>
         requires { IsSps sps.now }
         ensures counts { (older : List Past) → self.old ≡ order_count_state older → result ≡ count_pair (order_counts sps.now header.now older) }
@@ -148,7 +150,8 @@ impl Poc {
         Ok(counts)
     }
 
-    /// A frame number is missing before the next picture, and a non-existing frame has it (8.2.5.2).
+    /// A frame number is missing before the next picture, and a non-existing frame has it
+    /// (8.2.5.2).
     pub fn missing(&mut self, frame_num: u32, sps: &Sps)
         requires { IsSps sps.now }
         ensures { (older : List Past) → self.old ≡ order_count_state older → self.new ≡ order_count_state (missing sps.now frame_num ∷ older) }
@@ -157,8 +160,8 @@ impl Poc {
         self.frame_num = frame_num;
     }
 
-    /// So many frame numbers are missing before the next picture, from `first` on, modulo MaxFrameNum. This takes as long for many as
-    /// for one.
+    /// So many frame numbers are missing before the next picture, from `first` on, modulo
+    /// MaxFrameNum. This takes as long for many as for one.
     pub fn missing_from(&mut self, first: u32, count: u32, sps: &Sps)
         requires sps { IsSps sps.now }
         requires first { first < max_frame_num sps.now }

@@ -3,7 +3,8 @@
 ghost use Rattle.std.specs.Prelude.{◌≡◌, ◌^◌, nat_lt, if◌then◌else◌, Ok, Err};
 ghost use Rattle.avc_types.specs.declared.fault.Fault.TheVariants.{PocRange};
 ghost use Rattle.avc_poc.specs.OrderCountState.{count_pair, counts_of, pair};
-ghost use Rattle.avc_poc.specs.OrderCounts.{both_in_32_bits, in_32_bits, in_range, lowered_by_operation_5};
+ghost use Rattle.avc_poc.specs.OrderCounts.{both_in_32_bits, in_32_bits, in_range};
+ghost use Rattle.avc_poc.specs.OrderCounts.{lowered_by_operation_5};
 
 use avc_slice::Header;
 use avc_types::Fault;
@@ -46,7 +47,8 @@ fn lowered_by_operation_5(top: i32, bottom: i32) -> (i128, i128)
     (i128::from(top) - least, i128::from(bottom) - least)
 }
 
-/// The counts as they are answered: lowered by the smaller where the picture has memory_management_control_operation 5.
+/// The counts as they are answered: lowered by the smaller where the picture has
+/// memory_management_control_operation 5.
 pub(crate) fn in_range(header: &Header, counts: (i128, i128)) -> Result<(i32, i32), Fault>
     ensures { result ≡ count_pair (in_range header.now (counts_of counts)) }
 {

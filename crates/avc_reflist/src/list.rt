@@ -6,8 +6,8 @@ ghost use Rattle.avc_reflist.specs.Lists.{entries};
 use arrayvec::ArrayVec;
 use std::marker::Model;
 
-/// RefPicList0 of a P slice: at most 16 entries, each the place of a frame among the stored frames in decoding order, or empty. A
-/// contract sees it as the list of its entries.
+/// RefPicList0 of a P slice: at most 16 entries, each the place of a frame among the stored frames
+/// in decoding order, or empty. A contract sees it as the list of its entries.
 #[derive(Drop)]
 pub struct ReferenceList {
     places: ArrayVec<usize, 16>,

@@ -42,9 +42,10 @@ fn with_initial_list(
     list
 }
 
-/// RefPicList0 of a P slice (8.2.4) as places among at most 16 frames in decoding order: the first `count` of the frames that the
-/// modifications name, in their order and with repeats, and then of the initial list without those that are named. BadRefList where
-/// a name names no frame, or one that stands for a missing frame number. `count` is the active count, 1 to 16.
+/// RefPicList0 of a P slice (8.2.4) as places among at most 16 frames in decoding order: the first
+/// `count` of the frames that the modifications name, in their order and with repeats, and then of
+/// the initial list without those that are named. BadRefList where a name names no frame, or one
+/// that stands for a missing frame number. `count` is the active count, 1 to 16.
 pub fn reference_list(
     frames: &[MarkedFrame],
     current: CurrentFrameNum,

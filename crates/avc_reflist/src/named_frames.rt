@@ -3,7 +3,9 @@
 ghost use Rattle.std.specs.Prelude.{◌≡◌, ◌<◌, ◌≤◌, ◌++◌, ◌∷◌, [], length, take, All, IfSome, IfOk};
 ghost use Rattle.std.specs.Option.{option_map};
 ghost use Rattle.avc_types.specs.References.{IsPlaceIn, NamesFrames, result_map};
-ghost use Rattle.avc_reflist.specs.Lists.{each_frame, existing_modification_frame, first_modification_frames, modification_frame, pic_num_no_wrap};
+ghost use Rattle.avc_reflist.specs.Lists.{each_frame, existing_modification_frame};
+ghost use Rattle.avc_reflist.specs.Lists.{first_modification_frames, modification_frame};
+ghost use Rattle.avc_reflist.specs.Lists.{pic_num_no_wrap};
 
 use arrayvec::ArrayVec;
 use avc_types::{

@@ -72,7 +72,8 @@ task_of_all showing forms.Y4m = tasks.Show showing
 task_of_all showing forms.FrameMd5 = tasks.Show showing
 task_of_all showing (forms.Verify digest) = tasks.Show showing
 
--- the task of showing pictures: none are left out where none is skipped and the limit is the greatest number
+-- the task of showing pictures: none are left out where none is skipped and the limit is the
+-- greatest number
 abbrev pub task_showing : Showing → Task
 task_showing showing =
     if showing.skip == 0 && showing.limit == 2 ^ 64 - 1 then task_of_all showing showing.form else tasks.Show showing

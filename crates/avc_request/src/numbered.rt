@@ -51,7 +51,8 @@ pub(crate) enum Naming<'a> {
     /// One file a picture.
     Numbered(Numbered<'a>),
 
-    /// Nothing: what follows a `%` in it is neither `d` nor a `0`, a digit from 1 to 9 and `d`, or there are two.
+    /// Nothing: what follows a `%` in it is neither `d` nor a `0`, a digit from 1 to 9 and `d`, or
+    /// there are two.
     Wrong,
 }
 

@@ -10,7 +10,8 @@ use std::{env, io, str};
 /// The most bytes of a word that the system gives.
 const LONGEST: usize = 131_072;
 
-/// The words of the command line. Where one of them is no text that is an `Err` with the text to print.
+/// The words of the command line. Where one of them is no text that is an `Err` with the text to
+/// print.
 pub fn words_of(rt: &HostRuntime) -> Result<Vec<String>, Error> {
     let alloc = rt.alloc();
     match env::args(rt) {

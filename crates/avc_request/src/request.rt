@@ -23,10 +23,12 @@ pub struct Request<'a> {
     /// What the name of the file that is written stands for, where it is one file a picture.
     pub numbered: Option<Numbered<'a>>,
 
-    /// Whether the standard output was named as the output: then it may be a terminal, whatever is written.
+    /// Whether the standard output was named as the output: then it may be a terminal, whatever is
+    /// written.
     pub is_standard_output_named: bool,
 
-    /// The number of the piece with which decoding begins, from 0, where it is not the stream's beginning.
+    /// The number of the piece with which decoding begins, from 0, where it is not the stream's
+    /// beginning.
     pub from: Option<u32>,
 
     /// The file into which it is written how long each picture took; `-` for the standard error.
@@ -79,7 +81,8 @@ pub enum Task {
     /// The piece of this number.
     Cut(u32),
 
-    /// The pictures are compared with another decoder's, where samples that are at most so far apart are the same.
+    /// The pictures are compared with another decoder's, where samples that are at most so far
+    /// apart are the same.
     Compare(u8),
 }
 

@@ -1,7 +1,8 @@
 //! From words to what is asked for.
 
 ghost use Rattle.std.specs.Prelude.{◌≡◌};
-ghost use Rattle.avc_request.specs.Commands.{form_by_name, mode_of, progress_of, task_of_all, task_showing, wording_of, IsForm, IsNamed};
+ghost use Rattle.avc_request.specs.Commands.{form_by_name, mode_of, progress_of, task_of_all};
+ghost use Rattle.avc_request.specs.Commands.{task_showing, wording_of, IsForm, IsNamed};
 
 use crate::file_kind::{FileKind, file_kind};
 use crate::grammar::{
@@ -38,7 +39,8 @@ enum Misuse {
     /// The output's name is that of a container, or of a picture, as no command writes.
     Container,
 
-    /// The output's name has a `%` that stands for no number, or that of a picture where none are written.
+    /// The output's name has a `%` that stands for no number, or that of a picture where none are
+    /// written.
     Numbering,
 
     /// Two files are to be the standard input.
@@ -320,8 +322,8 @@ fn progress_of(is_wanted: bool, is_quiet: bool) -> Telling
     }
 }
 
-/// Reads the words of the command line, of which the first is the program's name. What it does not take, and a request for help,
-/// is an `Err` with the text to print.
+/// Reads the words of the command line, of which the first is the program's name. What it does not
+/// take, and a request for help, is an `Err` with the text to print.
 pub fn requested(alloc: Global, words: &[String]) -> Result<Request<'_>, Error> {
     let mut command_line = grammar(alloc)?;
     let matches = command_line.try_get_matches_from_mut(words)?;

@@ -26,7 +26,8 @@ pub data Decodes (format : Presentation → Format) (output : Output) (unread le
   by_set : DecodesBySet format output unread left held holds report run → Decodes format output unread left held holds report run
   in_front : (fault : RunFault) → run ≡ Err fault → NoFront fault unread left → Appends held holds [] → report ≡ no_report → Decodes format output unread left held holds report run
 
--- `decode` in such a format was a run that came to this report, and its exit status and what it told are those of this run.
+-- `decode` in such a format was a run that came to this report, and its exit status and what it
+-- told are those of this run.
 pub record EndsDecodingBySet (names : Names) (explained : Bool) (format : Presentation → Format) (output : Output) (unread left held holds before now : Option (List ℕ)) (ending : Ending) : Type 0 where
   pub report : Report
   pub run : Result (Unit {0}) RunFault

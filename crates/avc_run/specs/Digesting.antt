@@ -22,8 +22,8 @@ pub record Sums (format : Format) (output : Output) (unread left : Option (List 
   pub decodes : DecodesAs format output [] unread left (Some []) (Some summed) report run
   pub digest_is : digest ≡ md5 summed
 
--- This line was written after a run without a fault; after a write fault less than all of it, and where the run or memory failed
--- none of it.
+-- This line was written after a run without a fault; after a write fault less than all of it, and
+-- where the run or memory failed none of it.
 abbrev pub Prints : (run result : Result (Unit {0}) RunFault) → (held holds : Option (List ℕ)) → List ℕ → Type 0
 Prints (Ok _) (Ok told) held holds line = Appends held holds line
 Prints (Ok _) (Err fault) held holds line = StopsPicture fault true held holds line
@@ -37,7 +37,8 @@ pub record WritesDigest (format : Format) (output : Output) (unread left held ho
   pub sums : Sums format output unread left report run digest
   pub prints : Prints run result held holds (digest_line digest)
 
--- `--format md5` was such a run that came to this report, and its exit status and what it told are those of this run.
+-- `--format md5` was such a run that came to this report, and its exit status and what it told are
+-- those of this run.
 pub record EndsDigesting (names : Names) (explained : Bool) (format : Format) (output : Output) (unread left held holds before now : Option (List ℕ)) (ending : Ending) : Type 0 where
   pub report : Report
   pub run : Result (Unit {0}) RunFault

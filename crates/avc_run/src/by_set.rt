@@ -13,9 +13,10 @@ use avc_formats::{Headed, HeadedFormat, Selected, read_front};
 use std::alloc::Global;
 use std::io::{Read, Write};
 
-/// The command `decode --format y4m`, or `framemd5`: decodes a byte stream (Annex B) and writes all but the first pictures, and of these
-/// so many at most, in a format with a head, and tells on the console of each refusal when it comes, and of the fault that ended the run.
-/// The head says what the sequence parameter set says of the first slice that is decoded.
+/// The command `decode --format y4m`, or `framemd5`: decodes a byte stream (Annex B) and writes all
+/// but the first pictures, and of these so many at most, in a format with a head, and tells on the
+/// console of each refusal when it comes, and of the fault that ended the run. The head says what
+/// the sequence parameter set says of the first slice that is decoded.
 pub fn decode_headed<R: Read, W: Write, E: Write, V: Watch>(
     alloc: Global,
     format: HeadedFormat,

@@ -24,8 +24,8 @@ use std::alloc::Global;
 use std::io;
 use std::io::{Read, Write};
 
-/// Decodes a byte stream (Annex B) and writes its pictures as I420, each as soon as it goes out in this mode of output: before
-/// the next bytes are read, and before the next unit is decoded.
+/// Decodes a byte stream (Annex B) and writes its pictures as I420, each as soon as it goes out in
+/// this mode of output: before the next bytes are read, and before the next unit is decoded.
 pub fn run<R: Read, W: Write>(
     alloc: Global,
     output: Output,
@@ -51,8 +51,9 @@ pub fn run<R: Read, W: Write>(
     }
 }
 
-/// Decodes a byte stream (Annex B) in this format. Once it wants no more pictures, no further read is made; the first is made in any case.
-/// Each picture and each refusal is reported as it comes, and `watch` is told how far the run is, after each read and at the end.
+/// Decodes a byte stream (Annex B) in this format. Once it wants no more pictures, no further read
+/// is made; the first is made in any case. Each picture and each refusal is reported as it comes,
+/// and `watch` is told how far the run is, after each read and at the end.
 pub fn run_watched<F: PictureFormat, T: Reporter, E: Write, V: Watch, R: Read, W: Write>(
     alloc: Global,
     output: Output,
@@ -164,8 +165,8 @@ fn decode_by<F: PictureFormat, T: Reporter, E: Write, V: Watch, R: Read, W: Writ
     Err(RunFault::Endless)
 }
 
-// The next bytes of the stream, and all events that come by them. Those of one unit are taken before the next unit is fed, so that few
-// pictures wait at a time.
+// The next bytes of the stream, and all events that come by them. Those of one unit are taken
+// before the next unit is fed, so that few pictures wait at a time.
 fn take_in<F: PictureFormat, T: Reporter, E: Write, V: Watch, W: Write>(
     decoder: &mut Decoder<MAX_UNIT, SharedPicture>,
     piece: &[u8],

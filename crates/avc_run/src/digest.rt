@@ -4,7 +4,8 @@ ghost use Rattle.std.specs.Prelude.{◌≡◌, ◌==◌, if◌then◌else◌};
 ghost use Rattle.avc_console.specs.Reporting.{no_report, TellsOn};
 ghost use Rattle.avc_console.specs.Status.{other_status};
 ghost use Rattle.avc_console.specs.Telling.{TellsMore};
-ghost use Rattle.avc_run.specs.Digesting.{other_text, EndsDigesting, EndsVerifying, Sums, WritesDigest};
+ghost use Rattle.avc_run.specs.Digesting.{other_text, EndsDigesting, EndsVerifying, Sums};
+ghost use Rattle.avc_run.specs.Digesting.{WritesDigest};
 ghost use Rattle.hex.specs.Hex.{encode_lower};
 
 use crate::decoding::run_watched;
@@ -14,9 +15,9 @@ use avc_formats::{Md5Writer, PictureFormat, write_digest};
 use std::alloc::Global;
 use std::io::{Read, Write};
 
-/// The command `decode --format md5`: decodes a byte stream (Annex B), writes the MD5 of all that `decode` would write in this
-/// format, as `md5sum` does, and tells on the console of each refusal when it comes, and of the fault that ended the run. After a fault
-/// there is no MD5.
+/// The command `decode --format md5`: decodes a byte stream (Annex B), writes the MD5 of all that
+/// `decode` would write in this format, as `md5sum` does, and tells on the console of each refusal
+/// when it comes, and of the fault that ended the run. After a fault there is no MD5.
 pub fn decode_md5<F: PictureFormat, R: Read, W: Write, E: Write, V: Watch>(
     alloc: Global,
     output: Output,
@@ -42,9 +43,10 @@ pub fn decode_md5<F: PictureFormat, R: Read, W: Write, E: Write, V: Watch>(
     tell(run, &tally, &console.names, &mut console.errors)
 }
 
-/// The command `decode --verify`: decodes a byte stream (Annex B), compares the MD5 of all that `decode` would write in this format,
-/// and tells on the console of each refusal when it comes, and of the fault that ended the run, or else, where it is another one, which
-/// MD5 it is. The status is 1 then.
+/// The command `decode --verify`: decodes a byte stream (Annex B), compares the MD5 of all that
+/// `decode` would write in this format, and tells on the console of each refusal when it comes, and
+/// of the fault that ended the run, or else, where it is another one, which MD5 it is. The status
+/// is 1 then.
 pub fn verify<F: PictureFormat, R: Read, E: Write, V: Watch>(
     alloc: Global,
     output: Output,
@@ -70,7 +72,8 @@ pub fn verify<F: PictureFormat, R: Read, E: Write, V: Watch>(
     end_compared(run, digest, expected, decoded, &mut console.errors)
 }
 
-// How it ends after the digest was compared with the one that is expected, after a run that ended so.
+// How it ends after the digest was compared with the one that is expected, after a run that ended
+// so.
 fn end_compared<E: Write>(
     run: Result<(), RunFault>,
     digest: [u8; 16],

@@ -10,8 +10,9 @@ use avc_formats::{I420, PictureFormat};
 use std::alloc::Global;
 use std::io::{Read, Write};
 
-/// The command `decode`: writes the pictures of a byte stream (Annex B) as I420, and tells on the console of each refusal when it
-/// comes, and of the fault that ended the run. Where that takes nothing, the status alone tells.
+/// The command `decode`: writes the pictures of a byte stream (Annex B) as I420, and tells on the
+/// console of each refusal when it comes, and of the fault that ended the run. Where that takes
+/// nothing, the status alone tells.
 pub fn decode<R: Read, W: Write, E: Write, V: Watch>(
     alloc: Global,
     output: Output,
@@ -25,8 +26,9 @@ pub fn decode<R: Read, W: Write, E: Write, V: Watch>(
     decode_as(alloc, output, &I420, reader, writer, console)
 }
 
-/// The command `decode` in a format: writes the pictures of a byte stream (Annex B), and tells on the console of each refusal when it
-/// comes, and of the fault that ended the run. Where that takes nothing, the status alone tells.
+/// The command `decode` in a format: writes the pictures of a byte stream (Annex B), and tells on
+/// the console of each refusal when it comes, and of the fault that ended the run. Where that takes
+/// nothing, the status alone tells.
 pub fn decode_as<F: PictureFormat, R: Read, W: Write, E: Write, V: Watch>(
     alloc: Global,
     output: Output,

@@ -4,7 +4,8 @@ use Rattle.avc_annexb.specs.SplitterState.{after_feed, after_finish}
 use Rattle.avc_tools.specs.Losses.{Followed}
 use Rattle.avc_tools.specs.declared.losses.SeenUnit.{SeenUnit}
 
--- What is followed goes on so, or no more for want of memory. Where nothing is followed, nothing is.
+-- What is followed goes on so, or no more for want of memory. Where nothing is followed, nothing
+-- is.
 abbrev pub GoesOn : (step : Followed → Followed) → (old new : Option Followed) → Type 0
 GoesOn step None new = new ≡ None
 GoesOn step (Some f) new = (new ≡ Some (step f)) ⊎ (new ≡ None)
@@ -17,7 +18,8 @@ with_bytes piece f = record f { units = after_feed f.units piece }
 abbrev pub with_end : Followed → Followed
 with_end f = record f { units = after_finish f.units }
 
--- the last slice among the units that were taken, by the one before and the unit that is taken next, if there is one
+-- the last slice among the units that were taken, by the one before and the unit that is taken
+-- next, if there is one
 abbrev pub slice_behind : Option ℕ → Option SeenUnit → Option ℕ
 slice_behind last None = last
 slice_behind last (Some u) = if u.is_slice then Some u.index else last

@@ -21,7 +21,8 @@ speed_text pictures millis =
     if millis == 0 then []
     else codes ", " ++ tenths_text (10000 * pictures / millis) ++ codes " a second"
 
--- how many times as many pictures as the stream's frame rate brings in that time, of which it brings so many millionths
+-- how many times as many pictures as the stream's frame rate brings in that time, of which it
+-- brings so many millionths
 abbrev pub times_by : (pictures due : ℕ) → List ℕ
 times_by pictures due =
     if due == 0 then []
@@ -36,13 +37,15 @@ times_text pictures millis (Some rate) = times_by pictures (millis * rate)
 abbrev pub clock_text : (seconds : ℕ) → List ℕ
 clock_text s = decimal (s / 60) ++ codes ":" ++ decimal (s % 60 / 10) ++ decimal (s % 10)
 
--- how long so many bytes that are left take, rounded down to seconds, if they are read as fast as those before in so many milliseconds
+-- how long so many bytes that are left take, rounded down to seconds, if they are read as fast as
+-- those before in so many milliseconds
 abbrev pub left_text : (read rest millis : ℕ) → List ℕ
 left_text read rest millis =
     if rest == 0 then []
     else codes ", " ++ clock_text (millis * rest / (1000 * read)) ++ codes " left"
 
--- how many hundredths of a file of so many bytes were read, rounded down, and how long the others take
+-- how many hundredths of a file of so many bytes were read, rounded down, and how long the others
+-- take
 abbrev pub place_by : (read size millis : ℕ) → List ℕ
 place_by read size millis =
     if read == 0 || size == 0 then []
@@ -56,7 +59,8 @@ place_if_known read millis (Some size) = place_by read size millis
 abbrev pub place_text : Place → (millis : ℕ) → List ℕ
 place_text p millis = place_if_known p.read millis p.size
 
--- carriage return, with which a terminal begins the line again, and behind the text what erases the rest of the line (EL of ECMA-48)
+-- carriage return, with which a terminal begins the line again, and behind the text what erases the
+-- rest of the line (EL of ECMA-48)
 abbrev pub progress_line : Counts → Place → (millis : ℕ) → (rate : Option ℕ) → List ℕ
 progress_line c p millis rate =
     13 ∷ (counts_text c ++ speed_text c.pictures millis ++ times_text c.pictures millis rate ++ place_text p millis ++ 27 ∷ codes "[K")

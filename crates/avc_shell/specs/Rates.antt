@@ -5,7 +5,8 @@ use Rattle.avc_info.specs.Info.{facts_so_far}
 use Rattle.avc_info.specs.Text.{frame_rate}
 use Rattle.avc_info.specs.declared.sequence_facts.SequenceFacts.{SequenceFacts}
 
--- What a search came to: the bytes that it has looked at, as long as it goes on, and the frames in a thousand seconds, once they are known.
+-- What a search came to: the bytes that it has looked at, as long as it goes on, and the frames in
+-- a thousand seconds, once they are known.
 pub record Search : Type 0 where
   pub searched : Option (List ℕ)
   pub found : Option ℕ
@@ -34,7 +35,8 @@ looked bytes = record {
   found = rate_of (first_sequence bytes);
 }
 
--- One that is over stays as it is. One that goes on takes the next bytes, or is over for want of memory.
+-- One that is over stays as it is. One that goes on takes the next bytes, or is over for want of
+-- memory.
 abbrev pub Looks : (searched : Option (List ℕ)) → (piece : List ℕ) → (old new : Search) → Type 0
 Looks None piece old new = new ≡ old
 Looks (Some bytes) piece old new = (new ≡ looked (bytes ++ piece)) ⊎ (new ≡ record { searched = None; found = old.found })

@@ -5,8 +5,9 @@ ghost use Rattle.avc_shell.specs.Ending.{ended_status, is_verified, shown_by, st
 
 use avc_request::{Form, Task};
 
-/// The exit status after a run of so many pictures that ended with this one: 1 in place of 0 where there had to be pictures and there are
-/// none, since the program was to be strict, or pictures were to be compared.
+/// The exit status after a run of so many pictures that ended with this one: 1 in place of 0 where
+/// there had to be pictures and there are none, since the program was to be strict, or pictures
+/// were to be compared.
 pub fn ended_status(is_strict: bool, task: &Task, pictures: u64, status: u8) -> u8
     ensures { result ≡ ended_status is_strict task.now pictures status }
 {

@@ -7,8 +7,9 @@ use std::io::Write;
 /// What erases the line of progress (carriage return, EL of ECMA-48).
 const ERASED: &[u8] = b"\r\x1b[K";
 
-/// The standard error. Where the program is to be quiet it takes nothing more, and says so to nobody, once whoever reads the output has left.
-/// What is told takes the place of a line of progress.
+/// The standard error. Where the program is to be quiet it takes nothing more, and says so to
+/// nobody, once whoever reads the output has left. What is told takes the place of a line of
+/// progress.
 #[derive(Drop)]
 pub struct Errors<'a> {
     rt: &'a HostRuntime,
@@ -18,7 +19,8 @@ pub struct Errors<'a> {
 }
 
 impl<'a> Errors<'a> {
-    /// Quiet or not, and where it is noted that whoever reads the output has left, and whether a line of progress stands.
+    /// Quiet or not, and where it is noted that whoever reads the output has left, and whether a
+    /// line of progress stands.
     pub fn new(
         rt: &'a HostRuntime,
         is_quiet: bool,

@@ -14,8 +14,8 @@ use std::time::{Duration, Instant};
 /// What stands for the standard error.
 const STANDARD: &str = "-";
 
-/// Writes a line for each picture as soon as it was written: the nanoseconds since the one before, or since the start, by the monotonic
-/// clock.
+/// Writes a line for each picture as soon as it was written: the nanoseconds since the one before,
+/// or since the start, by the monotonic clock.
 #[derive(Drop)]
 pub struct FrameTimes<'a> {
     rt: &'a HostRuntime,
@@ -50,7 +50,8 @@ impl FrameTimes<'_> {
         })
     }
 
-    /// A picture was written. Where the clock or memory fails there is no line, and after a write fault no further one.
+    /// A picture was written. Where the clock or memory fails there is no line, and after a write
+    /// fault no further one.
     pub fn note_picture(&mut self) {
         if self.fault.is_some() {
             return;

@@ -3,21 +3,23 @@
 ghost use Rattle.std.specs.Prelude.{◌≡◌, ◌⊎◌, true, Some, None, IfOk, OnOk};
 ghost use Rattle.avc_annexb.specs.SplitterState.{next_unit_of};
 ghost use Rattle.avc_console.specs.Reading.{max_unit};
-ghost use Rattle.avc_shell.specs.LossLines.{is_at, passed_in, place_of, slice_behind, with_bytes, with_end, GoesOn};
+ghost use Rattle.avc_shell.specs.LossLines.{is_at, passed_in, place_of, slice_behind, with_bytes};
+ghost use Rattle.avc_shell.specs.LossLines.{with_end, GoesOn};
 ghost use Rattle.avc_tools.specs.Losses.{behind, seen};
 
 use avc_console::{MAX_UNIT, tell_loss};
 use avc_tools::{Losses, SeenUnit};
 use avc_types::{Fault, OutOfMemory};
 
-/// Tells behind the refusal of a unit with its picture that decoding waits, and counts the slices that it passes over, where more than
-/// the lines that scripts read may be told.
+/// Tells behind the refusal of a unit with its picture that decoding waits, and counts the slices
+/// that it passes over, where more than the lines that scripts read may be told.
 #[derive(Drop)]
 pub struct LossLines<'a> {
     rt: &'a HostRuntime,
     // none where they are not told, and once memory was wanting
     losses: Option<Losses<MAX_UNIT>>,
-    // the last slice among the units that were taken: it is refused, too, where its picture turns out faulty when it is closed
+    // the last slice among the units that were taken: it is refused, too, where its picture turns
+    // out faulty when it is closed
     last_slice: Option<u64>,
 }
 
@@ -54,8 +56,8 @@ impl LossLines<'_> {
         }
     }
 
-    /// A refusal, behind which a line is told where decoding waits. A unit whose forbidden_zero_bit is 1, and a parameter set, is refused
-    /// alone.
+    /// A refusal, behind which a line is told where decoding waits. A unit whose forbidden_zero_bit
+    /// is 1, and a parameter set, is refused alone.
     pub fn note_refusal(&mut self, unit: u64, fault: Fault) {
         if let Fault::ForbiddenBit = fault {
             return;
@@ -108,7 +110,8 @@ fn with_end(mut losses: Losses<MAX_UNIT>) -> Option<Losses<MAX_UNIT>>
     }
 }
 
-// Takes the units up to the one at this place, where it was not taken, and answers whether it is refused with a picture: it is a slice.
+// Takes the units up to the one at this place, where it was not taken, and answers whether it is
+// refused with a picture: it is a slice.
 fn lose_at(
     losses: &mut Losses<MAX_UNIT>,
     last_slice: &mut Option<u64>,

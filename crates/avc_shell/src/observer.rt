@@ -25,7 +25,8 @@ pub struct Observer<'a> {
 }
 
 impl<'a> Observer<'a> {
-    /// Of a run that has not begun, and where it is noted how many pictures were written or left out.
+    /// Of a run that has not begun, and where it is noted how many pictures were written or left
+    /// out.
     pub fn new(
         progress: Progress<'a>,
         losses: LossLines<'a>,

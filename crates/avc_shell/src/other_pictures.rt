@@ -60,7 +60,8 @@ impl<R> OtherPictures<R> {
         &self.reader
     }
 
-    /// Whether they are YUV4MPEG2 that is not read: its samples are not 4:2:0 with 8 bits, or a line is missing.
+    /// Whether they are YUV4MPEG2 that is not read: its samples are not 4:2:0 with 8 bits, or a
+    /// line is missing.
     pub fn is_invalid(&self) -> bool {
         self.is_invalid
     }

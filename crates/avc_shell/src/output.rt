@@ -15,7 +15,8 @@ use std::os::unix::fs::MetadataExt;
 /// What leads to the standard input, by name.
 const STANDARD_INPUT: &str = "/dev/stdin";
 
-/// A file that is made, or emptied, by the first bytes that are written to it: a command that writes nothing leaves an old one as it was.
+/// A file that is made, or emptied, by the first bytes that are written to it: a command that
+/// writes nothing leaves an old one as it was.
 #[derive(Drop)]
 pub struct OutputFile<'a> {
     rt: &'a HostRuntime,
@@ -75,7 +76,8 @@ pub struct PictureFiles<'a> {
 }
 
 impl<'a> PictureFiles<'a> {
-    /// Files of these names, none of them made, where it is noted how many pictures were written or left out.
+    /// Files of these names, none of them made, where it is noted how many pictures were written or
+    /// left out.
     pub fn new(
         rt: &'a HostRuntime,
         name: Numbered<'a>,
@@ -193,8 +195,9 @@ impl<W: Write> Write for Output<'_, W> {
     }
 }
 
-/// Whether the file that is read, by name or as the standard input, is also the one that is written, through links too. What is no file on
-/// a disk, as a terminal or a pipe, loses nothing by that.
+/// Whether the file that is read, by name or as the standard input, is also the one that is
+/// written, through links too. What is no file on a disk, as a terminal or a pipe, loses nothing by
+/// that.
 pub fn is_input(rt: &HostRuntime, input: Option<&str>, output: &str) -> bool {
     let read = metadata(rt, input.unwrap_or(STANDARD_INPUT));
     let written = metadata(rt, output);

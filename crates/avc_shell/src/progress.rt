@@ -2,8 +2,10 @@
 
 ghost use Rattle.std.specs.Prelude.{◌≡◌, ◌<◌, ◌++◌, IfOk, OnOk, string_bytes};
 ghost use Rattle.std.specs.Option.{option_map};
-ghost use Rattle.avc_shell.specs.Progress.{clock_text, counts_text, left_text, place_by, place_text, progress_line, speed_text};
-ghost use Rattle.avc_shell.specs.Progress.{place_after, tenths_text, times_by, times_text, IsLast, IsReadOn};
+ghost use Rattle.avc_shell.specs.Progress.{clock_text, counts_text, left_text, place_by};
+ghost use Rattle.avc_shell.specs.Progress.{place_text, progress_line, speed_text};
+ghost use Rattle.avc_shell.specs.Progress.{place_after, tenths_text, times_by, times_text, IsLast};
+ghost use Rattle.avc_shell.specs.Progress.{IsReadOn};
 ghost use Rattle.avc_shell.specs.Rates.{Looks};
 
 use crate::progress_state::ProgressState;
@@ -22,15 +24,16 @@ pub struct Place {
     pub size: Option<u64>,
 }
 
-/// A line on the standard error that says how far decoding is, rewritten as that goes on, where it is wanted.
+/// A line on the standard error that says how far decoding is, rewritten as that goes on, where it
+/// is wanted.
 #[derive(Drop)]
 pub struct Progress<'a> {
     meter: Option<Meter<'a>>,
 }
 
 impl Progress<'_> {
-    /// No line where it is not wanted, nor where the system has no clock. The input has so many bytes, where that is known, and it is
-    /// noted whether a line stands.
+    /// No line where it is not wanted, nor where the system has no clock. The input has so many
+    /// bytes, where that is known, and it is noted whether a line stands.
     pub fn new<'a>(
         rt: &'a HostRuntime,
         is_wanted: bool,

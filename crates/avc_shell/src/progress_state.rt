@@ -4,7 +4,8 @@ ghost use Rattle.std.specs.Prelude.{◌≡◌, ◌++◌, ◌∷◌, [], OnOk};
 ghost use Rattle.std.specs.Duration.{as_nanos};
 ghost use Rattle.std.specs.Io.KnownBytes.{Appends};
 ghost use Rattle.avc_annexb.specs.Units.{saturated};
-ghost use Rattle.avc_shell.specs.Progress.{first_place, is_line_due, line_at, millis_in, no_counts, place_after};
+ghost use Rattle.avc_shell.specs.Progress.{first_place, is_line_due, line_at, millis_in, no_counts};
+ghost use Rattle.avc_shell.specs.Progress.{place_after};
 ghost use Rattle.avc_shell.specs.Rates.{new_search, Looks};
 
 use crate::progress::{Place, progress_line};

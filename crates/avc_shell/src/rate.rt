@@ -11,8 +11,9 @@ use std::marker::Model;
 /// How many bytes of a stream are looked at: what has no slice in so many is looked at no further.
 const MOST: usize = 1_048_576;
 
-/// Finds a stream's frame rate at its beginning: that of the sequence parameter set of its first slice, where it says one. A contract
-/// sees the bytes that have come, as long as it searches, and what was found.
+/// Finds a stream's frame rate at its beginning: that of the sequence parameter set of its first
+/// slice, where it says one. A contract sees the bytes that have come, as long as it searches, and
+/// what was found.
 #[derive(Drop)]
 pub struct RateSearch {
     // until the search is over

@@ -19,8 +19,8 @@ pub fn tell_reason(rt: &HostRuntime, name: Option<&str>, kind: Option<ErrorKind>
     }
 }
 
-/// Tells how many pictures and refusals there were, and how many slices were passed over, where that is known, and what a stream is in
-/// which no picture was found, by its first bytes.
+/// Tells how many pictures and refusals there were, and how many slices were passed over, where
+/// that is known, and what a stream is in which no picture was found, by its first bytes.
 pub fn tell_outcome(rt: &HostRuntime, counts: Counts, passed: Option<u64>, first: &[u8]) {
     tell(
         rt,
@@ -61,7 +61,8 @@ fn is_line_wanted(progress: Telling, to_terminal: bool) -> bool
     }
 }
 
-/// Tells of a stream of which facts were wanted that it is a container or a picture, by its first bytes.
+/// Tells of a stream of which facts were wanted that it is a container or a picture, by its first
+/// bytes.
 pub fn tell_container(rt: &HostRuntime, task: &Task, first: &[u8]) {
     if let Task::Tell(Subject::Info, _) = task {
         if let Some(container) = container_of(first) {

@@ -6,8 +6,8 @@ const COLOURS: [&[u8]; 4] = [b"420", b"420jpeg", b"420mpeg2", b"420paldv"];
 /// The most digits of a width or a height.
 const DIGITS: usize = 9;
 
-/// How many samples a picture has by this line: none where it does not say it, or where they are not 4:2:0 with 8 bits. Without a word for the
-/// samples they are.
+/// How many samples a picture has by this line: none where it does not say it, or where they are
+/// not 4:2:0 with 8 bits. Without a word for the samples they are.
 pub(crate) fn picture_len(line: &[u8]) -> Option<u64> {
     let width = number(word(line, b'W')?)?;
     let height = number(word(line, b'H')?)?;

@@ -15,7 +15,8 @@ use Rattle.avc_slice.specs.declared.parts.ActiveCount.{ActiveCount}
 use Rattle.avc_slice.specs.declared.parts.ListPart.{ListPart}
 use Rattle.avc_slice.specs.declared.weights.PredWeightTable.{PredWeightTable}
 
--- What this part of the syntax reads from the bits ahead stands in its place, and the reader goes on after it.
+-- What this part of the syntax reads from the bits ahead stands in its place, and the reader goes
+-- on after it.
 abbrev pub Fills : {V : Type 0} → Result (Unit {0}) Fault → V → Read V → BitReader → BitReader → Type 0
 Fills result place read old new = MatchResult result
     (λ _. (read (reader_bits old) ≡ Ok (place, reader_bits new)) × (reader_bytes new ≡ reader_bytes old))

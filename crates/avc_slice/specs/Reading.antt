@@ -92,8 +92,8 @@ up_to code stop item fault (suc room) = do
 
 -- ---- modification of the list (7.3.3.1)
 
--- What follows modification_of_pic_nums_idc 0, 1 or 2 (Table 7-7): abs_diff_pic_num_minus1, at most `most`
--- (7.4.3.1), or long_term_pic_num.
+-- What follows modification_of_pic_nums_idc 0, 1 or 2 (Table 7-7): abs_diff_pic_num_minus1, at most
+-- `most` (7.4.3.1), or long_term_pic_num.
 abbrev pub modification : (most idc : ℕ) → Read Modification
 modification most zero = ue_to most >>= λ n. give (Subtract n)
 modification most (suc zero) = ue_to most >>= λ n. give (Add n)
@@ -228,7 +228,8 @@ p_list pps sps = do
   weights ← where_set pps.weighted_pred_flag (pred_weight_table (num_ref_idx_active pps override))
   give (record { active_override = override; num_ref_idx_active = num_ref_idx_active pps override; modifications = given; pred_weight_table = weights })
 
--- what RefPicList0 is made by, and by what its predictions are weighted; an I slice has neither (7.3.3)
+-- what RefPicList0 is made by, and by what its predictions are weighted; an I slice has neither
+-- (7.3.3)
 abbrev pub list_part : (p : Bool) → Pps → Sps → Read ListPart
 list_part true pps sps = p_list pps sps
 list_part false pps sps = give (record { active_override = None; num_ref_idx_active = 0; modifications = None; pred_weight_table = None })
@@ -280,7 +281,8 @@ back nal_ref_idc idr start pps sps = do
     position = position;
   })
 
--- slice_header, of a unit of type 1, or of type 5 (idr) (7.3.3). NoParameterSet is this decoder's rule.
+-- slice_header, of a unit of type 1, or of type 5 (idr) (7.3.3). NoParameterSet is this decoder's
+-- rule.
 abbrev pub slice_header : (nal_ref_idc : ℕ) → (idr : Bool) → Sets → Read Header
 slice_header nal_ref_idc idr sets = do
   start ← front nal_ref_idc idr

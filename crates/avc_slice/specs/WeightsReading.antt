@@ -29,7 +29,8 @@ entry_weights = do
   chroma ← optional chroma_weights
   give (record { luma = luma; chroma = chroma })
 
--- pred_weight_table of a P slice: the denominators, 0 to 7, then each reference index (7.3.3.2, 7.4.3.2)
+-- pred_weight_table of a P slice: the denominators, 0 to 7, then each reference index (7.3.3.2,
+-- 7.4.3.2)
 abbrev pub pred_weight_table : (num_ref_idx_active : ℕ) → Read PredWeightTable
 pred_weight_table num_ref_idx_active = do
   luma_log2_weight_denom ← ue_to 7

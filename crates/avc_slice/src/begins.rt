@@ -5,7 +5,8 @@ ghost use Rattle.avc_slice.specs.Begins.{begins_after, picture_fields};
 
 use crate::header::{CodedOrder, Header};
 
-/// What of a slice header the next slice's is compared with, to find the first slice of a new picture (7.4.1.2.4).
+/// What of a slice header the next slice's is compared with, to find the first slice of a new
+/// picture (7.4.1.2.4).
 #[derive(Clone, Copy, Debug)]
 pub struct PictureFields {
     pub nal_ref_idc: u8,
@@ -30,8 +31,9 @@ impl Header {
     }
 }
 
-/// Whether a slice with header `next` begins a new picture after a slice with the fields `last` (7.4.1.2.4): where it is the
-/// first in its picture's order, or where something differs that is the same in all slices of a picture.
+/// Whether a slice with header `next` begins a new picture after a slice with the fields `last`
+/// (7.4.1.2.4): where it is the first in its picture's order, or where something differs that is
+/// the same in all slices of a picture.
 pub fn begins_picture(last: &PictureFields, next: &Header) -> bool
     ensures { result ≡ begins_after last.now next.now }
 {

@@ -3,7 +3,8 @@
 ghost use Rattle.std.specs.Prelude.{◌≡◌, IfSome, slice_get};
 ghost use Rattle.std.specs.List.{list_any};
 ghost use Rattle.avc_slice.specs.Filling.{empty_header};
-ghost use Rattle.avc_slice.specs.Header.{has_operation_5, is_unmark_all, is_idr, is_p, is_p_type, is_reference};
+ghost use Rattle.avc_slice.specs.Header.{has_operation_5, is_unmark_all, is_idr, is_p, is_p_type};
+ghost use Rattle.avc_slice.specs.Header.{is_reference};
 ghost use Rattle.avc_slice.specs.Weights.{weights};
 ghost use Rattle.avc_slice.specs.Within.{IsPredWeightTable};
 
@@ -169,7 +170,8 @@ impl Header {
         self.slice_type.is_p()
     }
 
-    /// By what predictions from a reference index are weighted (8.4.2.3), where the slice has explicit weights.
+    /// By what predictions from a reference index are weighted (8.4.2.3), where the slice has
+    /// explicit weights.
     pub fn weights(&self, reference_index: usize) -> Option<Weights>
         requires { IfSome self.now.pred_weight_table (IsPredWeightTable self.now.num_ref_idx_active) }
         ensures { result ≡ slice_get (weights self.now) reference_index }

@@ -18,7 +18,8 @@ pub(crate) trait Coded: Sized {
         ensures read { Reads result (item most code) reader.old reader.new };
 }
 
-/// The code that ends a list, the greatest code that may stand in it, and the fault of one that is too long.
+/// The code that ends a list, the greatest code that may stand in it, and the fault of one that is
+/// too long.
 #[derive(Clone, Copy)]
 pub(crate) struct Ending {
     pub top: u32,

@@ -56,7 +56,8 @@ fn put_operations(reader: &mut BitReader, place: &mut Option<Marking>) -> Result
     Ok(())
 }
 
-/// The sliding window, in a place that is large: nothing is written where that stands there already.
+/// The sliding window, in a place that is large: nothing is written where that stands there
+/// already.
 fn set_sliding_window(place: &mut Option<Marking>)
     ensures { place.new ≡ Some SlidingWindow }
 {

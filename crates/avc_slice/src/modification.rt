@@ -8,7 +8,8 @@ use crate::list::{Coded, Ending, read_up_to};
 use avc_bits::BitReader;
 use avc_types::{Fault, Modification, UpTo};
 
-/// One entry (7.3.3.1), whose modification_of_pic_nums_idc is known. abs_diff_pic_num_minus1 is limited.
+/// One entry (7.3.3.1), whose modification_of_pic_nums_idc is known. abs_diff_pic_num_minus1 is
+/// limited.
 impl Coded for Modification {
     ghost item = { modification };
 

@@ -8,9 +8,12 @@ ghost use Rattle.avc_params.specs.Tables.{sets_after};
 ghost use Rattle.avc_params.specs.Within.{IsPps, IsSps};
 ghost use Rattle.avc_slice.specs.Filling.{Fills, FillsList, filled};
 ghost use Rattle.avc_slice.specs.Header.{is_idr, slice_qp};
-ghost use Rattle.avc_slice.specs.Reading.{num_ref_idx_active, active_override, back, deblocking, idr_pic_id, is_qp};
-ghost use Rattle.avc_slice.specs.Reading.{marking, redundant_pic_cnt, filtering, front, header_in_rbsp};
-ghost use Rattle.avc_slice.specs.Reading.{list_part, modification_list, modifications, numbers, p_list, slice_type_of};
+ghost use Rattle.avc_slice.specs.Reading.{num_ref_idx_active, active_override, back, deblocking};
+ghost use Rattle.avc_slice.specs.Reading.{idr_pic_id, is_qp};
+ghost use Rattle.avc_slice.specs.Reading.{marking, redundant_pic_cnt, filtering, front};
+ghost use Rattle.avc_slice.specs.Reading.{header_in_rbsp};
+ghost use Rattle.avc_slice.specs.Reading.{list_part, modification_list, modifications, numbers};
+ghost use Rattle.avc_slice.specs.Reading.{p_list, slice_type_of};
 ghost use Rattle.avc_slice.specs.WeightsReading.{pred_weight_table};
 ghost use Rattle.avc_slice.specs.Within.{IsReadUnder};
 
@@ -108,7 +111,8 @@ fn read_numbers(reader: &mut BitReader, idr: bool, pps: &Pps, sps: &Sps) -> Resu
     })
 }
 
-/// num_ref_idx_l0_active_minus1 where the override flag is 1; a default count that is used is at most 16.
+/// num_ref_idx_l0_active_minus1 where the override flag is 1; a default count that is used is at
+/// most 16.
 fn read_active_override(reader: &mut BitReader, pps: &Pps) -> Result<Option<u32>, Fault>
     ensures read { Reads result (active_override pps.now) reader.old reader.new }
     ensures count { IfOk result (λ active_override. num_ref_idx_active pps.now active_override ≤ 16) }
@@ -385,9 +389,9 @@ fn put_fields(header: u8, rbsp: &[u8], table: &ParamTable, place: &mut Header) -
     put_back(&mut reader, nal_ref_idc, idr, front, pps, sps, place)
 }
 
-/// The slice header of a unit of type 1 or 5 (7.3.3), by the unit's first byte and its RBSP, under the parameter sets in
-/// force; or the first fault in it. Beside those of the codes these are SliceType, BadIdr, NoParameterSet, OutOfRange,
-/// RedundantSlice, BadRefList and BadMarking.
+/// The slice header of a unit of type 1 or 5 (7.3.3), by the unit's first byte and its RBSP, under
+/// the parameter sets in force; or the first fault in it. Beside those of the codes these are
+/// SliceType, BadIdr, NoParameterSet, OutOfRange, RedundantSlice, BadRefList and BadMarking.
 pub fn read_header(header: u8, rbsp: &[u8], table: &ParamTable) -> Result<Header, Fault>
     ensures header { result ≡ header_in_rbsp header (sets_after table.now) rbsp.now }
     ensures kept { IfOk result (λ h. IsReadUnder (sets_after table.now) rbsp.now h) }
@@ -398,7 +402,8 @@ pub fn read_header(header: u8, rbsp: &[u8], table: &ParamTable) -> Result<Header
     Ok(read)
 }
 
-/// Reads a slice header into one in which anything may stand: a header is large, and so it is not handed on.
+/// Reads a slice header into one in which anything may stand: a header is large, and so it is not
+/// handed on.
 pub fn put_header(
     header: u8,
     rbsp: &[u8],

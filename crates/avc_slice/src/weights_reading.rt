@@ -2,7 +2,8 @@
 
 ghost use Rattle.std.specs.Prelude.{◌≡◌, ◌≤◌};
 ghost use Rattle.avc_bits.specs.Reader.{Reads};
-ghost use Rattle.avc_slice.specs.WeightsReading.{chroma_weights, coded_weight, entry_weights, pred_weight_table};
+ghost use Rattle.avc_slice.specs.WeightsReading.{chroma_weights, coded_weight, entry_weights};
+ghost use Rattle.avc_slice.specs.WeightsReading.{pred_weight_table};
 
 use crate::weights::{ChromaWeights, CodedWeight, EntryWeights, PredWeightTable};
 use avc_bits::BitReader;

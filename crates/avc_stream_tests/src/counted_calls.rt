@@ -13,7 +13,8 @@ use std::io;
 use std::io::{ErrorKind, Read, Write};
 use std::test::Fail;
 
-// Gives these bytes, at most so many a call, and then the end. The call of one number, from 0, fails, and those after it would not.
+// Gives these bytes, at most so many a call, and then the end. The call of one number, from 0,
+// fails, and those after it would not.
 #[derive(Drop)]
 struct CountingReader<'a> {
     bytes: &'a [u8],
@@ -200,8 +201,9 @@ fn forbidden(alloc: Global, units: u32) -> Result<Vec<u8>, AllocError> {
     Ok(bytes)
 }
 
-// `refused unit N: 4 ForbiddenBit` and the end of the line are 30 bytes and the digits of N, told by one write: of 2,500 units 83,890
-// bytes. Where the standard error takes no more of the second line, it is not asked again.
+// `refused unit N: 4 ForbiddenBit` and the end of the line are 30 bytes and the digits of N, told
+// by one write: of 2,500 units 83,890 bytes. Where the standard error takes no more of the second
+// line, it is not asked again.
 #[test]
 fn refusals_are_told_as_long_as_they_are_taken(rt: HostRuntime) -> Result<(), Fail> {
     let alloc = rt.alloc();
@@ -220,7 +222,8 @@ fn refusals_are_told_as_long_as_they_are_taken(rt: HostRuntime) -> Result<(), Fa
     Ok(())
 }
 
-// The first picture goes out with the last byte, the second at the end. The first read is made also where no picture is wanted.
+// The first picture goes out with the last byte, the second at the end. The first read is made also
+// where no picture is wanted.
 #[test]
 fn reads_as_long_as_pictures_are_wanted(rt: HostRuntime) -> Result<(), Fail> {
     for (piece, limit, reads, taken) in [

@@ -1,8 +1,9 @@
 //! Tests of the decoder's calls: before, at and behind the end of a stream.
 
-// What no contract says of the decoder's calls: that memory is found where there is some, and where a fault comes from. What whole
-// streams come to, and each status and line, stands in vectors/. Where an allocation is refused (`rt try --test --fail-alloc N`), a test
-// ends in that error, and not at an assertion.
+// What no contract says of the decoder's calls: that memory is found where there is some, and where
+// a fault comes from. What whole streams come to, and each status and line, stands in vectors/.
+// Where an allocation is refused (`rt try --test --fail-alloc N`), a test ends in that error, and
+// not at an assertion.
 use crate::limited_writer::{LimitedWriter, Refusal};
 use avc_decoder::{DecodeError, Decoder, Event, Output};
 use avc_run::{RunFault, run};
@@ -41,7 +42,8 @@ fn joined(alloc: Global, parts: &[&[u8]]) -> Result<Vec<u8>, AllocError> {
     Ok(bytes)
 }
 
-// What ended a run on a writer of so much room, where it is not want of memory, and how much room is left.
+// What ended a run on a writer of so much room, where it is not want of memory, and how much room
+// is left.
 fn run_into(
     alloc: Global,
     bytes: &[u8],
@@ -157,13 +159,14 @@ fn early_pictures_do_not_wait(rt: HostRuntime) -> Result<(), Fail> {
     Ok(())
 }
 
-// A sequence parameter set by which frame numbers may be missing, and a P picture before which numbers are missing, and which is
-// predicted from one of these.
+// A sequence parameter set by which frame numbers may be missing, and a P picture before which
+// numbers are missing, and which is predicted from one of these.
 const GAPS_ALLOWED: &[u8] = &[0, 0, 0, 1, 0x67, 0x42, 0xC0, 0x0A, 0xDA, 0xF1];
 
 const AFTER_GAP: &[u8] = &[0, 0, 1, 0x41, 0x9A, 0x42, 0xA0];
 
-// An IDR picture and two P pictures, with long-term frames, of which one loses its mark by its own operations.
+// An IDR picture and two P pictures, with long-term frames, of which one loses its mark by its own
+// operations.
 const LONG_TERM: &[u8] = &[
     0, 0, 1, 0x67, 0x42, 0xC0, 0x0A, 0xED, 0x3D, 0, 0xF0, 0x88, 0x46, 0xA0, 0, 0, 1, 0x68, 0xCE,
     0x38, 0x80, 0, 0, 1, 0x25, 0xB8, 0x40, 0x24, 0xC5, 0, 2, 0x58, 0, 0, 1, 0x21, 0xB8, 0xA1, 0x2A,
@@ -176,7 +179,8 @@ fn is_stopped(decoder: &mut Decoder<1000>, bytes: &[u8]) -> bool {
     answers == [Err(DecodeError::OutOfMemory); 2] && decoder.take().is_err()
 }
 
-// How many pictures it gives; where an allocation is refused, after a reset, and none where it has gone on without one.
+// How many pictures it gives; where an allocation is refused, after a reset, and none where it has
+// gone on without one.
 fn pictures_after_reset(decoder: &mut Decoder<1000>, bytes: &[u8]) -> Result<usize, DecodeError> {
     let first = pictures_fed(decoder, bytes);
     if first != Err(DecodeError::OutOfMemory) {
@@ -302,7 +306,8 @@ fn pictures_and_turns(alloc: Global) -> Result<(usize, u64), DecodeError> {
     pictures.map(|count| (count, turns))
 }
 
-// Each byte is decoded once: a body that began anew at each byte would take more memory than vectors/growths.sh leaves it.
+// Each byte is decoded once: a body that began anew at each byte would take more memory than
+// vectors/growths.sh leaves it.
 #[test]
 fn two_hundred_pictures_byte_by_byte(rt: HostRuntime) -> Result<(), Fail> {
     assert_eq!(rt; pictures_and_turns(rt.alloc())?, (200, 200));

@@ -1,11 +1,13 @@
 //! Tests of listings and pieces of a stream.
 
-// What is told of a stream, and its pieces. Each call is tried once and, where a growth of it was refused, once more: with one growth
-// refused, whichever it is, the second gives what is wanted. With none refused the first does.
+// What is told of a stream, and its pieces. Each call is tried once and, where a growth of it was
+// refused, once more: with one growth refused, whichever it is, the second gives what is wanted.
+// With none refused the first does.
 use avc_tools::{cut, list_units, show_headers};
 use std::test::Fail;
 
-// A sequence parameter set of a 16x16 picture, a picture parameter set, and an IDR picture of one Intra 16x16 macroblock.
+// A sequence parameter set of a 16x16 picture, a picture parameter set, and an IDR picture of one
+// Intra 16x16 macroblock.
 const STREAM: [u8; 27] = [
     0, 0, 0, 1, 0x67, 0x42, 0xC0, 0x0A, 0xDA, 0x71, 0, 0, 0, 1, 0x68, 0xCE, 0x38, 0x80, 0, 0, 1,
     0x65, 0x88, 0x84, 0x93, 0xC0, 0,

@@ -12,7 +12,8 @@ use std::io;
 use std::io::{ErrorKind, Read};
 use std::test::Fail;
 
-// A sequence parameter set of a 16x16 picture, a picture parameter set, and an IDR picture of one Intra 16x16 macroblock.
+// A sequence parameter set of a 16x16 picture, a picture parameter set, and an IDR picture of one
+// Intra 16x16 macroblock.
 const FIRST: &[u8] = &[
     0, 0, 0, 1, 0x67, 0x42, 0xC0, 0x0A, 0xDA, 0x71, 0, 0, 0, 1, 0x68, 0xCE, 0x38, 0x80, 0, 0, 1,
     0x65, 0x88, 0x84, 0x93, 0xC0,
@@ -25,13 +26,15 @@ const SETS: &[u8] = &[
 
 const PCM: &[u8] = &[0, 0, 1, 0x65, 0x88, 0x84, 0x86, 0x80];
 
-// A second IDR slice of an I_PCM macroblock, of another idr_pic_id and with no_output_of_prior_pics_flag 1, up to its samples.
+// A second IDR slice of an I_PCM macroblock, of another idr_pic_id and with
+// no_output_of_prior_pics_flag 1, up to its samples.
 const SECOND_PCM: &[u8] = &[0, 0, 1, 0x65, 0x88, 0x82, 0xA1, 0xA0];
 
 // The byte that ends a slice behind its samples.
 const STOP: &[u8] = &[0x80];
 
-// Two pictures, of a set by which one frame is held and none is reordered, and what shows the end of the second.
+// Two pictures, of a set by which one frame is held and none is reordered, and what shows the end
+// of the second.
 pub(crate) const ONE_HELD: &[u8] = &[
     0, 0, 0, 1, 0x67, 0x42, 0xC0, 0x0A, 0xDA, 0x72, 0x01, 0xFD, 0x40, 0, 0, 0, 1, 0x68, 0xCE, 0x38,
     0x80, 0, 0, 1, 0x65, 0x88, 0x84, 0x93, 0xC0, 0, 0, 1, 0x41, 0x9A, 0x22, 0xA0, 0, 0, 1, 9, 0, 0,
@@ -82,7 +85,8 @@ fn flat_pictures(decoder: &mut Decoder<1000>, value: u8) -> Result<(usize, usize
     Ok((flat, others))
 }
 
-// What comes of these bytes before the end, which are fed in such pieces, and behind it, and how many macroblocks are counted.
+// What comes of these bytes before the end, which are fed in such pieces, and behind it, and how
+// many macroblocks are counted.
 fn fed_by(
     decoder: &mut Decoder<1000>,
     bytes: &[u8],
@@ -132,7 +136,8 @@ fn one_picture_comes_at_the_end(rt: HostRuntime) -> Result<(), Fail> {
     Ok(())
 }
 
-// A decoder that has one frame hands out the first picture once the second has ended, and the second at the end; early, both at once.
+// A decoder that has one frame hands out the first picture once the second has ended, and the
+// second at the end; early, both at once.
 #[test]
 fn one_frame_is_held(rt: HostRuntime) -> Result<(), Fail> {
     let alloc = rt.alloc();
@@ -164,7 +169,8 @@ fn the_second_drops_the_first(rt: HostRuntime) -> Result<(), Fail> {
     Ok(())
 }
 
-// A luma column of it: 15 times 128, the edge between the slices as it is deblocked, and 15 times 136.
+// A luma column of it: 15 times 128, the edge between the slices as it is deblocked, and 15 times
+// 136.
 const COLUMN: [u8; 32] = [
     128, 128, 128, 128, 128, 128, 128, 128, 128, 128, 128, 128, 128, 128, 128, 130, 134, 136, 136,
     136, 136, 136, 136, 136, 136, 136, 136, 136, 136, 136, 136, 136,
@@ -213,7 +219,8 @@ fn two_slices_are_two_macroblocks(rt: HostRuntime) -> Result<(), Fail> {
     Ok(())
 }
 
-// How many answers say that the call was carried out, how many are a picture of 128, and how many that there is no event.
+// How many answers say that the call was carried out, how many are a picture of 128, and how many
+// that there is no event.
 fn told(replies: &[Reply]) -> (usize, usize, usize) {
     let mut done = 0usize;
     let mut pictures = 0usize;
@@ -264,7 +271,8 @@ fn number_of(next: &Next) -> u8 {
     }
 }
 
-// What the units of the stream do, each with whether it closes the open picture; 9 where there is no unit.
+// What the units of the stream do, each with whether it closes the open picture; 9 where there is
+// no unit.
 fn steps_of(
     splitter: &mut Splitter<1000>,
     grouper: &mut Grouper,
@@ -288,7 +296,8 @@ fn steps_in(alloc: Global) -> Result<[(bool, u8); 4], OutOfMemory> {
     steps_of(&mut splitter, &mut grouper)
 }
 
-// Both sets do nothing more than to come into force, the slice begins a picture, and the delimiter closes it.
+// Both sets do nothing more than to come into force, the slice begins a picture, and the delimiter
+// closes it.
 #[test]
 fn units_are_grouped(rt: HostRuntime) -> Result<(), Fail> {
     let steps = steps_in(rt.alloc())?;
@@ -315,7 +324,8 @@ impl Read for FailingReader<'_> {
     }
 }
 
-// What ended the run, where it is not want of memory, how much of the writer's room is left, and how many bytes 128 it took.
+// What ended the run, where it is not want of memory, how much of the writer's room is left, and
+// how many bytes 128 it took.
 fn run_from<R: Read>(
     alloc: Global,
     reader: &mut R,
@@ -349,8 +359,8 @@ fn rising(alloc: Global) -> Result<Vec<u8>, AllocError> {
     Ok(bytes)
 }
 
-// Where reading fails behind all bytes nothing is written, since the end of the last unit is not seen; where the writer takes 100 bytes
-// of 128 and then answers 0, these are written.
+// Where reading fails behind all bytes nothing is written, since the end of the last unit is not
+// seen; where the writer takes 100 bytes of 128 and then answers 0, these are written.
 #[test]
 fn a_run_ends_at_a_fault(rt: HostRuntime) -> Result<(), Fail> {
     let alloc = rt.alloc();
@@ -384,7 +394,8 @@ fn is_stopped(decoder: &mut Decoder<1000>) -> bool {
     answers == [Err(DecodeError::OutOfMemory); 2] && decoder.take().is_err()
 }
 
-// How many pictures the first stream gives; where a growth is refused, each call answers so until a reset, after which the stream gives them.
+// How many pictures the first stream gives; where a growth is refused, each call answers so until a
+// reset, after which the stream gives them.
 fn pictures_again(decoder: &mut Decoder<1000>) -> Result<usize, DecodeError> {
     let first = pictures_of_the_first(decoder);
     if first != Err(DecodeError::OutOfMemory) {

@@ -9,7 +9,8 @@ use Rattle.avc_make.specs.MbWriting.{qp_of}
 abbrev pub Stands : (is_p : Bool) → (num_ref_idx_active : ℕ) → MbSyntax → Type 0
 Stands is_p num_ref_idx_active syntax = (c : Context) → c.is_p ≡ is_p → c.num_ref_idx_active ≡ num_ref_idx_active → CanStand c syntax
 
--- Each can stand, and has the QP_Y that comes of its own, after one with the QP_Y `first`; the last has `last`.
+-- Each can stand, and has the QP_Y that comes of its own, after one with the QP_Y `first`; the last
+-- has `last`.
 unfoldable pub FollowOn : (is_p : Bool) → (num_ref_idx_active first last : ℕ) → List Mb → Type 0
 FollowOn is_p num_ref_idx_active first last [] = first ≡ last
 FollowOn is_p num_ref_idx_active first last (m ∷ ms) =

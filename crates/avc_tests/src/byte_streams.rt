@@ -1,7 +1,7 @@
 //! Tests of byte streams that come in pieces.
 
-// No clause says that memory is found. Where an allocation is refused (`rt try --test --fail-alloc N`), a test ends in
-// that error, and not at an assertion.
+// No clause says that memory is found. Where an allocation is refused (`rt try --test --fail-alloc
+// N`), a test ends in that error, and not at an assertion.
 use avc_annexb::{Splitter, unescape};
 use std::test::Fail;
 

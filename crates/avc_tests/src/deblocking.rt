@@ -672,8 +672,8 @@ fn deblock(planes: &mut Planes<0>, mbs: &[MbInfo], width: usize, height: usize, 
     true
 }
 
-// One random picture of W columns and H rows of macroblocks, N in all, is filtered as the plain filter does it. Marks the
-// strengths that changed a sample.
+// One random picture of W columns and H rows of macroblocks, N in all, is filtered as the plain
+// filter does it. Marks the strengths that changed a sample.
 fn is_plain<const W: usize, const H: usize, const N: usize>(
     alloc: Global,
     random: &mut Random,

@@ -1,11 +1,13 @@
 //! A macroblock of each type, and how they follow one another in a slice.
 
-ghost use Rattle.std.specs.Prelude.{◌≡◌, ◌≤◌, ◌<◌, ◌+◌, ◌==◌, ◌++◌, ◌∷◌, ℕ, ℤ, Bool, List, ◌≤ℤ◌, pos, negsuc, true, false, length, take, IfOk, []};
+ghost use Rattle.std.specs.Prelude.{◌≡◌, ◌≤◌, ◌<◌, ◌+◌, ◌==◌, ◌++◌, ◌∷◌, ℕ, ℤ, Bool, List, ◌≤ℤ◌};
+ghost use Rattle.std.specs.Prelude.{pos, negsuc, true, false, length, take, IfOk, []};
 ghost use Rattle.std.specs.List.{range_with_len};
 ghost use Rattle.avc_types.specs.Macroblock.{Mb, parts_of, partitions};
 ghost use Rattle.avc_types.specs.MacroblockFields.{residual_of, syntax_of};
 ghost use Rattle.avc_mbsyntax.specs.Reading.{is_coded, qp_after};
-ghost use Rattle.avc_make.specs.MbWriting.{AreBlocks, HasQuarters, IsBlock, IsChromaDc, IsLumaDc, IsRefIdx, IsResidual, has_ref_idx, luma_max, qp_of};
+ghost use Rattle.avc_make.specs.MbWriting.{AreBlocks, HasQuarters, IsBlock, IsChromaDc, IsLumaDc};
+ghost use Rattle.avc_make.specs.MbWriting.{IsRefIdx, IsResidual, has_ref_idx, luma_max, qp_of};
 ghost use Rattle.avc_tests.specs.Following.{GoesOn, Stands};
 
 use avc_types::{BlockLevels, Levels, Mb, Mvd, OutOfMemory, PMbType, SubMbType, Syntax};
@@ -235,7 +237,8 @@ pub(crate) fn add_i_types(list: &mut Vec<Mb>, qp: u8) -> Result<u8, OutOfMemory>
     Ok(last)
 }
 
-/// Macroblocks of the five types of inter macroblocks, a skipped one before each, after one with this QP_Y: that of the last.
+/// Macroblocks of the five types of inter macroblocks, a skipped one before each, after one with
+/// this QP_Y: that of the last.
 pub(crate) fn add_p_types(list: &mut Vec<Mb>, qp: u8) -> Result<u8, OutOfMemory>
     ensures goes_on { IfOk result (λ after. (first : ℕ) → GoesOn true 2 first qp after list.old.items list.new.items) }
     ensures more { IfOk result (λ _. length list.new.items ≡ length list.old.items + 10) }

@@ -61,7 +61,8 @@ fn stays_where_there_is_no_macroblock(rt: HostRuntime) -> Result<(), Fail> {
     Ok(())
 }
 
-// How many macroblocks a slice has, and the fault that comes then, of a picture of three macroblocks in which so many remain.
+// How many macroblocks a slice has, and the fault that comes then, of a picture of three
+// macroblocks in which so many remain.
 fn read_all(bytes: &[u8], is_p: bool, remaining: u32) -> (u32, Option<Fault>) {
     let mut data = SliceData::new(BitReader::new(bytes), is_p, 1, 26, remaining);
     let mut mb = Mb {

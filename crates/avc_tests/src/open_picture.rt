@@ -66,7 +66,8 @@ fn decode(picture: &mut PictureDecoder<32>, slice: &Slice) -> Result<(), Fail>
     }
 }
 
-// The luma sample in row `y` of the first column of a picture of 16x32 samples, of a macroblock that has been read.
+// The luma sample in row `y` of the first column of a picture of 16x32 samples, of a macroblock
+// that has been read.
 fn luma_at(picture: &PictureDecoder<32>, sps: &Sps, y: usize) -> Result<u8, Fail>
     requires fault { HasNoFault picture.now }
     requires sps { picture.now.sps ≡ sps.now }
@@ -81,8 +82,8 @@ fn luma_at(picture: &PictureDecoder<32>, sps: &Sps, y: usize) -> Result<u8, Fail
     Ok(picture.sample(0, 0, y))
 }
 
-// How many rows are filtered after the upper slice, and the luma sample in row 15 of the first column; then the same after the lower
-// slice, and the sample in row 16.
+// How many rows are filtered after the upper slice, and the luma sample in row 15 of the first
+// column; then the same after the lower slice, and the sample in row 16.
 fn two_slices(
     picture: &mut PictureDecoder<32>,
     sps: &Sps,

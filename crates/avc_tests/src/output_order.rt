@@ -143,7 +143,8 @@ fn take_steps(
     Ok(())
 }
 
-// Whether these steps give these numbers, END behind those of each, and so many frames are stored then.
+// Whether these steps give these numbers, END behind those of each, and so many frames are stored
+// then.
 fn gives(
     alloc: Global,
     output: Output,
@@ -172,7 +173,8 @@ fn by_order_count(rt: HostRuntime) -> Result<(), Fail> {
     Ok(())
 }
 
-// Room for one frame: the reference picture goes out and stays, and a picture that is none finds no room until it is unmarked.
+// Room for one frame: the reference picture goes out and stays, and a picture that is none finds no
+// room until it is unmarked.
 #[test]
 fn references_stay(rt: HostRuntime) -> Result<(), Fail> {
     let steps = [
@@ -186,7 +188,8 @@ fn references_stay(rt: HostRuntime) -> Result<(), Fail> {
     Ok(())
 }
 
-// A frame that stands for a missing number makes room and never goes out; what is dropped doesn't either.
+// A frame that stands for a missing number makes room and never goes out; what is dropped doesn't
+// either.
 #[test]
 fn never_goes_out(rt: HostRuntime) -> Result<(), Fail> {
     let steps = [
@@ -202,7 +205,8 @@ fn never_goes_out(rt: HostRuntime) -> Result<(), Fail> {
     Ok(())
 }
 
-// Frames that have left are handed out once each: one that goes out for another, and all where the buffer is emptied.
+// Frames that have left are handed out once each: one that goes out for another, and all where the
+// buffer is emptied.
 #[test]
 fn hands_out_emptied_frames(rt: HostRuntime) -> Result<(), Fail> {
     let steps = [
@@ -241,7 +245,8 @@ fn only_where_room_is_needed(rt: HostRuntime) -> Result<(), Fail> {
     Ok(())
 }
 
-// With early output the second of two that are needed for output goes out later. The frames stay for reference.
+// With early output the second of two that are needed for output goes out later. The frames stay
+// for reference.
 #[test]
 fn no_more_than_may_stay_needed(rt: HostRuntime) -> Result<(), Fail> {
     let steps = [
@@ -280,7 +285,8 @@ fn shown_by_a_new_buffer(alloc: Global) -> Result<Vec<SharedPicture>, OutOfMemor
     shown(alloc, &mut dpb)
 }
 
-// A picture goes out with the samples and the cropping of its frame; a frame that stands for a missing frame number has none.
+// A picture goes out with the samples and the cropping of its frame; a frame that stands for a
+// missing frame number has none.
 #[test]
 fn shows_its_picture(rt: HostRuntime) -> Result<(), Fail> {
     let out = shown_by_a_new_buffer(rt.alloc())?;

@@ -1,7 +1,7 @@
 //! Tests of slice headers under parameter sets.
 
-// No clause says that memory is found. Where an allocation is refused (`rt try --test --fail-alloc N`), the test ends in that
-// error, and not at an assertion.
+// No clause says that memory is found. Where an allocation is refused (`rt try --test --fail-alloc
+// N`), the test ends in that error, and not at an assertion.
 use avc_params::ParamTable;
 use avc_slice::{SliceType, read_header};
 use avc_types::Fault;

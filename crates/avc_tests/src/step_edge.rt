@@ -39,8 +39,8 @@ fn has_size(plane: &Plane<0>, width: usize, height: usize) -> bool
     plane.width() == width && plane.height() == height
 }
 
-/// Filters a vertical edge of the second macroblock: the first, between the two, is of strength 4, and the others are of strength 3.
-/// Says whether the planes have room for it.
+/// Filters a vertical edge of the second macroblock: the first, between the two, is of strength 4,
+/// and the others are of strength 3. Says whether the planes have room for it.
 fn filter(planes: &mut Planes<0>, n: usize) -> bool
     requires { n < 4 }
 {

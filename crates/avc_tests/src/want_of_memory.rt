@@ -1,7 +1,8 @@
 //! Tests of what follows want of memory.
 
-// What stands after want of memory. Each call is tried once and, where a growth of it was refused, once more: with one growth refused,
-// whichever it is, the second gives what is wanted. With none refused the first does.
+// What stands after want of memory. Each call is tried once and, where a growth of it was refused,
+// once more: with one growth refused, whichever it is, the second gives what is wanted. With none
+// refused the first does.
 use crate::written_slices::p_slice;
 use crate::written_syntax::{PPS, SPS};
 use avc_annexb::{Splitter, unescape};
@@ -14,7 +15,8 @@ use avc_types::OutOfMemory;
 use std::alloc::Global;
 use std::test::Fail;
 
-// A sequence parameter set of a 16x16 picture, a picture parameter set, and an IDR picture of one Intra 16x16 macroblock.
+// A sequence parameter set of a 16x16 picture, a picture parameter set, and an IDR picture of one
+// Intra 16x16 macroblock.
 const STREAM: [u8; 27] = [
     0, 0, 0, 1, 0x67, 0x42, 0xC0, 0x0A, 0xDA, 0x71, 0, 0, 0, 1, 0x68, 0xCE, 0x38, 0x80, 0, 0, 1,
     0x65, 0x88, 0x84, 0x93, 0xC0, 0,
@@ -52,7 +54,8 @@ fn calls_that_begin_anew(rt: HostRuntime) -> Result<(), Fail> {
     Ok(())
 }
 
-// A P slice of no macroblock behind two of another slice: first_mb_in_slice 2, frame_num 1, two entries in RefPicList0, mb_skip_run 0.
+// A P slice of no macroblock behind two of another slice: first_mb_in_slice 2, frame_num 1, two
+// entries in RefPicList0, mb_skip_run 0.
 const NO_MACROBLOCK: [u8; 4] = [0x41, 0x78, 0xD1, 0xC0];
 
 #[test]

@@ -1,7 +1,7 @@
 //! Tests of parameter sets and slice data that are written and read back.
 
-// No clause says that memory is found. Where an allocation is refused (`rt try --test --fail-alloc N`), the test ends in that
-// error, and not at an assertion.
+// No clause says that memory is found. Where an allocation is refused (`rt try --test --fail-alloc
+// N`), the test ends in that error, and not at an assertion.
 ghost use Rattle.std.specs.Prelude.{true, ◌≤◌, ℕ, length, false};
 ghost use Rattle.avc_make.specs.SliceMbs.{IsCodedSlice};
 ghost use Rattle.avc_tests.specs.Following.{FollowOn};

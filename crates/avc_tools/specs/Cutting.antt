@@ -27,7 +27,8 @@ pub record AreReplaced {A : Type 0} (has_id : ℕ → SetUnit → Bool) (record_
   pub long : length new ≡ length old
   pub each : (id : ℕ) → id < length old → stored new id ≡ replaced (satisfies (has_id id) set) (is_some (record_of set)) unit (stored old id)
 
--- the unit whose sequence parameter set is in force under an id, and whose picture parameter set is (7.4.1.2.1)
+-- the unit whose sequence parameter set is in force under an id, and whose picture parameter set is
+-- (7.4.1.2.1)
 abbrev pub sps_unit : List Unit → ℕ → List Unit
 sps_unit before id = deciding_unit (is_some (sps_in_force (set_units before) id)) (is_sps id) before
 

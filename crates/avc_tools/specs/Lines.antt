@@ -38,7 +38,8 @@ flag_number b = if b then 1 else 0
 
 -- ---- units
 
--- what is told of a unit: its number, the place of its first byte, how many bytes it has, nal_unit_type and nal_ref_idc (7.3.1)
+-- what is told of a unit: its number, the place of its first byte, how many bytes it has,
+-- nal_unit_type and nal_ref_idc (7.3.1)
 abbrev pub facts_of : Unit → UnitFacts
 facts_of u = record {
   unit = u.index;

@@ -7,8 +7,8 @@ use Rattle.avc_units.specs.Grouping.{is_start}
 use Rattle.avc_tools.specs.Pieces.{is_slice}
 use Rattle.avc_tools.specs.declared.losses.SeenUnit.{SeenUnit}
 
--- A stream that is followed beside its decoding: its units, of which some were taken, whether decoding waits behind these, and how many
--- slices among them were passed over.
+-- A stream that is followed beside its decoding: its units, of which some were taken, whether
+-- decoding waits behind these, and how many slices among them were passed over.
 pub record Followed : Type 0 where
   pub units : SplitterState
   pub waits : Bool
@@ -18,7 +18,8 @@ pub record Followed : Type 0 where
 abbrev pub new_followed : Followed
 new_followed = record { units = new_splitter; waits = true; passed = 0 }
 
--- A slice with which decoding can't start: while it waits, it is passed over. One whose forbidden_zero_bit is 1 is refused.
+-- A slice with which decoding can't start: while it waits, it is passed over. One whose
+-- forbidden_zero_bit is 1 is refused.
 abbrev pub is_passed : Unit → Bool
 is_passed u = is_slice u && (not (forbidden_zero_bit u.header) && not (is_start u))
 

@@ -9,8 +9,8 @@ use Rattle.avc_units.specs.Resuming.{sets_in_force}
 use Rattle.avc_tools.specs.Pieces.{after_slices, leads, pieces, rest_of_piece, through_slices}
 use Rattle.avc_tools.specs.Streams.{StreamSoFar}
 
--- The units after a cut point that its piece has, whatever may follow them: all of its rest once the next cut point has come or
--- the stream has ended, and before that those up to the last slice.
+-- The units after a cut point that its piece has, whatever may follow them: all of its rest once
+-- the next cut point has come or the stream has ended, and before that those up to the last slice.
 abbrev pub rest_so_far : (after : List Unit) → (ended : Bool) → List Unit
 rest_so_far after ended = if ended || list_any is_start after then rest_of_piece after else through_slices after
 

@@ -74,7 +74,8 @@ pub record IsWaiting (left : ℕ) (before : List Unit) (c : Cutter) : Type 0 whe
   pub sets : HasSets before c.sets
   pub held : c.held.items ≡ leading before
 
--- What is kept of the units behind the last slice: all, and those that stay where the next piece begins.
+-- What is kept of the units behind the last slice: all, and those that stay where the next piece
+-- begins.
 pub record AreHeld (after : List Unit) (held staying_ones : List ℕ) : Type 0 where
   pub all : held ≡ flat_map written (after_slices after)
   pub stay : staying_ones ≡ flat_map written (staying after)

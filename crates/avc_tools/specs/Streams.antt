@@ -22,11 +22,13 @@ after_piece s piece = if s.ended then s else record s { bytes = s.bytes ++ piece
 abbrev pub after_end : StreamSoFar → StreamSoFar
 after_end s = record s { ended = true }
 
--- What was written before, and then these bytes, is what is written of the stream once more of it has come.
+-- What was written before, and then these bytes, is what is written of the stream once more of it
+-- has come.
 abbrev pub Adds : (text : List ℕ → (ended : Bool) → List ℕ) (old new : StreamSoFar) (added : List ℕ) → Type 0
 Adds text old new added = length new.bytes < 2 ^ 64 → text new.bytes new.ended ≡ text old.bytes old.ended ++ added
 
--- What is written of a stream's first bytes stays the first of what is written, whatever follows them.
+-- What is written of a stream's first bytes stays the first of what is written, whatever follows
+-- them.
 abbrev pub OnlyGrows : (text : List ℕ → (ended : Bool) → List ℕ) → Type 0
 OnlyGrows text =
     (bytes more : List ℕ) (ended : Bool) → length (bytes ++ more) < 2 ^ 64 →

@@ -13,12 +13,13 @@ use Rattle.avc_tools.specs.Streams.{IsDrained}
 use Rattle.avc_tools.specs.declared.cutter.Cutter.{Cutter}
 use Rattle.avc_tools.specs.declared.cutter.CutPhase.TheVariants as phases
 
--- The units from a cut point on: the parameter sets in force there, what leads its picture, itself, and all that follow
--- (this decoder's rule).
+-- The units from a cut point on: the parameter sets in force there, what leads its picture, itself,
+-- and all that follow (this decoder's rule).
 abbrev pub units_from : (before : List Unit) → (cut_point : Unit) → (after : List Unit) → List Unit
 units_from before cut_point after = sets_in_force before ++ filter leads (after_slices before) ++ cut_point ∷ after
 
--- The same of one among these units, before which so many cut points are to be passed over, if it is there.
+-- The same of one among these units, before which so many cut points are to be passed over, if it
+-- is there.
 abbrev pub tail_from : (left : ℕ) → (before us : List Unit) → List Unit
 tail_from left before [] = []
 tail_from zero before (u ∷ us) = if is_start u then units_from before u us else tail_from zero (before ++ u ∷ []) us
@@ -30,7 +31,8 @@ tail_text number bytes ended = flat_map written (tail_from number [] (units (len
 
 -- ---- unit by unit: these words are the crate's own
 
--- how many cut points are left to be passed over behind these units, or none where the tail has begun
+-- how many cut points are left to be passed over behind these units, or none where the tail has
+-- begun
 abbrev pub still_left : (left : ℕ) → (us : List Unit) → Option ℕ
 still_left left [] = Some left
 still_left zero (u ∷ us) = if is_start u then None else still_left zero us

@@ -1,7 +1,8 @@
 //! Where the pieces of a stream begin.
 
 ghost use Rattle.std.specs.Prelude.{◌≡◌, ◌++◌, false, length, IfOk, OnOk, string_bytes};
-ghost use Rattle.avc_tools.specs.CutPoints.{cut_point_line, cut_point_lines, line_if_start, number_behind, number_behind_all};
+ghost use Rattle.avc_tools.specs.CutPoints.{cut_point_line, cut_point_lines, line_if_start};
+ghost use Rattle.avc_tools.specs.CutPoints.{number_behind, number_behind_all};
 ghost use Rattle.avc_tools.specs.Streams.{after_units_left, max_unit, units_left};
 
 use crate::listing_form::ListingForm;
@@ -14,8 +15,8 @@ use avc_units::is_start;
 use std::alloc::Global;
 use std::marker::Model;
 
-/// A line of a form for each unit of a byte stream (Annex B) with which a piece begins, once the unit has ended. A contract sees what
-/// came of the stream.
+/// A line of a form for each unit of a byte stream (Annex B) with which a piece begins, once the
+/// unit has ended. A contract sees what came of the stream.
 #[derive(Drop)]
 pub struct CutPointLines<F> {
     alloc: Global,

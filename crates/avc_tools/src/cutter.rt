@@ -6,7 +6,8 @@ ghost use Rattle.avc_annexb.specs.declared.unit.Unit.{Unit as Piece};
 ghost use Rattle.avc_params.specs.Tables.{is_pps, is_sps, pps_record, sps_record};
 ghost use Rattle.avc_units.specs.Grouping.{set_unit};
 ghost use Rattle.avc_tools.specs.Cutting.{AreReplaced};
-ghost use Rattle.avc_tools.specs.Stages.{IsCutOff, IsCutOn, Stage, StandsAt, leading, made, next, waiting};
+ghost use Rattle.avc_tools.specs.Stages.{IsCutOff, IsCutOn, Stage, StandsAt, leading, made, next};
+ghost use Rattle.avc_tools.specs.Stages.{waiting};
 ghost use Rattle.avc_tools.specs.declared.cutter.CutPhase.TheVariants as phases;
 
 use crate::sets_in_force::SetsInForce;
@@ -29,8 +30,8 @@ pub(crate) enum CutPhase {
     Over,
 }
 
-/// Cuts one piece out of a stream, unit by unit. It keeps what the piece may yet need: the parameter sets in force, and the units
-/// behind the last slice, each written behind a start code.
+/// Cuts one piece out of a stream, unit by unit. It keeps what the piece may yet need: the
+/// parameter sets in force, and the units behind the last slice, each written behind a start code.
 #[derive(Drop)]
 pub(crate) struct Cutter {
     pub phase: CutPhase,

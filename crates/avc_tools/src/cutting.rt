@@ -13,8 +13,8 @@ use avc_types::{Bytes, OutOfMemory};
 use avc_units::is_start;
 use std::alloc::Global;
 
-/// The pieces of a whole byte stream (Annex B) that can be decoded by themselves: one from each unit on with which decoding can
-/// start, behind the parameter sets in force there.
+/// The pieces of a whole byte stream (Annex B) that can be decoded by themselves: one from each
+/// unit on with which decoding can start, behind the parameter sets in force there.
 pub fn cut(alloc: Global, bytes: &[u8]) -> Result<Vec<Bytes>, OutOfMemory>
     ensures { IfOk result (λ all. all.items ≡ pieces bytes.now) }
 {

@@ -1,6 +1,7 @@
 //! The lines of `headers`.
 
-ghost use Rattle.std.specs.Prelude.{◌≡◌, [], ◌∷◌, ◌++◌, ◌+◌, ◌-◌, ◌*◌, false, IfOk, OnOk, Some, string_bytes};
+ghost use Rattle.std.specs.Prelude.{◌≡◌, [], ◌∷◌, ◌++◌, ◌+◌, ◌-◌, ◌*◌, false, IfOk, OnOk, Some};
+ghost use Rattle.std.specs.Prelude.{string_bytes};
 ghost use Rattle.std.specs.Fmt.{decimal};
 ghost use Rattle.std.specs.Option.{option_copied};
 ghost use Rattle.avc_params.specs.Tables.{sets_after};
@@ -9,10 +10,14 @@ ghost use Rattle.avc_units.specs.Grouping.{set_units};
 ghost use Rattle.avc_tools.specs.Showing.{header_lines_under};
 ghost use Rattle.avc_tools.specs.Streams.{after_units_left, max_unit, units_left};
 ghost use Rattle.avc_tools.specs.Lines.{flag_number, header_line, header_lines, line_of};
-ghost use Rattle.avc_tools.specs.Lines.{newline, order_type, pps_constrained, pps_control, pps_fields};
-ghost use Rattle.avc_tools.specs.Lines.{pps_flags, pps_identity, pps_text, qp_number, refused_text, set_text};
-ghost use Rattle.avc_tools.specs.Lines.{shown_height, shown_width, slice_fields, slice_picture, slice_place};
-ghost use Rattle.avc_tools.specs.Lines.{slice_qp_under, slice_text, sps_frames, sps_identity, sps_size};
+ghost use Rattle.avc_tools.specs.Lines.{newline, order_type, pps_constrained, pps_control};
+ghost use Rattle.avc_tools.specs.Lines.{pps_fields};
+ghost use Rattle.avc_tools.specs.Lines.{pps_flags, pps_identity, pps_text, qp_number, refused_text};
+ghost use Rattle.avc_tools.specs.Lines.{set_text};
+ghost use Rattle.avc_tools.specs.Lines.{shown_height, shown_width, slice_fields, slice_picture};
+ghost use Rattle.avc_tools.specs.Lines.{slice_place};
+ghost use Rattle.avc_tools.specs.Lines.{slice_qp_under, slice_text, sps_frames, sps_identity};
+ghost use Rattle.avc_tools.specs.Lines.{sps_size};
 ghost use Rattle.avc_tools.specs.Lines.{sps_text, text_of, type_name};
 
 use crate::listing_form::{ForPeople, ListingForm};
@@ -27,9 +32,10 @@ use avc_units::{Brought, HeaderReader, ParameterSet};
 use std::alloc::Global;
 use std::marker::Model;
 
-/// A line for each unit of a whole byte stream (Annex B) that brings a parameter set or a slice: its place among the units, and
-/// what the set (7.3.2.1.1, 7.3.2.2) or the slice header (7.3.3) says, or why it is refused. A slice is read with the sets in force
-/// there. Data partitions, and units whose forbidden_zero_bit is 1, are refused.
+/// A line for each unit of a whole byte stream (Annex B) that brings a parameter set or a slice:
+/// its place among the units, and what the set (7.3.2.1.1, 7.3.2.2) or the slice header (7.3.3)
+/// says, or why it is refused. A slice is read with the sets in force there. Data partitions, and
+/// units whose forbidden_zero_bit is 1, are refused.
 pub fn show_headers(alloc: Global, bytes: &[u8]) -> Result<String, OutOfMemory>
     ensures { IfOk result (λ text. string_bytes text ≡ header_lines bytes.now) }
 {
@@ -41,8 +47,8 @@ pub fn show_headers(alloc: Global, bytes: &[u8]) -> Result<String, OutOfMemory>
     Ok(text)
 }
 
-/// A line of a form for each unit that brings a parameter set or a slice, of a stream that comes in pieces, each once its unit has
-/// ended. A contract sees what came of the stream.
+/// A line of a form for each unit that brings a parameter set or a slice, of a stream that comes in
+/// pieces, each once its unit has ended. A contract sees what came of the stream.
 #[derive(Drop)]
 pub struct HeaderLines<F> {
     alloc: Global,
@@ -415,7 +421,8 @@ pub fn type_name(header: &Header) -> &'static str
     if header.is_p() { "P" } else { "I" }
 }
 
-/// SliceQPY (7.4.3) of a slice under this picture parameter set, which is not below 0; 0 without one.
+/// SliceQPY (7.4.3) of a slice under this picture parameter set, which is not below 0; 0 without
+/// one.
 pub fn slice_qp_under(pps: Option<&Pps>, header: &Header) -> u64
     ensures { result ≡ slice_qp_under (option_copied pps.entry) header.now }
 {

@@ -22,7 +22,8 @@ pub trait ListingForm {
     /// The line of a unit.
     ghost of_unit: { UnitFacts → List ℕ };
 
-    /// The line of a unit that brings a parameter set or a slice, under the parameter sets in force before it; of any other nothing.
+    /// The line of a unit that brings a parameter set or a slice, under the parameter sets in force
+    /// before it; of any other nothing.
     ghost of_header: { Sets → Unit → List ℕ };
 
     /// The line of the piece of this number, counted from 0, which begins with this unit.

@@ -1,6 +1,7 @@
 //! What a stream loses behind refusals.
 
-ghost use Rattle.std.specs.Prelude.{◌≡◌, ◌+◌, true, false, ◌&&◌, not, if◌then◌else◌, IfOk, OnErr, OnOk};
+ghost use Rattle.std.specs.Prelude.{◌≡◌, ◌+◌, true, false, ◌&&◌, not, if◌then◌else◌, IfOk, OnErr};
+ghost use Rattle.std.specs.Prelude.{OnOk};
 ghost use Rattle.avc_annexb.specs.SplitterState.{after_feed, after_finish, next_unit_of};
 ghost use Rattle.avc_annexb.specs.Units.{saturated};
 ghost use Rattle.avc_tools.specs.Losses.{behind, behind_loss, is_passed, new_followed, seen};
@@ -23,9 +24,10 @@ pub struct SeenUnit {
     pub is_slice: bool,
 }
 
-/// Follows a byte stream (Annex B), of whose units none has more than `MAX` bytes, beside its decoding: whether that waits for a unit to
-/// start with, and how many slices it passed over. Units are taken one after another, and whoever takes them says which are refused with
-/// a picture. After want of memory it is of no more use.
+/// Follows a byte stream (Annex B), of whose units none has more than `MAX` bytes, beside its
+/// decoding: whether that waits for a unit to start with, and how many slices it passed over. Units
+/// are taken one after another, and whoever takes them says which are refused with a picture. After
+/// want of memory it is of no more use.
 #[derive(Drop)]
 pub struct Losses<const MAX: usize> {
     alloc: Global,

@@ -5,7 +5,8 @@ ghost use Rattle.std.specs.List.{filter, flat_map, take_while};
 ghost use Rattle.avc_annexb.specs.Written.{written};
 ghost use Rattle.avc_units.specs.Grouping.{is_start};
 ghost use Rattle.avc_tools.specs.Cutting.{HasSets, piece_at};
-ghost use Rattle.avc_tools.specs.Pieces.{after_slices, is_left_out, leads, rest_of_piece, through_slices};
+ghost use Rattle.avc_tools.specs.Pieces.{after_slices, is_left_out, leads, rest_of_piece};
+ghost use Rattle.avc_tools.specs.Pieces.{through_slices};
 
 use crate::sets_in_force::SetsInForce;
 use crate::writing::{is_left_out, is_slice, leads, write_if, write_kept, write_unit};

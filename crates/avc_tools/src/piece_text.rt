@@ -13,9 +13,10 @@ use avc_types::{OutOfMemory, WantOfMemory};
 use std::alloc::Global;
 use std::marker::Model;
 
-/// One of the pieces of a stream (Annex B) that comes in pieces itself, each part as soon as it belongs to it whatever follows:
-/// its units up to a slice with this slice, and those behind its last slice at its end. It keeps the unit that is not over, those
-/// behind the last slice, and the parameter sets in force. A contract sees the piece's number, and what came of the stream.
+/// One of the pieces of a stream (Annex B) that comes in pieces itself, each part as soon as it
+/// belongs to it whatever follows: its units up to a slice with this slice, and those behind its
+/// last slice at its end. It keeps the unit that is not over, those behind the last slice, and the
+/// parameter sets in force. A contract sees the piece's number, and what came of the stream.
 #[derive(Drop)]
 pub struct PieceText {
     alloc: Global,

@@ -1,6 +1,7 @@
 //! The units of the parameter sets in force.
 
-ghost use Rattle.std.specs.Prelude.{◌≡◌, ℕ, ◌<◌, Option, None, Some, OnOk, IfOk, if◌then◌else◌, length, replicate};
+ghost use Rattle.std.specs.Prelude.{◌≡◌, ℕ, ◌<◌, Option, None, Some, OnOk, IfOk, if◌then◌else◌};
+ghost use Rattle.std.specs.Prelude.{length, replicate};
 ghost use Rattle.std.specs.Option.{option_map};
 ghost use Rattle.avc_annexb.specs.Written.{written};
 ghost use Rattle.avc_params.specs.Stored.{stored};
@@ -8,7 +9,8 @@ ghost use Rattle.avc_params.specs.Tables.{is_id, is_pps, is_sps, pps_record, sps
 ghost use Rattle.avc_params.specs.declared.set_unit.SetUnit.{SetUnit};
 ghost use Rattle.avc_units.specs.Bringing.{parameter_set};
 ghost use Rattle.avc_units.specs.Grouping.{set_unit};
-ghost use Rattle.avc_units.specs.declared.set_reading.ParameterSet.TheVariants.{OfPicture, OfSequence};
+ghost use Rattle.avc_units.specs.declared.set_reading.ParameterSet.TheVariants.{OfPicture};
+ghost use Rattle.avc_units.specs.declared.set_reading.ParameterSet.TheVariants.{OfSequence};
 ghost use Rattle.avc_tools.specs.Cutting.{AreReplaced};
 
 use crate::writing::written_unit;
@@ -67,8 +69,8 @@ fn no_units(alloc: Global, count: usize) -> Result<Vec<Option<Bytes>>, OutOfMemo
     Ok(units)
 }
 
-// A set with this id, where that was read in range, came with this unit, or was refused where there is none: then it erases the
-// one before.
+// A set with this id, where that was read in range, came with this unit, or was refused where there
+// is none: then it erases the one before.
 fn put(units: &mut Vec<Option<Bytes>>, id: Option<u8>, unit: Option<Bytes>)
     ensures long { length units.new.items ≡ length units.old.items }
     ensures units { (k : ℕ) → k < length units.old.items → stored units.new.items k ≡ (if is_id k id then unit else stored units.old.items k) }

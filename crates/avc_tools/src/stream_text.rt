@@ -1,6 +1,7 @@
 //! Texts that are written of a stream while it comes.
 
-ghost use Rattle.std.specs.Prelude.{◌≡◌, ◌^◌, ◌<◌, ℕ, Bool, true, false, List, IfOk, OnErr, OnOk, length};
+ghost use Rattle.std.specs.Prelude.{◌≡◌, ◌^◌, ◌<◌, ℕ, Bool, true, false, List, IfOk, OnErr, OnOk};
+ghost use Rattle.std.specs.Prelude.{length};
 ghost use Rattle.avc_tools.specs.Streams.{Adds, OnlyGrows, StreamSoFar, after_end, after_piece};
 
 use avc_types::OutOfMemory;
@@ -19,8 +20,8 @@ pub trait StreamText {
     /// Whether nothing more is written of it once these bytes have come, and are all or not.
     ghost over: { ℕ → List ℕ → Bool → Bool };
 
-    /// Takes the next bytes of the stream, and answers what is now to be written. After an `Ok` of `finish` nothing changes. Once
-    /// it answers an `Err`, for want of memory, it goes on to do so.
+    /// Takes the next bytes of the stream, and answers what is now to be written. After an `Ok` of
+    /// `finish` nothing changes. Once it answers an `Err`, for want of memory, it goes on to do so.
     fn feed(&mut self, piece: &[u8]) -> Result<Vec<u8>, OutOfMemory>
         ensures so_far { OnOk result (so_far self.new ≡ after_piece (so_far self.old) piece.now) }
         ensures number { OnOk result (number self.new ≡ number self.old) }
@@ -28,8 +29,8 @@ pub trait StreamText {
         ensures going { OnOk result ((so_far self.old).failed ≡ false) }
         ensures err { OnErr result ((so_far self.new).failed ≡ true) };
 
-    /// Takes the end of the stream, and answers what is then left to be written. Once it answers an `Err`, for want of memory, it
-    /// goes on to do so.
+    /// Takes the end of the stream, and answers what is then left to be written. Once it answers an
+    /// `Err`, for want of memory, it goes on to do so.
     fn finish(&mut self) -> Result<Vec<u8>, OutOfMemory>
         ensures so_far { OnOk result (so_far self.new ≡ after_end (so_far self.old)) }
         ensures number { OnOk result (number self.new ≡ number self.old) }

@@ -14,10 +14,11 @@ use avc_types::{OutOfMemory, WantOfMemory};
 use std::alloc::Global;
 use std::marker::Model;
 
-/// A stream (Annex B) from one of its cut points on, where it comes in pieces itself: the parameter sets in force there and what leads its
-/// picture, each behind a start code, and then each unit from it on as soon as that has ended. It keeps the unit that is not over, and
-/// before the cut point the parameter sets in force and what leads the next picture. A contract sees the cut point's number, and what
-/// came of the stream.
+/// A stream (Annex B) from one of its cut points on, where it comes in pieces itself: the parameter
+/// sets in force there and what leads its picture, each behind a start code, and then each unit
+/// from it on as soon as that has ended. It keeps the unit that is not over, and before the cut
+/// point the parameter sets in force and what leads the next picture. A contract sees the cut
+/// point's number, and what came of the stream.
 #[derive(Drop)]
 pub struct TailText {
     alloc: Global,

@@ -18,8 +18,9 @@ use std::marker::Model;
 /// The most bytes of a unit, of those that are kept: no unit in memory has more.
 pub(crate) const MAX_UNIT: usize = usize::MAX;
 
-/// A line for each unit of a whole byte stream (Annex B): its place among the units, the place of its first byte, the number
-/// of its bytes, nal_unit_type and nal_ref_idc (7.3.1), in decimal, with one space between two numbers.
+/// A line for each unit of a whole byte stream (Annex B): its place among the units, the place of
+/// its first byte, the number of its bytes, nal_unit_type and nal_ref_idc (7.3.1), in decimal, with
+/// one space between two numbers.
 pub fn list_units(alloc: Global, bytes: &[u8]) -> Result<String, OutOfMemory>
     ensures { IfOk result (λ text. string_bytes text ≡ unit_lines bytes.now) }
 {
@@ -30,8 +31,8 @@ pub fn list_units(alloc: Global, bytes: &[u8]) -> Result<String, OutOfMemory>
     Ok(text)
 }
 
-/// A line of a form for each unit of a stream that comes in pieces, each once its unit has ended. A contract sees what came of the
-/// stream.
+/// A line of a form for each unit of a stream that comes in pieces, each once its unit has ended. A
+/// contract sees what came of the stream.
 #[derive(Drop)]
 pub struct UnitLines<F> {
     alloc: Global,

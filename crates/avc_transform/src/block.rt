@@ -17,8 +17,8 @@ pub fn residual4x4(levels: &[i16; 16], qp: u8) -> [i32; 16]
     transformed(scaled_levels(levels, qp))
 }
 
-/// The residual of a 4x4 block whose DC value comes from `luma_dc` or `chroma_dc` and stands before fifteen levels
-/// (8.5.2, 8.5.4, 8.5.12).
+/// The residual of a 4x4 block whose DC value comes from `luma_dc` or `chroma_dc` and stands before
+/// fifteen levels (8.5.2, 8.5.4, 8.5.12).
 pub fn residual4x4_with_dc(dc: i32, levels: &[i16; 15], qp: u8) -> [i32; 16]
     requires quantiser { qp ≤ 51 }
     requires dc { IsBelow (2 ^ 27) dc }

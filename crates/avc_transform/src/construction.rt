@@ -1,6 +1,7 @@
 //! A prediction and its residual, added (8.5.14).
 
-ghost use Rattle.std.specs.Prelude.{◌≡◌, ℕ, ℤ, ◌^◌, ◌+◌, ◌*◌, ◌/◌, ◌%◌, ◌<◌, ◌≤◌, ◌+ℤ◌, ◌-ℤ◌, pos, slice_index, slice_index_or};
+ghost use Rattle.std.specs.Prelude.{◌≡◌, ℕ, ℤ, ◌^◌, ◌+◌, ◌*◌, ◌/◌, ◌%◌, ◌<◌, ◌≤◌, ◌+ℤ◌, ◌-ℤ◌, pos};
+ghost use Rattle.std.specs.Prelude.{slice_index, slice_index_or};
 ghost use Rattle.avc_types.specs.Arithmetic.{clip1};
 ghost use Rattle.avc_transform.specs.Bounds.{IsBelow, AllBelow};
 ghost use Rattle.avc_transform.specs.Moves.{AreMovesOf};
@@ -124,7 +125,8 @@ fn move_sixteen(samples: &mut [u8; 64], first: usize, moves: &Moves)
     put_sixteen(samples, first, &sums);
 }
 
-/// Sixty-four samples, of which each sixteen of the first half are moved in one way and each sixteen of the second in another.
+/// Sixty-four samples, of which each sixteen of the first half are moved in one way and each
+/// sixteen of the second in another.
 #[inline(always)]
 fn moved_halves(samples: &[u8; 64], upper: &Moves, lower: &Moves) -> [u8; 64]
     ensures { (f : ℕ → ℤ) → AreMovesOf (λ i. f (0 + i)) upper.now → AreMovesOf (λ i. f (16 + i)) upper.now
@@ -139,8 +141,8 @@ fn moved_halves(samples: &[u8; 64], upper: &Moves, lower: &Moves) -> [u8; 64]
     sums
 }
 
-/// The samples of four 4x4 blocks beside one another, row by row, each with a residual that is one value (8.5.14): each sum held to
-/// 0 to 255.
+/// The samples of four 4x4 blocks beside one another, row by row, each with a residual that is one
+/// value (8.5.14): each sum held to 0 to 255.
 #[inline(always)]
 pub fn add_to_row(samples: &[u8; 64], residuals: [i32; 4]) -> [u8; 64]
     requires { AllBelow 4 (2 ^ 25) residuals }
@@ -150,7 +152,8 @@ pub fn add_to_row(samples: &[u8; 64], residuals: [i32; 4]) -> [u8; 64]
     moved_halves(samples, &moves, &moves)
 }
 
-/// The samples of four 4x4 blocks of a square, row by row, each with a residual that is one value (8.5.14): each sum held to 0 to 255.
+/// The samples of four 4x4 blocks of a square, row by row, each with a residual that is one value
+/// (8.5.14): each sum held to 0 to 255.
 #[inline(always)]
 pub fn add_to_square(samples: &[u8; 64], residuals: [i32; 4]) -> [u8; 64]
     requires { AllBelow 4 (2 ^ 25) residuals }
@@ -162,7 +165,8 @@ pub fn add_to_square(samples: &[u8; 64], residuals: [i32; 4]) -> [u8; 64]
     moved_halves(samples, &upper, &lower)
 }
 
-/// The samples of a 4x4 block before deblocking, from its prediction and its residual (8.5.14): each sum held to 0 to 255.
+/// The samples of a 4x4 block before deblocking, from its prediction and its residual (8.5.14):
+/// each sum held to 0 to 255.
 pub fn add_clip(prediction: &[u8; 16], residual: &[i32; 16]) -> [u8; 16]
     requires { AllBelow 16 (2 ^ 25) residual.now }
     ensures { (i : ℕ) → i < 16 → slice_index result i ≡ clip1 (pos (slice_index prediction.now i) +ℤ slice_index_or residual.now i (pos 0)) }

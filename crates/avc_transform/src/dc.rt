@@ -1,9 +1,11 @@
 //! The DC values of luma and chroma (8.5.10, 8.5.11).
 
-ghost use Rattle.std.specs.Prelude.{◌≡◌, ℕ, ◌+◌, ◌*◌, ◌-◌, ◌/◌, ◌%◌, ◌^◌, ◌<◌, ◌≤◌, ◌+ℤ◌, ◌*ℤ◌, pos, [], ◌∷◌, slice_index_or};
+ghost use Rattle.std.specs.Prelude.{◌≡◌, ℕ, ◌+◌, ◌*◌, ◌-◌, ◌/◌, ◌%◌, ◌^◌, ◌<◌, ◌≤◌, ◌+ℤ◌, ◌*ℤ◌};
+ghost use Rattle.std.specs.Prelude.{pos, [], ◌∷◌, slice_index_or};
 ghost use Rattle.avc_types.specs.Arithmetic.{◌>>ℤ◌, ◌<<ℤ◌};
 ghost use Rattle.avc_transform.specs.Bounds.{IsBelow, AllBelow, matrix, HasRows, HasColumns};
-ghost use Rattle.avc_transform.specs.Residual.{even_scale, hadamard_row, luma_dc, luma_dc_scaled, chroma_dc, chroma_dc_product, chroma_dc_scaled};
+ghost use Rattle.avc_transform.specs.Residual.{even_scale, hadamard_row, luma_dc, luma_dc_scaled};
+ghost use Rattle.avc_transform.specs.Residual.{chroma_dc, chroma_dc_product, chroma_dc_scaled};
 
 use crate::scaling::{dc_scale, in_rows, power_of_two, times};
 
@@ -24,7 +26,8 @@ fn hadamard_row(a: i32, b: i32, c: i32, d: i32) -> [i32; 4]
     ]
 }
 
-/// The product of a block with the matrix, with its rows written as columns. Done twice, it multiplies from both sides.
+/// The product of a block with the matrix, with its rows written as columns. Done twice, it
+/// multiplies from both sides.
 fn rows_to_columns(d: &[i32; 16]) -> [i32; 16]
     requires { AllBelow 16 (2 ^ 14) d.now }
     ensures values { HasColumns (λ x y. hadamard_row (λ u. matrix d.now u y) x) result }
@@ -67,8 +70,8 @@ fn luma_dc_scaled(f: i32, qp: u8) -> i32
     }
 }
 
-/// The DC values of the sixteen luma blocks of an Intra 16x16 macroblock, by the blocks' column and row, from its DC levels
-/// and its quantiser of 0 to 51 (8.5.2, 8.5.10).
+/// The DC values of the sixteen luma blocks of an Intra 16x16 macroblock, by the blocks' column and
+/// row, from its DC levels and its quantiser of 0 to 51 (8.5.2, 8.5.10).
 pub fn luma_dc(levels: &[i16; 16], qp: u8) -> [i32; 16]
     requires quantiser { qp ≤ 51 }
     requires levels { AllBelow 16 (2 ^ 12) levels.now }
@@ -102,7 +105,8 @@ fn chroma_dc_scaled(f: i32, qp: u8) -> i32
     thirty_second(times(f, dc_scale(qp) * power_of_two(qp / 6)))
 }
 
-/// The product of the levels, as the rows of a 2x2 matrix, with the matrix of signs from both sides (8.5.11.1).
+/// The product of the levels, as the rows of a 2x2 matrix, with the matrix of signs from both sides
+/// (8.5.11.1).
 fn chroma_dc_product(levels: &[i16; 4]) -> [i32; 4]
     requires { AllBelow 4 (2 ^ 12) levels.now }
     ensures values { (x y : ℕ) → x < 2 → y < 2 → slice_index_or result (2 * y + x) (pos 0) ≡ chroma_dc_product levels.now x y }
@@ -117,8 +121,8 @@ fn chroma_dc_product(levels: &[i16; 4]) -> [i32; 4]
     [whole, across, below, both]
 }
 
-/// The DC values of the four blocks of a chroma component, row by row, from its DC levels and the quantiser of chroma, 0 to
-/// 39 (8.5.4, 8.5.11).
+/// The DC values of the four blocks of a chroma component, row by row, from its DC levels and the
+/// quantiser of chroma, 0 to 39 (8.5.4, 8.5.11).
 pub fn chroma_dc(levels: &[i16; 4], qp: u8) -> [i32; 4]
     requires quantiser { qp ≤ 39 }
     requires levels { AllBelow 4 (2 ^ 12) levels.now }

@@ -1,7 +1,8 @@
 //! Scaling and inverse transforms of the residual, and its sum with the prediction (8.5).
 //!
-//! Levels are transform coefficient levels in zig-zag order; each that can be coded is below 4,096 in size. Blocks of 4x4
-//! are arrays of sixteen, row by row. No call takes memory, and none can fail.
+//! Levels are transform coefficient levels in zig-zag order; each that can be coded is below 4,096
+//! in size. Blocks of 4x4 are arrays of sixteen, row by row. No call takes memory, and none can
+//! fail.
 #![tactic(auto)]
 
 mod block;

@@ -3,8 +3,9 @@
 ghost use Rattle.std.specs.Prelude.{ℕ, ℤ, ◌^◌};
 ghost use Rattle.avc_transform.specs.Lines.{AreBelow, AreLines};
 
-/// Four lines of four numbers: the columns of a 4x4 block, or its rows. d0 to d3 are named as in 8.5.12.2, where they are one number
-/// each; here they are four, which go the same way side by side.
+/// Four lines of four numbers: the columns of a 4x4 block, or its rows. d0 to d3 are named as in
+/// 8.5.12.2, where they are one number each; here they are four, which go the same way side by
+/// side.
 #[derive(Clone, Copy)]
 pub struct Lines {
     pub d0: [i32; 4],

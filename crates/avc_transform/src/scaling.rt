@@ -1,9 +1,11 @@
 //! Scaling by the flat matrix (8.5.9, 8.5.12.1).
 
-ghost use Rattle.std.specs.Prelude.{◌≡◌, ℕ, ◌+◌, ◌*◌, ◌-◌, ◌/◌, ◌%◌, ◌^◌, ◌<◌, ◌≤◌, ◌*ℤ◌, pos, slice_index, slice_index_or};
+ghost use Rattle.std.specs.Prelude.{◌≡◌, ℕ, ◌+◌, ◌*◌, ◌-◌, ◌/◌, ◌%◌, ◌^◌, ◌<◌, ◌≤◌, ◌*ℤ◌, pos};
+ghost use Rattle.std.specs.Prelude.{slice_index, slice_index_or};
 ghost use Rattle.avc_transform.specs.Bounds.{IsBelow, AllBelow, HasRows};
 ghost use Rattle.avc_transform.specs.Lines.{AreBelow, AreLines, IsLine};
-ghost use Rattle.avc_transform.specs.Residual.{scaled_block, scaled_block_with_dc, level, level_scale, zigzag, even_scale};
+ghost use Rattle.avc_transform.specs.Residual.{scaled_block, scaled_block_with_dc, level};
+ghost use Rattle.avc_transform.specs.Residual.{level_scale, zigzag, even_scale};
 
 use crate::lines::Lines;
 
@@ -143,7 +145,8 @@ pub fn scaled_levels(levels: &[i16; 16], qp: u8) -> Lines
     }
 }
 
-/// The columns of a block of fifteen levels, scaled, behind a value for its first place that is not to be scaled again (8.5.12.1).
+/// The columns of a block of fifteen levels, scaled, behind a value for its first place that is not
+/// to be scaled again (8.5.12.1).
 #[inline(always)]
 pub fn scaled_levels_with_dc(dc: i32, levels: &[i16; 15], qp: u8) -> Lines
     requires quantiser { qp ≤ 51 }

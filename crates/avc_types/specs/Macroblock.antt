@@ -8,7 +8,8 @@ use Rattle.avc_types.specs.declared.macroblock.SubMbType.TheVariants.{Sub8x8, Su
 use Rattle.avc_types.specs.declared.macroblock.PMbType.{PMbType}
 use Rattle.avc_types.specs.declared.macroblock.PMbType.TheVariants.{P16x16, P16x8, P8x16, P8x8, P8x8Ref0}
 
--- The coded differences of one macroblock (7.3.5.3). Where a block is not coded its levels are all 0.
+-- The coded differences of one macroblock (7.3.5.3). Where a block is not coded its levels are all
+-- 0.
 pub record Residual : Type 0 where
   -- CodedBlockPatternLuma, 0 to 15, and CodedBlockPatternChroma, 0 to 2
   pub luma_pattern : ℕ
@@ -36,20 +37,22 @@ pub data MbSyntax : Type 0 where
   p_skip : MbSyntax
   -- 256 luma, 64 Cb and 64 Cr samples, row by row
   i_pcm : (luma cb cr : List ℕ) → MbSyntax
-  -- For each of the 16 luma blocks: no number where prev_intra4x4_pred_mode_flag is 1, else rem_intra4x4_pred_mode.
-  -- Then intra_chroma_pred_mode.
+  -- For each of the 16 luma blocks: no number where prev_intra4x4_pred_mode_flag is 1, else
+  -- rem_intra4x4_pred_mode. Then intra_chroma_pred_mode.
   i_nxn : (modes : List (Option ℕ)) → (chroma_mode : ℕ) → Residual → MbSyntax
   -- Intra16x16PredMode and intra_chroma_pred_mode
   i_16x16 : (mode chroma_mode : ℕ) → Residual → MbSyntax
   -- ref_idx_l0 for each partition, and mvd_l0 for each sub-macroblock partition, in decoding order
   p_inter : PMbType → (ref_idx : List ℕ) → (mvd : List Mvd) → Residual → MbSyntax
 
--- A macroblock with its luma quantiser QP_Y (of I_PCM and of a skipped one: that which it passes on, 7.4.5).
+-- A macroblock with its luma quantiser QP_Y (of I_PCM and of a skipped one: that which it passes
+-- on, 7.4.5).
 pub record Mb : Type 0 where
   pub syntax : MbSyntax
   pub qp : ℕ
 
--- a part of a macroblock at (x, y), of this size, in the macroblock partition with this number (6.4.2)
+-- a part of a macroblock at (x, y), of this size, in the macroblock partition with this number
+-- (6.4.2)
 abbrev pub part : ℕ → ℕ → ℕ → ℕ → ℕ → Part
 part x y width height partition =
     record { x = x; y = y; width = width; height = height; partition = partition }
@@ -75,7 +78,8 @@ abbrev pub parts_of_quarters : List SubMbType → ℕ → List Part
 parts_of_quarters [] q = []
 parts_of_quarters (s ∷ subs) q = parts_of_quarter s (quarter_x q) (quarter_y q) q ++ parts_of_quarters subs (q + 1)
 
--- The parts of a macroblock in decoding order: one for each element of `mvd` (6.4.2, Tables 7-13 and 7-17).
+-- The parts of a macroblock in decoding order: one for each element of `mvd` (6.4.2, Tables 7-13
+-- and 7-17).
 abbrev pub parts_of : PMbType → List Part
 parts_of P16x16 = part 0 0 16 16 0 ∷ []
 parts_of P16x8 = part 0 0 16 8 0 ∷ part 0 8 16 8 1 ∷ []

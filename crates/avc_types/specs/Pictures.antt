@@ -34,7 +34,8 @@ pub record PicMb : Type 0 where
   pub slice : ℕ
   pub mb : Mb
 
--- A picture's macroblocks so far, in decoding order: the macroblock at place a has the address a (6.3, 6.4.1).
+-- A picture's macroblocks so far, in decoding order: the macroblock at place a has the address a
+-- (6.3, 6.4.1).
 pub record Coded : Type 0 where
   -- in macroblocks
   pub width : ℕ

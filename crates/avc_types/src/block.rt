@@ -1,12 +1,14 @@
 //! The samples of a block.
 
-ghost use Rattle.std.specs.Prelude.{◌≡◌, ◌+◌, ◌*◌, ◌<◌, ◌≤◌, List, ℕ, length, take, replicate, slice_index, slice_set};
+ghost use Rattle.std.specs.Prelude.{◌≡◌, ◌+◌, ◌*◌, ◌<◌, ◌≤◌, List, ℕ, length, take, replicate};
+ghost use Rattle.std.specs.Prelude.{slice_index, slice_set};
 ghost use Rattle.avc_types.specs.Blocks.{block_of};
 
 use crate::rows::copy_rows;
 use std::marker::Model;
 
-/// The samples of a block of W columns and H rows, each 1 to 16. A contract sees it as their list, row by row.
+/// The samples of a block of W columns and H rows, each 1 to 16. A contract sees it as their list,
+/// row by row.
 #[derive(Drop)]
 pub struct Block<const W: usize, const H: usize> {
     samples: [u8; 256],
@@ -32,7 +34,8 @@ impl<const W: usize, const H: usize> Block<W, H> {
         }
     }
 
-    /// Gives the block other samples: row y becomes the W samples at the place `first` + y * `stride`.
+    /// Gives the block other samples: row y becomes the W samples at the place `first` + y *
+    /// `stride`.
     #[tactic(auto, using(crate::proofs::Frames::block_rules))]
     #[inline(always)]
     pub fn set_rows(&mut self, samples: &[u8], first: usize, stride: usize)

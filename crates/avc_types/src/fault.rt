@@ -59,7 +59,8 @@ pub enum Fault {
     /// A slice begins before the macroblock that is expected (7.4.3).
     ArbitrarySliceOrder = 21,
 
-    /// A slice begins behind the macroblock that is expected, or a picture is closed before it is full (7.4.3).
+    /// A slice begins behind the macroblock that is expected, or a picture is closed before it is
+    /// full (7.4.3).
     MissingMacroblocks = 22,
 
     /// The picture parameter set, or its sequence parameter set, is not in force (7.4.1.2.1).
@@ -74,7 +75,8 @@ pub enum Fault {
     /// A reference picture repeats the frame_num of the one before (7.4.3).
     FrameNumRepeated = 33,
 
-    /// An IDR slice with nal_ref_idc 0, of type P, or with a frame_num other than 0 (7.4.1.2.4, 7.4.3).
+    /// An IDR slice with nal_ref_idc 0, of type P, or with a frame_num other than 0 (7.4.1.2.4,
+    /// 7.4.3).
     BadIdr = 34,
 
     /// An order count outside 32 signed bits (8.2.1).

@@ -6,8 +6,9 @@ ghost use Rattle.std.specs.Borrow.{ftrue};
 use std::marker::{Model, PhantomData};
 use std::mem::size_of;
 
-/// What has come so far, as only proofs read it: a clause writes `items`. It takes no memory, and its methods do nothing at
-/// run time. A layer that forgets what it was given keeps one, so that its contract can speak of all that it was given.
+/// What has come so far, as only proofs read it: a clause writes `items`. It takes no memory, and
+/// its methods do nothing at run time. A layer that forgets what it was given keeps one, so that
+/// its contract can speak of all that it was given.
 #[derive(Drop)]
 pub struct History<T> {
     of: PhantomData<T>,

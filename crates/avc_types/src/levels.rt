@@ -6,7 +6,8 @@ ghost use Rattle.std.proofs.Common.{ap, sym};
 
 use std::marker::Model;
 
-/// The MAXN transform coefficient levels of a block from the lowest frequency on, seen as their list.
+/// The MAXN transform coefficient levels of a block from the lowest frequency on, seen as their
+/// list.
 #[derive(Clone, Copy, Debug)]
 pub struct Levels<const MAXN: usize> {
     levels: [i16; MAXN],
@@ -59,7 +60,8 @@ impl<const MAXN: usize> Levels<MAXN> {
         Levels { levels, count }
     }
 
-    /// All of them become 0, as those of a block that is not coded. Where none is another number nothing is written.
+    /// All of them become 0, as those of a block that is not coded. Where none is another number
+    /// nothing is written.
     #[tactic(auto, using(crate::proofs::Frames::none_counted))]
     #[inline(always)]
     pub fn clear(&mut self)

@@ -1,6 +1,7 @@
 //! Types of P macroblocks, and what is coded of their motion (Table 7-13, Table 7-17).
 
-/// sub_mb_type of a P macroblock (Table 7-17): how one of its 8x8 quarters is cut into parts with a vector each.
+/// sub_mb_type of a P macroblock (Table 7-17): how one of its 8x8 quarters is cut into parts with a
+/// vector each.
 #[derive(Clone, Copy, Debug, PartialEq, Eq)]
 pub enum SubMbType {
     /// P_L0_8x8: one part.
@@ -16,7 +17,8 @@ pub enum SubMbType {
     Sub4x4,
 }
 
-/// mb_type 0 to 4 of a P macroblock (Table 7-13): how it is cut into partitions with a reference index each.
+/// mb_type 0 to 4 of a P macroblock (Table 7-13): how it is cut into partitions with a reference
+/// index each.
 #[derive(Clone, Copy, Debug, PartialEq, Eq)]
 pub enum PMbType {
     /// P_L0_16x16.
@@ -31,7 +33,8 @@ pub enum PMbType {
     /// P_8x8, with the sub_mb_type of each quarter.
     P8x8([SubMbType; 4]),
 
-    /// P_8x8ref0, with the sub_mb_type of each quarter: every reference index is 0 and none is coded.
+    /// P_8x8ref0, with the sub_mb_type of each quarter: every reference index is 0 and none is
+    /// coded.
     P8x8Ref0([SubMbType; 4]),
 }
 

@@ -3,13 +3,14 @@
 ghost use Rattle.std.specs.Prelude.{◌≡◌, IfSome};
 ghost use Rattle.std.specs.Option.{option_map};
 ghost use Rattle.avc_types.specs.References.{IsPlaceIn, IsShortTermIn, MarksAreSeen, NamesFrames};
-ghost use Rattle.avc_types.specs.References.{has_long_term_frame_idx, has_pic_num, is_marked, long_term_frame, short_term_frame};
+ghost use Rattle.avc_types.specs.References.{has_long_term_frame_idx, has_pic_num, is_marked};
+ghost use Rattle.avc_types.specs.References.{long_term_frame, short_term_frame};
 
 use crate::current_frame_num::CurrentFrameNum;
 use crate::references::Mark;
 
-/// What reference lists and marking know of a frame in the decoded picture buffer: of a decoded picture, or of one that stands
-/// for a missing frame number.
+/// What reference lists and marking know of a frame in the decoded picture buffer: of a decoded
+/// picture, or of one that stands for a missing frame number.
 #[derive(Clone, Copy, Debug, Default, PartialEq, Eq)]
 pub struct MarkedFrame {
     /// FrameNum.
@@ -36,8 +37,8 @@ pub fn has_long_term_frame_idx(frame: MarkedFrame, index: u32) -> bool
     matches!(frame.mark, Some(Mark::Long(kept)) if kept == index)
 }
 
-/// The place of the short-term frame that a PicNum names (8.2.4.1); of two that have it that of the one that was
-/// decoded last.
+/// The place of the short-term frame that a PicNum names (8.2.4.1); of two that have it that of the
+/// one that was decoded last.
 pub fn short_term_place(
     frames: &[MarkedFrame],
     current: CurrentFrameNum,
@@ -68,7 +69,8 @@ pub fn long_term_place(frames: &[MarkedFrame], index: u32) -> Option<usize>
     None
 }
 
-/// The frame at a place is among the reference frames exactly where it has a mark. It does nothing at run time.
+/// The frame at a place is among the reference frames exactly where it has a mark. It does nothing
+/// at run time.
 pub fn marks_are_seen()
     ensures { MarksAreSeen }
 {}

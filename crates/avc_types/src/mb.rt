@@ -4,8 +4,9 @@ use crate::levels::Levels;
 use crate::macroblock::{Mvd, PMbType};
 use std::marker::Model;
 
-/// The coded differences of one macroblock (7.3.5.3). Where a block is not coded its levels are all 0. MAXN is how many
-/// levels a luma block has: 16, and 15 in an Intra 16x16 macroblock, whose DC levels stand apart.
+/// The coded differences of one macroblock (7.3.5.3). Where a block is not coded its levels are all
+/// 0. MAXN is how many levels a luma block has: 16, and 15 in an Intra 16x16 macroblock, whose DC
+/// levels stand apart.
 #[derive(Clone, Copy, Debug)]
 pub struct BlockLevels<const MAXN: usize> {
     /// CodedBlockPatternLuma, 0 to 15: a bit for each 8x8 quarter.
@@ -83,7 +84,8 @@ pub enum Syntax {
     },
 }
 
-/// One macroblock of the syntax with its luma quantiser. A contract sees it as the standard's syntax elements.
+/// One macroblock of the syntax with its luma quantiser. A contract sees it as the standard's
+/// syntax elements.
 #[derive(Drop)]
 pub struct Mb {
     pub syntax: Syntax,

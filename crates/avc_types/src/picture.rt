@@ -11,7 +11,8 @@ pub struct Crop {
     pub bottom: u32,
 }
 
-/// A decoded picture at 4:2:0 with samples of eight bits. All coded samples are there; `crop` says which are shown.
+/// A decoded picture at 4:2:0 with samples of eight bits. All coded samples are there; `crop` says
+/// which are shown.
 #[derive(Debug, Drop)]
 pub struct Picture {
     /// Of the coded picture, in luma samples. A chroma plane is half as wide and half as high.

@@ -1,7 +1,8 @@
 //! Why a picture is not decoded.
 
 ghost use Rattle.std.specs.Prelude.{◌≡◌};
-ghost use Rattle.avc_types.specs.declared.picture_error.PictureError.TheVariants.{Fault as Faulty, OutOfMemory as NoMemory};
+ghost use Rattle.avc_types.specs.declared.picture_error.PictureError.TheVariants.{Fault as Faulty};
+ghost use Rattle.avc_types.specs.declared.picture_error.PictureError.TheVariants.{OutOfMemory as NoMemory};
 
 use crate::{Fault, OutOfMemory};
 

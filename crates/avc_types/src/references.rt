@@ -2,7 +2,8 @@
 
 use crate::up_to::UpTo;
 
-/// One entry of ref_pic_list_modification (7.3.3.1): modification_of_pic_nums_idc 0, 1 or 2 with its number.
+/// One entry of ref_pic_list_modification (7.3.3.1): modification_of_pic_nums_idc 0, 1 or 2 with
+/// its number.
 #[derive(Clone, Copy, Debug, PartialEq, Eq)]
 pub enum Modification {
     /// 0, with abs_diff_pic_num_minus1.
@@ -31,7 +32,8 @@ pub enum Operation {
     /// 2: a long-term frame becomes unused, by long_term_pic_num.
     UnmarkLongTerm(u32),
 
-    /// 3: a short-term frame becomes long-term, by difference_of_pic_nums_minus1 and long_term_frame_idx.
+    /// 3: a short-term frame becomes long-term, by difference_of_pic_nums_minus1 and
+    /// long_term_frame_idx.
     AssignLongTerm(u32, u32),
 
     /// 4: max_long_term_frame_idx_plus1.

@@ -33,8 +33,8 @@ fn copy_row(samples: &[u8], from: usize, rows: &mut [u8], to: usize, count: usiz
     }
 }
 
-/// Copies a rectangle of samples out of rows that lie `stride` apart: `height` rows of `width` samples, from place `first` on, one
-/// after another. What follows them in `rows` may change too.
+/// Copies a rectangle of samples out of rows that lie `stride` apart: `height` rows of `width`
+/// samples, from place `first` on, one after another. What follows them in `rows` may change too.
 #[inline(always)]
 pub fn copy_rows(
     samples: &[u8],

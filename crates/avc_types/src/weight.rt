@@ -1,6 +1,7 @@
 //! Weights of prediction samples (8.4.2.3.2).
 
-/// By what the prediction samples of one component are weighted (8.4.2.3.2): w0 over two to the power of logWD, and an offset.
+/// By what the prediction samples of one component are weighted (8.4.2.3.2): w0 over two to the
+/// power of logWD, and an offset.
 #[derive(Clone, Copy, Debug, PartialEq, Eq)]
 pub struct Weight {
     /// logWD, 0 to 7.

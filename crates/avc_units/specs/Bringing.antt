@@ -27,8 +27,8 @@ abbrev pub slice_brought : Result Header Fault → Brought
 slice_brought (Ok h) = Slice h
 slice_brought (Err f) = Refused f
 
--- By its kind and its RBSP, which a unit that is too long has not. That one is refused, and so are data partitions (this decoder's
--- rule).
+-- By its kind and its RBSP, which a unit that is too long has not. That one is refused, and so are
+-- data partitions (this decoder's rule).
 abbrev pub brought_by : Sets → (header : ℕ) → Kind → Option (List ℕ) → Brought
 brought_by sets header partition rbsp = Refused faults.DataPartition
 brought_by sets header boundary rbsp = Nothing
@@ -38,7 +38,8 @@ brought_by sets header pps (Some rbsp) = Set (parameter_set (OfPps rbsp))
 brought_by sets header (slice idr) (Some rbsp) = slice_brought (header_in_rbsp header sets rbsp)
 brought_by sets header _ None = Refused faults.NalTooLong
 
--- What a unit brings under the parameter sets in force before it. One whose forbidden_zero_bit is 1 is refused (this decoder's rule).
+-- What a unit brings under the parameter sets in force before it. One whose forbidden_zero_bit is 1
+-- is refused (this decoder's rule).
 abbrev pub brought : Sets → Unit → Brought
 brought sets u =
     elim (forbidden_zero_bit u.header) [ true ↦ Refused faults.ForbiddenBit | false ↦ brought_by sets u.header (kind u) (rbsp_of u) ]

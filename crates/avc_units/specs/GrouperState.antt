@@ -11,8 +11,9 @@ use Rattle.avc_units.specs.declared.step.Next.{Next}
 use Rattle.avc_units.specs.declared.step.Next.TheVariants.{Begins, Continues}
 use Rattle.avc_units.specs.declared.step.Step.{Step}
 
--- The parameter sets that came, whether decoding runs, the header of the open picture's last slice, whether the unit before
--- begins a picture also where closing was a fault, and whether memory was refused.
+-- The parameter sets that came, whether decoding runs, the header of the open picture's last slice,
+-- whether the unit before begins a picture also where closing was a fault, and whether memory was
+-- refused.
 pub record GrouperState : Type 0 where
   pub sets : List SetUnit
   pub running : Bool
@@ -51,8 +52,8 @@ after_step g u s = record {
   failed = false;
 }
 
--- After a fault decoding waits; but where the fault was found at closing, and the unit begins a picture all the same, that one
--- is open.
+-- After a fault decoding waits; but where the fault was found at closing, and the unit begins a
+-- picture all the same, that one is open.
 abbrev pub after_fault : (closing : Bool) → GrouperState → GrouperState
 after_fault closing g =
     elim (g.restarts && closing) [ true ↦ g | false ↦ record g { running = false; last = None; restarts = false } ]

@@ -66,7 +66,8 @@ is_read pps = true
 is_read boundary = false
 is_read other = false
 
--- Only of such a unit memory may be wanted: a slice or a parameter set that is not too long (this decoder's rule).
+-- Only of such a unit memory may be wanted: a slice or a parameter set that is not too long (this
+-- decoder's rule).
 pub record MayWantMemory (u : Unit) : Type 0 where
   pub allowed : forbidden_zero_bit u.header ≡ false
   pub not_too_long : is_some u.body ≡ true
@@ -126,7 +127,8 @@ abbrev pub reads_zero : Result (ℕ × Bits) Fault → Bool
 reads_zero (Ok r) = r.0 == 0
 reads_zero (Err f) = false
 
--- A unit of type 5 whose first_mb_in_slice reads as 0: with it decoding can start (this decoder's rule).
+-- A unit of type 5 whose first_mb_in_slice reads as 0: with it decoding can start (this decoder's
+-- rule).
 abbrev pub is_start : Unit → Bool
 is_start u =
     not (forbidden_zero_bit u.header)
@@ -153,8 +155,8 @@ pub record OpenPictureFacts : Type 0 where
   pub last : Header
   pub full : Bool
 
--- a slice or partition with an unreadable header (this decoder's rule): a fault of the open picture where
--- that is not full, else one of its own
+-- a slice or partition with an unreadable header (this decoder's rule): a fault of the open picture
+-- where that is not full, else one of its own
 abbrev pub unreadable : Option OpenPictureFacts → Fault → Step
 unreadable None f = record { closes = false; next = FaultOfOwn f; even_after_fault = false }
 unreadable (Some o) f =
@@ -163,8 +165,8 @@ unreadable (Some o) f =
       | false ↦ record { closes = false; next = FaultOfOpen f; even_after_fault = false }
     ]
 
--- A slice that can be read begins a picture or continues the open one (7.4.1.2.4); `starts` says that
--- decoding can start with it.
+-- A slice that can be read begins a picture or continues the open one (7.4.1.2.4); `starts` says
+-- that decoding can start with it.
 abbrev pub readable : Option OpenPictureFacts → (starts : Bool) → Slice → Step
 readable None starts s = record { closes = false; next = Begins s; even_after_fault = false }
 readable (Some o) starts s =
@@ -178,7 +180,8 @@ abbrev pub slice_step : Option OpenPictureFacts → (starts : Bool) → Result S
 slice_step open_picture starts (Ok s) = readable open_picture starts s
 slice_step open_picture starts (Err f) = unreadable open_picture f
 
--- By its kind, where decoding runs or starts with the unit (7.4.1.2.3; this decoder's rule for faults).
+-- By its kind, where decoding runs or starts with the unit (7.4.1.2.3; this decoder's rule for
+-- faults).
 abbrev pub running_step : Sets → Option OpenPictureFacts → Unit → Kind → Step
 running_step sets open_picture u (slice idr) = slice_step open_picture (is_start u) (slice_in sets u)
 running_step sets open_picture u partition = unreadable open_picture faults.DataPartition
@@ -197,8 +200,8 @@ waiting_step sets u sps = running_step sets None u sps
 waiting_step sets u pps = running_step sets None u pps
 
 -- What a unit does under the parameter sets in force before it, while decoding runs (with the open
--- picture, if there is one) or waits for a picture to start with. One whose forbidden_zero_bit is 1 is
--- refused (this decoder's rule).
+-- picture, if there is one) or waits for a picture to start with. One whose forbidden_zero_bit is 1
+-- is refused (this decoder's rule).
 abbrev pub step : Sets → (running : Bool) → Option OpenPictureFacts → Unit → Step
 step sets running open_picture u =
     elim (forbidden_zero_bit u.header) [

@@ -8,7 +8,8 @@ use Rattle.avc_units.specs.Grouping.{ends_picture, step, tables}
 use Rattle.avc_units.specs.Resuming.{sets_in_force}
 use Rattle.avc_units.specs.declared.step.Next.TheVariants.{Nothing}
 
--- The parameter sets in force after some units are in force after those units alone that brought them (7.4.1.2.1).
+-- The parameter sets in force after some units are in force after those units alone that brought
+-- them (7.4.1.2.1).
 abbrev pub SetsAreInForceAgain : Type 0
 SetsAreInForceAgain = (before : List Unit) → tables (sets_in_force before) ≡ tables before
 

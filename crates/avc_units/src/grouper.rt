@@ -2,7 +2,8 @@
 
 ghost use Rattle.std.specs.Prelude.{◌≡◌, false, true, IfOk, OnErr, OnOk};
 ghost use Rattle.avc_params.specs.Tables.{sets_after};
-ghost use Rattle.avc_units.specs.GrouperState.{after_fault, begins_a_picture, after_step, last_header_after};
+ghost use Rattle.avc_units.specs.GrouperState.{after_fault, begins_a_picture, after_step};
+ghost use Rattle.avc_units.specs.GrouperState.{last_header_after};
 ghost use Rattle.avc_units.specs.GrouperState.{open_picture_of, new_grouper, IfSlice, IsSliceUnder};
 ghost use Rattle.avc_units.specs.Grouping.{step, MayWantMemory};
 
@@ -78,8 +79,9 @@ impl Grouper {
         }
     }
 
-    /// What the next unit does, where `full` says whether the open picture, if there is one, is full. The answer is carried
-    /// out, or `fault` is called. After want of memory it answers so from then on.
+    /// What the next unit does, where `full` says whether the open picture, if there is one, is
+    /// full. The answer is carried out, or `fault` is called. After want of memory it answers so
+    /// from then on.
     pub fn unit(&mut self, unit: &Unit, full: bool) -> Result<Step, OutOfMemory>
         ensures step { IfOk result (λ s. s ≡ step (sets_after self.old.sets) self.old.running (open_picture_of full self.old.last) unit.now) }
         ensures state { IfOk result (λ s. self.new ≡ after_step self.old unit.now s) }
@@ -103,7 +105,8 @@ impl Grouper {
         Ok(step)
     }
 
-    /// A picture had a fault. `closing` says that it was found at the closing that the last step asked for.
+    /// A picture had a fault. `closing` says that it was found at the closing that the last step
+    /// asked for.
     pub fn fault(&mut self, closing: bool)
         ensures { self.new ≡ after_fault closing self.old }
     {
@@ -115,7 +118,8 @@ impl Grouper {
         self.restarts = false;
     }
 
-    /// A slice that a step handed out is over: the next one is read in its place, so that for most slices no memory is taken.
+    /// A slice that a step handed out is over: the next one is read in its place, so that for most
+    /// slices no memory is taken.
     pub fn take_back(&mut self, slice: HeapSlice)
         ensures { self.new ≡ self.old }
     {

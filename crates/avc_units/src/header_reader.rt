@@ -32,7 +32,8 @@ pub enum Brought {
     Refused(Fault),
 }
 
-/// Reads the parameter sets and the slice headers of a stream, unit by unit. A contract sees all sets that came, in order.
+/// Reads the parameter sets and the slice headers of a stream, unit by unit. A contract sees all
+/// sets that came, in order.
 #[derive(Drop)]
 pub struct HeaderReader {
     alloc: Global,
@@ -59,8 +60,9 @@ impl HeaderReader {
         }
     }
 
-    /// Takes the next unit, and answers what it brings; a slice header is read under the sets of the units before. Only of a slice or
-    /// a parameter set that is not too long memory may be wanted, and nothing changes then.
+    /// Takes the next unit, and answers what it brings; a slice header is read under the sets of
+    /// the units before. Only of a slice or a parameter set that is not too long memory may be
+    /// wanted, and nothing changes then.
     pub fn read(&mut self, unit: &Unit) -> Result<Brought, OutOfMemory>
         ensures brought { IfOk result (λ b. b ≡ brought (sets_after self.old) unit.now) }
         ensures sets { OnOk result (self.new ≡ self.old ++ set_units (unit.now ∷ [])) }

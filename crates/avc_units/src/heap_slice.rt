@@ -29,7 +29,8 @@ impl Model for HeapSlice {
 }
 
 impl HeapSlice {
-    /// A slice of this unit and RBSP, in the place of one that is over, where there is such a one. Its header is any.
+    /// A slice of this unit and RBSP, in the place of one that is over, where there is such a one.
+    /// Its header is any.
     pub(crate) fn new(
         alloc: Global,
         place: Option<HeapSlice>,

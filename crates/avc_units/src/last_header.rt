@@ -7,8 +7,8 @@ use avc_slice::{Header, PictureFields, begins_picture};
 use avc_types::History;
 use std::marker::Model;
 
-/// The header of the open picture's last slice, of which only that is kept which the next one is compared with. A contract
-/// sees the whole header.
+/// The header of the open picture's last slice, of which only that is kept which the next one is
+/// compared with. A contract sees the whole header.
 #[derive(Drop)]
 pub struct LastHeader {
     fields: PictureFields,

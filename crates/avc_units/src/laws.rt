@@ -1,10 +1,12 @@
 //! Laws of parameter sets that are sent again, over the definitions alone.
 
-ghost use Rattle.avc_units.specs.Laws.{SetsAreInForceAgain, SetsComeAlike, SetsInForceAreFew, SetsInForceAreUnits};
+ghost use Rattle.avc_units.specs.Laws.{SetsAreInForceAgain, SetsComeAlike, SetsInForceAreFew};
+ghost use Rattle.avc_units.specs.Laws.{SetsInForceAreUnits};
 
 use avc_params::laws::{pps_in_force_keeps_limits, sps_in_force_keeps_limits};
 
-/// The units that brought the parameter sets in force bring them into force again, without the other units.
+/// The units that brought the parameter sets in force bring them into force again, without the
+/// other units.
 pub fn sets_are_in_force_again()
     ensures { SetsAreInForceAgain }
 {
@@ -12,7 +14,8 @@ pub fn sets_are_in_force_again()
     pps_in_force_keeps_limits();
 }
 
-/// They are units of the stream, none is too long, and each is taken without a fault where decoding waits.
+/// They are units of the stream, none is too long, and each is taken without a fault where decoding
+/// waits.
 pub fn sets_in_force_are_units()
     ensures { SetsInForceAreUnits }
 {}

@@ -22,7 +22,8 @@ pub enum ParameterSet {
     OfPicture(Result<Pps, SetFault>),
 }
 
-/// The parameter set that a unit brings, if it does: a unit that is too long, or whose forbidden_zero_bit is 1, brings none.
+/// The parameter set that a unit brings, if it does: a unit that is too long, or whose
+/// forbidden_zero_bit is 1, brings none.
 pub fn read_set(alloc: Global, unit: &Unit) -> Result<Option<ParameterSet>, OutOfMemory>
     ensures set { IfOk result (λ set. set ≡ option_map parameter_set (set_unit unit.now)) }
 {

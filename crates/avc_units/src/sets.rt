@@ -2,7 +2,8 @@
 
 ghost use Rattle.std.specs.Prelude.{◌≡◌, ◌++◌, true, is_some, IfOk, OnErr, OnOk};
 ghost use Rattle.std.specs.Option.{option_map};
-ghost use Rattle.avc_units.specs.Grouping.{ends_picture, list_of, pps, rbsp_of, refusal_of, set_fault, set_of, sps};
+ghost use Rattle.avc_units.specs.Grouping.{ends_picture, list_of, pps, rbsp_of, refusal_of};
+ghost use Rattle.avc_units.specs.Grouping.{set_fault, set_of, sps};
 
 use crate::heap_slice::HeapSlice;
 use crate::step::{Next, Step};

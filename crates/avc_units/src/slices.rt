@@ -31,14 +31,16 @@ pub(crate) fn is_first(rbsp: &[u8]) -> bool
     }
 }
 
-/// Whether decoding can start with a slice of this RBSP, where `idr` says that its unit's type is 5.
+/// Whether decoding can start with a slice of this RBSP, where `idr` says that its unit's type is
+/// 5.
 fn can_start(rbsp: &[u8], idr: bool) -> bool
     ensures { result ≡ (idr && reads_zero (ue (start rbsp.now))) }
 {
     idr && is_first(rbsp)
 }
 
-/// The slice with this RBSP, or the fault in its header. It is read in the place of one that is over, where there is such a one.
+/// The slice with this RBSP, or the fault in its header. It is read in the place of one that is
+/// over, where there is such a one.
 fn read_slice(
     alloc: Global,
     table: &ParamTable,
@@ -59,7 +61,8 @@ fn read_slice(
     }
 }
 
-/// A slice's unit; `idr` says that its type is 5. The slice is put in the place of one that is over, where there is such a one.
+/// A slice's unit; `idr` says that its type is 5. The slice is put in the place of one that is
+/// over, where there is such a one.
 pub(crate) fn slice_unit(
     alloc: Global,
     table: &ParamTable,

@@ -9,7 +9,8 @@ use avc_annexb::Unit;
 use avc_types::OutOfMemory;
 use std::alloc::Global;
 
-/// Whether decoding can start with a unit: forbidden_zero_bit is 0, nal_unit_type 5, and first_mb_in_slice reads as 0.
+/// Whether decoding can start with a unit: forbidden_zero_bit is 0, nal_unit_type 5, and
+/// first_mb_in_slice reads as 0.
 pub fn is_start(alloc: Global, unit: &Unit) -> Result<bool, OutOfMemory>
     ensures { IfOk result (λ starts. starts ≡ is_start unit.now) }
 {

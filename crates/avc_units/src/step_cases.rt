@@ -1,7 +1,8 @@
 //! What a unit does, by what it finds.
 
 ghost use Rattle.std.specs.Prelude.{◌≡◌};
-ghost use Rattle.avc_units.specs.Grouping.{ends_picture, no_effect, readable, slice_step, unreadable};
+ghost use Rattle.avc_units.specs.Grouping.{ends_picture, no_effect, readable, slice_step};
+ghost use Rattle.avc_units.specs.Grouping.{unreadable};
 ghost use Rattle.avc_units.specs.Kinds.{slice_or_start, open_picture_in};
 
 use crate::heap_slice::HeapSlice;
@@ -9,8 +10,8 @@ use crate::last_header::LastHeader;
 use crate::step::{Next, Step};
 use avc_types::Fault;
 
-/// What a unit finds: whether decoding runs, and the open picture, if there is one, with the header of its last slice and
-/// whether it is full.
+/// What a unit finds: whether decoding runs, and the open picture, if there is one, with the header
+/// of its last slice and whether it is full.
 #[derive(Clone, Copy)]
 pub struct UnitContext<'a> {
     pub running: bool,

@@ -4,7 +4,8 @@ ghost use Rattle.std.specs.Prelude.{◌≡◌, ◌++◌, ◌∷◌, [], true, fa
 ghost use Rattle.avc_annexb.specs.Units.{forbidden_zero_bit};
 ghost use Rattle.avc_params.specs.Tables.{sets_after};
 ghost use Rattle.avc_units.specs.GrouperState.{IfSlice, IsSliceUnder};
-ghost use Rattle.avc_units.specs.Grouping.{is_read, kind, list_of, rbsp_of, set_of, set_units, step, MayWantMemory};
+ghost use Rattle.avc_units.specs.Grouping.{is_read, kind, list_of, rbsp_of, set_of, set_units};
+ghost use Rattle.avc_units.specs.Grouping.{step, MayWantMemory};
 ghost use Rattle.avc_units.specs.Kinds.{meant, open_picture_in, step_by};
 
 use crate::heap_slice::HeapSlice;
@@ -46,8 +47,9 @@ fn step_by(
     }
 }
 
-/// What a unit does where it finds this, and what it puts into the table of the parameter sets before it. A slice is put in the place
-/// of one that is over, where there is such a one. Only of a slice or a parameter set that is not too long memory may be wanted.
+/// What a unit does where it finds this, and what it puts into the table of the parameter sets
+/// before it. A slice is put in the place of one that is over, where there is such a one. Only of a
+/// slice or a parameter set that is not too long memory may be wanted.
 pub fn step_of(
     alloc: Global,
     table: &mut ParamTable,

@@ -7,7 +7,8 @@ use Rattle.avc_plane.specs.Shown.{columns_of, rows_of, samples_of, scaled}
 use Rattle.avc_plane.specs.declared.component.Component.{Component}
 use Rattle.avc_yuv.specs.declared.shown.Window.{Window}
 
--- the rectangle of a component's samples that is shown: of a chroma component everything is half as large (6.2, 7.4.2.1.1)
+-- the rectangle of a component's samples that is shown: of a chroma component everything is half as
+-- large (6.2, 7.4.2.1.1)
 abbrev pub window_of : Picture → Component → Window
 window_of p c = record {
   left = scaled c (p.crop).left;
@@ -36,7 +37,8 @@ abbrev pub shown_of : Picture → Component → List ℕ
 shown_of p c =
     window (columns_of p c) (samples_of p c) (window_of p c).left (window_of p c).top (window_of p c).width (window_of p c).height
 
--- Memory with rows laid into it from its front, each `stride` bytes behind the one before. All other bytes stay.
+-- Memory with rows laid into it from its front, each `stride` bytes behind the one before. All
+-- other bytes stay.
 abbrev pub laid : (stride : ℕ) → (rows : List (List ℕ)) → (memory : List ℕ) → List ℕ
 laid stride [] memory = memory
 laid stride (row ∷ rows) memory = take stride (row ++ drop (length row) memory) ++ laid stride rows (drop stride memory)

@@ -7,8 +7,9 @@ ghost use Rattle.avc_yuv.specs.Writing.{done_after, Writes};
 use crate::write::WriteFault;
 use std::io::Write;
 
-/// Writes all bytes, where `before` bytes went out already, and answers how many are out then. It stops at the first `write` that
-/// answers an error, also one that tells of an interruption, or that takes no byte.
+/// Writes all bytes, where `before` bytes went out already, and answers how many are out then. It
+/// stops at the first `write` that answers an error, also one that tells of an interruption, or
+/// that takes no byte.
 pub fn write_bytes<W: Write>(bytes: &[u8], before: u64, writer: &mut W) -> Result<u64, WriteFault>
     requires room { before + length bytes.now < 2 ^ 64 }
     ensures { Writes before bytes.now (W.contents writer.old) (W.contents writer.new) result }
@@ -21,7 +22,8 @@ pub fn write_bytes<W: Write>(bytes: &[u8], before: u64, writer: &mut W) -> Resul
     Ok(before + done as u64)
 }
 
-// How many bytes are done after a `write` that took so many more. To take none is a fault, and to take a few is not.
+// How many bytes are done after a `write` that took so many more. To take none is a fault, and to
+// take a few is not.
 fn done_after(before: u64, done: usize, taken: usize) -> Result<usize, WriteFault>
     requires room { before + done + taken < 2 ^ 64 }
     ensures { result ≡ done_after before done taken }

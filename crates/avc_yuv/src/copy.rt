@@ -3,7 +3,8 @@
 ghost use Rattle.std.specs.Prelude.{◌≡◌, ◌+◌, ◌-◌, ◌*◌, ◌<◌, ◌≤◌, ◌^◌, ◌++◌, length, drop};
 ghost use Rattle.avc_types.specs.Whole.{IsWhole};
 ghost use Rattle.avc_yuv.specs.I420.{i420};
-ghost use Rattle.avc_yuv.specs.Copying.{laid, laid_at, plane_room, shown_of, shown_rows, window_of, IsInside};
+ghost use Rattle.avc_yuv.specs.Copying.{laid, laid_at, plane_room, shown_of, shown_rows, window_of};
+ghost use Rattle.avc_yuv.specs.Copying.{IsInside};
 
 use crate::shown::{Window, shown_row, window_of};
 use avc_plane::{Component, PictureRows};
@@ -28,7 +29,8 @@ fn area(of: Window) -> u128
     of.height as u128 * of.width as u128
 }
 
-/// Copies what is shown of a picture to the front of `out`, as I420: luma, Cb and Cr, each row by row. What stands behind stays.
+/// Copies what is shown of a picture to the front of `out`, as I420: luma, Cb and Cr, each row by
+/// row. What stands behind stays.
 pub fn copy_i420<P: PictureRows>(picture: &P, out: &mut [u8])
     requires whole { IsWhole (P.picture picture.now) }
     requires room { length (i420 (P.picture picture.now)) ≤ length out.old }
@@ -78,7 +80,8 @@ pub fn plane_len<P: PictureRows>(picture: &P, component: Component, stride: usiz
     of.height.saturating_sub(1) as u128 * stride as u128 + of.width as u128
 }
 
-/// Copies what is shown of one component, a row every `stride` bytes. What stands between the rows and behind them stays.
+/// Copies what is shown of one component, a row every `stride` bytes. What stands between the rows
+/// and behind them stays.
 pub fn copy_plane<P: PictureRows>(picture: &P, component: Component, out: &mut [u8], stride: usize)
     requires whole { IsWhole (P.picture picture.now) }
     requires stride { (window_of (P.picture picture.now) component).width ≤ stride }

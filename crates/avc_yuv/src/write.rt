@@ -22,10 +22,11 @@ pub struct WriteFault {
 /// How many bytes of rows are gathered before they are written.
 pub const ROOM: usize = 131_072;
 
-/// Writes what is shown of a picture as I420: the samples of its crop window, luma, Cb and Cr, each row by row, one byte a
-/// sample. As many rows as 128 KiB hold go out at once, of luma, Cb and Cr together, so that a picture that is no larger goes out by
-/// one `write`. It stops at the first `write` that answers an error, also one that tells of an interruption, or that takes no byte.
-/// Of a picture whose planes or crop do not fit its size nothing is written.
+/// Writes what is shown of a picture as I420: the samples of its crop window, luma, Cb and Cr, each
+/// row by row, one byte a sample. As many rows as 128 KiB hold go out at once, of luma, Cb and Cr
+/// together, so that a picture that is no larger goes out by one `write`. It stops at the first
+/// `write` that answers an error, also one that tells of an interruption, or that takes no byte. Of
+/// a picture whose planes or crop do not fit its size nothing is written.
 pub fn write_i420<P: PictureRows, W: Write>(picture: &P, writer: &mut W) -> Result<(), WriteFault>
     ensures ok { IsWhole (P.picture picture.now) → OnOk result (Appends (W.contents writer.old) (W.contents writer.new) (i420 (P.picture picture.now))) }
     ensures before_all { IsWhole (P.picture picture.now) → IfErr result (λ fault. fault.written < length (i420 (P.picture picture.now))) }
@@ -39,8 +40,8 @@ pub fn write_i420<P: PictureRows, W: Write>(picture: &P, writer: &mut W) -> Resu
     Ok(())
 }
 
-/// Writes what is shown of a picture by as many rows at once as this room holds, for who writes one picture after another: `ROOM` bytes are as good as more. What
-/// stands in it then is any.
+/// Writes what is shown of a picture by as many rows at once as this room holds, for who writes one
+/// picture after another: `ROOM` bytes are as good as more. What stands in it then is any.
 pub fn write_i420_through<P: PictureRows, W: Write>(
     picture: &P,
     room: &mut [u8],

@@ -21,7 +21,8 @@ pub struct RowsPlace {
 impl<const PAD: usize> Plane<PAD> {
     ghost use Rattle.avc_plane.specs.Lending.{lends_rows};
 
-    /// Where the rectangle whose upper left sample is in column `x` and row `y` lies in the padded rows.
+    /// Where the rectangle whose upper left sample is in column `x` and row `y` lies in the padded
+    /// rows.
     #[inline(always)]
     pub fn padded_place(&self, x: usize, y: usize) -> RowsPlace
         requires column { x < self.now.width }

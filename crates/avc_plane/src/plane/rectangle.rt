@@ -7,8 +7,8 @@ ghost use Rattle.avc_plane.specs.Strided.{IsRoom, IsSameOutside};
 use super::Plane;
 
 impl<const PAD: usize> Plane<PAD> {
-    /// The samples of a rectangle of H rows of W samples, with `left` columns left of it and `top` rows above it: its rows from the
-    /// top on, each from the left.
+    /// The samples of a rectangle of H rows of W samples, with `left` columns left of it and `top`
+    /// rows above it: its rows from the top on, each from the left.
     #[inline(always)]
     pub fn rectangle<const W: usize, const H: usize, const N: usize>(
         &self,
@@ -26,8 +26,8 @@ impl<const PAD: usize> Plane<PAD> {
         load::<W, H, N>(&self.stored, start, stride)
     }
 
-    /// Changes the samples of a rectangle, and no other. `samples` are as `rectangle` gives them, and were just computed: they need
-    /// not go through memory.
+    /// Changes the samples of a rectangle, and no other. `samples` are as `rectangle` gives them,
+    /// and were just computed: they need not go through memory.
     #[inline(always)]
     pub fn set_rectangle<const W: usize, const H: usize, const N: usize>(
         &mut self,
