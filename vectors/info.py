@@ -8,8 +8,6 @@ import sys
 from fractions import Fraction
 
 PROFILES = {66: "Baseline", 77: "Main", 88: "Extended"}
-OTHERS = {100: "High", 110: "High 10", 122: "High 4:2:2", 244: "High 4:4:4 Predictive", 44: "CAVLC 4:4:4 Intra"}  # A.2
-OTHERS |= {83: "Scalable Baseline", 86: "Scalable High", 118: "Multiview High", 128: "Stereo High"}  # G.10.1, H.10.1
 SHAPES = "1:1 12:11 10:11 16:11 40:33 24:11 20:11 32:11 80:33 18:11 15:11 64:33 160:99 4:3 3:2 2:1".split()  # Table E-1 from 1 on
 MOST = 2**64 - 1
 MOST_SIZES = 8
@@ -264,9 +262,7 @@ def info(f):
     first = ", the first unit {}: {} {}".format(*f.refusals[0]) if f.refusals else ""
     lines.append(f"refused {len(f.refusals)}{first}")
     if f.refused_set:
-        number, level_idc = f.refused_set
-        name = f" {OTHERS[number]}" if number in OTHERS else ""
-        lines.append(f"refused sequence: profile {number}{name}, level {level_idc // 10}.{level_idc % 10}")
+        lines.append("refused profile {}, level {}".format(*f.refused_set))
     if s:
         left, right, top, bottom = s["crop"]
         lines.append(f"coded {s['coded'][0]}x{s['coded'][1]}, crop left {left}, right {right}, top {top}, bottom {bottom}")

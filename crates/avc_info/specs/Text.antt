@@ -106,31 +106,15 @@ refusal_text (Some r) = codes ", the first unit " ++ decimal r.unit ++ codes ": 
 abbrev pub refused_line : StreamFacts → List ℕ
 refused_line f = refused_text f.refused ++ refusal_text f.first_refusal ++ newline
 
--- the profiles that are not taken, by their names (A.2, G.10.1, H.10.1)
-abbrev pub other_profile_name : (profile_idc : ℕ) → List ℕ
-other_profile_name p =
-    if p == 100 then codes " High"
-    else (if p == 110 then codes " High 10"
-    else (if p == 122 then codes " High 4:2:2"
-    else (if p == 244 then codes " High 4:4:4 Predictive"
-    else (if p == 44 then codes " CAVLC 4:4:4 Intra"
-    else (if p == 83 then codes " Scalable Baseline"
-    else (if p == 86 then codes " Scalable High"
-    else (if p == 118 then codes " Multiview High"
-    else (if p == 128 then codes " Stereo High" else []))))))))
+-- profile_idc and level_idc of a sequence parameter set that is refused
+abbrev pub set_head_line : SetHead → List ℕ
+set_head_line h =
+    codes "refused profile " ++ decimal h.profile_idc ++ codes ", level " ++ decimal h.level_idc ++ newline
 
--- the profile of a sequence parameter set that is refused
-abbrev pub refused_profile_text : SetHead → List ℕ
-refused_profile_text h = codes "refused sequence: profile " ++ decimal h.profile_idc ++ other_profile_name h.profile_idc
-
--- its level
-abbrev pub refused_level_text : SetHead → List ℕ
-refused_level_text h = codes ", level " ++ decimal (h.level_idc / 10) ++ codes "." ++ decimal (h.level_idc % 10)
-
--- both, of the first one
+-- of the first one, where there is one
 abbrev pub refused_set_line : Option SetHead → List ℕ
 refused_set_line None = []
-refused_set_line (Some h) = refused_profile_text h ++ refused_level_text h ++ newline
+refused_set_line (Some h) = set_head_line h
 
 -- what is said of the pictures: by the set of the first slice, or without a slice that is read by
 -- the first set

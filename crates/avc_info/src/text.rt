@@ -5,9 +5,8 @@ ghost use Rattle.avc_info.specs.PictureText.{info_text};
 ghost use Rattle.avc_info.specs.Text.{clock_text, counts_line, frame_rate, frames_line, if_given};
 ghost use Rattle.avc_info.specs.Text.{is_level_1b};
 ghost use Rattle.avc_info.specs.Text.{level_name, level_text, profile_name, profile_text, rate_of};
-ghost use Rattle.avc_info.specs.Text.{newline, other_profile_name, references_text, refusal_text};
-ghost use Rattle.avc_info.specs.Text.{refused_level_text, refused_line, refused_profile_text};
-ghost use Rattle.avc_info.specs.Text.{refused_set_line, refused_text};
+ghost use Rattle.avc_info.specs.Text.{newline, references_text, refusal_text, refused_line};
+ghost use Rattle.avc_info.specs.Text.{refused_set_line, refused_text, set_head_line};
 ghost use Rattle.avc_info.specs.Text.{sequence_text, shape_line, size_text, stream_text};
 ghost use Rattle.avc_info.specs.Text.{thousandths, thousandths_if_given};
 
@@ -258,55 +257,23 @@ fn add_first_refusal(text: &mut String, refusal: Option<Refusal>) -> Result<(), 
     }
 }
 
-// The profile and the level of the first sequence parameter set that is refused.
+// What the first sequence parameter set begins with that is refused.
 fn add_refused_set(text: &mut String, head: Option<SetHead>) -> Result<(), OutOfMemory>
     ensures { OnOk result (string_bytes text.new ≡ string_bytes text.old ++ refused_set_line head) }
 {
     match head {
-        Some(head) => {
-            add_refused_profile(text, head)?;
-            add_refused_level(text, head)?;
-            end_line(text)?;
-            Ok(())
-        }
+        Some(head) => add_set_head(text, head),
         None => Ok(()),
     }
 }
 
-fn add_refused_profile(text: &mut String, head: SetHead) -> Result<(), OutOfMemory>
-    ensures { OnOk result (string_bytes text.new ≡ string_bytes text.old ++ refused_profile_text head) }
+fn add_set_head(text: &mut String, head: SetHead) -> Result<(), OutOfMemory>
+    ensures { OnOk result (string_bytes text.new ≡ string_bytes text.old ++ set_head_line head) }
 {
-    let profile = head.profile_idc;
-    let name = other_profile_name(profile);
-    write!(text, "refused sequence: profile {profile}{name}")?;
+    let profile_idc = head.profile_idc;
+    let level_idc = head.level_idc;
+    writeln!(text, "refused profile {profile_idc}, level {level_idc}")?;
     Ok(())
-}
-
-fn add_refused_level(text: &mut String, head: SetHead) -> Result<(), OutOfMemory>
-    ensures { OnOk result (string_bytes text.new ≡ string_bytes text.old ++ refused_level_text head) }
-{
-    let whole = head.level_idc / 10;
-    let tenth = head.level_idc % 10;
-    write!(text, ", level {whole}.{tenth}")?;
-    Ok(())
-}
-
-// The name of a profile that is not taken (A.2, G.10.1, H.10.1), behind a space.
-fn other_profile_name(profile_idc: u8) -> &'static str
-    ensures { result.now ≡ other_profile_name profile_idc }
-{
-    match profile_idc {
-        100 => " High",
-        110 => " High 10",
-        122 => " High 4:2:2",
-        244 => " High 4:4:4 Predictive",
-        44 => " CAVLC 4:4:4 Intra",
-        83 => " Scalable Baseline",
-        86 => " Scalable High",
-        118 => " Multiview High",
-        128 => " Stereo High",
-        _ => "",
-    }
 }
 
 pub(crate) fn end_line(text: &mut String) -> Result<(), OutOfMemory>
