@@ -1,7 +1,7 @@
 //! A name that stands for one file a picture.
 
 ghost use Rattle.std.specs.Prelude.{◌≡◌, ◌++◌, IfOk, OnOk, replicate, string_bytes};
-ghost use Rattle.avc_request.specs.Numberings.{file_name, IsWidth};
+ghost use Rattle.avc_request.specs.Numberings.{file_name, IsNaming, IsNumbering, IsWidth};
 
 use std::alloc::{AllocError, Global};
 
@@ -56,7 +56,9 @@ pub(crate) enum Naming<'a> {
     Wrong,
 }
 
-pub(crate) fn naming_of(name: &str) -> Naming<'_> {
+pub(crate) fn naming_of(name: &str) -> Naming<'_>
+    ensures { IsNaming name.now result }
+{
     match name.split_once('%') {
         Some((front, behind)) => numbering_of(front, behind),
         None => Naming::Plain,
@@ -64,7 +66,9 @@ pub(crate) fn naming_of(name: &str) -> Naming<'_> {
 }
 
 // By what stands in front of the first `%` and behind it.
-fn numbering_of<'a>(front: &'a str, behind: &'a str) -> Naming<'a> {
+fn numbering_of<'a>(front: &'a str, behind: &'a str) -> Naming<'a>
+    ensures { IsNumbering front.now behind.now result }
+{
     match behind.split_once('d') {
         Some((word, rest)) => match width_of(word) {
             Some(digits) if !rest.contains('%') => Naming::Numbered(Numbered {

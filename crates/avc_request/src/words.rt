@@ -3,6 +3,7 @@
 ghost use Rattle.std.specs.Prelude.{◌≡◌};
 ghost use Rattle.avc_request.specs.Commands.{form_by_name, mode_of, progress_of, task_of_all};
 ghost use Rattle.avc_request.specs.Commands.{task_showing, wording_of, IsForm, IsNamed};
+ghost use Rattle.avc_request.specs.Numberings.{IsFileNamed};
 
 use crate::file_kind::{FileKind, file_kind};
 use crate::grammar::{
@@ -183,7 +184,9 @@ fn word<'a>(matches: &ArgMatches<'a>, id: &str) -> Option<&'a str> {
 }
 
 // The file that the word names, where it is not the standard input or output.
-fn file_named<'a>(word: Option<&'a str>) -> Option<&'a str> {
+fn file_named<'a>(word: Option<&'a str>) -> Option<&'a str>
+    ensures { IsFileNamed word.entry result }
+{
     match word {
         Some(STANDARD) => None,
         _ => word,
