@@ -128,6 +128,34 @@ take_later r first (suc count) there =
     ∙ sym (take_drop first (suc count) (drop (position_of r) (byte_bits r.bytes.now)))
     ∙ ap (take (suc count)) (drop-drop first (position_of r) (byte_bits r.bytes.now))
 
+-- the bits of a window
+pub window_is : (bits first count : ℕ) (ahead : List Bool) → 57 ≤ length ahead → bits / 2 ^ 7 ≡ number_of (take 57 ahead) → first + count ≤ 57 →
+    bits / 2 ^ (64 - first - count) % 2 ^ count ≡ number_of (take count (drop first ahead))
+window_is bits first count ahead long is fits =
+    let low = 57 - first - count in
+    let sum : 64 - first - count ≡ 7 + low = omega arith in
+    ap (λ k. bits / 2 ^ k % 2 ^ count) sum
+    ∙ ap (λ v. v % 2 ^ count) (sym (shr-shr bits 7 low))
+    ∙ ap (λ v. v / 2 ^ low % 2 ^ count) is
+    ∙ number-part first count 57 (take 57 ahead) (length-take-le 57 ahead long) fits
+    ∙ ap number_of (take_front ahead first count 57 fits)
+
+pub window_bits : (value bits first count : ℕ) (b : Bits) → value ≡ bits / 2 ^ (64 - first - count) % 2 ^ count → 57 ≤ length b.ahead → bits / 2 ^ 7 ≡ number_of (take 57 b.ahead) → first + count ≤ 57 →
+    bits_of count value ≡ take count (drop first b.ahead)
+window_bits value bits first count b is_value long is fits =
+    ap (bits_of count) (is_value ∙ window_is bits first count b.ahead long is fits)
+    ∙ bits_of-number count (take count (drop first b.ahead)) (length-take-le count (drop first b.ahead) (omega (arith, length-drop first b.ahead)))
+
+-- a window of eight bytes
+pub window_of_eight : (r : BitReader) (eight : ℕ) → 64 ≤ left_of r → eight ≡ number_of (take 64 (drop (8 * r.byte) (byte_bits r.bytes.now))) →
+    eight * 2 ^ r.bit % 2 ^ 64 / 2 ^ 7 ≡ number_of (take 57 (reader_bits r).ahead)
+window_of_eight r eight there is =
+    let place : position_of r ≡ 8 * r.byte + r.bit = omega (arith, none_beyond r (omega arith)) in
+    sym (shr-shr (eight * 2 ^ r.bit % 2 ^ 64) 1 6)
+    ∙ field64_is eight r.bit 57 (omega (arith, r.narrow)) (omega arith)
+    ∙ few_from r.bytes.now r.byte r.bit (position_of r) 57 8 eight place (omega (arith, r.narrow)) (omega (arith, r.inside)) is
+    ∙ ap number_of (sym (take-ahead r 57 (omega arith)))
+
 -- what u reads
 pub u_from : (r : BitReader) (count : ℕ) → count ≤ left_of r →
     u count (reader_bits r) ≡ Ok (number_of (take count (drop (position_of r) (byte_bits r.bytes.now))), passed (reader_bits r) count)

@@ -1,10 +1,11 @@
 -- What a reader stands for.
-use Rattle.std.specs.Prelude.{◌≡◌, ℕ, suc, ◌+◌, ◌-◌, ◌*◌, ◌^◌, ◌<◌, ◌≤◌, List, [], ◌∷◌, length, Bool, true, false, Result, Ok, Err, MatchResult, refl}
+use Rattle.std.specs.Prelude.{◌≡◌, ℕ, suc, ◌+◌, ◌-◌, ◌*◌, ◌/◌, ◌^◌, ◌<◌, ◌≤◌, take, List, [], ◌∷◌, length, Bool, true, false, Result, Ok, Err, MatchResult, refl}
 use Rattle.avc_types.specs.declared.fault.Fault.{Fault}
-use Rattle.avc_bits.specs.Bits.{Bits, Read, at, passed}
+use Rattle.avc_bits.specs.Bits.{Bits, Read, at, number_of, passed}
 use Rattle.avc_bits.specs.Codes.{u, ue, zeros_before_one}
 use Rattle.avc_bits.specs.declared.reader.BitReader.{BitReader}
 use Rattle.avc_bits.specs.declared.reader.UeWord.{UeWord}
+use Rattle.avc_bits.specs.declared.reader.Window.{Window}
 
 -- the RBSP that it reads
 unfoldable pub reader_bytes : BitReader → List ℕ
@@ -32,6 +33,11 @@ abbrev pub Reads : {V : Type 0} → Result V Fault → Read V → BitReader → 
 Reads result read old new = MatchResult result
     (λ value. (read (reader_bits old) ≡ Ok (value, reader_bits new)) × (reader_bytes new ≡ reader_bytes old))
     (λ fault. read (reader_bits old) ≡ Err fault)
+
+-- The window has the first 57 of the bits ahead.
+pub record IsWindow (w : Window) (b : Bits) : Type 0 where
+  pub long : 57 ≤ length b.ahead
+  pub number : w.bits / 2 ^ 7 ≡ number_of (take 57 b.ahead)
 
 -- how many zeros stand in front
 unfoldable pub leading : List Bool → ℕ

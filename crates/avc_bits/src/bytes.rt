@@ -54,8 +54,9 @@ pub(crate) fn bytes_at(bytes: &[u8], first: usize, count: usize) -> &[u8]
 #[tactic(auto, using(crate::proofs::Reading::field64_is, crate::proofs::Reading::field_fits))]
 #[inline(always)]
 pub(crate) fn field_of_eight(eight: u64, first: u32, count: u32) -> u32
-    requires near { first ≤ 7 }
     requires few { count ≤ 32 }
+    requires within { first + count ≤ 64 }
+    requires some { first ≤ 63 }
     ensures value { result ≡ eight / 2 ^ (64 - first - count) % 2 ^ count }
     ensures bound { result < 2 ^ count }
 {

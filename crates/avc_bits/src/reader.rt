@@ -2,7 +2,7 @@
 
 ghost use Rattle.std.specs.Prelude.{◌≡◌, ◌+◌, ◌-◌, ◌*◌, ◌%◌, ◌^◌, ◌<◌, ◌≤◌, ◌≤ℤ◌, ◌<ℤ◌, pos, neg_ℤ, length};
 ghost use Rattle.std.specs.Prelude.{IsTrue, drop, min, take, replicate, ◌++◌, false, IfOk, Err, IfSome, MatchOption, MatchResult, Ok, OnErr};
-ghost use Rattle.avc_bits.specs.Bits.{at, bits_before_stop, bits_of, byte_bits, more_data, number_of, passed, start, times};
+ghost use Rattle.avc_bits.specs.Bits.{Bits, at, bits_before_stop, bits_of, byte_bits, more_data, number_of, passed, start, times};
 ghost use Rattle.avc_bits.specs.Codes.{align, flag, se, se_within, signed_value, skip, te, te_to, u, u_to, ue, ue_to, zeros_before_one};
 
 use crate::bytes::{bits_at, bytes_at, eight_bytes, field_of_eight, stop_bit};
@@ -29,6 +29,30 @@ pub struct BitReader<'a> {
     ghost fits: { 8 * byte + bit + beyond < 2 ^ 128 },
 }
 
+/// The 57 bits that a reader had ahead when it was asked, so that several elements can be looked at before the reader passes
+/// them.
+#[derive(Clone, Copy, Debug)]
+pub struct Window {
+    // the bits, the first one the most significant; those behind the 57 have any value
+    bits: u64,
+}
+
+impl Window {
+    ghost use Rattle.avc_bits.specs.Reader.{IsWindow};
+
+    /// The bits of the window from the one behind the first `first` on, `count` of them (at most 32), as a number, the most
+    /// significant first.
+    #[inline(always)]
+    pub fn bits(self, first: u32, count: u32) -> u32
+        requires few { count ≤ 32 }
+        requires within { first + count ≤ 57 }
+        ensures bits { (b : Bits) → IsWindow self b → bits_of count result ≡ take count (passed b first).ahead }
+        ensures below { result < 2 ^ count }
+    {
+        field_of_eight(self.bits, first, count)
+    }
+}
+
 // some of the bits ahead as a number, and how many zeros stand before the first 1 of them
 #[derive(Clone, Copy)]
 struct Front {
@@ -45,7 +69,7 @@ struct UeWord {
 }
 
 impl<'a> BitReader<'a> {
-    ghost use Rattle.avc_bits.specs.Reader.{IsUeWord, IsZerosAndBits, Reads, leading, left_of, position_of, reader_bits, reader_bytes};
+    ghost use Rattle.avc_bits.specs.Reader.{IsUeWord, IsWindow, IsZerosAndBits, Reads, leading, left_of, position_of, reader_bits, reader_bytes};
 
     /// A reader at the first bit of an RBSP.
     pub fn new(bytes: &'a [u8]) -> Self
@@ -136,6 +160,18 @@ impl<'a> BitReader<'a> {
         let there = self.left_near(count);
         let value = u64::from(bits_at(self.bytes, self.place(), there));
         (value << (count - there)) as u32
+    }
+
+    /// The next 57 bits. Nothing is passed.
+    #[tactic(auto, using(crate::proofs::Reading::reading))]
+    #[inline(always)]
+    pub fn window(&self) -> Window
+        requires { 64 ≤ length (reader_bits self.now).ahead }
+        ensures { IsWindow result (reader_bits self.now) }
+    {
+        Window {
+            bits: eight_bytes(self.bytes, self.byte) << self.bit,
+        }
     }
 
     /// Passes this many bits, or `Truncated`.
