@@ -2,6 +2,7 @@
 pub mod Codes
 unfoldable pub use Codes.*
 use Rattle.avc_types.specs.declared.fault.Fault.TheVariants as faults
+use Rattle.avc_vlc.specs.Indexing.{short_run}
 
 -- ---- an entry says how the bits ahead are read by the table: more bits behind those that decide
 
@@ -482,6 +483,90 @@ class_2 (pos n) low high = rw (le-ltb n 2 (omega (arith, ints)), lt-ltb n 4 (ome
 pub class_4 : (nc : ℤ) → pos 4 ≤ℤ nc → nc <ℤ pos 8 → token_table nc ≡ tokens coeff_token_4
 class_4 (negsuc n) low high = absurd (omega (arith, ints))
 class_4 (pos n) low high = rw (le-ltb n 2 (omega (arith, ints)), le-ltb n 4 (omega (arith, ints)), lt-ltb n 8 (omega (arith, ints))) refl
+
+pub class_8 : (nc : ℤ) → pos 8 ≤ℤ nc → token_table nc ≡ tokens_8
+class_8 (negsuc n) low = absurd (omega (arith, ints))
+class_8 (pos n) low = rw (le-ltb n 2 (omega (arith, ints)), le-ltb n 4 (omega (arith, ints)), le-ltb n 8 (omega (arith, ints))) refl
+
+pub class_chroma_dc : (nc : ℤ) → nc <ℤ pos 0 → token_table nc ≡ tokens coeff_token_chroma_dc
+class_chroma_dc (negsuc n) high = refl
+class_chroma_dc (pos n) high = absurd (omega (arith, ints))
+
+-- the codeword of no level in a class
+pub no_levels_in : (nc : ℤ) (table : Table Token) (word : List Bool) → token_table nc ≡ table → word_of (is_token_same (token 0 0)) table ≡ Some word → token_word nc (token 0 0) ≡ Some word
+no_levels_in nc table word class is = ap (word_of (is_token_same (token 0 0))) class ∙ is
+
+-- a word that stands ahead is read
+pub read_here : {A : Type 0} (part : Read A) (n number : ℕ) (value : A) (b : Bits) → bits_of n number ≡ take n b.ahead → IsReadBack part (bits_of n number) value →
+    part b ≡ Ok (value, bits_at (b.position + n) (drop n b.ahead))
+read_here part n number value b front back =
+    ap (λ l. part (bits_at b.position l)) (sym (take-append-drop n b.ahead) ∙ ap (λ l. l ++ drop n b.ahead) (sym front))
+    ∙ back b.position (drop n b.ahead)
+    ∙ ap (λ k. Ok (value, bits_at (b.position + k) (drop n b.ahead))) (length-bits_of n number)
+
+pub read_ahead : {A : Type 0} (part : Read A) (n number : ℕ) (value : A) (b : Bits) → n ≤ length b.ahead → bits_of n number ≡ take n (b.ahead ++ replicate n false) → IsReadBack part (bits_of n number) value →
+    part b ≡ Ok (value, bits_at (b.position + n) (drop n b.ahead))
+read_ahead part n number value b long same back = read_here part n number value b (same ∙ take-append-le n b.ahead (replicate n false) long) back
+
+-- ---- a run by three bits of a window
+
+-- first some bits and then others
+pub passed_both : (b : Bits) (first n : ℕ) → bits_at (b.position + first + n) (drop n (drop first b.ahead)) ≡ bits_at (b.position + (first + n)) (drop (first + n) b.ahead)
+passed_both b first n = ap (λ k. bits_at k (drop n (drop first b.ahead))) (omega arith) ∙ ap (bits_at (b.position + (first + n))) (drop-drop n first b.ahead)
+
+-- more bits behind a run that three bits give
+short_more : (zeros_left n run : ℕ) (left b : Bits) → run_before zeros_left (bits_at 0 (bits_of 3 n)) ≡ Ok (run, left) → bits_of 3 n ≡ take 3 b.ahead →
+    run_before zeros_left b ≡ Ok (run, bits_at (b.position + left.position) (drop left.position b.ahead))
+short_more zeros_left n run left b is front =
+    let read = run_own zeros_left run (bits_at 0 (bits_of 3 n)) left is in
+    let word = read.bits in
+    let once : run_before zeros_left (bits_at 0 (word ++ left.ahead)) ≡ Ok (run, bits_at (0 + length word) left.ahead) = run_back zeros_left run word read.is_word 0 left.ahead in
+    let same : bits_at (0 + length word) left.ahead ≡ left =
+    ap (λ r. elim r [ Ok x ↦ x.1 | Err f ↦ left ]) (sym once ∙ ap (λ l. run_before zeros_left (bits_at 0 l)) (sym read.ahead) ∙ is) in
+    let size : left.position ≡ length word = omega (arith, ap (λ x. x.position) same) in
+    let rest = left.ahead ++ drop 3 b.ahead in
+    let all : b.ahead ≡ word ++ rest =
+    sym (take-append-drop 3 b.ahead) ∙ ap (λ l. l ++ drop 3 b.ahead) (sym front ∙ read.ahead) ∙ append_assoc word left.ahead (drop 3 b.ahead) in
+    let behind : drop (length word) b.ahead ≡ rest = ap (drop (length word)) all ∙ drop_at word rest (length word) refl in
+    ap (λ l. run_before zeros_left (bits_at b.position l)) all
+    ∙ run_back zeros_left run word read.is_word b.position rest
+    ∙ ap (λ l. Ok (run, bits_at (b.position + length word) l)) (sym behind)
+    ∙ ap (λ k. Ok (run, bits_at (b.position + k) (drop k b.ahead))) (sym size)
+
+pub short_read : (zeros_left n : ℕ) (e : Run) (b : Bits) → bits_of 3 n ≡ take 3 b.ahead → e ≡ short_run zeros_left n → 1 ≤ e.length →
+    run_before zeros_left b ≡ Ok (e.zeros, bits_at (b.position + e.length) (drop e.length b.ahead))
+unfolding short_run
+short_read zeros_left n e b front is some = by (run_before zeros_left (bits_at 0 (bits_of 3 n))) refl
+  where
+    of_answer : Result (ℕ × Bits) Fault → Run
+    of_answer x = elim x [ Ok r ↦ record { length = r.1.position; zeros = r.0 } | Err f ↦ record { length = 0; zeros = 0 } ]
+
+    by : (r : Result (ℕ × Bits) Fault) → run_before zeros_left (bits_at 0 (bits_of 3 n)) ≡ r → run_before zeros_left b ≡ Ok (e.zeros, bits_at (b.position + e.length) (drop e.length b.ahead))
+    by (Ok r) read =
+        let entry : e ≡ record { length = r.1.position; zeros = r.0 } = is ∙ ap of_answer read in
+        subst (λ x. run_before zeros_left b ≡ Ok (x.zeros, bits_at (b.position + x.length) (drop x.length b.ahead))) (sym entry) (short_more zeros_left n r.0 r.1 b read front)
+    by (Err f) read =
+        let entry : e ≡ record { length = 0; zeros = 0 } = is ∙ ap of_answer read in
+        absurd (omega (arith, ap (λ x. x.length) entry))
+
+-- no such run is longer than the zeros that are left, nor has its codeword more than three bits
+abbrev is_bounded : ℕ → ℕ → Bool
+is_bounded zeros_left n = nat_le (short_run zeros_left n).zeros zeros_left && nat_le (short_run zeros_left n).length 3
+
+all_bounded : each_pair is_bounded 0 16 8 22 ≡ true
+unfolding short_run
+all_bounded = refl
+
+pub short_bounded : (zeros_left n : ℕ) (e : Run) → zeros_left < 16 → n < 8 → e ≡ short_run zeros_left n → (e.zeros ≤ zeros_left) × (e.length ≤ 3)
+short_bounded zeros_left n e few three is =
+    let both = and_parts _ _ (pair_at is_bounded 0 16 8 22 zeros_left n all_bounded (omega arith) (omega arith) three (omega arith)) in
+    subst (λ x. (x.zeros ≤ zeros_left) × (x.length ≤ 3)) (sym is) (leb-true _ zeros_left both.0, leb-true _ 3 both.1)
+
+pub short_there : (tables : List (List Run)) (zeros_left bits : ℕ) (none : Run) → AreShortRuns tables → zeros_left < 16 → bits < 8 → get_or (get_or tables zeros_left []) bits none ≡ short_run zeros_left bits
+short_there tables zeros_left bits none are few three =
+    ap (λ t. get_or (get_or t zeros_left []) bits none) (sym are.same)
+    ∙ ap (λ t. get_or t bits none) (get_or-map-range_with_len (λ z. map (short_run z) (range_with_len 0 8)) 0 16 zeros_left zeros_left [] few (omega arith))
+    ∙ get_or-map-range_with_len (short_run zeros_left) 0 8 bits bits none three (omega arith)
 
 -- ---- worked examples
 

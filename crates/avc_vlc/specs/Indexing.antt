@@ -1,5 +1,5 @@
 -- Tables that are indexed by the bits ahead: an entry says what the first of these bits decide.
-use Rattle.std.specs.Prelude.{◌≡◌, ℕ, ◌+◌, ◌-◌, ◌*◌, ◌/◌, ◌%◌, ◌^◌, ◌<◌, ◌==◌, Bool, true, false, nat_le, nat_lt, if◌then◌else◌, List, [], ◌∷◌, ◌++◌, length, map, take, replicate, Option, Some, None}
+use Rattle.std.specs.Prelude.{◌≡◌, ℕ, ◌+◌, ◌-◌, ◌*◌, ◌/◌, ◌%◌, ◌^◌, ◌<◌, ◌==◌, Bool, true, false, nat_le, nat_lt, if◌then◌else◌, List, [], ◌∷◌, ◌++◌, length, map, take, replicate, Option, Some, None, Ok, Err}
 use Rattle.std.specs.List.{enumerate_from, list_all, list_any, range_with_len}
 use Rattle.std.specs.Prelude.{slice_index_or}
 use Rattle.avc_bits.specs.Bits.{bits_of}
@@ -7,7 +7,7 @@ use Rattle.avc_vlc.specs.declared.code.Code.{Code}
 use Rattle.avc_vlc.specs.declared.entry.Entry.{Entry}
 use Rattle.avc_vlc.specs.declared.coeff_token.Token.{Token}
 use Rattle.avc_vlc.specs.declared.run_before.Run.{Run}
-use Rattle.avc_vlc.specs.Reading.{Table, after_word, is_prefix, lookup, row_at, row_table, token}
+use Rattle.avc_vlc.specs.Reading.{Table, after_word, is_prefix, lookup, row_at, row_table, run_before, token}
 use Rattle.avc_vlc.specs.Tables.{run_before_codes}
 use Rattle.avc_vlc.specs.Writing.{word_of}
 
@@ -97,6 +97,18 @@ pub record AreRuns (tables : List (List Run)) : Type 0 where
   pub fronts : AreFronts few_table (map (map entry_of_run) tables)
   pub most : map (λ k. list_all (λ r. nat_le r.zeros (k + 1)) (slice_index_or tables k [])) (range_with_len 0 6) ≡ replicate 6 true
   pub short : map (λ k. list_all (λ r. nat_le r.length 3) (slice_index_or tables k [])) (range_with_len 0 6) ≡ replicate 6 true
+
+-- What three bits say of the run whose codeword they begin with (9.2.3); a length of 0 where none is so short.
+unfoldable pub short_run : (zeros_left bits : ℕ) → Run
+short_run zeros_left bits =
+    elim (run_before zeros_left (record { position = 0; ahead = bits_of 3 bits })) [
+      | Ok r ↦ record { length = r.1.position; zeros = r.0 }
+      | Err f ↦ record { length = 0; zeros = 0 }
+    ]
+
+-- the tables are what the bits say, by zerosLeft
+pub record AreShortRuns (tables : List (List Run)) : Type 0 where
+  pub same : map (λ zeros_left. map (short_run zeros_left) (range_with_len 0 8)) (range_with_len 0 16) ≡ tables
 
 -- the place is that of the bits ahead
 pub record IsPlaceOf (ahead : List Bool) (last tail row column : ℕ) : Type 0 where

@@ -1,9 +1,10 @@
 //! coeff_token (9.2.1, Table 9-5). A table has a row for each number of zeros in front of the first 1, the last for all
 //! that are more, and a column for each value of the three bits behind that 1.
-ghost use Rattle.std.specs.Prelude.{◌≡◌, ◌≤◌, ◌<◌, List, Bool, length, IfOk, OnErr};
-ghost use Rattle.avc_bits.specs.Reader.{Reads, reader_bits};
+ghost use Rattle.std.specs.Prelude.{◌≡◌, ◌≤◌, ◌<◌, ℤ, List, Bool, false, length, Some, Ok, IfOk, IsTrue, OnErr};
+ghost use Rattle.avc_bits.specs.Bits.{bits_of};
+ghost use Rattle.avc_bits.specs.Reader.{Reads, reader_bits, reader_bytes};
 ghost use Rattle.avc_vlc.specs.Tables.{coeff_token_0, coeff_token_2, coeff_token_4, coeff_token_chroma_dc};
-ghost use Rattle.avc_vlc.specs.Reading.{IsToken, Table, coeff_token, token_table, tokens, tokens_8};
+ghost use Rattle.avc_vlc.specs.Reading.{IsToken, Table, coeff_token, token, token_table, tokens, tokens_8};
 ghost use Rattle.avc_vlc.specs.Indexing.{Decides, IsIndexed, Shows, six_bit_entry, six_bit_number};
 ghost use Rattle.avc_vlc.specs.Writing.{is_token_same, token_word, word_bits, word_of};
 ghost use Rattle.std.specs.Option.{option_map};
@@ -67,6 +68,47 @@ fn read_coded(reader: &mut BitReader, entry: Entry<Token>, nc: i8) -> Result<Tok
     ensures stays { OnErr result (reader.new ≡ reader.old) }
 {
     entry.read(reader)
+}
+
+/// Passes the codeword of no level, where it stands ahead and the stop bit is surely not near; `nc` is as that of
+/// `read_coeff_token`. Else the answer is false, and nothing is passed.
+#[inline(always)]
+pub fn pass_no_levels(reader: &mut BitReader, nc: i8) -> bool
+    ensures read { IsTrue result → coeff_token nc (reader_bits reader.old) ≡ Ok (token 0 0, reader_bits reader.new) }
+    ensures bytes { reader_bytes reader.new ≡ reader_bytes reader.old }
+    ensures stays { result ≡ false → reader.new ≡ reader.old }
+{
+    if !reader.has_many() {
+        return false;
+    }
+    if nc < 0 {
+        pass_word(reader, 2, 1)
+    } else if nc < 2 {
+        pass_word(reader, 1, 1)
+    } else if nc < 4 {
+        pass_word(reader, 2, 3)
+    } else if nc < 8 {
+        pass_word(reader, 4, 15)
+    } else {
+        pass_word(reader, 6, 3)
+    }
+}
+
+// Passes a codeword, its bits as a number, where it stands ahead.
+#[inline(always)]
+fn pass_word(reader: &mut BitReader, count: u32, number: u32) -> bool
+    requires few { count ≤ 16 }
+    requires ahead { 256 ≤ length (reader_bits reader.old).ahead }
+    ensures read { (nc : ℤ) (t : Token) → token_word nc t ≡ Some (bits_of count number) → IsTrue result
+        → coeff_token nc (reader_bits reader.old) ≡ Ok (t, reader_bits reader.new) }
+    ensures bytes { reader_bytes reader.new ≡ reader_bytes reader.old }
+    ensures stays { result ≡ false → reader.new ≡ reader.old }
+{
+    if reader.peek(count) != number {
+        return false;
+    }
+    reader.skip_ahead(count);
+    true
 }
 
 /// The codeword of TotalCoeff and TrailingOnes, `None` where nC has none for them.

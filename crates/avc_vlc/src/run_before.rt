@@ -2,23 +2,26 @@
 //! each number of zeros in front of the first 1, the last for all that are more, and a column for each value of the two
 //! bits behind that 1.
 ghost use Rattle.std.specs.Prelude.{◌≡◌, ◌+◌, ◌≤◌, ◌<◌, List, Bool, Ok, Err, IfOk, IfSome, OnErr, length};
-ghost use Rattle.avc_bits.specs.Reader.{Reads, reader_bits, reader_bytes};
+ghost use Rattle.avc_bits.specs.Bits.{Bits, passed};
+ghost use Rattle.avc_bits.specs.Reader.{IsWindow, Reads, reader_bits, reader_bytes};
 ghost use Rattle.avc_vlc.specs.Reading.{run_before, run_table};
-ghost use Rattle.avc_vlc.specs.Indexing.{AreRuns, Decides, Shows, entry_of_run, few_table};
+ghost use Rattle.avc_vlc.specs.Indexing.{AreRuns, AreShortRuns, Decides, Shows, entry_of_run, few_table, short_run};
 ghost use Rattle.avc_vlc.specs.Writing.{is_number_same, run_word, word_bits, word_of};
 ghost use Rattle.std.specs.Option.{option_map};
 
 use crate::code::Code;
 use crate::codeword::Codeword;
 use crate::entry::{Entry, entry, number_at, row4};
-use avc_bits::BitReader;
+use avc_bits::{BitReader, Window};
 use avc_types::Fault;
 
-// a codeword: how many bits it has, and how many zeros it stands for
-#[derive(Clone, Copy)]
-struct Run {
-    length: u8,
-    zeros: u8,
+/// A codeword of run_before.
+#[derive(Clone, Copy, Debug)]
+pub struct Run {
+    /// How many bits it has.
+    pub length: u8,
+    /// How many zeros it stands for.
+    pub zeros: u8,
 }
 
 /// Reads how many zeros stand right before a level, where `zeros_left` zeros are left for it and those before it.
@@ -168,6 +171,33 @@ fn run_of_three(code: Code<16>, tables: &[[Run; 8]], table: usize) -> Run
     tables[table][front]
 }
 
+/// The codeword that stands behind the first `first` bits of a window; its length is 0 where it has more than three bits.
+/// `zeros_left`, at most 15, is as that of `read_run_before`.
+#[inline(always)]
+pub fn short_run(window: Window, first: u32, zeros_left: u8) -> Run
+    requires few { zeros_left < 16 }
+    requires within { first + 3 ≤ 57 }
+    ensures read { (b : Bits) → IsWindow window b → 1 ≤ result.length
+        → run_before zeros_left (passed b first) ≡ Ok (result.zeros, passed b (first + result.length)) }
+    ensures most { result.zeros ≤ zeros_left }
+    ensures short { result.length ≤ 3 }
+{
+    short_run_in(
+        &SHORT_RUNS,
+        usize::from(zeros_left),
+        window.bits(first, 3) as usize,
+    )
+}
+
+#[inline(always)]
+fn short_run_in(tables: &[[Run; 8]; 16], zeros_left: usize, bits: usize) -> Run
+    requires few { zeros_left < 16 }
+    requires three { bits < 8 }
+    ensures { AreShortRuns tables.now → result ≡ short_run zeros_left bits }
+{
+    tables[zeros_left][bits]
+}
+
 /// The codeword of so many zeros right before a level, where `zeros_left` zeros are left for it and those before it;
 /// `None` where there is none or the run is longer.
 pub fn run_before_word(zeros_left: u8, run: u8) -> Option<Codeword>
@@ -194,16 +224,22 @@ fn word_of_run(zeros_left: u8, run: u8) -> Option<Codeword>
     }
 }
 
-// For each value of the next three bits the codeword that they begin with, for zerosLeft 1 to 6; no codeword is longer.
+// For each value of the next three bits the codeword that they begin with, for zerosLeft 1 to 6, where no codeword is longer, with
+// rows before and behind these.
 macro_rules! few_runs {
     ($table:ident) => {
+        few_runs!($table;;)
+    };
+    ($table:ident; $($fewer:expr),*; $($more:expr),*) => {
         [
+            $($fewer,)*
             $table!((1, 1), (1, 1), (1, 1), (1, 1), (1, 0), (1, 0), (1, 0), (1, 0)),
             $table!((2, 2), (2, 2), (2, 1), (2, 1), (1, 0), (1, 0), (1, 0), (1, 0)),
             $table!((2, 3), (2, 3), (2, 2), (2, 2), (2, 1), (2, 1), (2, 0), (2, 0)),
             $table!((3, 4), (3, 3), (2, 2), (2, 2), (2, 1), (2, 1), (2, 0), (2, 0)),
             $table!((3, 5), (3, 4), (3, 3), (3, 2), (2, 1), (2, 1), (2, 0), (2, 0)),
             $table!((3, 1), (3, 2), (3, 4), (3, 3), (3, 6), (3, 5), (2, 0), (2, 0)),
+            $($more),*
         ]
     };
 }
@@ -226,6 +262,26 @@ macro_rules! runs8 {
         [$(Run { length: $length, zeros: $zeros }),+]
     };
 }
+
+// The same where none is left, as if a run were coded then, and where more than six are left.
+macro_rules! no_runs {
+    () => {
+        runs8!((0, 0), (0, 0), (0, 0), (0, 0), (1, 0), (1, 0), (1, 0), (1, 0))
+    };
+}
+
+macro_rules! many_runs {
+    () => {
+        runs8!((0, 0), (3, 6), (3, 5), (3, 4), (3, 3), (3, 2), (3, 1), (3, 0))
+    };
+}
+
+// By zerosLeft, 0 to 15.
+static SHORT_RUNS: [[Run; 8]; 16] = few_runs!(
+    runs8;
+    no_runs!();
+    many_runs!(), many_runs!(), many_runs!(), many_runs!(), many_runs!(), many_runs!(), many_runs!(), many_runs!(), many_runs!()
+);
 
 // By zerosLeft, 1 to 6.
 static RUNS_BY_FRONT: [[Run; 8]; 6] = few_runs!(runs8);

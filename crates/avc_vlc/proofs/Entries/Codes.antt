@@ -345,7 +345,7 @@ second_of false b either e = either
 abbrev pub each_pair : (ℕ → ℕ → Bool) → (a n m sum : ℕ) → Bool
 each_pair p a n m sum = list_all (λ x. list_all (λ y. nat_lt sum (x + y) || p x y) (range_with_len 0 m)) (range_with_len a n)
 
-pair_at : (p : ℕ → ℕ → Bool) (a n m sum x y : ℕ) → each_pair p a n m sum ≡ true → a ≤ x → x < a + n → y < m → x + y ≤ sum → p x y ≡ true
+pub pair_at : (p : ℕ → ℕ → Bool) (a n m sum x y : ℕ) → each_pair p a n m sum ≡ true → a ≤ x → x < a + n → y < m → x + y ≤ sum → p x y ≡ true
 pair_at p a n m sum x y all low high small within =
     let i = x - a in
     let is_x : a + i ≡ x = omega arith in

@@ -1,5 +1,5 @@
 -- The names that the proofs cite of std, of the crates below and of the definitions here, passed on from one place. Declares nothing.
-pub use Rattle.std.proofs.Common.{◌≡◌, ℕ, List, [], ◌∷◌, ◌++◌, length, Bool, true, false, refl, ap, ◌∙◌, sym, inl, inr, Some, ◌+◌, subst, arith, length-append}
+pub use Rattle.std.proofs.Common.{◌≡◌, ◌≢◌, ℕ, List, [], ◌∷◌, ◌++◌, length, Bool, true, false, refl, ap, ◌∙◌, sym, inl, inr, Some, ◌+◌, subst, arith, length-append}
 pub use Rattle.std.proofs.Common.{append-nil, Ok, Err, zero, suc, ◌-◌, ℤ, pos, negsuc, nat_le, map, drop, get_or, ◌<◌, ◌≤◌, ◌<ℤ◌, append_assoc, ◌^◌, ◌*◌, ◌/◌}
 pub use Rattle.std.proofs.Common.{◌%◌, eqb, take, min, lit<, ◌≤ℤ◌, rules}
 pub use Rattle.std.proofs.Math.Nat.{div-lt_iff_lt-mul, div-eq_of_lt, div-eq_of_lt-le, pow-succ', mod-lt, mod-eq_of_lt, pow-le-pow_right}
@@ -7,7 +7,7 @@ pub use Rattle.std.proofs.Math.Pow.{mod-mod-pow}
 pub use Rattle.std.proofs.Math.Seq.{take-append_seam}
 pub use Rattle.std.proofs.lemmas.Bool.{and_parts, true_from_ne_false, leb-true, le-ltb, cases_lt, or_parts, ltb-true, lt-ltb, lt-leb, le-leb, or_from}
 pub use Rattle.std.proofs.lemmas.Int.{ints}
-pub use Rattle.std.proofs.lemmas.List.{get_or-map, get_or-replicate, take-take, take-append-le, take_all, get_or_read}
+pub use Rattle.std.proofs.lemmas.List.{get_or-map, get_or-replicate, take-take, take-append-le, take-append-drop, take_all, get_or_read, drop-drop, drop_at}
 pub use Rattle.std.proofs.lemmas.List.Folds.{list_all_at, list_any_more}
 pub use Rattle.std.proofs.lemmas.List.FromFn.{get_or-range_with_len, length-range_with_len, get_or-map-range_with_len, get_or-enumerate_from}
 pub use Rattle.std.proofs.lemmas.List.FromFn.{length-enumerate_from}
@@ -25,7 +25,7 @@ pub use Rattle.avc_bits.specs.Reader.{Reads, reader_bits}
 pub use Rattle.avc_bits.specs.declared.reader.BitReader.{BitReader}
 pub use Rattle.avc_types.specs.declared.fault.Fault.{Fault}
 pub use Rattle.avc_types.specs.declared.fault.Fault.TheVariants.{BadCode}
-pub use Rattle.avc_vlc.specs.Indexing.{AreRuns, entry_of_run, few_table}
+pub use Rattle.avc_vlc.specs.Indexing.{AreRuns, AreShortRuns, entry_of_run, few_table}
 pub use Rattle.avc_vlc.specs.declared.run_before.Run.{Run}
 pub use Rattle.std.proofs.lemmas.List.{length-map}
 pub use Rattle.avc_vlc.specs.Indexing.{begins, goes_on, word_entry, entry_from, Agree, Decides, AreFronts, AreIndexed, IsIndexed, index, entry_of, IsPlaceOf}
