@@ -1,7 +1,7 @@
 -- Levels whose codewords have seven bits at most.
 use Rattle.avc_cavlc.proofs.Levels.{◌≡◌, ◌≢◌, ℕ, zero, suc, ◌+◌, ◌-◌, ◌%◌, ◌≤◌, ◌<◌, ℤ, pos, Bool, true, false, IsTrue, List, [], ◌∷◌, ◌++◌, length, take, drop, map, get_or, replicate, Ok, Err, Result, arith, ap, sym, ◌∙◌, refl, subst, inl, inr, cases_lt, cases_eq, ne_eqb, ints}
 use Rattle.avc_cavlc.proofs.Levels.{Bits, Fault, BadCode, Truncated, bits_of, passed, length-drop, length-take-le, take-append-le, before_many, before_short, before_found, u_short, u_long, nat_tests}
-use Rattle.avc_cavlc.proofs.Levels.{Read, All, set, to_z, of_z, w16, length-set, take_more_set, all_more, after_level, levels, levels_after}
+use Rattle.avc_cavlc.proofs.Levels.{All, set, to_z, of_z, w16, length-set, take_more_set, all_more, after_level, levels, levels_after}
 use Rattle.avc_cavlc.proofs.Levels.{IsLevel, level, level_code, level_code_most, level_of_code, level_long, next_suffix_length, ok_parts, suffix_size, get_or-map-range_with_len}
 use Rattle.std.specs.List.{range_with_len}
 use Rattle.std.proofs.Common.{min}
@@ -10,7 +10,7 @@ use Rattle.avc_bits.specs.Bits.{number_of}
 use Rattle.avc_bits.specs.Reader.{leading}
 use Rattle.avc_bits.proofs.Reading.{number-take_lt}
 use Rattle.avc_bits.proofs.Reading.Numbers.{take_front}
-use Rattle.avc_cavlc.specs.Steps.{AreShortLevels, short_level, stage_above, stage_length}
+use Rattle.avc_cavlc.specs.Steps.{AreShortLevels, left_from, short_level, stage_above, stage_length}
 use Rattle.avc_cavlc.specs.declared.level.Level.{Level}
 
 abbrev from : ℕ → List Bool → Bits
@@ -144,10 +144,6 @@ entry_reads stage n e b long same is some = by (level (stage_length stage) (stag
         absurd (some (ap (λ x. x.length) entry))
 
 -- ---- one level more
-
--- the levels from a stage on, after those that are done
-abbrev pub left_from : (done : List ℤ) → (n stage : ℕ) → Read (List ℤ)
-left_from done n stage = levels_after done n (stage_length stage) (stage_above stage)
 
 -- one level more stands in the array
 pub record IsOneMore (values : List ℤ) (total k next : ℕ) (b : Bits) (all : Result (List ℤ × Bits) Fault) : Type 0 where

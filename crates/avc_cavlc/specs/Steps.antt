@@ -1,13 +1,14 @@
 -- What is left to read of a block when some of it has been read.
-use Rattle.std.specs.Prelude.{◌≡◌, ℕ, ◌+◌, ◌-◌, ◌*◌, ◌^◌, ◌≤◌, ℤ, pos, neg_ℤ, Bool, ◌&&◌, nat_lt, if◌then◌else◌, List, ◌++◌, length, map, Result, Ok, Err, MatchResult}
-use Rattle.std.specs.List.{range_with_len}
+use Rattle.std.specs.Prelude.{◌≡◌, ℕ, ◌+◌, ◌-◌, ◌*◌, ◌^◌, ◌≤◌, ◌<◌, ℤ, pos, neg_ℤ, Bool, ◌&&◌, nat_lt, if◌then◌else◌, List, ◌++◌, drop, length, map, replicate, slice_index_or, take, Result, Ok, Err, MatchResult}
+use Rattle.std.specs.List.{All, range_with_len}
 use Rattle.avc_types.specs.declared.fault.Fault.{Fault}
 use Rattle.avc_bits.specs.Reader.{reader_bits, reader_bytes}
 use Rattle.avc_bits.specs.declared.reader.BitReader.{BitReader}
 use Rattle.avc_bits.specs.Bits.{Bits, Read, ◌>>=◌, bits_of, give, passed}
 use Rattle.avc_cavlc.specs.declared.level.Level.{Level}
 use Rattle.avc_cavlc.specs.declared.level.LongCode.{LongCode}
-use Rattle.avc_cavlc.specs.Block.{each_after_zeros, level, level_of_code, levels, next_suffix_length, placed, runs}
+use Rattle.avc_types.specs.Macroblock.{total_coeff}
+use Rattle.avc_cavlc.specs.Block.{IsLevel, IsSmall, each_after_zeros, level, level_of_code, levels, next_suffix_length, placed, runs}
 
 -- What was read into a place is what this part of the syntax reads, and the reader goes on after it.
 abbrev pub ReadsInto : {V A : Type 0} → Result V Fault → A → Read A → BitReader → BitReader → Type 0
@@ -54,6 +55,17 @@ placed_by_runs max values n zeros = runs n zeros >>= λ zero_runs. give (placed 
 abbrev pub placed_before : (done values : List ℤ) → (n zeros_left : ℕ) → Read (List ℤ)
 placed_before done values n zeros_left = runs n zeros_left >>= λ zero_runs. give (each_after_zeros values zero_runs ++ done)
 
+-- So many of the values of a block of 16 stand in their places, with those of the zeros that stand between them: what is left
+-- to read, where the others and so many zeros are left.
+pub record ArePlaced (values : List ℤ) (total zeros count zeros_left : ℕ) (block : List ℤ) (before after : Bits) : Type 0 where
+  pub some : count < total
+  pub room : total - count + zeros_left ≤ 16
+  pub open_front : take (total - count + zeros_left) block ≡ replicate (total - count + zeros_left) (pos 0)
+  pub read : placed_by_runs 16 values total zeros before
+      ≡ placed_before (drop (total - count + zeros_left) block) (drop count values) (total - count) zeros_left after
+  pub placed_count : total_coeff (drop (total - count + zeros_left) block) ≡ count
+  pub small : (i : ℕ) → IsSmall (slice_index_or block i (pos 0))
+
 -- ---- levels by their stage: suffixLength, or 7 more where the size is known to be above 1
 
 -- the suffixLength of a stage
@@ -63,6 +75,19 @@ stage_length stage = if nat_lt stage 7 then stage else stage - 7
 -- whether the size of its level is known to be above 1
 abbrev pub stage_above : ℕ → Bool
 stage_above stage = nat_lt 6 stage
+
+-- n levels from a stage on, which come after those that are done
+abbrev pub left_from : (done : List ℤ) → (n stage : ℕ) → Read (List ℤ)
+left_from done n stage = levels_after done n (stage_length stage) (stage_above stage)
+
+-- The levels from `first` to `count` of the old values were read into the new ones: what is left to read, from the stage `next` on.
+pub record AreRead (total first stage : ℕ) (old : List ℤ) (before : BitReader) (count next : ℕ) (new : List ℤ) (after : BitReader) : Type 0 where
+  pub least : first ≤ count
+  pub most : count ≤ total
+  pub next_stage : next < 9
+  pub read : left_from (take first old) (total - first) stage (reader_bits before) ≡ left_from (take count new) (total - count) next (reader_bits after)
+  pub bytes : reader_bytes after ≡ reader_bytes before
+  pub size : All IsLevel (take count new)
 
 -- What seven bits say of the level whose codeword they begin with (9.2.2); a length of 0 where none is so short.
 unfoldable pub short_level : (stage bits : ℕ) → Level

@@ -9,17 +9,22 @@ use crate::level::read_levels;
 use crate::runs::read_placed;
 use avc_bits::BitReader;
 use avc_types::{Fault, Levels};
-use avc_vlc::{read_coeff_token, read_total_zeros};
+use avc_vlc::{pass_no_levels, read_coeff_token, read_total_zeros};
 
 /// Reads the MAXN levels of a block (residual_block_cavlc): 4 of chroma DC, where `nc` is -1, or 15 or 16, where it is nC.
 /// Answers `Truncated`, `BadCode`, or `TooManyCoefficients` where TotalCoeff and total_zeros are more than MAXN; the
 /// reader then stays. Each level is from -2,528 to 2,528.
+#[inline(always)]
 pub fn read_block<const MAXN: usize>(reader: &mut BitReader, nc: i8) -> Result<Levels<MAXN>, Fault>
     requires { MAXN ≤ 16 }
     ensures read { Reads result (residual_block MAXN nc) reader.old reader.new }
     ensures small { IfOk result (λ levels. (i : ℕ) → IsSmall (slice_index_or levels i (pos 0))) }
     ensures stays { OnErr result (reader.new ≡ reader.old) }
 {
+    // a block without a level costs no call
+    if pass_no_levels(reader, nc) {
+        return Ok(Levels::zero());
+    }
     let mut block = [0; 16];
     match read_block_into(reader, nc, MAXN as u8, &mut block) {
         Ok(total_coeff) => {
@@ -34,6 +39,7 @@ pub fn read_block<const MAXN: usize>(reader: &mut BitReader, nc: i8) -> Result<L
 /// Reads the first `max` levels of a block of zeros, from the lowest frequency on, and answers how many of them are not 0
 /// (total_coeff). What is behind them stays 0. `max` and `nc` are as MAXN and `nc` of `read_block`, and so are the
 /// faults, after which the block has any value.
+#[inline(never)]
 pub fn read_block_into(
     reader: &mut BitReader,
     nc: i8,

@@ -4,7 +4,7 @@ ghost use Rattle.avc_bits.specs.Bits.{times};
 ghost use Rattle.avc_bits.specs.Reader.{reader_bits};
 ghost use Rattle.avc_vlc.specs.Reading.{IsToken};
 ghost use Rattle.avc_cavlc.specs.Block.{IsLevel, level, level_code, level_of_code, next_suffix_length, suffix_size, token_levels, trailing_one};
-ghost use Rattle.avc_cavlc.specs.Steps.{AreShortLevels, IsLongCode, ReadsCode, ReadsInto, ReadsLevel, levels_after, one_of_sign, raised, short_level, stage_above, stage_length};
+ghost use Rattle.avc_cavlc.specs.Steps.{AreRead, AreShortLevels, IsLongCode, ReadsCode, ReadsInto, ReadsLevel, left_from, one_of_sign, raised, short_level, stage_above, stage_length};
 
 use avc_bits::BitReader;
 use avc_types::Fault;
@@ -16,6 +16,11 @@ const MOST_SUFFIX_BITS: u32 = 6;
 // The stage of a level that comes after others is its suffixLength; that of the first one is greater by this, where its
 // size is known to be above 1.
 const ABOVE_ONE: u8 = 7;
+
+// How many bits a table of short levels looks at, and the last place in a window of 57 bits at which so many stand.
+const SHORT_BITS: u32 = 7;
+
+const LAST_SHORT: u32 = 57 - SHORT_BITS;
 
 // A level, how many bits its codeword has, which is 0 where it has more than seven, and the stage of the level after it.
 #[derive(Clone, Copy)]
@@ -102,6 +107,13 @@ static ONES: [[i16; 3]; 8] = [
     [-1, -1, -1],
 ];
 
+// How many levels have been read, and the stage of the next one.
+#[derive(Clone, Copy)]
+struct Progress {
+    count: usize,
+    stage: u8,
+}
+
 // The levels that are no trailing ones, put behind those.
 #[inline(always)]
 fn read_others(
@@ -116,19 +128,88 @@ fn read_others(
     requires ones { All IsLevel (take ones values.old) }
     requires stage { first < 9 }
     ensures read { ReadsInto result (take total values.new)
-        (levels_after (take ones values.old) (total - ones) (stage_length first) (stage_above first)) reader.old reader.new }
+        (left_from (take ones values.old) (total - ones) first) reader.old reader.new }
     ensures size { IfOk result (λ _. All IsLevel (take total values.new)) }
 {
     let mut stage = first;
-    'levels: for k in ones..total {
-        let level = read_level(reader, stage)?;
+    let mut k = ones;
+    'levels: while k < total {
+        let short = read_window(reader, values, k, total, stage);
+        if short.count == total {
+            return Ok(());
+        }
+        k = short.count;
+        let level = read_level(reader, short.stage)?;
         values[k] = level.value;
         stage = level.next;
+        k += 1;
     }
     Ok(())
 }
 
-// One level that is no trailing one: by a table where its codeword is short, which most are.
+// The levels from `first` on whose codewords are short and stand in one window; none of them where the stop bit may be near.
+#[inline(always)]
+fn read_window(
+    reader: &mut BitReader,
+    values: &mut [i16; 16],
+    first: usize,
+    total: usize,
+    stage: u8,
+) -> Progress
+    requires some { first ≤ total }
+    requires few { total ≤ 16 }
+    requires size { All IsLevel (take first values.old) }
+    requires stage { stage < 9 }
+    ensures read { AreRead total first stage values.old reader.old result.count result.stage values.new reader.new }
+{
+    if reader.has_many() {
+        read_short_levels(reader, values, first, total, stage)
+    } else {
+        Progress {
+            count: first,
+            stage,
+        }
+    }
+}
+
+// The same where the stop bit is not near.
+#[inline(always)]
+fn read_short_levels(
+    reader: &mut BitReader,
+    values: &mut [i16; 16],
+    first: usize,
+    total: usize,
+    stage: u8,
+) -> Progress
+    requires some { first ≤ total }
+    requires few { total ≤ 16 }
+    requires size { All IsLevel (take first values.old) }
+    requires stage { stage < 9 }
+    requires ahead { 256 ≤ length (reader_bits reader.old).ahead }
+    ensures read { AreRead total first stage values.old reader.old result.count result.stage values.new reader.new }
+{
+    let window = reader.window();
+    let mut passed = 0;
+    let mut next = stage;
+    let mut k = first;
+    'levels: while k < total && passed <= LAST_SHORT {
+        let short = short_level(next, window.bits(passed, SHORT_BITS));
+        if short.length == 0 {
+            break;
+        }
+        values[k] = short.value;
+        passed += u32::from(short.length);
+        next = short.next;
+        k += 1;
+    }
+    reader.skip_ahead(passed);
+    Progress {
+        count: k,
+        stage: next,
+    }
+}
+
+// One level that is no trailing one: by a table where its codeword is short.
 #[inline(always)]
 fn read_level(reader: &mut BitReader, stage: u8) -> Result<Level, Fault>
     requires stage { stage < 9 }
@@ -137,7 +218,7 @@ fn read_level(reader: &mut BitReader, stage: u8) -> Result<Level, Fault>
     ensures next { IfOk result (λ l. l.next ≡ next_suffix_length (stage_length stage) l.value) }
 {
     if reader.has_many() {
-        let short = short_level(stage, reader.peek(7));
+        let short = short_level(stage, reader.peek(SHORT_BITS));
         if short.length > 0 {
             reader.skip_ahead(u32::from(short.length));
             return Ok(short);

@@ -198,10 +198,33 @@ small_more levels at v all here within i = elim (cases_eq i at) [
   | inr other ↦ subst IsSmall (sym (get_or-set_other levels at i v (pos 0) other)) (all i)
 ]
 
--- ---- trailing ones by one look at their sign bits
+-- no value is placed yet
+pub none_placed : (values : List ℤ) (total zeros : ℕ) (b : Bits) → length values ≡ total → 1 ≤ total → total + zeros ≤ 16 → ArePlaced values total zeros 0 zeros (replicate 16 (pos 0)) b b
+none_placed values total zeros b long some room =
+    let all : total ≡ total - 0 = omega arith in
+    let first = total + zeros in
+    let behind : drop first (replicate 16 (pos 0)) ≡ replicate (16 - first) (pos 0) = drop-replicate first 16 (pos 0) in
+    record {
+      some = some;
+      room = omega arith;
+      open_front = rw (← all) (take-replicate first 16 (pos 0) room);
+      read = rw (← all, behind) (first_runs 16 values total zeros b long (λ e. absurd (omega arith)));
+      placed_count = rw (← all) (ap total_coeff behind ∙ no_coefficients (16 - first));
+      small = λ i. small_none 16 i;
+    }
+
+-- ---- some bits ahead
 
 abbrev from : ℕ → List Bool → Bits
 from position ahead = record { position = position; ahead = ahead }
+
+pub passed_none : (b : Bits) → b ≡ passed b 0
+passed_none b = ap (λ p. from p b.ahead) (omega arith)
+
+pub passed_both : (b : Bits) (first n : ℕ) → passed (passed b first) n ≡ passed b (first + n)
+passed_both b first n = ap (λ p. from p (drop n (drop first b.ahead))) (omega arith) ∙ ap (from (b.position + (first + n))) (drop-drop n first b.ahead)
+
+-- ---- trailing ones by one look at their sign bits
 
 first_read : (x : Bool) (p : ℕ) (rest : List Bool) → trailing_one (from p (x ∷ rest)) ≡ Ok (one_of_sign x, from (p + 1) rest)
 first_read true p rest = refl

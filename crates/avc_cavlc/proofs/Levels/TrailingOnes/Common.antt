@@ -21,6 +21,7 @@ pub use Rattle.avc_bits.proofs.Reading.{skip_short, skip_long, one_first, fault_
 pub use Rattle.avc_bits.specs.Bits.{Bits, Read, ◌>>=◌, ◌>>◌, give, check, bits_of, passed, times, start}
 pub use Rattle.avc_bits.specs.Codes.{skip, u, zeros_before_one}
 pub use Rattle.avc_bits.specs.Reader.{leading, reader_bits, reader_bytes}
+pub use Rattle.avc_bits.specs.declared.reader.BitReader.{BitReader}
 pub use Rattle.avc_types.proofs.Frames.{total-append, counted}
 pub use Rattle.avc_types.specs.Macroblock.{total_coeff}
 pub use Rattle.avc_types.specs.declared.fault.Fault.{Fault}
@@ -28,4 +29,4 @@ pub use Rattle.avc_types.specs.declared.fault.Fault.TheVariants.{Truncated, BadC
 pub use Rattle.avc_vlc.proofs.Entries.{skip-ok, skip-err}
 pub use Rattle.avc_vlc.specs.Reading.{run_before, run_table, table_code, coeff_token, total_zeros}
 pub use Rattle.avc_vlc.specs.declared.coeff_token.Token.{Token}
-pub use Rattle.avc_cavlc.specs.Steps.{placed_before, placed_by_runs, one_of_sign, levels_after, raised}
+pub use Rattle.avc_cavlc.specs.Steps.{ArePlaced, placed_before, placed_by_runs, one_of_sign, levels_after, raised}

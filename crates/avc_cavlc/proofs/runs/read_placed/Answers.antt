@@ -1,30 +1,24 @@
 use Rattle.avc_cavlc.proofs.Levels.{◌≡◌, refl, ◌≤◌, ◌+◌, ◌-◌, ◌++◌, ◌∷◌, ℤ, suc, pos, Ok, Err, arith, rules, length, take, drop, set, get_or, to_z}
-use Rattle.avc_cavlc.proofs.Levels.{of_z, w16, ap, ◌∙◌, sym, length-set, replicate, reverse, ints, drop-replicate, length-replicate, length-take-le}
+use Rattle.avc_cavlc.proofs.Levels.{of_z, w16, ap, ◌∙◌, sym, length-set, replicate, reverse, ints, length-take-le}
 use Rattle.avc_cavlc.proofs.Levels.{length-drop, take-append-drop, reader_bits, run, total_coeff}
-use Rattle.avc_cavlc.proofs.Levels.{placed_by_runs, run_coded, run_more, run_fault, first_runs, no_runs, open_first, open_front, open_more, done_more}
-use Rattle.avc_cavlc.proofs.Levels.{no_coefficients, coefficient_more, front_none, small_none, small_more, value_at}
+use Rattle.avc_cavlc.proofs.Levels.{placed_by_runs, run_coded, run_more, run_fault, no_runs, open_front, open_more, done_more}
+use Rattle.avc_cavlc.proofs.Levels.{coefficient_more, front_none, small_more, value_at}
 use Rattle.avc_cavlc.proofs.runs.read_placed.Goals.{then-values-test+else-k-total, else-values-test}
 use Rattle.avc_cavlc.proofs.runs.read_placed.Goals as goal
 
 pub values-init : goal.values-init
 values-init c =
-    let values = take c.args.total c.args.values.now in
-    let b = reader_bits c.args.reader.now in
-    let first = c.args.total + c.args.zeros in
-    let wide : length c.args.values.now ≡ 16 = c.told-values in
-    let long : length values ≡ c.args.total = length-take-le c.args.total c.args.values.now (omega arith) in
-    let behind : drop first (replicate 16 (pos 0)) ≡ replicate (16 - first) (pos 0) = drop-replicate first 16 (pos 0) in
-    let all : c.args.total ≡ c.args.total - 0 = omega arith in
-    rw c.requires.zero (record {
-      long = length-replicate 16 (pos 0);
-      some = omega arith;
-      place = omega arith;
-      is_open = open_first first 16 c.requires.room;
-      read = rw (behind, ← all) (first_runs 16 values c.args.total c.args.zeros b long (λ e. absurd (omega arith)));
-      bytes = refl;
-      count = ap total_coeff behind ∙ no_coefficients (16 - first);
-      small = λ i. small_none 16 i;
-    })
+    let first = c.place_first-first.ensures.placed in
+    record {
+      long = c.place_first-first.array_long;
+      some = first.some;
+      place = refl;
+      is_open = record { within = omega (arith, first.room, c.place_first-first.array_long); front = first.open_front };
+      read = first.read;
+      bytes = c.place_first-first.ensures.bytes;
+      count = first.placed_count;
+      small = first.small;
+    }
 
 pub returns-in_err-zeros-clause-read : goal.returns-in_err-zeros-clause-read
 returns-in_err-zeros-clause-read c =

@@ -1,0 +1,15 @@
+use Rattle.avc_cavlc.proofs.Levels.{◌-◌, ◌≤◌, passed, take, reader_bits}
+use Rattle.avc_cavlc.proofs.Short.{IsOneMore}
+use Rattle.avc_cavlc.specs.Steps.{left_from}
+use Rattle.avc_cavlc.proofs.level.read_short_levels.Given as goal
+
+abbrev pub invariant-levels : goal.invariant-levels
+invariant-levels l = record {
+  least : l.first ≤ l.k;
+  most : l.k ≤ l.total;
+  few : l.passed ≤ 57;
+  is : IsOneMore l.values l.total l.k l.next (passed (reader_bits l.reader) l.passed) (left_from (take l.first l.fn.values) (l.total - l.first) l.stage (reader_bits l.reader));
+}
+
+abbrev pub decreases-levels : goal.decreases-levels
+decreases-levels l = l.total - l.k
