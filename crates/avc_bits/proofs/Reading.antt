@@ -92,7 +92,7 @@ number-take_lt n bits = pow_lt_trans (number_of (take n bits)) (length (take n b
 
 -- what is left before the stop bit
 pub left_is : (r : BitReader) → left_of r ≡ length (bits_before_stop r.bytes.now) - position_of r
-left_is r = grind (arith, r.stop, r.past)
+left_is r = grind (arith, r.stops, r.past)
 
 -- where some are left none were passed beyond the stop bit
 pub none_beyond : (r : BitReader) → 0 < left_of r → r.beyond ≡ 0

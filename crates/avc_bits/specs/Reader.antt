@@ -17,7 +17,7 @@ position_of r = 8 * r.byte + r.bit + r.beyond
 
 -- how many bits it has ahead
 abbrev pub left_of : BitReader → ℕ
-left_of r = 8 * r.stop_byte + r.stop_bit - (8 * r.byte + r.bit)
+left_of r = 8 * r.near + r.stop - (8 * r.byte + r.bit)
 
 -- how many bits it has passed, and those that stand ahead before the stop bit
 unfoldable pub reader_bits : BitReader → Bits

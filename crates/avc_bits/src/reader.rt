@@ -15,17 +15,18 @@ pub struct BitReader<'a> {
     // the byte of the next bit, and how many bits of that byte were passed
     byte: usize,
     bit: usize,
-    // likewise of the stop bit
-    stop_byte: usize,
-    stop_bit: usize,
+    // the stop bit is far from each byte before this one, and so many bits after the start of it
+    near: usize,
+    stop: usize,
     // how many bits past the stop bit were passed
     beyond: u128,
-    ghost stop: { 8 * stop_byte + stop_bit ≡ length (bits_before_stop bytes.now) },
-    ghost inside: { 8 * stop_byte + stop_bit ≤ 8 * length bytes.now },
-    ghost before: { 8 * byte + bit ≤ 8 * stop_byte + stop_bit },
+    ghost stops: { 8 * near + stop ≡ length (bits_before_stop bytes.now) },
+    ghost inside: { 8 * near + stop ≤ 8 * length bytes.now },
+    ghost before: { 8 * byte + bit ≤ 8 * near + stop },
     ghost narrow: { bit < 8 },
-    ghost stop_narrow: { stop_bit < 8 },
-    ghost past: { 0 < beyond → 8 * byte + bit ≡ 8 * stop_byte + stop_bit },
+    ghost few: { stop < 8 * 33 },
+    ghost far: { 0 < near → 8 * 32 ≤ stop },
+    ghost past: { 0 < beyond → 8 * byte + bit ≡ 8 * near + stop },
     ghost fits: { 8 * byte + bit + beyond < 2 ^ 128 },
 }
 
@@ -87,12 +88,13 @@ impl<'a> BitReader<'a> {
     {
         let stop = stop_bit(bytes);
         let here = position.min(stop);
+        let near = ((stop / 8) as usize).saturating_sub(32);
         BitReader {
             bytes,
             byte: (here / 8) as usize,
             bit: (here % 8) as usize,
-            stop_byte: (stop / 8) as usize,
-            stop_bit: (stop % 8) as usize,
+            near,
+            stop: (stop - 8 * near as u128) as usize,
             beyond: position - here,
         }
     }
@@ -517,8 +519,8 @@ impl<'a> BitReader<'a> {
             bytes: self.bytes,
             byte: self.byte + bits / 8,
             bit: bits % 8,
-            stop_byte: self.stop_byte,
-            stop_bit: self.stop_bit,
+            near: self.near,
+            stop: self.stop,
             beyond: self.beyond,
         }
     }
@@ -535,8 +537,8 @@ impl<'a> BitReader<'a> {
             bytes: self.bytes,
             byte: self.byte + count,
             bit: self.bit,
-            stop_byte: self.stop_byte,
-            stop_bit: self.stop_bit,
+            near: self.near,
+            stop: self.stop,
             beyond: self.beyond,
         }
     }
@@ -544,19 +546,19 @@ impl<'a> BitReader<'a> {
     // whether the stop bit is so far ahead that no test against it is needed
     #[inline(always)]
     fn is_far(&self) -> bool
-        ensures far { IsTrue result → self.now.byte + 33 ≤ self.now.stop_byte }
-        ensures found { self.now.byte + 33 ≤ self.now.stop_byte → IsTrue result }
+        ensures far { IsTrue result → 8 * 33 ≤ left_of self.now + self.now.bit }
+        ensures found { 8 * 33 ≤ left_of self.now + self.now.bit → IsTrue result }
     {
-        self.stop_byte - self.byte > 32
+        self.byte < self.near
     }
 
     // whether the byte with the stop bit is more than so many bytes ahead
     #[inline(always)]
     fn has_more(&self, count: usize) -> bool
-        ensures more { IsTrue result → self.now.byte + count + 1 ≤ self.now.stop_byte }
-        ensures found { self.now.byte + count + 1 ≤ self.now.stop_byte → IsTrue result }
+        ensures more { IsTrue result → 8 * (count + 1) ≤ left_of self.now + self.now.bit }
+        ensures found { 8 * (count + 1) ≤ left_of self.now + self.now.bit → IsTrue result }
     {
-        self.stop_byte - self.byte > count
+        self.near + self.stop / 8 - self.byte > count
     }
 
     // how many bits were passed
@@ -580,7 +582,7 @@ impl<'a> BitReader<'a> {
     fn left(&self) -> u128
         ensures { result ≡ left_of self.now }
     {
-        8 * (self.stop_byte - self.byte) as u128 + self.stop_bit as u128 - self.bit as u128
+        8 * self.near as u128 + self.stop as u128 - 8 * self.byte as u128 - self.bit as u128
     }
 
     // the same, at most so many
