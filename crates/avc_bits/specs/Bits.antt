@@ -34,11 +34,13 @@ or_none None = []
 abbrev pub byte_bits : List ℕ → List Bool
 byte_bits bytes = flat_map (bits_of 8) bytes
 
--- The bits of an RBSP before its stop bit, which is the last 1 bit (7.2); none where there is no 1 bit.
+-- The bits of an RBSP before its stop bit, which is the last 1 bit (7.2); none where there is no 1
+-- bit.
 abbrev pub bits_before_stop : List ℕ → List Bool
 bits_before_stop bytes = or_none (before_last_one (byte_bits bytes))
 
--- What a reader has: how many bits it has passed, and those that stand ahead of it before the stop bit (7.2).
+-- What a reader has: how many bits it has passed, and those that stand ahead of it before the stop
+-- bit (7.2).
 pub record Bits : Type 0 where
   pub position : ℕ
   pub ahead : List Bool

@@ -1,6 +1,6 @@
 -- The codes of syntax elements (7.2, 9.1). A code is a set of codewords with their values. Where a codeword is a
--- prefix of the bits ahead, reading gives its value and what is left; where the bits ahead are a proper prefix of a
--- codeword, Truncated; else the code's own fault.
+-- prefix of the bits ahead, reading gives its value and what is left; where the bits ahead are a
+-- proper prefix of a codeword, Truncated; else the code's own fault.
 use Rattle.std.specs.Prelude.{◌≡◌, ℕ, zero, suc, ◌+◌, ◌-◌, ◌/◌, ◌%◌, ◌^◌, ◌<◌, ◌≤◌, ℤ, pos, neg_ℤ, int_le, Bool, true, false, ◌==◌, ◌&&◌, nat_le, nat_lt, if◌then◌else◌, List, [], ◌∷◌, ◌++◌, length, replicate, Option, Some, None, Result, Ok, Err}
 use Rattle.std.specs.Option.{option_map}
 use Rattle.avc_types.specs.declared.fault.Fault.{Fault}
@@ -87,8 +87,8 @@ u n = bits n >>= λ word. give (number_of word)
 abbrev pub flag : Read Bool
 flag = u 1 >>= λ v. give (v == 1)
 
--- How many zeros stand before the next 1, at most limit; that 1 is read too. With one more zero, the fault
--- (leadingZeroBits, 9.1; level_prefix, 9.2.2.1).
+-- How many zeros stand before the next 1, at most limit; that 1 is read too. With one more zero,
+-- the fault (leadingZeroBits, 9.1; level_prefix, 9.2.2.1).
 abbrev pub zeros : ℕ → Fault → ℕ → List Bool → Result (ℕ × List Bool) Fault
 zeros limit fault seen [] = Err faults.Truncated
 zeros limit fault seen (true ∷ bits) = Ok (seen, bits)
@@ -149,7 +149,7 @@ te_to range = do
 abbrev pub skip : ℕ → Read (Unit {0})
 skip n = bits n >>= λ _. give tt
 
--- To the start of the next byte; no bit where that is here (byte_aligned, 7.2). The bits passed may have any
--- value, by this decoder's rule.
+-- To the start of the next byte; no bit where that is here (byte_aligned, 7.2). The bits passed may
+-- have any value, by this decoder's rule.
 abbrev pub align : Read (Unit {0})
 align b = skip ((8 - b.position % 8) % 8) b

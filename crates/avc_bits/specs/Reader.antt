@@ -28,7 +28,8 @@ pub reader_at : (r : BitReader) → reader_bits r ≡ at (reader_bytes r) (reade
 unfolding reader_bits reader_bytes
 reader_at r = refl
 
--- What was read is what this part of the syntax reads from the bits ahead, and the reader goes on after it.
+-- What was read is what this part of the syntax reads from the bits ahead, and the reader goes on
+-- after it.
 abbrev pub Reads : {V : Type 0} → Result V Fault → Read V → BitReader → BitReader → Type 0
 Reads result read old new = MatchResult result
     (λ value. (read (reader_bits old) ≡ Ok (value, reader_bits new)) × (reader_bytes new ≡ reader_bytes old))

@@ -1,6 +1,7 @@
 //! The bits of bytes as numbers.
 
-ghost use Rattle.std.specs.Prelude.{◌≡◌, ℕ, ◌+◌, ◌-◌, ◌*◌, ◌/◌, ◌%◌, ◌^◌, ◌<◌, ◌≤◌, length, slice_index, take, drop};
+ghost use Rattle.std.specs.Prelude.{◌≡◌, ℕ, ◌+◌, ◌-◌, ◌*◌, ◌/◌, ◌%◌, ◌^◌, ◌<◌, ◌≤◌, length};
+ghost use Rattle.std.specs.Prelude.{slice_index, take, drop};
 ghost use Rattle.avc_bits.specs.Bits.{bits_before_stop, bits_of, byte_bits, number_of};
 
 // the bits at a place, as a number

@@ -5,7 +5,8 @@ ghost use Rattle.std.specs.Prelude.{◌≤◌, ℕ};
 ghost use Rattle.avc_types.specs.declared.fault.Fault.{Fault};
 ghost use Rattle.avc_types.specs.declared.fault.Fault.TheVariants.{CodeTooLong};
 ghost use Rattle.avc_bits.specs.Bits.{Bits};
-ghost use Rattle.avc_bits.specs.Codes.{IsPrefixFree, IsReadBy, IsSe, IsTe, IsU, IsUe, se, te, u, ue};
+ghost use Rattle.avc_bits.specs.Codes.{IsPrefixFree, IsReadBy, IsSe, IsTe, IsU, IsUe, se, te, u};
+ghost use Rattle.avc_bits.specs.Codes.{ue};
 
 /// What `u` reads: its only fault is `Truncated`, since any other fault may be named.
 pub fn u_is_read()

@@ -1,9 +1,13 @@
 //! The bits of an RBSP, and the codes ue(v), se(v) and te(v) in them (7.2, 9.1).
 
-ghost use Rattle.std.specs.Prelude.{◌≡◌, ◌+◌, ◌-◌, ◌*◌, ◌%◌, ◌^◌, ◌<◌, ◌≤◌, ◌≤ℤ◌, ◌<ℤ◌, pos, neg_ℤ, length};
-ghost use Rattle.std.specs.Prelude.{IsTrue, drop, min, take, replicate, ◌++◌, false, IfOk, Err, IfSome, MatchOption, MatchResult, Ok, OnErr};
-ghost use Rattle.avc_bits.specs.Bits.{Bits, at, bits_before_stop, bits_of, byte_bits, more_data, number_of, passed, start, times};
-ghost use Rattle.avc_bits.specs.Codes.{align, flag, se, se_within, signed_value, skip, te, te_to, u, u_to, ue, ue_to, zeros_before_one};
+ghost use Rattle.std.specs.Prelude.{◌≡◌, ◌+◌, ◌-◌, ◌*◌, ◌%◌, ◌^◌, ◌<◌, ◌≤◌, ◌≤ℤ◌, ◌<ℤ◌, pos, neg_ℤ};
+ghost use Rattle.std.specs.Prelude.{length};
+ghost use Rattle.std.specs.Prelude.{IsTrue, drop, min, take, replicate, ◌++◌, false, IfOk, Err};
+ghost use Rattle.std.specs.Prelude.{IfSome, MatchOption, MatchResult, Ok, OnErr};
+ghost use Rattle.avc_bits.specs.Bits.{Bits, at, bits_before_stop, bits_of, byte_bits, more_data};
+ghost use Rattle.avc_bits.specs.Bits.{number_of, passed, start, times};
+ghost use Rattle.avc_bits.specs.Codes.{align, flag, se, se_within, signed_value, skip, te, te_to};
+ghost use Rattle.avc_bits.specs.Codes.{u, u_to, ue, ue_to, zeros_before_one};
 
 use crate::bytes::{bits_at, bytes_at, eight_bytes, field_of_eight, stop_bit};
 use avc_types::Fault;
@@ -30,8 +34,8 @@ pub struct BitReader<'a> {
     ghost fits: { 8 * byte + bit + beyond < 2 ^ 128 },
 }
 
-/// The 57 bits that a reader had ahead when it was asked, so that several elements can be looked at before the reader passes
-/// them.
+/// The 57 bits that a reader had ahead when it was asked, so that several elements can be looked at
+/// before the reader passes them.
 #[derive(Clone, Copy, Debug)]
 pub struct Window {
     // the bits, the first one the most significant; those behind the 57 have any value
@@ -41,8 +45,8 @@ pub struct Window {
 impl Window {
     ghost use Rattle.avc_bits.specs.Reader.{IsWindow};
 
-    /// The bits of the window from the one behind the first `first` on, `count` of them (at most 32), as a number, the most
-    /// significant first.
+    /// The bits of the window from the one behind the first `first` on, `count` of them (at most
+    /// 32), as a number, the most significant first.
     #[inline(always)]
     pub fn bits(self, first: u32, count: u32) -> u32
         requires few { count ≤ 32 }
@@ -70,7 +74,8 @@ struct UeWord {
 }
 
 impl<'a> BitReader<'a> {
-    ghost use Rattle.avc_bits.specs.Reader.{IsUeWord, IsWindow, IsZerosAndBits, Reads, leading, left_of, position_of, reader_bits, reader_bytes};
+    ghost use Rattle.avc_bits.specs.Reader.{IsUeWord, IsWindow, IsZerosAndBits, Reads, leading};
+    ghost use Rattle.avc_bits.specs.Reader.{left_of, position_of, reader_bits, reader_bytes};
 
     /// A reader at the first bit of an RBSP.
     pub fn new(bytes: &'a [u8]) -> Self
@@ -115,8 +120,8 @@ impl<'a> BitReader<'a> {
         self.left() > 0
     }
 
-    /// Whether surely 256 bits or more stand ahead: it is where 264 do. Where they do, a caller that asks first has each look and
-    /// skip without a test of its own.
+    /// Whether surely 256 bits or more stand ahead: it is where 264 do. Where they do, a caller
+    /// that asks first has each look and skip without a test of its own.
     #[tactic(auto, using(crate::proofs::Reading::reading))]
     #[inline(always)]
     pub fn has_many(&self) -> bool
@@ -126,8 +131,8 @@ impl<'a> BitReader<'a> {
         self.is_far()
     }
 
-    /// Whether surely so many bytes stand ahead: it is where one more does. A caller that asks once for several elements has them
-    /// without a test of each.
+    /// Whether surely so many bytes stand ahead: it is where one more does. A caller that asks once
+    /// for several elements has them without a test of each.
     #[tactic(auto, using(crate::proofs::Reading::reading))]
     #[inline(always)]
     pub fn has_bytes(&self, count: usize) -> bool
@@ -137,7 +142,8 @@ impl<'a> BitReader<'a> {
         self.has_more(count)
     }
 
-    /// The next bits, at most 32, as a number, the most significant first; zeros from the stop bit on. Nothing is passed.
+    /// The next bits, at most 32, as a number, the most significant first; zeros from the stop bit
+    /// on. Nothing is passed.
     #[inline(always)]
     pub fn peek(&self, count: u32) -> u32
         requires { count ≤ 32 }
@@ -263,8 +269,9 @@ impl<'a> BitReader<'a> {
         Ok(zeros)
     }
 
-    /// How many zeros stand before the next 1, at most `most`, and u(count) behind that 1, both passed; `None` where they
-    /// are more, or where the stop bit may be near. Nothing is then passed.
+    /// How many zeros stand before the next 1, at most `most`, and u(count) behind that 1, both
+    /// passed; `None` where they are more, or where the stop bit may be near. Nothing is then
+    /// passed.
     #[tactic(auto, using(crate::proofs::Reading::reading))]
     #[inline]
     pub fn zeros_and_bits(&mut self, most: u32, count: u32) -> Option<(u32, u32)>
@@ -278,7 +285,8 @@ impl<'a> BitReader<'a> {
         self.zeros_and_bits_ahead(most, count)
     }
 
-    /// The number of zeros in front and the bits behind them where 64 bits stand ahead, which is not tested: `None` where the zeros are more.
+    /// The number of zeros in front and the bits behind them where 64 bits stand ahead, which is
+    /// not tested: `None` where the zeros are more.
     #[tactic(auto, using(crate::proofs::Reading::reading))]
     #[inline(always)]
     pub fn zeros_and_bits_ahead(&mut self, most: u32, count: u32) -> Option<(u32, u32)>
@@ -297,7 +305,8 @@ impl<'a> BitReader<'a> {
         Some((zeros, value as u32))
     }
 
-    /// ue(v) (9.1): n zeros, a 1 and n bits, which is a number up to 2^32 - 2; `CodeTooLong` where n is above 31.
+    /// ue(v) (9.1): n zeros, a 1 and n bits, which is a number up to 2^32 - 2; `CodeTooLong` where
+    /// n is above 31.
     #[inline]
     pub fn ue(&mut self) -> Result<u32, Fault>
         ensures read { Reads result ue self.old self.new }
@@ -484,7 +493,8 @@ impl<'a> BitReader<'a> {
         self.skip(count)
     }
 
-    /// The next `count` bytes, at least one, from the start of a byte on: u(8) so many times, or `Truncated`.
+    /// The next `count` bytes, at least one, from the start of a byte on: u(8) so many times, or
+    /// `Truncated`.
     #[tactic(auto, using(crate::proofs::Reading::reading))]
     #[inline]
     pub fn take_bytes(&mut self, count: usize) -> Result<&'a [u8], Fault>

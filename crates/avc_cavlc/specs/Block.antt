@@ -22,13 +22,14 @@ suffix_size prefix suffix_length =
 abbrev pub level_of_code : ℕ → ℤ
 level_of_code code = if code % 2 == 0 then pos ((code + 2) / 2) else neg_ℤ (pos ((code + 1) / 2))
 
--- levelCode from level_prefix and level_suffix (9.2.2); above_one: the level is known to be above 1 in size
+-- levelCode from level_prefix and level_suffix (9.2.2); above_one: the level is known to be above 1
+-- in size
 abbrev pub level_code : (prefix suffix_length suffix : ℕ) → (above_one : Bool) → ℕ
 level_code prefix suffix_length suffix above_one =
     prefix * 2 ^ suffix_length + suffix + (if prefix == 15 && suffix_length == 0 then 15 else 0) + (if above_one then 2 else 0)
 
--- one level_prefix and level_suffix (9.2.2, 9.2.2.1); a level_prefix above 15, which the profiles taken here
--- don't allow (A.2), is BadCode
+-- one level_prefix and level_suffix (9.2.2, 9.2.2.1); a level_prefix above 15, which the profiles
+-- taken here don't allow (A.2), is BadCode
 abbrev pub level : (suffix_length : ℕ) → (above_one : Bool) → Read ℤ
 level suffix_length above_one = do
   prefix ← zeros_before_one 15 faults.BadCode
@@ -58,8 +59,8 @@ token_levels t = do
 
 -- ---- runs (9.2.3, 9.2.4)
 
--- The zeros before a coefficient, where so many others come after it: the last one has all that are left, and where none
--- are left the run is not coded (9.2.3).
+-- The zeros before a coefficient, where so many others come after it: the last one has all that are
+-- left, and where none are left the run is not coded (9.2.3).
 abbrev pub run : (others zeros_left : ℕ) → Read ℕ
 run zero zeros_left = give zeros_left
 run (suc others) zero = give 0
@@ -83,8 +84,8 @@ abbrev pub placed : (max : ℕ) → List ℤ → List ℕ → List ℤ
 placed max values zero_runs =
     let found = each_after_zeros values zero_runs in found ++ replicate (max - length found) (pos 0)
 
--- residual_block_cavlc with max coefficients (4 for chroma DC, 15 or 16), where nc is -1 for chroma DC
--- (7.3.5.3.2). TooManyCoefficients is this decoder's rule.
+-- residual_block_cavlc with max coefficients (4 for chroma DC, 15 or 16), where nc is -1 for chroma
+-- DC (7.3.5.3.2). TooManyCoefficients is this decoder's rule.
 abbrev pub residual_block : (max : ℕ) → (nc : ℤ) → Read (List ℤ)
 residual_block max nc = do
   t ← coeff_token nc

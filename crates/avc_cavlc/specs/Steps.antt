@@ -10,7 +10,8 @@ use Rattle.avc_cavlc.specs.declared.level.LongCode.{LongCode}
 use Rattle.avc_types.specs.Macroblock.{total_coeff}
 use Rattle.avc_cavlc.specs.Block.{IsLevel, IsSmall, each_after_zeros, level, level_of_code, levels, next_suffix_length, placed, runs}
 
--- What was read into a place is what this part of the syntax reads, and the reader goes on after it.
+-- What was read into a place is what this part of the syntax reads, and the reader goes on after
+-- it.
 abbrev pub ReadsInto : {V A : Type 0} → Result V Fault → A → Read A → BitReader → BitReader → Type 0
 ReadsInto result value read old new = MatchResult result
     (λ _. (read (reader_bits old) ≡ Ok (value, reader_bits new)) × (reader_bytes new ≡ reader_bytes old))
@@ -28,7 +29,8 @@ ReadsLevel result read old new = MatchResult result
     (λ l. (read (reader_bits old) ≡ Ok (l.value, reader_bits new)) × (reader_bytes new ≡ reader_bytes old))
     (λ fault. read (reader_bits old) ≡ Err fault)
 
--- The levelCode is that of the level that this part of the syntax reads, and its length is that of what is read.
+-- The levelCode is that of the level that this part of the syntax reads, and its length is that of
+-- what is read.
 abbrev pub IsLongCode : Result LongCode Fault → Read ℤ → Bits → Type 0
 IsLongCode result read b = MatchResult result
     (λ code. (read b ≡ Ok (level_of_code code.number, passed b code.length)) × (code.length ≤ length b.ahead))
@@ -55,8 +57,8 @@ placed_by_runs max values n zeros = runs n zeros >>= λ zero_runs. give (placed 
 abbrev pub placed_before : (done values : List ℤ) → (n zeros_left : ℕ) → Read (List ℤ)
 placed_before done values n zeros_left = runs n zeros_left >>= λ zero_runs. give (each_after_zeros values zero_runs ++ done)
 
--- So many of the values of a block of 16 stand in their places, with those of the zeros that stand between them: what is left
--- to read, where the others and so many zeros are left.
+-- So many of the values of a block of 16 stand in their places, with those of the zeros that stand
+-- between them: what is left to read, where the others and so many zeros are left.
 pub record ArePlaced (values : List ℤ) (total zeros count zeros_left : ℕ) (block : List ℤ) (before after : Bits) : Type 0 where
   pub some : count < total
   pub room : total - count + zeros_left ≤ 16
@@ -80,7 +82,8 @@ stage_above stage = nat_lt 6 stage
 abbrev pub left_from : (done : List ℤ) → (n stage : ℕ) → Read (List ℤ)
 left_from done n stage = levels_after done n (stage_length stage) (stage_above stage)
 
--- The levels from `first` to `count` of the old values were read into the new ones: what is left to read, from the stage `next` on.
+-- The levels from `first` to `count` of the old values were read into the new ones: what is left to
+-- read, from the stage `next` on.
 pub record AreRead (total first stage : ℕ) (old : List ℤ) (before : BitReader) (count next : ℕ) (new : List ℤ) (after : BitReader) : Type 0 where
   pub least : first ≤ count
   pub most : count ≤ total
@@ -89,7 +92,8 @@ pub record AreRead (total first stage : ℕ) (old : List ℤ) (before : BitReade
   pub bytes : reader_bytes after ≡ reader_bytes before
   pub size : All IsLevel (take count new)
 
--- What seven bits say of the level whose codeword they begin with (9.2.2); a length of 0 where none is so short.
+-- What seven bits say of the level whose codeword they begin with (9.2.2); a length of 0 where none
+-- is so short.
 unfoldable pub short_level : (stage bits : ℕ) → Level
 short_level stage bits =
     elim (level (stage_length stage) (stage_above stage) (record { position = 0; ahead = bits_of 7 bits })) [

@@ -1,5 +1,6 @@
 //! Residual blocks (7.3.5.3.2).
-ghost use Rattle.std.specs.Prelude.{◌≡◌, ◌+◌, ◌-◌, ◌≤◌, ◌<◌, ℕ, ℤ, pos, slice_index_or, take, drop, replicate, IfOk, OnErr};
+ghost use Rattle.std.specs.Prelude.{◌≡◌, ◌+◌, ◌-◌, ◌≤◌, ◌<◌, ℕ, ℤ, pos, slice_index_or, take, drop};
+ghost use Rattle.std.specs.Prelude.{replicate, IfOk, OnErr};
 ghost use Rattle.avc_types.specs.Macroblock.{total_coeff};
 ghost use Rattle.avc_bits.specs.Reader.{Reads};
 ghost use Rattle.avc_cavlc.specs.Block.{IsSmall, residual_block};
@@ -11,9 +12,9 @@ use avc_bits::BitReader;
 use avc_types::{Fault, Levels};
 use avc_vlc::{pass_no_levels, read_coeff_token, read_total_zeros};
 
-/// Reads the MAXN levels of a block (residual_block_cavlc): 4 of chroma DC, where `nc` is -1, or 15 or 16, where it is nC.
-/// Answers `Truncated`, `BadCode`, or `TooManyCoefficients` where TotalCoeff and total_zeros are more than MAXN; the
-/// reader then stays. Each level is from -2,528 to 2,528.
+/// Reads the MAXN levels of a block (residual_block_cavlc): 4 of chroma DC, where `nc` is -1, or 15
+/// or 16, where it is nC. Answers `Truncated`, `BadCode`, or `TooManyCoefficients` where TotalCoeff
+/// and total_zeros are more than MAXN; the reader then stays. Each level is from -2,528 to 2,528.
 #[inline(always)]
 pub fn read_block<const MAXN: usize>(reader: &mut BitReader, nc: i8) -> Result<Levels<MAXN>, Fault>
     requires { MAXN ≤ 16 }
@@ -36,9 +37,9 @@ pub fn read_block<const MAXN: usize>(reader: &mut BitReader, nc: i8) -> Result<L
     }
 }
 
-/// Reads the first `max` levels of a block of zeros, from the lowest frequency on, and answers how many of them are not 0
-/// (total_coeff). What is behind them stays 0. `max` and `nc` are as MAXN and `nc` of `read_block`, and so are the
-/// faults, after which the block has any value.
+/// Reads the first `max` levels of a block of zeros, from the lowest frequency on, and answers how
+/// many of them are not 0 (total_coeff). What is behind them stays 0. `max` and `nc` are as MAXN
+/// and `nc` of `read_block`, and so are the faults, after which the block has any value.
 #[inline(never)]
 pub fn read_block_into(
     reader: &mut BitReader,

@@ -1,10 +1,16 @@
 //! Levels that are not 0 (9.2.2).
-ghost use Rattle.std.specs.Prelude.{◌≡◌, ◌+◌, ◌-◌, ◌*◌, ◌/◌, ◌%◌, ◌==◌, ◌^◌, ◌≤◌, ◌<◌, ℤ, pos, length, take, nat_abs, nat_lt, ◌&&◌, if◌then◌else◌, IfOk, IsTrue, MatchOption, All};
+ghost use Rattle.std.specs.Prelude.{◌≡◌, ◌+◌, ◌-◌, ◌*◌, ◌/◌, ◌%◌, ◌==◌, ◌^◌, ◌≤◌, ◌<◌, ℤ, pos};
+ghost use Rattle.std.specs.Prelude.{length, take, nat_abs, nat_lt, ◌&&◌, if◌then◌else◌, IfOk};
+ghost use Rattle.std.specs.Prelude.{IsTrue, MatchOption, All};
 ghost use Rattle.avc_bits.specs.Bits.{times};
 ghost use Rattle.avc_bits.specs.Reader.{reader_bits};
 ghost use Rattle.avc_vlc.specs.Reading.{IsToken};
-ghost use Rattle.avc_cavlc.specs.Block.{IsLevel, level, level_code, level_of_code, next_suffix_length, suffix_size, token_levels, trailing_one};
-ghost use Rattle.avc_cavlc.specs.Steps.{AreRead, AreShortLevels, IsLongCode, ReadsCode, ReadsInto, ReadsLevel, left_from, one_of_sign, raised, short_level, stage_above, stage_length};
+ghost use Rattle.avc_cavlc.specs.Block.{IsLevel, level, level_code, level_of_code};
+ghost use Rattle.avc_cavlc.specs.Block.{next_suffix_length, suffix_size, token_levels};
+ghost use Rattle.avc_cavlc.specs.Block.{trailing_one};
+ghost use Rattle.avc_cavlc.specs.Steps.{AreRead, AreShortLevels, IsLongCode, ReadsCode, ReadsInto};
+ghost use Rattle.avc_cavlc.specs.Steps.{ReadsLevel, left_from, one_of_sign, raised, short_level};
+ghost use Rattle.avc_cavlc.specs.Steps.{stage_above, stage_length};
 
 use avc_bits::BitReader;
 use avc_types::Fault;
@@ -13,16 +19,18 @@ use avc_vlc::Token;
 /// The greatest suffixLength.
 const MOST_SUFFIX_BITS: u32 = 6;
 
-// The stage of a level that comes after others is its suffixLength; that of the first one is greater by this, where its
-// size is known to be above 1.
+// The stage of a level that comes after others is its suffixLength; that of the first one is
+// greater by this, where its size is known to be above 1.
 const ABOVE_ONE: u8 = 7;
 
-// How many bits a table of short levels looks at, and the last place in a window of 57 bits at which so many stand.
+// How many bits a table of short levels looks at, and the last place in a window of 57 bits at
+// which so many stand.
 const SHORT_BITS: u32 = 7;
 
 const LAST_SHORT: u32 = 57 - SHORT_BITS;
 
-// A level, how many bits its codeword has, which is 0 where it has more than seven, and the stage of the level after it.
+// A level, how many bits its codeword has, which is 0 where it has more than seven, and the stage
+// of the level after it.
 #[derive(Clone, Copy)]
 struct Level {
     value: i16,
@@ -30,7 +38,8 @@ struct Level {
     next: u8,
 }
 
-/// Reads the levels of a block that are not 0, the highest frequency first, into the first of the values.
+/// Reads the levels of a block that are not 0, the highest frequency first, into the first of the
+/// values.
 #[inline(always)]
 pub(crate) fn read_levels(
     reader: &mut BitReader,
@@ -147,7 +156,8 @@ fn read_others(
     Ok(())
 }
 
-// The levels from `first` on whose codewords are short and stand in one window; none of them where the stop bit may be near.
+// The levels from `first` on whose codewords are short and stand in one window; none of them where
+// the stop bit may be near.
 #[inline(always)]
 fn read_window(
     reader: &mut BitReader,
@@ -288,7 +298,8 @@ fn stage_above(stage: u8) -> bool
     stage >= ABOVE_ONE
 }
 
-// levelCode of one level that is no trailing one; above_one says that its size is known to be above 1.
+// levelCode of one level that is no trailing one; above_one says that its size is known to be above
+// 1.
 #[inline(always)]
 fn read_level_code(
     reader: &mut BitReader,
@@ -345,7 +356,8 @@ fn long_code(reader: BitReader, suffix_length: u32, above_one: bool) -> Result<L
     })
 }
 
-/// How many suffix bits follow a prefix (levelSuffixSize), where `suffix_length` (suffixLength) is at most 6.
+/// How many suffix bits follow a prefix (levelSuffixSize), where `suffix_length` (suffixLength) is
+/// at most 6.
 #[inline]
 pub fn suffix_size(prefix: u32, suffix_length: u32) -> u32
     requires { suffix_length ≤ 6 }
@@ -361,7 +373,8 @@ pub fn suffix_size(prefix: u32, suffix_length: u32) -> u32
     }
 }
 
-/// levelCode of a prefix up to 15 and its suffix; `above_one` says that the level's size is known to be above 1.
+/// levelCode of a prefix up to 15 and its suffix; `above_one` says that the level's size is known
+/// to be above 1.
 #[inline]
 pub fn level_code(prefix: u32, suffix_length: u32, suffix: u32, above_one: bool) -> u32
     requires prefix { prefix ≤ 15 }
@@ -428,8 +441,8 @@ fn raised(suffix_length: u32, size: u32) -> u32
     }
 }
 
-// What seven bits say that begin with so many zeros, at a suffixLength. levelCode is greater by `above`, and the suffixLength
-// after it is `least`, or 1 more where the size is above `limit`.
+// What seven bits say that begin with so many zeros, at a suffixLength. levelCode is greater by
+// `above`, and the suffixLength after it is `least`, or 1 more where the size is above `limit`.
 macro_rules! short_level {
     ($suffix_length:literal, $least:literal, $limit:literal, $above:literal, $zeros:literal, $bits:expr) => {
         level_of!(

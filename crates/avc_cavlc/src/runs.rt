@@ -1,5 +1,6 @@
 //! The places of the levels (9.2.3).
-ghost use Rattle.std.specs.Prelude.{◌≡◌, ◌+◌, ◌-◌, ◌≤◌, ◌<◌, ◌++◌, ℕ, ℤ, pos, List, drop, length, replicate, reverse, slice_index_or, take, IfOk, All};
+ghost use Rattle.std.specs.Prelude.{◌≡◌, ◌+◌, ◌-◌, ◌≤◌, ◌<◌, ◌++◌, ℕ, ℤ, pos, List, drop, length};
+ghost use Rattle.std.specs.Prelude.{replicate, reverse, slice_index_or, take, IfOk, All};
 ghost use Rattle.avc_types.specs.Macroblock.{total_coeff};
 ghost use Rattle.avc_cavlc.specs.Block.{IsLevel, IsSmall};
 ghost use Rattle.avc_cavlc.specs.Steps.{ArePlaced, ReadsInto, placed_by_runs};
@@ -17,8 +18,8 @@ struct Placement {
     zeros_left: u8,
 }
 
-/// Reads the run of zeros before each of the first `total` values, and puts the values in their places in a block of
-/// zeros. `zeros` is how many zeros stand before the last of them.
+/// Reads the run of zeros before each of the first `total` values, and puts the values in their
+/// places in a block of zeros. `zeros` is how many zeros stand before the last of them.
 #[inline(always)]
 pub(crate) fn read_placed(
     reader: &mut BitReader,
@@ -51,7 +52,8 @@ pub(crate) fn read_placed(
     Ok(())
 }
 
-// Places the first values: as many as have short codewords of run_before, where the stop bit is not near.
+// Places the first values: as many as have short codewords of run_before, where the stop bit is not
+// near.
 #[inline(always)]
 fn place_first(
     reader: &mut BitReader,
@@ -112,8 +114,8 @@ struct WindowPlacement {
     length: u8,
 }
 
-// The same by one window, which has three bits for each value. It is no part of its caller, whose values would take the
-// registers of the loop.
+// The same by one window, which has three bits for each value. It is no part of its caller, whose
+// values would take the registers of the loop.
 #[inline(never)]
 fn place_by_window(
     window: Window,
@@ -154,7 +156,8 @@ fn place_by_window(
     }
 }
 
-// Puts the values from the first one on into the places behind so many zeros, the last one in front.
+// Puts the values from the first one on into the places behind so many zeros, the last one in
+// front.
 #[inline(always)]
 fn place_others(values: &[i16; 16], first: usize, total: usize, zeros: usize, block: &mut [i16; 16])
     requires some { first ≤ total }

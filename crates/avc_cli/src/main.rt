@@ -134,7 +134,12 @@ fn tell_end<R>(
             if is_told_more {
                 tell_outcome(rt, outcome, watch.passed(), input.first());
             }
-            ended_status(request.manner.is_strict, &request.task, outcome.pictures, status)
+            ended_status(
+                request.manner.is_strict,
+                &request.task,
+                outcome.pictures,
+                status,
+            )
         }
         None => status,
     }

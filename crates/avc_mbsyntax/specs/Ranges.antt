@@ -19,7 +19,8 @@ pub record IsResidual (r : Residual) : Type 0 where
   pub blocks_of_cb : All AreSmall r.cb_ac
   pub blocks_of_cr : All AreSmall r.cr_ac
 
--- rem_intra4x4_pred_mode, intra_chroma_pred_mode, Intra16x16PredMode and ref_idx_l0 are in their ranges
+-- rem_intra4x4_pred_mode, intra_chroma_pred_mode, Intra16x16PredMode and ref_idx_l0 are in their
+-- ranges
 abbrev pub IsSyntax : (num_ref_idx_active : ℕ) → MbSyntax → Type 0
 IsSyntax num_ref_idx_active p_skip = Unit {0}
 IsSyntax num_ref_idx_active (i_pcm luma cb cr) = Unit {0}

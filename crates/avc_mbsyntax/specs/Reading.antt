@@ -27,7 +27,8 @@ abbrev pub block_where : (max : ℕ) → (coded : Bool) → (nC : ℕ) → Read 
 block_where max true nC = residual_block max (pos nC)
 block_where max false nC = give (no_levels max)
 
--- Further blocks of a component, after those done, each of max levels where it is coded (7.3.5.3, 7.3.5.3.1).
+-- Further blocks of a component, after those done, each of max levels where it is coded (7.3.5.3,
+-- 7.3.5.3.1).
 unfoldable pub blocks : (max size : ℕ) → (coded : ℕ → Bool) → (left up : Option (List ℕ)) → (numbers : List ℕ) → (done : List (List ℤ)) → Read (List (List ℤ))
 blocks max size coded left up [] done = give done
 blocks max size coded left up (k ∷ numbers) done = do
@@ -140,7 +141,8 @@ i_16x16_mb c n = do
   r ← residual c true (luma_pattern_of n) ((n / 4) % 3) delta
   give (with_residual c r (i_16x16 (n % 4) chroma_mode r))
 
--- an I_PCM macroblock, behind pcm_alignment_zero_bit: 256 luma samples, 64 Cb and 64 Cr samples (7.3.5)
+-- an I_PCM macroblock, behind pcm_alignment_zero_bit: 256 luma samples, 64 Cb and 64 Cr samples
+-- (7.3.5)
 abbrev pub i_pcm_mb : Context → Read Mb
 i_pcm_mb c = do
   align

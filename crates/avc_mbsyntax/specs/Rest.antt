@@ -19,7 +19,8 @@ after_skipped s count before qp b =
     after (replicate count (skipped qp))
     (after_run s (before ++ replicate count (placed s (skipped qp))) qp b (λ before' qp' b'. p_data s (s.size - length before') before' qp' b'))
 
--- The rest of the data at a stage; `before` is the picture up to here, and qp that of the macroblock before in the slice.
+-- The rest of the data at a stage; `before` is the picture up to here, and qp that of the
+-- macroblock before in the slice.
 abbrev pub rest_at : Stage → SliceStart → (before : List PicMb) → (qp : ℕ) → Bits → SliceMbs
 rest_at Next s before qp b = data_from s before qp b
 rest_at (Skipped count) s before qp b = after_skipped s count before qp b
@@ -47,7 +48,8 @@ pub record IsOfSlice (s : SliceStart) (mb : Mb) : Type 0 where
   pub range : IsSyntax s.num_ref_idx_active mb.syntax
   pub quantiser : s.qp ≤ 51 → mb.qp ≤ 51
 
--- what is handed out by a call that answers whether there is a macroblock, which then stands in this place
+-- what is handed out by a call that answers whether there is a macroblock, which then stands in
+-- this place
 abbrev pub handed_out : Result Bool Fault → (place : Mb) → Result (Option Mb) Fault
 handed_out (Ok true) place = Ok (Some place)
 handed_out (Ok false) place = Ok None
@@ -58,7 +60,8 @@ abbrev pub read_out : Result (Unit {0}) Fault → (place : Mb) → Result Mb Fau
 read_out (Ok _) place = Ok place
 read_out (Err f) place = Err f
 
--- What is handed out is the first of the rest, and then the others are the rest. A fault comes again.
+-- What is handed out is the first of the rest, and then the others are the rest. A fault comes
+-- again.
 abbrev pub IsHandedOut : SliceStart → (before : List PicMb) → Result (Option Mb) Fault → SliceData → SliceData → Type 0
 IsHandedOut s before (Ok (Some mb)) old new =
     (rest_of s before old ≡ after (mb ∷ []) (rest_of s (before ++ placed s mb ∷ []) new)) × Follows s (before ++ placed s mb ∷ []) new × IsOfSlice s mb
@@ -77,7 +80,8 @@ one_more s before qp b =
           ]
     ]
 
--- What reading one coded macroblock says of the rest: it is the first of it, or the fault stops there.
+-- What reading one coded macroblock says of the rest: it is the first of it, or the fault stops
+-- there.
 abbrev pub IsOneMore : SliceStart → (before : List PicMb) → Result Mb Fault → SliceData → SliceData → Type 0
 IsOneMore s before (Ok mb) old new =
     (one_more s before old.qp (reader_bits old.reader) ≡ after (mb ∷ []) (rest_of s (before ++ placed s mb ∷ []) new)) × Follows s (before ++ placed s mb ∷ []) new × IsOfSlice s mb

@@ -25,7 +25,8 @@ pub record SliceStart : Type 0 where
   pub width : ℕ
   pub size : ℕ
 
--- The macroblocks that could be read, in decoding order, and the fault that came then (this decoder's rule).
+-- The macroblocks that could be read, in decoding order, and the fault that came then (this
+-- decoder's rule).
 pub record SliceMbs : Type 0 where
   pub mbs : List Mb
   pub fault : Option Fault
@@ -59,8 +60,8 @@ left_total_coeffs s before = option_map (λ m. total_coeffs_of m.syntax) (left_o
 abbrev pub up_total_coeffs : SliceStart → (before : List PicMb) → Option TotalCoeffs
 up_total_coeffs s before = option_map (λ m. total_coeffs_of m.syntax) (above before s.width s.slice (length before))
 
--- The next macroblock's context: `before` is the picture up to it, qp that of the macroblock before in the
--- slice (QP_Y,PRED, 7.4.5).
+-- The next macroblock's context: `before` is the picture up to it, qp that of the macroblock before
+-- in the slice (QP_Y,PRED, 7.4.5).
 abbrev pub context : SliceStart → (before : List PicMb) → (qp : ℕ) → Context
 context s before qp = record {
   is_p = s.is_p;
@@ -74,12 +75,13 @@ context s before qp = record {
 abbrev pub where_more_data : Bits → SliceMbs → SliceMbs
 where_more_data b rest = elim (more_data b) [ true ↦ rest | false ↦ ended ]
 
--- the rest where the picture has room for a macroblock more, else TooManyMacroblocks (this decoder's rule)
+-- the rest where the picture has room for a macroblock more, else TooManyMacroblocks (this
+-- decoder's rule)
 abbrev pub where_room : SliceStart → (before : List PicMb) → SliceMbs → SliceMbs
 where_room s before rest = elim (length before == s.size) [ true ↦ stopped faults.TooManyMacroblocks | false ↦ rest ]
 
--- A macroblock that is read, with what is left, and then `next` where there is more data (7.3.4): with the picture
--- up to there, its QP_Y and what is left. Where it cannot be read, its fault.
+-- A macroblock that is read, with what is left, and then `next` where there is more data (7.3.4):
+-- with the picture up to there, its QP_Y and what is left. Where it cannot be read, its fault.
 abbrev pub from_macroblock : SliceStart → (before : List PicMb) → (next : List PicMb → ℕ → Bits → SliceMbs) → Result (Mb × Bits) Fault → SliceMbs
 from_macroblock s before next (Err f) = stopped f
 from_macroblock s before next (Ok (mb, left)) =
@@ -98,8 +100,9 @@ abbrev pub after_run : SliceStart → (before : List PicMb) → (qp : ℕ) → B
 after_run s before qp b next =
     where_more_data b (where_room s before (from_macroblock s before next (macroblock (context s before qp) b)))
 
--- A run of skipped macroblocks that is read (mb_skip_run), with what is left, and then as after_run says (7.3.4); or the
--- fault. TooManyMacroblocks, where the picture has no room for them, is this decoder's rule.
+-- A run of skipped macroblocks that is read (mb_skip_run), with what is left, and then as after_run
+-- says (7.3.4); or the fault. TooManyMacroblocks, where the picture has no room for them, is this
+-- decoder's rule.
 abbrev pub from_run : SliceStart → (before : List PicMb) → (qp : ℕ) → (next : List PicMb → ℕ → Bits → SliceMbs) → Result (ℕ × Bits) Fault → SliceMbs
 from_run s before qp next (Err f) = stopped f
 from_run s before qp next (Ok (run, left)) = elim (nat_lt (s.size - length before) run) [
@@ -107,8 +110,9 @@ from_run s before qp next (Ok (run, left)) = elim (nat_lt (s.size - length befor
   | false ↦ after (replicate run (skipped qp)) (after_run s (before ++ replicate run (placed s (skipped qp))) qp left next)
 ]
 
--- In a P slice, in so many turns at most: mb_skip_run, then as from_run says (7.3.4). There are as many
--- turns as macroblocks remain, since each but the last reads one. TooManyMacroblocks is this decoder's rule.
+-- In a P slice, in so many turns at most: mb_skip_run, then as from_run says (7.3.4). There are as
+-- many turns as macroblocks remain, since each but the last reads one. TooManyMacroblocks is this
+-- decoder's rule.
 abbrev pub p_data : SliceStart → (turns : ℕ) → (before : List PicMb) → (qp : ℕ) → Bits → SliceMbs
 p_data s zero before qp b = stopped faults.TooManyMacroblocks
 p_data s (suc turns) before qp b = where_room s before (from_run s before qp (p_data s turns) (ue b))
@@ -122,6 +126,7 @@ data_from s before qp b =
       | false ↦ i_data s (s.size - length before) before qp b
     ]
 
--- slice_data of a slice that goes on after `before`, the macroblocks of the picture's earlier slices (7.3.4).
+-- slice_data of a slice that goes on after `before`, the macroblocks of the picture's earlier
+-- slices (7.3.4).
 abbrev pub slice_data : SliceStart → (before : List PicMb) → Bits → SliceMbs
 slice_data s before b = data_from s before s.qp b

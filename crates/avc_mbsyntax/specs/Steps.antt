@@ -15,8 +15,8 @@ use Rattle.avc_mbsyntax.specs.Reading.{no_levels}
 use Rattle.avc_mbsyntax.specs.declared.context.Context.{Context}
 use Rattle.avc_mbsyntax.specs.declared.context.LentContext.{LentContext}
 
--- What was read into a place is what this part of the syntax reads, and the reader goes on after it. After a fault
--- anything may stand there.
+-- What was read into a place is what this part of the syntax reads, and the reader goes on after
+-- it. After a fault anything may stand there.
 abbrev pub ReadsInto : {V : Type 0} → Result (Unit {0}) Fault → (value : V) → Read V → BitReader → BitReader → Type 0
 ReadsInto result value read old new = MatchResult result
     (λ _. (read (reader_bits old) ≡ Ok (value, reader_bits new)) × (reader_bytes new ≡ reader_bytes old))

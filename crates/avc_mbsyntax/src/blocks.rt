@@ -35,8 +35,8 @@ pub(crate) fn read_luma_dc(
     read_coded(reader, nc_luma(left, up, &[0; 16], 0))
 }
 
-/// Reads the luma blocks, of which those are coded whose quarter has its bit in the pattern; the levels of the others
-/// become 0.
+/// Reads the luma blocks, of which those are coded whose quarter has its bit in the pattern; the
+/// levels of the others become 0.
 pub(crate) fn read_luma_blocks<const MAXN: usize>(
     reader: &mut BitReader,
     luma_pattern: u8,

@@ -1,6 +1,7 @@
 //! Inter macroblocks whose vectors are coded (7.3.5, 7.3.5.1, 7.3.5.2).
 ghost use Rattle.std.specs.Prelude.{◌≡◌, ◌≤◌, length, replicate, take, IfOk, All, ◌-◌};
-ghost use Rattle.avc_types.specs.Macroblock.{parts_of, parts_of_quarter, parts_of_quarters, partitions};
+ghost use Rattle.avc_types.specs.Macroblock.{parts_of, parts_of_quarter, parts_of_quarters};
+ghost use Rattle.avc_types.specs.Macroblock.{partitions};
 ghost use Rattle.avc_types.specs.declared.mb.Syntax.TheVariants.{PInter};
 ghost use Rattle.avc_bits.specs.Bits.{times};
 ghost use Rattle.avc_bits.specs.Reader.{Reads};
@@ -46,7 +47,8 @@ pub(crate) fn read_p_mb(
     Ok(())
 }
 
-// An inter macroblock of this type with these reference indices; the rest is what stands there from one before, or nothing.
+// An inter macroblock of this type with these reference indices; the rest is what stands there from
+// one before, or nothing.
 fn set_inter(syntax: &mut Syntax, mb_type: PMbType, ref_idx: [u8; 4])
     ensures { syntax.new ≡ PInter mb_type ref_idx (mvd_in syntax.old) (inter_levels_in syntax.old) }
 {

@@ -3,7 +3,8 @@ ghost use Rattle.std.specs.Prelude.{◌≡◌, ◌≤◌, true, IfOk, All, IfSom
 ghost use Rattle.avc_types.specs.declared.mb.Syntax.TheVariants.{I16x16, INxN};
 ghost use Rattle.avc_bits.specs.Bits.{times};
 ghost use Rattle.avc_mbsyntax.specs.Ranges.{IsSyntax};
-ghost use Rattle.avc_mbsyntax.specs.Reading.{block_mode, i_16x16_mb, i_mb, i_nxn_mb, i_pcm_mb, luma_pattern_of};
+ghost use Rattle.avc_mbsyntax.specs.Reading.{block_mode, i_16x16_mb, i_mb, i_nxn_mb, i_pcm_mb};
+ghost use Rattle.avc_mbsyntax.specs.Reading.{luma_pattern_of};
 ghost use Rattle.avc_mbsyntax.specs.Steps.{ReadsInto, context_of, levels_in_16x16, nxn_levels_in};
 
 use crate::context::LentContext;
@@ -60,7 +61,8 @@ fn read_i_nxn(reader: &mut BitReader, context: &LentContext<'_>, mb: &mut Mb) ->
     Ok(())
 }
 
-// An I_NxN macroblock with these modes; its levels are those that stand there from one before, or none.
+// An I_NxN macroblock with these modes; its levels are those that stand there from one before, or
+// none.
 fn set_nxn(syntax: &mut Syntax, modes: [Option<u8>; 16], chroma_mode: u8)
     ensures { syntax.new ≡ INxN modes chroma_mode (nxn_levels_in syntax.old) }
 {

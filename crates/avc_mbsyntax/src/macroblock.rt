@@ -11,8 +11,8 @@ use crate::intra::read_i_mb;
 use avc_bits::BitReader;
 use avc_types::{Fault, Mb, Syntax};
 
-/// Reads one macroblock (macroblock_layer, 7.3.5), or answers the first fault in it: beside those of the codes these are
-/// OutOfRange, BadCode and TooManyCoefficients; the reader then stays.
+/// Reads one macroblock (macroblock_layer, 7.3.5), or answers the first fault in it: beside those
+/// of the codes these are OutOfRange, BadCode and TooManyCoefficients; the reader then stays.
 pub fn read_macroblock(reader: &mut BitReader, context: &Context) -> Result<Mb, Fault>
     ensures read { Reads result (macroblock context.now) reader.old reader.new }
     ensures range { IfOk result (λ mb. IsSyntax context.now.num_ref_idx_active mb.syntax) }

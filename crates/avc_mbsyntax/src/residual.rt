@@ -1,12 +1,14 @@
 //! The residual of a macroblock (7.3.5.3).
-ghost use Rattle.std.specs.Prelude.{◌≡◌, ◌≤◌, ◌==◌, ◌≤ℤ◌, ℤ, pos, negsuc, List, [], IfOk, ◌<◌, All, replicate};
+ghost use Rattle.std.specs.Prelude.{◌≡◌, ◌≤◌, ◌==◌, ◌≤ℤ◌, ℤ, pos, negsuc, List, [], IfOk, ◌<◌, All};
+ghost use Rattle.std.specs.Prelude.{replicate};
 ghost use Rattle.std.specs.List.{range_with_len};
 ghost use Rattle.std.specs.Option.{option_copied};
 ghost use Rattle.avc_types.specs.MacroblockFields.{residual_of};
 ghost use Rattle.avc_bits.specs.Reader.{Reads};
 ghost use Rattle.avc_mbsyntax.specs.Ranges.{AreSmall, IsResidual};
 ghost use Rattle.avc_mbsyntax.specs.Reading.{after_pattern, blocks, cb_side, cr_side, is_coded};
-ghost use Rattle.avc_mbsyntax.specs.Reading.{luma_dc_levels, luma_side, no_levels, qp_after, qp_delta, qp_delta_where};
+ghost use Rattle.avc_mbsyntax.specs.Reading.{luma_dc_levels, luma_side, no_levels, qp_after};
+ghost use Rattle.avc_mbsyntax.specs.Reading.{qp_delta, qp_delta_where};
 ghost use Rattle.avc_mbsyntax.specs.Reading.{residual_blocks};
 ghost use Rattle.avc_mbsyntax.specs.Steps.{HasNoLevels, ReadsInto, context_of, no_block_levels};
 

@@ -4,7 +4,8 @@ ghost use Rattle.std.specs.Option.{option_copied};
 ghost use Rattle.avc_types.specs.Pictures.{PicMb};
 ghost use Rattle.avc_types.specs.declared.mb.Syntax.TheVariants.{PSkip};
 ghost use Rattle.avc_bits.specs.Reader.{reader_bits};
-ghost use Rattle.avc_mbsyntax.specs.SliceData.{SliceStart, left_total_coeffs, slice_data, up_total_coeffs};
+ghost use Rattle.avc_mbsyntax.specs.SliceData.{SliceStart, left_total_coeffs, slice_data};
+ghost use Rattle.avc_mbsyntax.specs.SliceData.{up_total_coeffs};
 
 use crate::context::LentContext;
 use crate::macroblock::read_into;
@@ -37,11 +38,13 @@ fn set_skipped(syntax: &mut Syntax)
 }
 
 impl<'a> SliceData<'a> {
-    ghost use Rattle.avc_mbsyntax.specs.Rest.{Follows, IsHandedOut, IsOneMore, IsRun, IsSkipped, handed_out, read_out, rest_of};
+    ghost use Rattle.avc_mbsyntax.specs.Rest.{Follows, IsHandedOut, IsOneMore, IsRun, IsSkipped};
+    ghost use Rattle.avc_mbsyntax.specs.Rest.{handed_out, read_out, rest_of};
     ghost use Rattle.avc_mbsyntax.specs.declared.stage.Stage.TheVariants.{Next, Skipped};
 
-    /// The data that a reader has ahead: of a P slice or an I slice, with `num_ref_idx_active` entries in RefPicList0 and the
-    /// quantiser `qp` (SliceQP_Y), where so many macroblocks of the picture remain.
+    /// The data that a reader has ahead: of a P slice or an I slice, with `num_ref_idx_active`
+    /// entries in RefPicList0 and the quantiser `qp` (SliceQP_Y), where so many macroblocks of the
+    /// picture remain.
     pub fn new(
         reader: BitReader<'a>,
         is_p: bool,
@@ -63,9 +66,10 @@ impl<'a> SliceData<'a> {
         }
     }
 
-    /// Reads the next macroblock into `mb`, and answers whether there was one; `false` where the data has ended, or the first
-    /// fault in the data, which then comes again. `left` and `up` have total_coeff of the macroblocks to the left of it and
-    /// above, where these are available. Without a macroblock, anything may stand in `mb`.
+    /// Reads the next macroblock into `mb`, and answers whether there was one; `false` where the
+    /// data has ended, or the first fault in the data, which then comes again. `left` and `up` have
+    /// total_coeff of the macroblocks to the left of it and above, where these are available.
+    /// Without a macroblock, anything may stand in `mb`.
     pub fn next(
         &mut self,
         left: Option<&TotalCoeffs>,
@@ -82,8 +86,8 @@ impl<'a> SliceData<'a> {
         }
     }
 
-    /// Hands out the next macroblock into `mb` where it is one of a run of skipped ones that was read, for which no neighbour is asked.
-    /// Answers whether it is; if not, nothing was read.
+    /// Hands out the next macroblock into `mb` where it is one of a run of skipped ones that was
+    /// read, for which no neighbour is asked. Answers whether it is; if not, nothing was read.
     #[inline]
     pub fn next_skipped(&mut self, mb: &mut Mb) -> bool
         ensures skipped { result ≡ true → (s : SliceStart) (before : List PicMb) → Follows s before self.old

@@ -24,8 +24,8 @@ is_percent b = b == 37
 abbrev pub is_d : ℕ → Bool
 is_d b = b == 100
 
--- What a name stands for, by what is in front of its first % and behind it: for one file a picture where a width and d come next, and the
--- number stands in their place.
+-- What a name stands for, by what is in front of its first % and behind it: for one file a picture
+-- where a width and d come next, and the number stands in their place.
 abbrev pub IsNumbering : (front behind : List ℕ) → Naming → Type 0
 IsNumbering front behind namings.Plain = ⊥
 IsNumbering front behind (namings.Numbered n) =

@@ -33,7 +33,8 @@ fn reason_of(kind: ErrorKind) -> &'static str
         ErrorKind::ReadOnlyFilesystem => "nothing can be written there",
         ErrorKind::InvalidFilename => "its name is too long",
         ErrorKind::FilesystemLoop => "its links lead in a circle",
-        ErrorKind::InvalidData => "it is YUV4MPEG2 whose samples are not 4:2:0 with 8 bits, or which is not whole",
+        ErrorKind::InvalidData =>
+            "it is YUV4MPEG2 whose samples are not 4:2:0 with 8 bits, or which is not whole",
         _ => "the system refuses it",
     }
 }

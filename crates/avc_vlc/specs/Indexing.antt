@@ -28,8 +28,8 @@ word_entry table bits f =
           elim (list_any (λ entry. goes_on bits entry.0) table) [ true ↦ None | false ↦ Some (record { length = length bits; value = Some f.0 }) ]
     ]
 
--- The shortest front of the bits that is a codeword, or with which no codeword begins. It has at least the bits of
--- `front`, which stand before `bits`.
+-- The shortest front of the bits that is a codeword, or with which no codeword begins. It has at
+-- least the bits of `front`, which stand before `bits`.
 abbrev pub entry_from : {A : Type 0} → Table A → (front bits : List Bool) → Option (Entry A)
 entry_from table front [] =
     elim (lookup table front) [
@@ -62,7 +62,8 @@ pub record Decides {A : Type 0} (table : Table A) (ahead : List Bool) (entry : E
 
 -- ---- tables by the zeros in front
 
--- The bits of one place in a table of rows and columns: zeros, and in all rows but the last a 1 and the bits behind it.
+-- The bits of one place in a table of rows and columns: zeros, and in all rows but the last a 1 and
+-- the bits behind it.
 abbrev pub place_bits : (last tail row column : ℕ) → List Bool
 place_bits last tail row column = elim (nat_lt row last) [ true ↦ replicate row false ++ true ∷ bits_of tail column | false ↦ replicate row false ]
 
@@ -88,17 +89,20 @@ pub record AreFronts {A : Type 0} (each : ℕ → Table A) (tables : List (List 
 abbrev pub entry_of_run : Run → Entry ℕ
 entry_of_run r = record { length = r.length; value = Some r.zeros }
 
--- the codewords of run_before where this number and one more zeros are left, six at most (Table 9-10)
+-- the codewords of run_before where this number and one more zeros are left, six at most (Table
+-- 9-10)
 abbrev pub few_table : ℕ → Table ℕ
 few_table k = row_table (row_at run_before_codes k)
 
--- the tables are what three bits decide where one to six zeros are left, no run is longer, and no codeword has more bits
+-- the tables are what three bits decide where one to six zeros are left, no run is longer, and no
+-- codeword has more bits
 pub record AreRuns (tables : List (List Run)) : Type 0 where
   pub fronts : AreFronts few_table (map (map entry_of_run) tables)
   pub most : map (λ k. list_all (λ r. nat_le r.zeros (k + 1)) (slice_index_or tables k [])) (range_with_len 0 6) ≡ replicate 6 true
   pub short : map (λ k. list_all (λ r. nat_le r.length 3) (slice_index_or tables k [])) (range_with_len 0 6) ≡ replicate 6 true
 
--- What three bits say of the run whose codeword they begin with (9.2.3); a length of 0 where none is so short.
+-- What three bits say of the run whose codeword they begin with (9.2.3); a length of 0 where none
+-- is so short.
 unfoldable pub short_run : (zeros_left bits : ℕ) → Run
 short_run zeros_left bits =
     elim (run_before zeros_left (record { position = 0; ahead = bits_of 3 bits })) [

@@ -31,8 +31,8 @@ lookup [] bits = None
 lookup (entry ∷ table) bits =
     elim (after_word entry.0 bits) [ Some left ↦ Some (entry.1, length entry.0, left) | None ↦ lookup table bits ]
 
--- Reading by a table (9.2). Where the bits ahead are a proper prefix of a codeword they are Truncated, else
--- BadCode: this decoder's rule.
+-- Reading by a table (9.2). Where the bits ahead are a proper prefix of a codeword they are
+-- Truncated, else BadCode: this decoder's rule.
 abbrev pub table_code : {A : Type 0} → Table A → Read A
 table_code {A} table b = found (lookup table b.ahead)
   where
@@ -115,8 +115,8 @@ total_zeros total chroma_dc = table_code (zeros_table total chroma_dc)
 abbrev pub run_table : (zeros_left : ℕ) → Table ℕ
 run_table zeros_left = row_table (row_at run_before_codes (elim (nat_le zeros_left 6) [ true ↦ zeros_left - 1 | false ↦ 6 ]))
 
--- run_before at this zerosLeft (9.2.3). The code is read from the whole column; a run above zerosLeft is then
--- no code, by this decoder's rule.
+-- run_before at this zerosLeft (9.2.3). The code is read from the whole column; a run above
+-- zerosLeft is then no code, by this decoder's rule.
 abbrev pub run_before : (zeros_left : ℕ) → Read ℕ
 run_before zeros_left = do
   run ← table_code (run_table zeros_left)

@@ -66,7 +66,8 @@ impl<const N: usize> Code<N> {
         self.word >> (32 - self.count)
     }
 
-    // The zeros in front of the first 1, at most `last`, and the value of the `tail` bits behind that 1.
+    // The zeros in front of the first 1, at most `last`, and the value of the `tail` bits behind
+    // that 1.
     #[inline(always)]
     pub(crate) fn place(self, last: usize, tail: u32) -> (usize, usize)
         requires few { last ≤ 15 }

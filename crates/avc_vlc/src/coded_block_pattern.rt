@@ -6,8 +6,8 @@ ghost use Rattle.avc_vlc.specs.Reading.{coded_block_pattern, pattern_at};
 use avc_bits::BitReader;
 use avc_types::Fault;
 
-/// Reads CodedBlockPatternLuma + 16 * CodedBlockPatternChroma of a macroblock, below 48: me(v). Answers what ue(v)
-/// answers, or `BadCode` where its number is above 47; the reader then stays.
+/// Reads CodedBlockPatternLuma + 16 * CodedBlockPatternChroma of a macroblock, below 48: me(v).
+/// Answers what ue(v) answers, or `BadCode` where its number is above 47; the reader then stays.
 pub fn read_cbp(reader: &mut BitReader, intra: bool) -> Result<u8, Fault>
     ensures read { Reads result (coded_block_pattern intra) reader.old reader.new }
     ensures below { IfOk result (λ pattern. pattern < 48) }
@@ -22,7 +22,8 @@ pub fn read_cbp(reader: &mut BitReader, intra: bool) -> Result<u8, Fault>
     Ok(cbp_of(number, intra))
 }
 
-/// CodedBlockPatternLuma + 16 * CodedBlockPatternChroma of a codeNum of me(v), in an intra macroblock or in another.
+/// CodedBlockPatternLuma + 16 * CodedBlockPatternChroma of a codeNum of me(v), in an intra
+/// macroblock or in another.
 #[tactic(auto, using(crate::proofs::Entries::pattern_intra, crate::proofs::Entries::pattern_inter))]
 pub fn cbp_of(number: u32, intra: bool) -> u8
     requires { number < 48 }

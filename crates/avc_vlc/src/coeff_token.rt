@@ -1,10 +1,13 @@
 //! coeff_token (9.2.1, Table 9-5). A table has a row for each number of zeros in front of the first 1, the last for all
 //! that are more, and a column for each value of the three bits behind that 1.
-ghost use Rattle.std.specs.Prelude.{◌≡◌, ◌≤◌, ◌<◌, ℤ, List, Bool, false, length, Some, Ok, IfOk, IsTrue, OnErr};
+ghost use Rattle.std.specs.Prelude.{◌≡◌, ◌≤◌, ◌<◌, ℤ, List, Bool, false, length, Some, Ok, IfOk};
+ghost use Rattle.std.specs.Prelude.{IsTrue, OnErr};
 ghost use Rattle.avc_bits.specs.Bits.{bits_of};
 ghost use Rattle.avc_bits.specs.Reader.{Reads, reader_bits, reader_bytes};
-ghost use Rattle.avc_vlc.specs.Tables.{coeff_token_0, coeff_token_2, coeff_token_4, coeff_token_chroma_dc};
-ghost use Rattle.avc_vlc.specs.Reading.{IsToken, Table, coeff_token, token, token_table, tokens, tokens_8};
+ghost use Rattle.avc_vlc.specs.Tables.{coeff_token_0, coeff_token_2, coeff_token_4};
+ghost use Rattle.avc_vlc.specs.Tables.{coeff_token_chroma_dc};
+ghost use Rattle.avc_vlc.specs.Reading.{IsToken, Table, coeff_token, token, token_table, tokens};
+ghost use Rattle.avc_vlc.specs.Reading.{tokens_8};
 ghost use Rattle.avc_vlc.specs.Indexing.{Decides, IsIndexed, Shows, six_bit_entry, six_bit_number};
 ghost use Rattle.avc_vlc.specs.Writing.{is_token_same, token_word, word_bits, word_of};
 ghost use Rattle.std.specs.Option.{option_map};
@@ -24,8 +27,9 @@ pub struct Token {
     pub ones: u8,
 }
 
-/// Reads TotalCoeff and TrailingOnes of a block. `nc` is nC: how many levels the blocks beside it have, -1 for chroma DC.
-/// Answers `Truncated`, or `BadCode` where no codeword stands; the reader then stays.
+/// Reads TotalCoeff and TrailingOnes of a block. `nc` is nC: how many levels the blocks beside it
+/// have, -1 for chroma DC. Answers `Truncated`, or `BadCode` where no codeword stands; the reader
+/// then stays.
 #[inline]
 pub fn read_coeff_token(reader: &mut BitReader, nc: i8) -> Result<Token, Fault>
     ensures read { Reads result (coeff_token nc) reader.old reader.new }
@@ -70,8 +74,8 @@ fn read_coded(reader: &mut BitReader, entry: Entry<Token>, nc: i8) -> Result<Tok
     entry.read(reader)
 }
 
-/// Passes the codeword of no level, where it stands ahead and the stop bit is surely not near; `nc` is as that of
-/// `read_coeff_token`. Else the answer is false, and nothing is passed.
+/// Passes the codeword of no level, where it stands ahead and the stop bit is surely not near; `nc`
+/// is as that of `read_coeff_token`. Else the answer is false, and nothing is passed.
 #[inline(always)]
 pub fn pass_no_levels(reader: &mut BitReader, nc: i8) -> bool
     ensures read { IsTrue result → coeff_token nc (reader_bits reader.old) ≡ Ok (token 0 0, reader_bits reader.new) }

@@ -1,6 +1,7 @@
 //! Entries of code tables.
 
-ghost use Rattle.std.specs.Prelude.{◌≡◌, ◌≤◌, ℕ, List, Bool, true, false, length, slice_index_or, ◌<◌, MatchOption, OnErr, None, Err};
+ghost use Rattle.std.specs.Prelude.{◌≡◌, ◌≤◌, ℕ, List, Bool, true, false, length, slice_index_or};
+ghost use Rattle.std.specs.Prelude.{◌<◌, MatchOption, OnErr, None, Err};
 ghost use Rattle.std.specs.List.{list_any};
 ghost use Rattle.avc_bits.specs.Reader.{Reads, reader_bits};
 ghost use Rattle.avc_vlc.specs.Reading.{Table, table_code};
@@ -70,7 +71,8 @@ impl<V: Coded> Entry<V> {
 }
 
 impl<V: Copy> Entry<V> {
-    /// Reads the codeword, or answers `Truncated` where the bits end inside the front, else `BadCode`.
+    /// Reads the codeword, or answers `Truncated` where the bits end inside the front, else
+    /// `BadCode`.
     #[inline(always)]
     pub(crate) fn read(self, reader: &mut BitReader) -> Result<V, Fault>
         ensures read { (table : Table V) → Decides table (reader_bits reader.old).ahead self → Reads result (table_code table) reader.old reader.new }
@@ -177,8 +179,8 @@ pub(crate) fn number_in<const ROWS: usize, const TABLES: usize>(
     number_at(code, &tables[table])
 }
 
-// An entry: (length) of a front with which no codeword begins, (length, value) of a codeword, (length, TotalCoeff,
-// TrailingOnes) of a codeword of coeff_token.
+// An entry: (length) of a front with which no codeword begins, (length, value) of a codeword,
+// (length, TotalCoeff, TrailingOnes) of a codeword of coeff_token.
 macro_rules! entry {
     (($length:literal)) => {
         Entry { length: $length, value: None }
@@ -191,8 +193,8 @@ macro_rules! entry {
     };
 }
 
-// A row of four places or of eight, where fewer entries stand for two or more places each; eight codewords of one length
-// stand after it.
+// A row of four places or of eight, where fewer entries stand for two or more places each; eight
+// codewords of one length stand after it.
 macro_rules! row4 {
     ($a:tt) => {
         [entry!($a); 4]

@@ -1,5 +1,6 @@
 //! Laws of the tables.
-ghost use Rattle.avc_vlc.specs.Laws.{TablesArePrefixFree, TablesAreRead, WordsAreRead, WordsAreTheOnlyOnes, WordsAreWhole};
+ghost use Rattle.avc_vlc.specs.Laws.{TablesArePrefixFree, TablesAreRead, WordsAreRead};
+ghost use Rattle.avc_vlc.specs.Laws.{WordsAreTheOnlyOnes, WordsAreWhole};
 
 /// No codeword of a table is a proper prefix of another.
 pub fn tables_are_prefix_free()

@@ -1,11 +1,13 @@
 //! run_before (9.2.3, Table 9-10). Where six zeros are left at most, the next three bits decide. Else a table has a row for
-//! each number of zeros in front of the first 1, the last for all that are more, and a column for each value of the two
-//! bits behind that 1.
-ghost use Rattle.std.specs.Prelude.{◌≡◌, ◌+◌, ◌≤◌, ◌<◌, List, Bool, Ok, Err, IfOk, IfSome, OnErr, length};
+//! each number of zeros in front of the first 1, the last for all that are more, and a column for
+//! each value of the two bits behind that 1.
+ghost use Rattle.std.specs.Prelude.{◌≡◌, ◌+◌, ◌≤◌, ◌<◌, List, Bool, Ok, Err, IfOk, IfSome, OnErr};
+ghost use Rattle.std.specs.Prelude.{length};
 ghost use Rattle.avc_bits.specs.Bits.{Bits, passed};
 ghost use Rattle.avc_bits.specs.Reader.{IsWindow, Reads, reader_bits, reader_bytes};
 ghost use Rattle.avc_vlc.specs.Reading.{run_before, run_table};
-ghost use Rattle.avc_vlc.specs.Indexing.{AreRuns, AreShortRuns, Decides, Shows, entry_of_run, few_table, short_run};
+ghost use Rattle.avc_vlc.specs.Indexing.{AreRuns, AreShortRuns, Decides, Shows, entry_of_run};
+ghost use Rattle.avc_vlc.specs.Indexing.{few_table, short_run};
 ghost use Rattle.avc_vlc.specs.Writing.{is_number_same, run_word, word_bits, word_of};
 ghost use Rattle.std.specs.Option.{option_map};
 
@@ -24,8 +26,9 @@ pub struct Run {
     pub zeros: u8,
 }
 
-/// Reads how many zeros stand right before a level, where `zeros_left` zeros are left for it and those before it.
-/// Answers `Truncated`, or `BadCode` where no codeword stands or the run is longer; the reader then stays.
+/// Reads how many zeros stand right before a level, where `zeros_left` zeros are left for it and
+/// those before it. Answers `Truncated`, or `BadCode` where no codeword stands or the run is
+/// longer; the reader then stays.
 #[inline]
 pub fn read_run_before(reader: &mut BitReader, zeros_left: u8) -> Result<u8, Fault>
     ensures read { Reads result (run_before zeros_left) reader.old reader.new }
@@ -42,7 +45,8 @@ pub fn read_run_before(reader: &mut BitReader, zeros_left: u8) -> Result<u8, Fau
     read_coded(reader, run_entry(code, zeros_left), zeros_left)
 }
 
-// run_before where one to six zeros are left and the stop bit is not near: any three bits begin with a codeword.
+// run_before where one to six zeros are left and the stop bit is not near: any three bits begin
+// with a codeword.
 #[inline(always)]
 fn read_few(reader: &mut BitReader, zeros_left: u8) -> u8
     requires some { 1 ≤ zeros_left }
@@ -158,7 +162,8 @@ fn few_run(code: Code<16>, zeros_left: u8) -> Run
     run_of_three(code, &RUNS_BY_FRONT, usize::from(zeros_left - 1))
 }
 
-// What the first three bits decide by one of the tables, each of which has an entry for each value of them.
+// What the first three bits decide by one of the tables, each of which has an entry for each value
+// of them.
 #[inline(always)]
 fn run_of_three(code: Code<16>, tables: &[[Run; 8]], table: usize) -> Run
     requires there { table < length tables.now }
@@ -171,8 +176,8 @@ fn run_of_three(code: Code<16>, tables: &[[Run; 8]], table: usize) -> Run
     tables[table][front]
 }
 
-/// The codeword that stands behind the first `first` bits of a window; its length is 0 where it has more than three bits.
-/// `zeros_left`, at most 15, is as that of `read_run_before`.
+/// The codeword that stands behind the first `first` bits of a window; its length is 0 where it has
+/// more than three bits. `zeros_left`, at most 15, is as that of `read_run_before`.
 #[inline(always)]
 pub fn short_run(window: Window, first: u32, zeros_left: u8) -> Run
     requires few { zeros_left < 16 }
@@ -198,8 +203,8 @@ fn short_run_in(tables: &[[Run; 8]; 16], zeros_left: usize, bits: usize) -> Run
     tables[zeros_left][bits]
 }
 
-/// The codeword of so many zeros right before a level, where `zeros_left` zeros are left for it and those before it;
-/// `None` where there is none or the run is longer.
+/// The codeword of so many zeros right before a level, where `zeros_left` zeros are left for it and
+/// those before it; `None` where there is none or the run is longer.
 pub fn run_before_word(zeros_left: u8, run: u8) -> Option<Codeword>
     ensures { option_map word_bits result ≡ run_word zeros_left run }
 {
@@ -224,8 +229,8 @@ fn word_of_run(zeros_left: u8, run: u8) -> Option<Codeword>
     }
 }
 
-// For each value of the next three bits the codeword that they begin with, for zerosLeft 1 to 6, where no codeword is longer, with
-// rows before and behind these.
+// For each value of the next three bits the codeword that they begin with, for zerosLeft 1 to 6,
+// where no codeword is longer, with rows before and behind these.
 macro_rules! few_runs {
     ($table:ident) => {
         few_runs!($table;;)

@@ -13,8 +13,8 @@ use crate::entry::{Entry, entry, number_by, number_in, row4};
 use avc_bits::BitReader;
 use avc_types::Fault;
 
-/// Reads how many zeros stand before the last level of a block with `total` levels (TotalCoeff). Answers `Truncated`, or
-/// `BadCode` where no codeword stands; the reader then stays.
+/// Reads how many zeros stand before the last level of a block with `total` levels (TotalCoeff).
+/// Answers `Truncated`, or `BadCode` where no codeword stands; the reader then stays.
 #[inline]
 pub fn read_total_zeros(reader: &mut BitReader, total: u8, chroma_dc: bool) -> Result<u8, Fault>
     ensures read { Reads result (total_zeros total chroma_dc) reader.old reader.new }
