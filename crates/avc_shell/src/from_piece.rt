@@ -98,8 +98,8 @@ impl<R: Read> Read for FromPiece<'_, R> {
     }
 }
 
-// Copies as many bytes as there is room for. Answers how many.
-fn copied(bytes: &[u8], buf: &mut [u8]) -> usize
+/// Copies as many bytes as there is room for. Answers how many.
+pub(crate) fn copied(bytes: &[u8], buf: &mut [u8]) -> usize
     ensures count { result ≡ min (length bytes.now) (length buf.old) }
     ensures bytes { buf.new ≡ take result bytes.now ++ drop result buf.old }
 {

@@ -1,5 +1,8 @@
 //! The pictures of another decoder: samples one behind another, or those of YUV4MPEG2, whose lines are left out.
 
+ghost use Rattle.std.specs.Io.{ReadsAtMost};
+
+use crate::from_piece::copied;
 use crate::y4m_header::picture_len;
 use arrayvec::ArrayVec;
 use avc_console::READS;
@@ -95,7 +98,7 @@ impl<R: Read> OtherPictures<R> {
             self.place = Place::Samples(0);
             return Ok(());
         }
-        let is_whole = self.read_line(LINE - SIGNATURE.len())?;
+        let is_whole = self.read_line(LINE)?;
         match picture_len(self.line.as_slice()) {
             Some(len) if is_whole => {
                 self.picture_len = len;
@@ -121,22 +124,24 @@ impl<R: Read> OtherPictures<R> {
     }
 
     // Samples alone: first those that were read when it was seen what they are.
-    fn read_samples(&mut self, given: usize, buf: &mut [u8]) -> io::Result<usize> {
-        if given == self.line.len() {
+    fn read_samples(&mut self, given: usize, buf: &mut [u8]) -> io::Result<usize>
+        ensures bound { ReadsAtMost result buf.new }
+    {
+        if given >= self.line.len() {
             return self.reader.read(buf);
         }
-        let rest = &self.line.as_slice()[given..];
-        let len = rest.len().min(buf.len());
-        buf[..len].copy_from_slice(&rest[..len]);
+        let len = copied(&self.line.as_slice()[given..], buf);
         self.place = Place::Samples(given + len);
         Ok(len)
     }
 
     // Samples of a picture of which so many are left.
-    fn read_picture(&mut self, left: u64, buf: &mut [u8]) -> io::Result<usize> {
-        let most = left.min(buf.len() as u64) as usize;
+    fn read_picture(&mut self, left: u64, buf: &mut [u8]) -> io::Result<usize>
+        ensures bound { ReadsAtMost result buf.new }
+    {
+        let most = buf.len().min(left as usize);
         let len = self.reader.read(&mut buf[..most])?;
-        self.place = Place::Picture(left - len as u64);
+        self.place = Place::Picture(left.saturating_sub(len as u64));
         Ok(len)
     }
 }

@@ -16,8 +16,9 @@ pub(crate) fn picture_len(line: &[u8]) -> Option<u64> {
             return None;
         }
     }
-    let chroma = width.div_ceil(2) * height.div_ceil(2);
-    Some(width * height + 2 * chroma)
+    let chroma = width.div_ceil(2).saturating_mul(height.div_ceil(2));
+    let luma = width.saturating_mul(height);
+    Some(luma.saturating_add(chroma).saturating_add(chroma))
 }
 
 fn is_taken(colour: &[u8]) -> bool {
@@ -54,12 +55,13 @@ fn number(digits: &[u8]) -> Option<u64> {
     if digits.is_empty() || digits.len() > DIGITS {
         return None;
     }
-    let mut number = 0;
+    let mut number: u64 = 0;
     for digit in digits {
         if !digit.is_ascii_digit() {
             return None;
         }
-        number = 10 * number + u64::from(*digit - b'0');
+        let value = u64::from(digit.saturating_sub(b'0'));
+        number = number.saturating_mul(10).saturating_add(value);
     }
     Some(number)
 }
