@@ -79,9 +79,11 @@ STREAMS = ["still", "call", "cif", "720p", "1080i"]
 
 
 def rows():
-    """The rows of the table, by their titles."""
+    """The rows of the table, by their titles: those that were measured."""
     took = times()
     for title, commands, has_ratio in ROWS:
+        if any(it not in took for it in commands):
+            continue
         cells = []
         for stream in STREAMS:
             values = [took[it][stream] for it in commands]
