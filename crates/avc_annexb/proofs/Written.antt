@@ -168,6 +168,17 @@ length-numbered : (max index : ℕ) (us : List PlacedUnit) → length (numbered 
 length-numbered max index [] = refl
 length-numbered max index (x ∷ us) = ap suc (length-numbered max (index + 1) us)
 
+-- how many have begun: those that are done, and the open one, if it has bytes
+pub begun_so_far : (max : ℕ) (s : Scanner max) (bytes : List ℕ) (h : HasScanned max s bytes) (begun : ℕ) → begun ≡ length (closed_unit h.current) →
+    min (s.ready.count + begun) (2 ^ 64 - 1) ≡ units_begun max bytes
+begun_so_far max s bytes h begun is =
+    let all = ap length (scanned_end bytes h.done h.current s.zeros true h.scanned) in
+    omega (arith, is, h.ready.count, all, length-append h.done (closed_unit h.current), length-numbered max 0 (placed_units 0 true bytes))
+
+-- and at the end all are done
+pub begun_at_end : (max : ℕ) (r : Ready max) (bytes : List ℕ) → AreReady max r (placed_units 0 true bytes) → r.count ≡ units_begun max bytes
+begun_at_end max r bytes is = omega (arith, is.count, length-numbered max 0 (placed_units 0 true bytes))
+
 -- the unit that begins here, if a start code stands here
 abbrev here : Bool → ℕ → Option (List ℕ) → List PlacedUnit
 here test place o = elim test [ true ↦ unit_at place o | false ↦ [] ]

@@ -1,7 +1,7 @@
 //! The unit whose end has not been seen, with its bytes so far.
 
-ghost use Rattle.std.specs.Prelude.{◌≡◌, ◌<◌, ◌≤◌, ℕ, [], ◌∷◌, ◌++◌, OnOk, replicate};
-ghost use Rattle.avc_annexb.specs.Scanning.{AddsBytes, AddsBytesIfAny, IsOpenUnit};
+ghost use Rattle.std.specs.Prelude.{◌≡◌, ◌<◌, ◌≤◌, ℕ, [], ◌∷◌, ◌++◌, Option, Some, OnOk, length, replicate};
+ghost use Rattle.avc_annexb.specs.Scanning.{AddsBytes, AddsBytesIfAny, IsOpenUnit, IsOpenUnitIfAny, closed_unit};
 ghost use Rattle.avc_annexb.specs.Units.{PlacedUnit, saturated, unit_of};
 
 use crate::unit::Unit;
@@ -89,6 +89,13 @@ impl<const MAX: usize> OpenUnit<MAX> {
         self.append(bytes)
     }
 
+    /// One, if it has bytes, and else none.
+    fn begun(&self) -> u64
+        ensures { (placed : PlacedUnit) → IsOpenUnit MAX self.now placed → result ≡ length (closed_unit (Some placed)) }
+    {
+        u64::from(self.length > 0)
+    }
+
     /// The whole unit, with its place among the units.
     pub fn into_unit(self, index: u64) -> Unit
         ensures { (unit : PlacedUnit) (place : ℕ) → IsOpenUnit MAX self.entry unit → index ≡ saturated place → result ≡ unit_of MAX place unit }
@@ -126,5 +133,15 @@ pub fn append_any<const MAX: usize>(
     match unit {
         Some(unit) => unit.append_after(zeros, bytes),
         None => Ok(()),
+    }
+}
+
+/// How many units the end of the stream would make of it: one, if there is one and it has bytes.
+pub fn begun_any<const MAX: usize>(unit: &Option<OpenUnit<MAX>>) -> u64
+    ensures { (placed : Option PlacedUnit) → IsOpenUnitIfAny MAX unit.now placed → result ≡ length (closed_unit placed) }
+{
+    match unit {
+        Some(unit) => unit.begun(),
+        None => 0,
     }
 }

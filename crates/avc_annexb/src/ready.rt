@@ -16,7 +16,7 @@ use std::collections::VecDeque;
 pub struct Ready<const MAX: usize> {
     units: VecDeque<Unit>,
     // of all units so far
-    count: u64,
+    pub count: u64,
     // those that were taken
     given: History<Unit>,
 }

@@ -2,7 +2,7 @@
 
 ghost use Rattle.std.specs.Prelude.{◌≤◌};
 
-use crate::open_unit::{OpenUnit, append_any};
+use crate::open_unit::{OpenUnit, append_any, begun_any};
 use crate::ready::Ready;
 use crate::runs::{run_length, zeros_at_start};
 use avc_types::OutOfMemory;
@@ -28,7 +28,7 @@ impl<const MAX: usize> Scanner<MAX> {
     ghost use Rattle.std.specs.Prelude.{OnOk, length, slice_index, replicate};
     ghost use Rattle.avc_annexb.specs.Scanning.{HasScanned, HasLoneZeros, HasOneMore};
     ghost use Rattle.avc_annexb.specs.Scanning.{HasOneMoreAtMost, HasTaken, AreReady};
-    ghost use Rattle.avc_annexb.specs.Units.{placed_units};
+    ghost use Rattle.avc_annexb.specs.Units.{placed_units, units_begun};
 
     pub fn new(alloc: Global) -> Self
         ensures scans { HasScanned MAX result [] }
@@ -112,6 +112,13 @@ impl<const MAX: usize> Scanner<MAX> {
     {
         // the zeros that are not yet in the unit stay out of it
         self.ready.add_any(self.unit.take())
+    }
+
+    /// How many units have begun, with the one whose end has not been seen, if it has bytes.
+    pub fn units_begun(&self) -> u64
+        ensures { (bytes : List ℕ) → HasScanned MAX self.now bytes → result ≡ units_begun MAX bytes }
+    {
+        self.ready.count.saturating_add(begun_any(&self.unit))
     }
 
     // bytes of a unit, or between units

@@ -5,6 +5,7 @@ ghost use Rattle.avc_annexb.specs.Scanning.{has_failed};
 ghost use Rattle.avc_annexb.specs.SplitterState.{new_splitter, after_feed, after_finish};
 ghost use Rattle.avc_annexb.specs.SplitterState.{after_failure, next_unit_of, after_next_unit};
 ghost use Rattle.avc_annexb.specs.SplitterState.{units_waiting, TakesUnit};
+ghost use Rattle.avc_annexb.specs.Units.{units_begun};
 
 use crate::scanner::Scanner;
 use crate::unit::Unit;
@@ -138,6 +139,20 @@ impl<const MAX: usize> Splitter<MAX> {
         match self.progress {
             SplitterPhase::Failed(_) => None,
             SplitterPhase::Running | SplitterPhase::Ended => self.scanner.ready.next(),
+        }
+    }
+
+    /// How many units of the bytes so far have begun: those whose end has been seen, and the one
+    /// under way, once it has a byte. The first byte of each unit that begins later is yet to come.
+    /// After want of memory it is 0.
+    pub fn units_begun(&self) -> u64
+        ensures going { self.now.failed ≡ false → result ≡ units_begun MAX self.now.bytes }
+        ensures failed { self.now.failed ≡ true → result ≡ 0 }
+    {
+        match self.progress {
+            SplitterPhase::Failed(_) => 0,
+            SplitterPhase::Ended => self.scanner.ready.count,
+            SplitterPhase::Running => self.scanner.units_begun(),
         }
     }
 

@@ -91,8 +91,8 @@ after_unit-same r s s' u u' m e f a =
       e,
       f,
       a,
-      phase-same r is_running (λ h o. refl) s.phase,
-      phase-same r open_facts_in (λ h o. ap (λ f. Some f) (facts-same r o)) s.phase,
+      running-same r s.phase,
+      open_facts-same r s.phase,
       step-same r sets (is_running s.phase) (open_facts_in s.phase) u u',
       in_phase-same s.output r sets u.index (step sets (is_running s.phase) (open_facts_in s.phase) u) s.phase,
     )
@@ -358,7 +358,7 @@ starts_anew stay stand numbered again are few come output max bytes ended k own 
     ∙ ap (λ us. closing_events state.output state.phase ++ events_from (waiting_after output before) us ended) (sym from_there)
     ∙ ap (λ es. closing_events state.output state.phase ++ es) anew
 
--- ---- pictures show no unit's number
+-- ---- events name units, and are the same but for these names
 
 -- every unit with the number 0
 abbrev zeroed : Piece → Piece
@@ -376,26 +376,11 @@ zero_at [] j v e = cc e
 zero_at (u ∷ us) zero v e = let same : zeroed u ≡ v = cc e in ap (λ (w : Piece). w.index) (sym same)
 zero_at (u ∷ us) (suc j) v e = zero_at us j v e
 
-kinds_kept : (es : List Event) → list_all is_picture (map (renumbered_event to_zero) es) ≡ list_all is_picture es
-kinds_kept [] = refl
-kinds_kept (Picture p ∷ es) = kinds_kept es
-kinds_kept (Refused n f ∷ es) = refl
-
-pictures_kept : (es : List Event) → list_all is_picture es ≡ true → map (renumbered_event to_zero) es ≡ es
-pictures_kept [] h = refl
-pictures_kept (Picture p ∷ es) h = ap (λ l. Picture p ∷ l) (pictures_kept es h)
-pictures_kept (Refused n f ∷ es) h = cc h
-
-same_pictures : (es es' : List Event) → list_all is_picture es ≡ true → map (renumbered_event to_zero) es' ≡ map (renumbered_event to_zero) es → es' ≡ es
-same_pictures es es' h e =
-    let too : list_all is_picture es' ≡ true = sym (kinds_kept es') ∙ ap (list_all is_picture) e ∙ kinds_kept es ∙ h in
-    sym (pictures_kept es' too) ∙ e ∙ pictures_kept es h
-
-pub pictures_name_no_units_so : SetsComeAlike → PicturesNameNoUnits
-pictures_name_no_units_so come s s' us us' output w w' sets same h =
+pub events_keep : SetsComeAlike → EventsKeepButNumbers
+events_keep come s s' us us' output w w' sets same =
     let zeros = map zeroed us in
     let these = events-same come to_zero us zeros s s true refl refl (w ∙ ap (renumbered_phase to_zero) (sym w)) (zeroed_say us) (λ j u u' a. zero_at us j u') in
     let those =
     events-same come to_zero us' zeros s' s true (sym output) (sym sets) (w ∙ ap (renumbered_phase to_zero) (sym w'))
     (sym same ∙ zeroed_say us) (λ j u u' a. zero_at us j u') in
-    same_pictures (events_from s us true) (events_from s' us' true) h (sym those ∙ these)
+    sym those ∙ these

@@ -55,7 +55,7 @@ picture_planes o history = planes_after_slices (start_on o history) (slices_of o
 
 -- the history with the picture closed, on that with the missing numbers
 abbrev pub closed_history : OpenPicture → History → Result History Fault
-closed_history o history = history_after_closing o.sps (first_header o) (picture_planes o history) history
+closed_history o history = history_after_closing o.sps (first_header o) (first_slice o).unit (picture_planes o history) history
 
 -- the fault of marking, with the last slice's unit
 abbrev marking_fault : OpenPicture → Result History Fault → Option (ℕ × Fault)

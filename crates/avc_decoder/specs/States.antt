@@ -6,7 +6,7 @@ use Rattle.avc_types.specs.declared.memory.OutOfMemory.{OutOfMemory}
 use Rattle.avc_types.specs.declared.picture_error.PictureError.{PictureError}
 use Rattle.avc_types.specs.declared.picture_error.PictureError.TheVariants.{Fault as Faulty, OutOfMemory as NoMemory}
 use Rattle.avc_annexb.specs.SplitterState.{SplitterState, new_splitter}
-use Rattle.avc_annexb.specs.Units.{units, saturated}
+use Rattle.avc_annexb.specs.Units.{units, units_begun, saturated}
 use Rattle.avc_annexb.specs.declared.unit.Unit.{Unit as Piece}
 use Rattle.avc_params.specs.Tables.{Sets, sets_after}
 use Rattle.avc_params.specs.declared.set_unit.SetUnit.{SetUnit}
@@ -23,7 +23,7 @@ use Rattle.avc_units.specs.declared.step.Next.TheVariants.{Begins, Continues}
 use Rattle.avc_units.specs.declared.step.Step.{Step}
 use Rattle.avc_dpb.specs.declared.output.Output.{Output}
 use Rattle.avc_decoder_core.specs.History.{History, history_at_opening}
-use Rattle.avc_decoder_core.specs.SequenceState.{SequenceState, empty_sequence, current_history}
+use Rattle.avc_decoder_core.specs.SequenceState.{OpenPictureStart, SequenceState, empty_sequence, current_history}
 use Rattle.avc_decoder.specs.FirstFault.{OpenPicture, oldest}
 use Rattle.avc_decoder.specs.QueueState.{QueueState, after_queue_take, with_events}
 use Rattle.avc_decoder.specs.PictureFrames.{HasItsFrames, IsRefused, read_of_slice}
@@ -73,6 +73,10 @@ phase_of s (Running None) = running s.history None
 phase_of s (Running (Some c)) = running s.history (open_picture_from s.history (c.decoder).sps (c.decoder).pps
     (c.decoder).slices)
 
+-- the parameter set of the open picture, and its first slice's header and unit
+abbrev pub open_picture_start : Sps → (first : Slice) → OpenPictureStart
+open_picture_start sps first = record { sps = sps; header = first.header; unit = first.unit }
+
 -- A picture is open in the sequence, and its slices so far have no fault; the last one has this
 -- header and this unit.
 pub record IsOpenIn (s : SequenceState) (c : CurrentPicture) : Type 0 where
@@ -84,7 +88,7 @@ pub record IsOpenIn (s : SequenceState) (c : CurrentPicture) : Type 0 where
   pub unit : c.last_unit ≡ last.unit
   pub frames : HasItsFrames s last.header c.decoder
   pub well : HasNoFault c.decoder
-  pub open_picture : s.open_picture ≡ Some (record { sps = (c.decoder).sps; header = (oldest last earlier).header })
+  pub open_picture : s.open_picture ≡ Some (open_picture_start (c.decoder).sps (oldest last earlier))
   pub first : ((oldest last earlier).header).first_mb_in_slice ≡ 0
   pub stands : history_at_opening (c.decoder).sps (oldest last earlier).header s.history ≡ Ok (current_history s)
 
@@ -373,6 +377,12 @@ FeedsUnitIn max old bytes fed new = ⊥
 abbrev pub EndsIn : (max : ℕ) → {P : Type 0} → PartsOrRefusal max P → (read : ℕ) → PartsOrRefusal max P → Type 0
 EndsIn max (Ok old) read (Ok new) = Ends max old read new
 EndsIn max old read new = ⊥
+
+-- how many units have begun, where there is a decoder that goes on
+abbrev pub IsUnitCountIn : (max : ℕ) → {P : Type 0} → PartsOrRefusal max P → Result ℕ OutOfMemory → Type 0
+IsUnitCountIn max (Ok p) (Ok count) = (p.splitter).failed ≡ false → count ≡ units_begun max (p.splitter).bytes
+IsUnitCountIn max (Err refusal) (Err again) = Unit {0}
+IsUnitCountIn max parts answer = ⊥
 
 -- the event that comes next
 abbrev pub next_event_in : (max : ℕ) → {P : Type 0} → PartsOrRefusal max P → Option Event

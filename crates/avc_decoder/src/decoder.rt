@@ -3,11 +3,14 @@
 ghost use Rattle.std.specs.Prelude.{◌≡◌};
 ghost use Rattle.avc_decoder.specs.Machine.{after_feed, after_flush, new_machine};
 ghost use Rattle.avc_decoder.specs.Machine.{IsCount, IsFeedAnswer, IsFeedUnitAnswer, IsTakeAnswer};
+ghost use Rattle.avc_decoder.specs.Machine.{IsUnitCount};
 ghost use Rattle.avc_decoder.specs.SeenEvents.{seen_answer};
 
 use crate::error::DecodeError;
 use crate::event::Event;
-use crate::parts::{Parts, check, feed, feed_unit, finish, stop_at_refusal, take_event};
+use crate::parts::{
+    Parts, check, feed, feed_unit, finish, stop_at_refusal, take_event, units_begun,
+};
 use avc_decoder_core::Output;
 use avc_plane::{OutputPicture, SharedPicture};
 use avc_types::{History, OutOfMemory, Picture};
@@ -174,6 +177,14 @@ impl<const MAX: usize, P: OutputPicture> Decoder<MAX, P> {
         self.ended = false;
         self.bytes = History::new();
         self.taken = History::new();
+    }
+
+    /// How many units have begun in the bytes so far: one that is under way counts once its first
+    /// byte behind the start code has come. All units after them are of bytes that are yet to come.
+    pub fn units_begun(&self) -> Result<u64, OutOfMemory>
+        ensures { IsUnitCount MAX self.now result }
+    {
+        units_begun(&self.running)
     }
 
     /// How many macroblocks of slices have been read since the last reset, as far as a u64 counts.

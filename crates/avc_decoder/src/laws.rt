@@ -2,7 +2,7 @@
 
 ghost use Rattle.avc_decoder.specs.EarlyOutput.{EarlyOutputKeepsPictures};
 ghost use Rattle.avc_decoder.specs.Headline.{TakesAll, TakesThem};
-ghost use Rattle.avc_decoder.specs.Laws.{EventsOnlyGrow, PicturesAreWhole, PicturesNameNoUnits};
+ghost use Rattle.avc_decoder.specs.Laws.{EventsOnlyGrow, PicturesAreWhole, EventsKeepButNumbers};
 ghost use Rattle.avc_decoder.specs.Laws.{StartsAnew, StartUnitsBeginAnew};
 
 use avc_annexb::laws::{units_are_numbered, units_stay, written_units_stand};
@@ -60,10 +60,10 @@ pub fn resumed_streams_decode_alike()
     sets_come_alike();
 }
 
-/// Where nothing is refused, the events do not depend on the numbers of units, nor on how the
-/// parameter sets came into force.
-pub fn pictures_name_no_units()
-    ensures { PicturesNameNoUnits }
+/// But for the numbers that they name, the events do not depend on the numbers of units, nor on how
+/// the parameter sets came into force.
+pub fn events_keep_but_numbers()
+    ensures { EventsKeepButNumbers }
 {
     sets_come_alike();
 }

@@ -4,7 +4,7 @@ ghost use Rattle.std.specs.Prelude.{◌≡◌, false, true, is_err, IfOk, OnErr,
 ghost use Rattle.avc_decoder.specs.SeenEvents.{seen_if_any};
 ghost use Rattle.avc_decoder.specs.States.{after_take_in, next_event_in, stream_state};
 ghost use Rattle.avc_decoder.specs.States.{Ends, EndsIn, Feeds, FeedsIn, FeedsUnit, FeedsUnitIn};
-ghost use Rattle.avc_decoder.specs.States.{HandlesAll, IsNew, IsStream, IsWorking};
+ghost use Rattle.avc_decoder.specs.States.{HandlesAll, IsNew, IsStream, IsUnitCountIn, IsWorking};
 
 use crate::event::Event;
 use crate::outgoing::Outgoing;
@@ -148,6 +148,18 @@ pub fn check<const MAX: usize, P: OutputPicture>(
 {
     match running {
         Ok(_) => Ok(()),
+        Err(refusal) => Err(refusal.again()),
+    }
+}
+
+/// How many units have begun, where the stream goes on.
+pub fn units_begun<const MAX: usize, P: OutputPicture>(
+    running: &Result<Parts<MAX, P>, OutOfMemory>,
+) -> Result<u64, OutOfMemory>
+    ensures { IsUnitCountIn MAX running.now result }
+{
+    match running {
+        Ok(parts) => Ok(parts.splitter.units_begun()),
         Err(refusal) => Err(refusal.again()),
     }
 }

@@ -63,7 +63,7 @@ pub fn first_slice(stream: &mut Stream, slice: &Slice) -> Result<(), OutOfMemory
         return Ok(());
     }
     let sets = sets_of(&stream.table, slice);
-    match stream.sequence.open(&slice.header, sets.sps) {
+    match stream.sequence.open(&slice.header, slice.unit, sets.sps) {
         Ok(out) => {
             stream.queue.show(out)?;
             keep_emptied(&mut stream.sequence, &mut stream.memory);

@@ -60,7 +60,7 @@ own_or_other index [] own here = grind (arith, nat_tests)
 own_or_other index (s ∷ old) own here = grind (arith, nat_tests, own_or_other index old own)
 
 arriving_references : (e : Entry) (older : History) → (arrival e older).references ≡ indices_of (references_of (e ∷ older))
-arriving_references (decoded_picture sps h planes) older = refl
+arriving_references (decoded_picture sps h info planes) older = refl
 arriving_references (missing_frame sps frame_num) older = refl
 
 references_before : (h : History) → references_after (arrivals h) ≡ indices_of (references_of h)
@@ -142,7 +142,7 @@ same_limits a b e = by_vui a.vui b.vui (search (left, right) depth 16)
 limit_in_sequence : (older : History) → EachCanCome older → (sps : Sps) → is_same_sps (sequence_sps older) sps ≡ true →
     reorder_limit sps ≡ limit_after (arrivals older)
 limit_in_sequence [] come sps same = wrong same
-limit_in_sequence (decoded_picture before h planes ∷ older) come sps same = by (is_idr h) refl same (limit_in_sequence older come.1)
+limit_in_sequence (decoded_picture before h info planes ∷ older) come sps same = by (is_idr h) refl same (limit_in_sequence older come.1)
   where
     by : (idr : Bool) → is_idr h ≡ idr →
         is_same_sps (elim idr as (λ _. Option Sps) [ true ↦ Some before | false ↦ sequence_sps older ]) sps ≡ true →
@@ -171,11 +171,11 @@ count_less first later index low (p ∷ ps) =
 reordered_less : (first later index : ℕ) (order : List ℕ) → first ≤ later → reordered later index order ≤ reordered first index order
 reordered_less first later index order low = count_less first later index low (indices_after index order)
 
-newest_within : (order : List ℕ) (sps : Sps) (h : Header) (planes : Planes) (older : History) →
-    NewestIsWithin order (decoded_picture sps h planes ∷ older) →
-    IfSome (reorder_limit sps) (λ most. reordered (last_emptying (arrivals (decoded_picture sps h planes ∷ older))) (length (arrivals older)) order ≤ most)
-newest_within order sps h planes older within =
-    let later = last_emptying (arrivals (decoded_picture sps h planes ∷ older)) in
+newest_within : (order : List ℕ) (sps : Sps) (h : Header) (info : PictureInfo) (planes : Planes) (older : History) →
+    NewestIsWithin order (decoded_picture sps h info planes ∷ older) →
+    IfSome (reorder_limit sps) (λ most. reordered (last_emptying (arrivals (decoded_picture sps h info planes ∷ older))) (length (arrivals older)) order ≤ most)
+newest_within order sps h info planes older within =
+    let later = last_emptying (arrivals (decoded_picture sps h info planes ∷ older)) in
     let less = reordered_less 0 later (length older) order (omega arith) in
     subst (λ n. IfSome (reorder_limit sps) (λ most. reordered later n order ≤ most)) (sym (length-arrivals older))
     (if_some (λ most. reordered 0 (length older) order ≤ most) (λ most. reordered later (length older) order ≤ most) (reorder_limit sps)
@@ -186,12 +186,12 @@ newest_within order sps h planes older within =
 can_go_out_early : AddsOwnFrameAlone → (order : List ℕ) (e : Entry) (older : History) → EachCanCome (e ∷ older) →
     is_ok (marks_of (e ∷ older)) ≡ true → NewestIsWithin order (e ∷ older) →
     CanGoOutEarly order (arrival e older) (arrivals older)
-can_go_out_early law order (decoded_picture sps h planes) older come ok within = record {
-  references = adds_own_index law (decoded_picture sps h planes) older ok;
+can_go_out_early law order (decoded_picture sps h info planes) older come ok within = record {
+  references = adds_own_index law (decoded_picture sps h info planes) older ok;
   non_existing = λ missing. wrong (sym missing);
   no_limit = λ missing. wrong (sym missing);
   limit = λ _. limit_before sps h older come.1 come.0;
-  within = λ _. newest_within order sps h planes older within;
+  within = λ _. newest_within order sps h info planes older within;
 }
 can_go_out_early law order (missing_frame sps frame_num) older come ok within = record {
   references = adds_own_index law (missing_frame sps frame_num) older ok;
@@ -235,11 +235,11 @@ pub opened_on : (sps : Sps) (h : Header) (closed history : History) (o : Opening
     → with_missing sps o.missing history ≡ Ok reached → history_at_opening sps h closed ≡ Ok reached
 opened_on sps h closed history o reached rest found stored = found.opens ∙ sym found.missing ∙ ap (with_missing sps o.missing) rest ∙ stored
 
-pub opened_state : (sps : Sps) (h : Header) (closed history : History) (o : Opening) (buffer : FrameBufferState) (set : Option Sps)
+pub opened_state : (sps : Sps) (h : Header) (unit : ℕ) (closed history : History) (o : Opening) (buffer : FrameBufferState) (set : Option Sps)
     → IsSps sps → (is_idr h ≡ true → has_idr_marking h ≡ true) → is_some h.marking ≡ is_reference h → buffer.failed ≡ false → closed ≡ history → set ≡ sequence_sps history
     → IsOpening sps h closed o → with_missing sps o.missing history ≡ Ok buffer.history
-    → IsStateOf closed (Some (record { sps = sps; header = h; pic_order_cnt = o.pic_order_cnt })) buffer o.poc set
-opened_state sps h closed history o buffer set limits marking reference going rest is_set found stored = grind (arith, opened_on, ok_same, can_follow, set_at_opening)
+    → IsStateOf closed (Some (record { sps = sps; header = h; unit = unit; pic_order_cnt = o.pic_order_cnt })) buffer o.poc set
+opened_state sps h unit closed history o buffer set limits marking reference going rest is_set found stored = grind (arith, opened_on, ok_same, can_follow, set_at_opening)
 
 -- ---- a picture is closed
 
@@ -266,41 +266,53 @@ none_before h before idr = grind arith
 all_before : (h : Header) (before : History) → is_idr h ≡ false → earlier_in_sequence h before ≡ before
 all_before h before other = grind arith
 
+-- what is known of it
+pub known : (p : OpenPicture) (there : FrameBufferState) (info : PictureInfo) → info ≡ info_with p.sps p.header p.unit p.pic_order_cnt
+    → CanStore p.sps p.header there p.pic_order_cnt → info ≡ info_of p.sps p.header p.unit there.history
+known p there info is can = is ∙ ap (info_with p.sps p.header p.unit) can.order_is
+
 pub can_store : (closed : History) (p : OpenPicture) (b there : FrameBufferState) (prior : List Picture) → b.failed ≡ false → StandsOn closed b.history p
     → BeginsSequence b p.header prior there → CanStore p.sps p.header there p.pic_order_cnt
 can_store closed p b there prior going stands begins = grind (arith, history_there, going_there, all_before, none_before)
 
 -- It was stored, and these pictures go out.
-pub record IsStoredOn (sps : Sps) (h : Header) (planes : Planes) (b : FrameBufferState) (out : List Picture) (after : FrameBufferState) : Type 0 where
+pub record IsStoredOn (sps : Sps) (h : Header) (unit : ℕ) (planes : Planes) (b : FrameBufferState) (out : List Picture) (after : FrameBufferState) : Type 0 where
   pub going : after.failed ≡ false
-  pub history : after.history ≡ with_picture sps h planes b.history
+  pub history : after.history ≡ with_picture sps h unit planes b.history
   pub output : after.output ≡ b.output
-  pub marked : is_ok (marks_of (with_picture sps h planes b.history)) ≡ true
-  pub pictures : out ≡ output_at_closing b.output h b.history (with_picture sps h planes b.history)
+  pub marked : is_ok (marks_of (with_picture sps h unit planes b.history)) ≡ true
+  pub pictures : out ≡ output_at_closing b.output h b.history (with_picture sps h unit planes b.history)
 
-pub stored_on : (sps : Sps) (h : Header) (planes : Planes) (b there after : FrameBufferState) (prior more out : List Picture) → BeginsSequence b h prior there
-    → Stores there (decoded_picture sps h planes) more after → out ≡ prior ++ more → IsStoredOn sps h planes b out after
-stored_on sps h planes b there after prior more out begins stores all = grind (arith, history_there, output_there)
+pub stored_on : (sps : Sps) (h : Header) (unit : ℕ) (info : PictureInfo) (planes : Planes) (b there after : FrameBufferState) (prior more out : List Picture) → BeginsSequence b h prior there
+    → info ≡ info_of sps h unit there.history → Stores there (decoded_picture sps h info planes) more after → out ≡ prior ++ more → IsStoredOn sps h unit planes b out after
+stored_on sps h unit info planes b there after prior more out begins known stores all = grind (arith, history_there, output_there)
 
 -- Nothing changed, and it could not be marked.
-pub record IsRefusedOn (sps : Sps) (h : Header) (planes : Planes) (b : FrameBufferState) (f : Fault) (after : FrameBufferState) : Type 0 where
+pub record IsRefusedOn (sps : Sps) (h : Header) (unit : ℕ) (planes : Planes) (b : FrameBufferState) (f : Fault) (after : FrameBufferState) : Type 0 where
   pub same : after ≡ b
-  pub refused : marks_of (with_picture sps h planes b.history) ≡ Err f
+  pub refused : marks_of (with_picture sps h unit planes b.history) ≡ Err f
 
-pub refused_on : (sps : Sps) (h : Header) (planes : Planes) (b there after : FrameBufferState) (prior : List Picture) (f : Fault) → (is_idr h ≡ true → has_idr_marking h ≡ true)
-    → BeginsSequence b h prior there → after ≡ there → marks_of (decoded_picture sps h planes ∷ there.history) ≡ Err f → IsRefusedOn sps h planes b f after
-refused_on sps h planes b there after prior f marking begins same refused = grind (arith, history_there, idr_not_refused, none_before)
+pub refused_on : (sps : Sps) (h : Header) (unit : ℕ) (info : PictureInfo) (planes : Planes) (b there after : FrameBufferState) (prior : List Picture) (f : Fault) → (is_idr h ≡ true → has_idr_marking h ≡ true)
+    → BeginsSequence b h prior there → info ≡ info_of sps h unit there.history → after ≡ there → marks_of (decoded_picture sps h info planes ∷ there.history) ≡ Err f → IsRefusedOn sps h unit planes b f after
+refused_on sps h unit info planes b there after prior f marking begins known same refused = grind (arith, history_there, idr_not_refused, none_before)
 
 -- the parameter set of the sequence then
-pub set_then : (sps : Sps) (h : Header) (planes : Planes) (before : History) (set : Option Sps) → set ≡ sequence_sps before
-    → set_with sps h set ≡ sequence_sps (with_picture sps h planes before)
-set_then sps h planes before set is = grind arith
+pub set_then : (sps : Sps) (h : Header) (unit : ℕ) (planes : Planes) (before : History) (set : Option Sps) → set ≡ sequence_sps before
+    → set_with sps h set ≡ sequence_sps (with_picture sps h unit planes before)
+set_then sps h unit planes before set is = grind arith
 
 pub is_closed : (old new : SequenceState) (o : OpenPictureStart) (planes : Planes) (frames : List (Frame 16)) (history : History) (out : List Picture) → old.failed ≡ false
-    → current_history old ≡ history → is_ok (marks_of (with_picture o.sps o.header planes history)) ≡ true
-    → new ≡ record { history = with_picture o.sps o.header planes history; open_picture = None; frames = frames; output = old.output; failed = false }
-    → out ≡ output_at_closing old.output o.header history (with_picture o.sps o.header planes history) → IsClosed old o planes out new
-is_closed old new o planes frames history out going current marked state pictures = search (follows, arith)
+    → current_history old ≡ history → is_ok (marks_of (with_picture o.sps o.header o.unit planes history)) ≡ true
+    → new ≡ record { history = with_picture o.sps o.header o.unit planes history; open_picture = None; frames = frames; output = old.output; failed = false }
+    → out ≡ output_at_closing old.output o.header history (with_picture o.sps o.header o.unit planes history) → IsClosed old o planes out new
+is_closed old new o planes frames history out going current can_mark state goes_out =
+    let full = with_picture o.sps o.header o.unit planes history in
+    rw state (record {
+      going = going;
+      state = refl;
+      closes = ap (history_after_closing o.sps o.header o.unit planes) current ∙ follows (marks_of full) (Ok full) can_mark;
+      pictures = goes_out ∙ ap (λ (h : History). output_at_closing old.output o.header h full) (sym current);
+    })
 
 -- `o` is the open picture
 pub open_is : (p : OpenPicture) (opened : Option OpenPicture) (o : OpenPictureStart) (s : SequenceState) → opened ≡ Some p → option_map open_picture_of opened ≡ s.open_picture
@@ -309,7 +321,7 @@ open_is p opened o s is seen told = same_Some (open_picture_of p) o (ap (option_
 
 -- it can't be closed
 pub closing_refused : (o : OpenPictureStart) (planes : Planes) (s : SequenceState) (history : History) (f : Fault) → current_history s ≡ history
-    → marks_of (with_picture o.sps o.header planes history) ≡ Err f → history_after_closing o.sps o.header planes (current_history s) ≡ Err f
+    → marks_of (with_picture o.sps o.header o.unit planes history) ≡ Err f → history_after_closing o.sps o.header o.unit planes (current_history s) ≡ Err f
 closing_refused o planes s history f current told = grind (arith, fault_stays)
 
 pub unchanged : (closed : History) (o o' : Option OpenPicture) (frames frames' : List (Frame 16)) (output output' : Output) (failed : Bool) (s : SequenceState) → o ≡ o' → frames' ≡ frames → output' ≡ output → failed ≡ false

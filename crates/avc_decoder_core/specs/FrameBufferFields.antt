@@ -28,13 +28,13 @@ last_number (n ∷ m ∷ numbers) = last_number (m ∷ numbers)
 
 -- the newest entry of the history for which a token stands
 abbrev pub entry_of : HistoryEntry → Entry
-entry_of (entries.Picture sps header planes) = decoded_picture sps header planes
+entry_of (entries.Picture sps header info planes) = decoded_picture sps header info planes
 entry_of (entries.MissingFrame sps frame_num) = missing_frame sps frame_num
 entry_of (entries.MissingFrames sps numbers) = missing_frame sps (last_number numbers)
 
 -- the history with what a token stands for
 abbrev pub with_token : HistoryEntry → History → History
-with_token (entries.Picture sps header planes) h = decoded_picture sps header planes ∷ h
+with_token (entries.Picture sps header info planes) h = decoded_picture sps header info planes ∷ h
 with_token (entries.MissingFrame sps frame_num) h = missing_frame sps frame_num ∷ h
 with_token (entries.MissingFrames sps numbers) h = with_all_missing sps numbers h
 
@@ -45,7 +45,7 @@ history_of (t ∷ items) = with_token t (history_of items)
 
 -- the number of the entry's frame once it is marked (7.4.3)
 abbrev pub frame_num_of : Entry → ℕ
-frame_num_of (decoded_picture sps h planes) = frame_num_after_marking (picture_entry sps h)
+frame_num_of (decoded_picture sps h info planes) = frame_num_after_marking (picture_entry sps h)
 frame_num_of (missing_frame sps frame_num) = frame_num
 
 -- what its fields say: the history, the frames held, and when pictures go out

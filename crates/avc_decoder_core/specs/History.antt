@@ -5,6 +5,7 @@ use Rattle.std.specs.Option.{option_map}
 use Rattle.avc_types.specs.declared.current_frame_num.CurrentFrameNum.{CurrentFrameNum}
 use Rattle.avc_types.specs.declared.fault.Fault.{Fault}
 use Rattle.avc_types.specs.declared.fault.Fault.TheVariants as faults
+use Rattle.avc_types.specs.declared.picture_info.PictureInfo.{PictureInfo}
 use Rattle.avc_types.specs.declared.references.Marking.TheVariants.{SlidingWindow}
 use Rattle.avc_types.specs.References.{Reference}
 use Rattle.avc_types.specs.Results.{◌>>=◌}
@@ -12,6 +13,7 @@ use Rattle.avc_plane.specs.Planes.{Planes, StoredFrame}
 use Rattle.avc_params.specs.declared.sps.Sps.{Sps}
 use Rattle.avc_params.specs.Limits.{max_frame_num, dpb_size, restriction_of}
 use Rattle.avc_params.specs.Same.{same_sps}
+use Rattle.avc_params.specs.VideoUsability.{usability_of}
 use Rattle.avc_slice.specs.declared.header.Header.{Header}
 use Rattle.avc_slice.specs.Header.{is_idr, is_reference, has_operation_5}
 use Rattle.avc_poc.specs.OrderCounts.{Counts, Past, picture, missing, order_counts, order_of}
@@ -19,10 +21,10 @@ use Rattle.avc_marking.specs.Marks.{MarkingEntry, Marks, marks, prev_ref_frame_n
 use Rattle.avc_dpb.specs.declared.output.Output.{Output}
 use Rattle.avc_dpb.specs.Bumping.{PriorPictures, remain, are_output, Arrival, Buffer, buffer_after, needed_in_output_order}
 
--- A closed picture with its parameter set, its first slice's header and its planes; or a frame
--- number that is missing (8.2.5.2).
+-- A closed picture with its parameter set, its first slice's header, what is known of it beside its
+-- samples, and its planes; or a frame number that is missing (8.2.5.2).
 pub data Entry : Type 0 where
-  decoded_picture : Sps → Header → Planes → Entry
+  decoded_picture : Sps → Header → PictureInfo → Planes → Entry
   missing_frame : Sps → (frame_num : ℕ) → Entry
 
 -- all entries of a coded video sequence so far, the newest first: the oldest is its IDR picture
@@ -34,7 +36,7 @@ History = List Entry
 
 -- what order counts ask of an entry (8.2.1)
 abbrev past_of : Entry → Past
-past_of (decoded_picture sps h planes) = picture sps h
+past_of (decoded_picture sps h info planes) = picture sps h
 past_of (missing_frame sps frame_num) = missing sps frame_num
 
 -- that of all entries (8.2.1)
@@ -66,7 +68,7 @@ missing_frame_entry sps frame_num = record {
 
 -- what marking asks of an entry (8.2.5)
 abbrev pub marking_entry : Entry → MarkingEntry
-marking_entry (decoded_picture sps h planes) = picture_entry sps h
+marking_entry (decoded_picture sps h info planes) = picture_entry sps h
 marking_entry (missing_frame sps frame_num) = missing_frame_entry sps frame_num
 
 -- that of all entries (8.2.5)
@@ -103,14 +105,14 @@ reorder_limit sps = option_map (λ r. r.max_num_reorder_frames) (restriction_of 
 -- What output asks of an entry: PicOrderCnt, and the reference frames once it is marked (C.4.2,
 -- C.4.4, C.4.5). A missing frame number sets no limit, since its frame is never held.
 abbrev pub arrival : Entry → (older : History) → Arrival
-arrival (decoded_picture sps h planes) older = record {
+arrival (decoded_picture sps h info planes) older = record {
   pic_order_cnt = order_or_0 (order_counts sps h (pasts older));
   existing = true;
   is_reference = is_reference h;
   prior_pictures = prior_pictures_of h;
   capacity = dpb_size sps;
   max_num_reorder_frames = reorder_limit sps;
-  references = map (λ r. r.decoding_index) (references_of (decoded_picture sps h planes ∷ older));
+  references = map (λ r. r.decoding_index) (references_of (decoded_picture sps h info planes ∷ older));
 }
 arrival (missing_frame sps frame_num) older = record {
   pic_order_cnt = pos 0;
@@ -148,7 +150,7 @@ entry_at h index = elim (length h - index) [ zero ↦ None | suc n ↦ slice_get
 
 -- the planes of an entry; a missing frame number has none (8.2.5.2)
 abbrev pub planes_in : Option Entry → Option Planes
-planes_in (Some (decoded_picture sps h planes)) = Some planes
+planes_in (Some (decoded_picture sps h info planes)) = Some planes
 planes_in (Some (missing_frame sps frame_num)) = None
 planes_in None = None
 
@@ -167,16 +169,33 @@ stored_frames h = map (stored h) (references_of h)
 abbrev pub earlier_in_sequence : Header → (before : History) → History
 earlier_in_sequence h before = elim (is_idr h) [ true ↦ [] | false ↦ before ]
 
+-- what is known of a picture whose first slice has this header and came with this unit, by its order
+-- count (7.4.1.2.4, 7.4.3, E.2.1)
+abbrev pub info_with : Sps → Header → (unit : ℕ) → (pic_order_cnt : ℤ) → PictureInfo
+info_with sps h unit order = record {
+  unit = unit;
+  is_idr = is_idr h;
+  frame_num = h.frame_num;
+  pic_order_cnt = order;
+  usability = usability_of sps;
+}
+
+-- the same where these entries stand before it in its sequence (8.2.1)
+abbrev pub info_of : Sps → Header → (unit : ℕ) → (older : History) → PictureInfo
+info_of sps h unit older = info_with sps h unit (order_or_0 (order_counts sps h (pasts older)))
+
 -- the history with a closed picture: that of an IDR picture has it alone (7.4.1.2.2)
-abbrev pub with_picture : Sps → Header → Planes → (before : History) → History
-with_picture sps h planes before = decoded_picture sps h planes ∷ earlier_in_sequence h before
+abbrev pub with_picture : Sps → Header → (unit : ℕ) → Planes → (before : History) → History
+with_picture sps h unit planes before =
+    let older = earlier_in_sequence h before in
+    decoded_picture sps h (info_of sps h unit older) planes ∷ older
 
 -- ---- opening a picture (7.4.1.2.1, 7.4.3, 8.2.5.2)
 
 -- the parameter set of the sequence: that of the last IDR picture (7.4.1.2.1)
 abbrev pub sequence_sps : History → Option Sps
 sequence_sps [] = None
-sequence_sps (decoded_picture sps h planes ∷ older) = elim (is_idr h) [ true ↦ Some sps | false ↦ sequence_sps older ]
+sequence_sps (decoded_picture sps h info planes ∷ older) = elim (is_idr h) [ true ↦ Some sps | false ↦ sequence_sps older ]
 sequence_sps (missing_frame sps frame_num ∷ older) = sequence_sps older
 
 -- there is one, and the other has the same contents (7.4.1.2.1)
@@ -211,6 +230,6 @@ history_at_opening sps h history =
 -- ---- closing it (8.2.5)
 
 -- The history with the picture marked (8.2.5), or BadMarking or TooManyReferences.
-abbrev pub history_after_closing : Sps → Header → Planes → History → Result History Fault
-history_after_closing sps h planes history =
-    marks_of (with_picture sps h planes history) >>= λ m. Ok (with_picture sps h planes history)
+abbrev pub history_after_closing : Sps → Header → (unit : ℕ) → Planes → History → Result History Fault
+history_after_closing sps h unit planes history =
+    marks_of (with_picture sps h unit planes history) >>= λ m. Ok (with_picture sps h unit planes history)

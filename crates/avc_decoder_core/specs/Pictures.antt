@@ -3,6 +3,7 @@ use Rattle.std.specs.Prelude.{ℕ, ◌*◌, Bool, true, false, if◌then◌else�
 use Rattle.std.specs.List.{flat_map}
 use Rattle.avc_types.specs.declared.picture.Crop.{Crop}
 use Rattle.avc_types.specs.declared.picture.Picture.{Picture}
+use Rattle.avc_types.specs.declared.picture_info.PictureInfo.{PictureInfo}
 use Rattle.avc_types.specs.declared.references.Marking.{Marking}
 use Rattle.avc_types.specs.declared.references.Marking.TheVariants.{Idr}
 use Rattle.avc_dpb.specs.declared.output.Output.{Output}
@@ -24,13 +25,14 @@ crop_of (Some c) = record {
   bottom = 2 * c.frame_crop_bottom_offset;
 }
 
--- the picture as it is handed out: coded size, cropping rectangle and planes (6.2, 7.4.2.1.1)
-abbrev pub picture_of : Sps → Planes → Picture
-picture_of sps planes = cropped_picture planes (crop_of sps.frame_cropping)
+-- the picture as it is handed out: coded size, cropping rectangle and planes (6.2, 7.4.2.1.1), and
+-- what is known of it
+abbrev pub picture_of : Sps → PictureInfo → Planes → Picture
+picture_of sps info planes = cropped_picture planes (crop_of sps.frame_cropping) info
 
 -- the entry's picture; none where a number is missing (C.4.2)
 abbrev pub entry_pictures : Option Entry → List Picture
-entry_pictures (Some (decoded_picture sps h planes)) = picture_of sps planes ∷ []
+entry_pictures (Some (decoded_picture sps h info planes)) = picture_of sps info planes ∷ []
 entry_pictures (Some (missing_frame sps frame_num)) = []
 entry_pictures None = []
 

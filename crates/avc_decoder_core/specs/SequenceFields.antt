@@ -12,9 +12,9 @@ use Rattle.avc_decoder_core.specs.SequenceState.{OpenPictureStart, SequenceState
 use Rattle.avc_decoder_core.specs.declared.opening.OpenPicture.{OpenPicture}
 use Rattle.avc_decoder_core.specs.declared.sequence.Sequence.TheInside.{Inside}
 
--- the parameter set and the first header of the open picture
+-- the parameter set of the open picture, and its first header and unit
 abbrev pub open_picture_of : OpenPicture → OpenPictureStart
-open_picture_of o = record { sps = o.sps; header = o.header }
+open_picture_of o = record { sps = o.sps; header = o.header; unit = o.unit }
 
 -- what its fields say: the history of closed pictures, the open picture, and the frames held
 abbrev pub sequence_state : Inside → SequenceState

@@ -18,7 +18,7 @@ output_order output h = whole_output output (arrivals h)
 -- entry and go out after it, where pictures go out in this order (E.2.1).
 abbrev pub NewestIsWithin : (order : List ℕ) → History → Type 0
 NewestIsWithin order [] = Unit {0}
-NewestIsWithin order (decoded_picture sps h planes ∷ older) =
+NewestIsWithin order (decoded_picture sps h info planes ∷ older) =
     IfSome (reorder_limit sps) (λ most. reordered 0 (length older) order ≤ most)
 NewestIsWithin order (missing_frame sps frame_num ∷ older) = Unit {0}
 
@@ -43,7 +43,7 @@ pub record CanCome (sps : Sps) (h : Header) (older : History) : Type 0 where
 -- so could each of its pictures
 abbrev pub EachCanCome : History → Type 0
 EachCanCome [] = Unit {0}
-EachCanCome (decoded_picture sps h planes ∷ older) = CanCome sps h older × EachCanCome older
+EachCanCome (decoded_picture sps h info planes ∷ older) = CanCome sps h older × EachCanCome older
 EachCanCome (missing_frame sps frame_num ∷ older) = EachCanCome older
 
 -- Where the reordering of pictures stays within its limits, early output hands them out in the

@@ -15,10 +15,11 @@ use Rattle.avc_slice.specs.declared.header.Header.{Header}
 use Rattle.avc_decoder_core.specs.History.{History, history_at_opening, history_after_closing, sequence_sps, stored_frames}
 use Rattle.avc_decoder_core.specs.Pictures.{output_pictures, held_pictures, output_at_closing}
 
--- the parameter set and the first slice's header of a picture that is being decoded
+-- the parameter set of a picture that is being decoded, and its first slice's header and unit
 pub record OpenPictureStart : Type 0 where
   pub sps : Sps
   pub header : Header
+  pub unit : ℕ
 
 -- The history of the coded video sequence's closed pictures and missing numbers, the picture that
 -- was opened on it, if there is one, the stored frames with their marks in decoding order, when
@@ -35,8 +36,8 @@ abbrev pub empty_sequence : Output → SequenceState
 empty_sequence output = record { history = []; open_picture = None; frames = []; output = output; failed = false }
 
 -- the picture of this first slice is open, and these are the stored frames
-abbrev pub with_open_picture : Sps → Header → List (Frame 16) → SequenceState → SequenceState
-with_open_picture sps h frames s = record s { open_picture = Some (record { sps = sps; header = h }); frames = frames }
+abbrev pub with_open_picture : OpenPictureStart → List (Frame 16) → SequenceState → SequenceState
+with_open_picture o frames s = record s { open_picture = Some o; frames = frames }
 
 -- the history, or at a fault that before
 abbrev pub or_before : History → Result History Fault → History
@@ -48,17 +49,17 @@ abbrev pub current_history : SequenceState → History
 current_history s = elim s.open_picture [ None ↦ s.history | Some o ↦ or_before s.history (history_at_opening o.sps o.header s.history) ]
 
 -- A picture was opened, and these pictures go out, let out by the missing numbers.
-pub record IsOpened (old : SequenceState) (sps : Sps) (h : Header) (out : List Picture) (new : SequenceState) : Type 0 where
+pub record IsOpened (old : SequenceState) (o : OpenPictureStart) (out : List Picture) (new : SequenceState) : Type 0 where
   pub going : old.failed ≡ false
-  pub state : new ≡ with_open_picture sps h new.frames old
-  pub stands : history_at_opening sps h old.history ≡ Ok (current_history new)
+  pub state : new ≡ with_open_picture o new.frames old
+  pub stands : history_at_opening o.sps o.header old.history ≡ Ok (current_history new)
   pub pictures : out ≡ output_pictures old.output old.history (current_history new)
 
 -- The open picture was closed with these planes, and these pictures go out.
 pub record IsClosed (old : SequenceState) (o : OpenPictureStart) (planes : Planes) (out : List Picture) (new : SequenceState) : Type 0 where
   pub going : old.failed ≡ false
   pub state : new ≡ record { history = new.history; open_picture = None; frames = new.frames; output = old.output; failed = false }
-  pub closes : history_after_closing o.sps o.header planes (current_history old) ≡ Ok new.history
+  pub closes : history_after_closing o.sps o.header o.unit planes (current_history old) ≡ Ok new.history
   pub pictures : out ≡ output_at_closing old.output o.header (current_history old) new.history
 
 -- A call failed: with the fault in place of a history, and nothing changed, or for want of memory.

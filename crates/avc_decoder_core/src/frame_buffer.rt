@@ -14,7 +14,7 @@ ghost use Rattle.avc_decoder_core.specs.History.{current_in, decoded_picture, is
 ghost use Rattle.avc_decoder_core.specs.History.{marking_entries};
 ghost use Rattle.avc_decoder_core.specs.History.{marks_of, missing_frame, order_or_0, pasts};
 ghost use Rattle.avc_decoder_core.specs.History.{picture_entry};
-ghost use Rattle.avc_decoder_core.specs.History.{prior_pictures_of, reorder_limit, sequence_sps};
+ghost use Rattle.avc_decoder_core.specs.History.{prior_pictures_of, sequence_sps};
 ghost use Rattle.avc_decoder_core.specs.Pictures.{held_pictures, no_output_of_prior_pics};
 ghost use Rattle.avc_decoder_core.specs.SequenceState.{AreFramesIn, AreStoredIn};
 ghost use Rattle.avc_marking.specs.Marks.{missing_frame_nums, prev_ref_frame_num};
@@ -40,7 +40,7 @@ use avc_plane::{EmptiedPlanes, Frame, PADDING, SharedPicture, SharedPlanes};
 use avc_slice::Header;
 use avc_types::{
     CurrentFrameNum, Fault, History, Mark, MarkedFrame, Marking, OutOfMemory, PictureError,
-    WantOfMemory,
+    PictureInfo, WantOfMemory,
 };
 use std::alloc::Global;
 use std::marker::Model;
@@ -136,17 +136,19 @@ fn set_marks(dpb: &mut Dpb, marked: &[MarkedFrame])
 /// A frame with the cropping that its parameter set gives.
 fn coded_frame(
     sps: Sps,
+    info: PictureInfo,
     planes: Option<SharedPlanes<PADDING>>,
     frame_num: u32,
     mark: Option<Mark>,
 ) -> Frame<PADDING>
-    ensures { result ≡ coded_frame sps planes frame_num mark }
+    ensures { result ≡ coded_frame sps info planes frame_num mark }
 {
     Frame {
         planes,
         frame_num,
         mark,
         crop: crop_of(sps.frame_cropping),
+        info,
     }
 }
 
@@ -156,24 +158,15 @@ fn entry_frame(entry: HistoryEntry, frame_num: u32, mark: Option<Mark>) -> Frame
     ensures { result ≡ frame_of (Some (entry_of entry)) mark }
 {
     match entry {
-        HistoryEntry::Picture { sps, planes, .. } => {
-            coded_frame(sps, Some(planes), frame_num, mark)
+        HistoryEntry::Picture {
+            sps,
+            info,
+            planes,
+            ..
+        } => coded_frame(sps, info, Some(planes), frame_num, mark),
+        HistoryEntry::MissingFrame { sps, .. } | HistoryEntry::MissingFrames { sps, .. } => {
+            coded_frame(sps, PictureInfo::none(), None, frame_num, mark)
         }
-        HistoryEntry::MissingFrame { sps, .. } => coded_frame(sps, None, frame_num, mark),
-        HistoryEntry::MissingFrames { sps, .. } => coded_frame(sps, None, frame_num, mark),
-    }
-}
-
-/// max_num_reorder_frames, where the parameter set gives it (E.2.1).
-fn reorder_limit(sps: &Sps) -> Option<u32>
-    ensures { result ≡ reorder_limit sps.now }
-{
-    match &sps.vui {
-        None => None,
-        Some(vui) => match &vui.restriction {
-            None => None,
-            Some(restriction) => Some(restriction.max_num_reorder_frames),
-        },
     }
 }
 
@@ -389,14 +382,14 @@ impl FrameBuffer {
         self.history = History::new();
     }
 
-    /// Marks a decoded picture (8.2.5.1) with this PicOrderCnt and stores it. `closed` becomes the
+    /// Marks a decoded picture (8.2.5.1), of which this is known, and stores it. `closed` becomes the
     /// history with it. Answers the pictures that go out.
     #[tactic(auto, using(crate::proofs::Sequences::few_needed))]
     pub fn store_picture(
         &mut self,
         sps: &Sps,
         header: &Header,
-        pic_order_cnt: i32,
+        info: PictureInfo,
         planes: SharedPlanes<PADDING>,
         closed: &mut History<HistoryEntry>,
     ) -> Result<Vec<SharedPicture>, PictureError>
@@ -404,11 +397,11 @@ impl FrameBuffer {
         requires sps { IsSps sps.now }
         requires follows { CanFollow self.old.history sps.now header.now }
         requires first { is_idr header.now ≡ true → self.old.history ≡ [] }
-        requires pic_order_cnt { pic_order_cnt ≡ order_or_0 (order_counts sps.now header.now (pasts self.old.history)) }
+        requires pic_order_cnt { info.pic_order_cnt ≡ order_or_0 (order_counts sps.now header.now (pasts self.old.history)) }
         requires sized { AreSized (width_in_mbs sps.now) (height_in_mbs sps.now) planes }
-        ensures ok { IfOk result (λ out. Stores self.old (decoded_picture sps.now header.now planes) out.items self.new) }
+        ensures ok { IfOk result (λ out. Stores self.old (decoded_picture sps.now header.now info planes) out.items self.new) }
         ensures err { IfErr result (λ error.
-            Refuses self.old (marks_of (decoded_picture sps.now header.now planes ∷ self.old.history)) error self.new) }
+            Refuses self.old (marks_of (decoded_picture sps.now header.now info planes ∷ self.old.history)) error self.new) }
         ensures closed { OnOk result (history_of closed.new.items ≡ self.new.history) }
         ensures kept { OnErr result (closed.new.items ≡ closed.old.items) }
     {
@@ -429,17 +422,18 @@ impl FrameBuffer {
         let entry = HistoryEntry::Picture {
             sps: sps.copied(),
             header: header.copied(),
+            info,
             planes,
         };
         let history = self.history.with_newest(&entry);
         let with_picture = self.history.with_newest(&entry);
         let frame = entry_frame(entry, frame_num, marked[marked.len() - 1].mark);
         let arriving = ArrivingFrame {
-            pic_order_cnt,
+            pic_order_cnt: info.pic_order_cnt,
             existing: true,
             is_reference: header.is_reference(),
             capacity: sps.dpb_size() as usize,
-            max_num_reorder_frames: reorder_limit(sps),
+            max_num_reorder_frames: sps.max_num_reorder_frames(),
         };
         let more = self.failed.keep(self.dpb.store(frame, &arriving))?;
         let out = self.failed.keep(joined(prior, more))?;

@@ -4,7 +4,7 @@ ghost use Rattle.std.specs.Prelude.{◌≡◌, false};
 ghost use Rattle.avc_decoder_core.specs.History.{with_missing};
 ghost use Rattle.avc_decoder_core.specs.Opening.{counts_over, missing_before, CountsMissing};
 ghost use Rattle.avc_decoder_core.specs.Opening.{CountsPicture};
-ghost use Rattle.avc_decoder_core.specs.History.{pasts, sequence_sps};
+ghost use Rattle.avc_decoder_core.specs.History.{info_with, pasts, sequence_sps};
 ghost use Rattle.avc_params.specs.Within.{IsSps};
 ghost use Rattle.avc_poc.specs.OrderCountState.{order_count_state};
 
@@ -13,7 +13,7 @@ use avc_marking::MissingFrameNums;
 use avc_params::Sps;
 use avc_poc::Poc;
 use avc_slice::Header;
-use avc_types::Fault;
+use avc_types::{Fault, PictureInfo};
 
 /// A picture that is being decoded.
 #[derive(Drop)]
@@ -23,8 +23,26 @@ pub struct OpenPicture {
     /// Its first slice's header.
     pub header: Header,
 
+    /// The number of that slice's unit.
+    pub unit: u64,
+
     /// PicOrderCnt.
     pub pic_order_cnt: i32,
+}
+
+impl OpenPicture {
+    /// What is known of it beside its samples.
+    pub fn info(&self) -> PictureInfo
+        ensures { result ≡ info_with self.now.sps self.now.header self.now.unit self.now.pic_order_cnt }
+    {
+        PictureInfo {
+            unit: self.unit,
+            is_idr: self.header.is_idr(),
+            frame_num: self.header.frame_num,
+            pic_order_cnt: self.pic_order_cnt,
+            usability: self.sps.usability(),
+        }
+    }
 }
 
 /// What opening a picture finds.

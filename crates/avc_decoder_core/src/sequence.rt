@@ -87,15 +87,20 @@ impl Sequence {
         }
     }
 
-    /// Opens a picture whose first slice has this header: checks its parameter set, its frame
-    /// number and its order count, and takes in the frame numbers that are missing before it.
-    /// Answers the pictures that go out.
-    pub fn open(&mut self, header: &Header, sps: &Sps) -> Result<Vec<SharedPicture>, PictureError>
+    /// Opens a picture whose first slice has this header and came with this unit: checks its
+    /// parameter set, its frame number and its order count, and takes in the frame numbers that are
+    /// missing before it. Answers the pictures that go out.
+    pub fn open(
+        &mut self,
+        header: &Header,
+        unit: u64,
+        sps: &Sps,
+    ) -> Result<Vec<SharedPicture>, PictureError>
         requires rest { self.old.open_picture ≡ None }
         requires marking { is_idr header.now ≡ true → has_idr_marking header.now ≡ true }
         requires reference { is_some header.now.marking ≡ is_reference header.now }
         requires sps { IsSps sps.now }
-        ensures ok { IfOk result (λ out. IsOpened self.old sps.now header.now out.items self.new) }
+        ensures ok { IfOk result (λ out. IsOpened self.old (record { sps = sps.now; header = header.now; unit = unit }) out.items self.new) }
         ensures err { IfErr result (λ error. Fails self.old (history_at_opening sps.now header.now self.old.history) error self.new) }
     {
         self.failed.check()?;
@@ -106,6 +111,7 @@ impl Sequence {
         self.open_picture = Some(OpenPicture {
             sps: sps.copied(),
             header: header.copied(),
+            unit,
             pic_order_cnt: opening.pic_order_cnt,
         });
         Ok(out)
@@ -140,7 +146,7 @@ impl Sequence {
             (o : OpenPictureStart) → self.old.open_picture ≡ Some o → IsClosed self.old o planes out.items self.new) }
         ensures err { IfErr result (λ error.
             (o : OpenPictureStart) → self.old.open_picture ≡ Some o →
-            Fails self.old (history_after_closing o.sps o.header planes (current_history self.old)) error self.new) }
+            Fails self.old (history_after_closing o.sps o.header o.unit planes (current_history self.old)) error self.new) }
         ensures memory { self.old.failed ≡ true → WantsMemory result }
         ensures stays { self.old.failed ≡ true → self.new ≡ self.old }
     {
@@ -153,7 +159,7 @@ impl Sequence {
         match self.buffer.store_picture(
             &open_picture.sps,
             &open_picture.header,
-            open_picture.pic_order_cnt,
+            open_picture.info(),
             planes,
             &mut self.closed,
         ) {

@@ -14,7 +14,10 @@ fn shown_frame(frame: &Frame<PADDING>) -> Result<Option<SharedPicture>, OutOfMem
     ensures memory { OnErr result (is_some (shown_frame frame.now) ≡ true) }
 {
     match &frame.planes {
-        Some(planes) => Ok(Some(SharedPicture::new(planes.share()?, frame.crop))),
+        Some(planes) => {
+            let planes = planes.share()?;
+            Ok(Some(SharedPicture::new(planes, frame.crop, frame.info)))
+        }
         None => Ok(None),
     }
 }

@@ -1,13 +1,13 @@
 -- How pictures are shown, as their sequence parameter set says (7.4.2.1.1, E.2.1).
-use Rattle.std.specs.Prelude.{◌≡◌, ℕ, ◌*◌, Bool, true, false, ◌==◌, ◌||◌, if◌then◌else◌, Option, Some, None, option_and_then}
+use Rattle.std.specs.Prelude.{◌≡◌, ℕ, ◌*◌, Bool, true, false, ◌==◌, ◌||◌, if◌then◌else◌, Option, Some, None}
 use Rattle.std.specs.Option.{option_map}
+use Rattle.avc_params.specs.VideoUsability.{in_vui, size_of_aspect}
 use Rattle.avc_params.specs.declared.sps.Sps.{Sps}
 use Rattle.avc_params.specs.declared.vui.ChromaLocation.{ChromaLocation}
 use Rattle.avc_params.specs.declared.vui.SampleAspect.{SampleAspect}
 use Rattle.avc_params.specs.declared.vui.SampleSize.{SampleSize}
 use Rattle.avc_params.specs.declared.vui.Timing.{Timing}
 use Rattle.avc_params.specs.declared.vui.VideoSignal.{VideoSignal}
-use Rattle.avc_params.specs.declared.vui.Vui.{Vui}
 use Rattle.avc_tools.specs.Lines.{shown_height, shown_width}
 use Rattle.avc_formats.specs.Ratios.{IsLowest}
 use Rattle.avc_formats.specs.declared.presentation.ChromaSite.{ChromaSite}
@@ -38,36 +38,14 @@ IsRateOf (Some t) r =
 abbrev pub no_ratio : Ratio
 no_ratio = ratio 0 0
 
--- as the set says it itself: a 0 says nothing (E.2.1)
-abbrev pub own_aspect : Option SampleSize → Ratio
-own_aspect None = no_ratio
-own_aspect (Some s) = if s.sar_width == 0 || s.sar_height == 0 then no_ratio else ratio s.sar_width s.sar_height
-
--- by aspect_ratio_idc (Table E-1); 255 is Extended_SAR
-abbrev pub aspect_of : SampleAspect → Ratio
-aspect_of a =
-    if a.aspect_ratio_idc == 1 then ratio 1 1
-    else (if a.aspect_ratio_idc == 2 then ratio 12 11
-    else (if a.aspect_ratio_idc == 3 then ratio 10 11
-    else (if a.aspect_ratio_idc == 4 then ratio 16 11
-    else (if a.aspect_ratio_idc == 5 then ratio 40 33
-    else (if a.aspect_ratio_idc == 6 then ratio 24 11
-    else (if a.aspect_ratio_idc == 7 then ratio 20 11
-    else (if a.aspect_ratio_idc == 8 then ratio 32 11
-    else (if a.aspect_ratio_idc == 9 then ratio 80 33
-    else (if a.aspect_ratio_idc == 10 then ratio 18 11
-    else (if a.aspect_ratio_idc == 11 then ratio 15 11
-    else (if a.aspect_ratio_idc == 12 then ratio 64 33
-    else (if a.aspect_ratio_idc == 13 then ratio 160 99
-    else (if a.aspect_ratio_idc == 14 then ratio 4 3
-    else (if a.aspect_ratio_idc == 15 then ratio 3 2
-    else (if a.aspect_ratio_idc == 16 then ratio 2 1
-    else (if a.aspect_ratio_idc == 255 then own_aspect a.extended else no_ratio))))))))))))))))
+-- as it is given: a 0 says nothing (E.2.1)
+abbrev pub ratio_of_size : SampleSize → Ratio
+ratio_of_size s = if s.sar_width == 0 || s.sar_height == 0 then no_ratio else ratio s.sar_width s.sar_height
 
 -- where it is given
 abbrev pub sample_aspect : Option SampleAspect → Ratio
 sample_aspect None = no_ratio
-sample_aspect (Some a) = aspect_of a
+sample_aspect (Some a) = ratio_of_size (size_of_aspect a)
 
 -- ---- samples
 
@@ -93,10 +71,6 @@ chroma_site (Some l) range = site_of_type l.chroma_sample_loc_type_top_field
 chroma_site None range = default_site range
 
 -- ---- a sequence parameter set
-
--- a part of the VUI, where there is one
-abbrev pub in_vui : {A : Type 0} → (Vui → Option A) → Sps → Option A
-in_vui part s = option_and_then part s.vui
 
 -- This is said by the set.
 pub record IsPresented (s : Sps) (p : Presentation) : Type 0 where

@@ -1,9 +1,9 @@
 //! How a sequence is shown: size, shape of samples, frame rate, range and place of chroma (7.4.2.1.1, E.2.1).
 
 ghost use Rattle.std.specs.Prelude.{◌≡◌};
-ghost use Rattle.avc_formats.specs.Presenting.{aspect_of, chroma_site, default_rate, default_site};
-ghost use Rattle.avc_formats.specs.Presenting.{full_range, in_vui, no_presentation, no_ratio};
-ghost use Rattle.avc_formats.specs.Presenting.{own_aspect, ratio, sample_aspect, site_of_type};
+ghost use Rattle.avc_formats.specs.Presenting.{chroma_site, default_rate, default_site, full_range};
+ghost use Rattle.avc_formats.specs.Presenting.{no_presentation, no_ratio, ratio_of_size};
+ghost use Rattle.avc_formats.specs.Presenting.{sample_aspect, site_of_type};
 ghost use Rattle.avc_formats.specs.Presenting.{IsPresented, IsRateOf};
 
 use crate::ratio::{Ratio, lowest_terms};
@@ -64,13 +64,13 @@ impl Presentation {
     pub fn of(sps: &Sps) -> Presentation
         ensures { IsPresented sps.now result }
     {
-        let full_range = full_range(video_signal_of(sps));
+        let full_range = full_range(sps.video_signal());
         Presentation {
             width: shown_width(sps),
             height: shown_height(sps),
-            frame_rate: frame_rate(timing_of(sps)),
-            sample_aspect: sample_aspect(aspect_of(sps)),
-            chroma_site: chroma_site(chroma_location_of(sps), full_range),
+            frame_rate: frame_rate(sps.timing()),
+            sample_aspect: sample_aspect(sps.sample_aspect()),
+            chroma_site: chroma_site(sps.chroma_location(), full_range),
             full_range,
         }
     }
@@ -87,42 +87,6 @@ const NO_RATIO: Ratio = Ratio {
     numerator: 0,
     denominator: 0,
 };
-
-fn timing_of(sps: &Sps) -> Option<Timing>
-    ensures { result ≡ in_vui (λ v. v.timing) sps.now }
-{
-    match &sps.vui {
-        Some(vui) => vui.timing,
-        None => None,
-    }
-}
-
-fn aspect_of(sps: &Sps) -> Option<SampleAspect>
-    ensures { result ≡ in_vui (λ v. v.aspect) sps.now }
-{
-    match &sps.vui {
-        Some(vui) => vui.aspect,
-        None => None,
-    }
-}
-
-fn video_signal_of(sps: &Sps) -> Option<VideoSignal>
-    ensures { result ≡ in_vui (λ v. v.video_signal) sps.now }
-{
-    match &sps.vui {
-        Some(vui) => vui.video_signal,
-        None => None,
-    }
-}
-
-fn chroma_location_of(sps: &Sps) -> Option<ChromaLocation>
-    ensures { result ≡ in_vui (λ v. v.chroma_location) sps.now }
-{
-    match &sps.vui {
-        Some(vui) => vui.chroma_location,
-        None => None,
-    }
-}
 
 // A frame takes two ticks (E.2.1).
 fn frame_rate(timing: Option<Timing>) -> Ratio
@@ -150,55 +114,21 @@ fn sample_aspect(aspect: Option<SampleAspect>) -> Ratio
     ensures { result ≡ sample_aspect aspect }
 {
     match aspect {
-        Some(aspect) => ratio_of(aspect),
+        Some(aspect) => ratio_of_size(aspect.size()),
         None => NO_RATIO,
     }
 }
 
-// Table E-1.
-fn ratio_of(aspect: SampleAspect) -> Ratio
-    ensures { result ≡ aspect_of aspect }
+// A 0 says nothing.
+fn ratio_of_size(size: SampleSize) -> Ratio
+    ensures { result ≡ ratio_of_size size }
 {
-    match aspect.aspect_ratio_idc {
-        1 => ratio(1, 1),
-        2 => ratio(12, 11),
-        3 => ratio(10, 11),
-        4 => ratio(16, 11),
-        5 => ratio(40, 33),
-        6 => ratio(24, 11),
-        7 => ratio(20, 11),
-        8 => ratio(32, 11),
-        9 => ratio(80, 33),
-        10 => ratio(18, 11),
-        11 => ratio(15, 11),
-        12 => ratio(64, 33),
-        13 => ratio(160, 99),
-        14 => ratio(4, 3),
-        15 => ratio(3, 2),
-        16 => ratio(2, 1),
-        255 => own_aspect(aspect.extended),
-        _ => NO_RATIO,
+    if size.sar_width == 0 || size.sar_height == 0 {
+        return NO_RATIO;
     }
-}
-
-fn ratio(numerator: u64, denominator: u64) -> Ratio
-    ensures { result ≡ ratio numerator denominator }
-{
     Ratio {
-        numerator,
-        denominator,
-    }
-}
-
-// As the set says it itself.
-fn own_aspect(size: Option<SampleSize>) -> Ratio
-    ensures { result ≡ own_aspect size }
-{
-    match size {
-        Some(size) if size.sar_width != 0 && size.sar_height != 0 => {
-            ratio(u64::from(size.sar_width), u64::from(size.sar_height))
-        }
-        _ => NO_RATIO,
+        numerator: u64::from(size.sar_width),
+        denominator: u64::from(size.sar_height),
     }
 }
 

@@ -1,16 +1,15 @@
 -- What parameter sets and slice headers say of a stream.
-use Rattle.std.specs.Prelude.{ℕ, ◌+◌, ◌*◌, max, Bool, true, ◌==◌, ◌&&◌, if◌then◌else◌, Option, Some, None, option_and_then}
+use Rattle.std.specs.Prelude.{ℕ, ◌+◌, ◌*◌, max, Bool, true, ◌==◌, ◌&&◌, if◌then◌else◌, Option, Some, None}
 use Rattle.std.specs.Option.{option_map}
 use Rattle.avc_types.specs.declared.fault.Fault.{Fault}
 use Rattle.avc_annexb.specs.Units.{saturated}
-use Rattle.avc_formats.specs.Presenting.{full_range, in_vui, sample_aspect}
+use Rattle.avc_formats.specs.Presenting.{full_range, sample_aspect}
 use Rattle.avc_formats.specs.declared.ratio.Ratio.{Ratio}
 use Rattle.avc_params.specs.Limits.{height_in_mbs, restriction_of, width_in_mbs}
 use Rattle.avc_params.specs.Tables.{Sets}
+use Rattle.avc_params.specs.VideoUsability.{colour_in, in_vui}
 use Rattle.avc_params.specs.declared.sps.Cropping.{Cropping}
 use Rattle.avc_params.specs.declared.sps.Sps.{Sps}
-use Rattle.avc_params.specs.declared.vui.Colour.{Colour}
-use Rattle.avc_params.specs.declared.vui.Timing.{Timing}
 use Rattle.avc_slice.specs.Begins.{begins}
 use Rattle.avc_slice.specs.Header.{is_idr}
 use Rattle.avc_slice.specs.declared.header.Header.{Header}
@@ -23,10 +22,6 @@ use Rattle.avc_info.specs.declared.sequence_facts.Size.{Size}
 use Rattle.avc_info.specs.declared.slice_counts.SliceCounts.{SliceCounts}
 use Rattle.avc_info.specs.declared.stream_facts.SetHead.{SetHead}
 use Rattle.avc_info.specs.declared.stream_facts.StreamFacts.{StreamFacts}
-
--- the clock, where it is given (E.2.1)
-abbrev pub timing_of : Sps → Option Timing
-timing_of s = elim s.vui [ None ↦ None | Some vui ↦ vui.timing ]
 
 -- max_num_reorder_frames, where it is given (E.2.1)
 abbrev pub reorder_number : Sps → Option ℕ
@@ -51,10 +46,6 @@ crop_of (Some c) = record {
 abbrev pub ratio_given : Ratio → Option Ratio
 ratio_given r = if r.denominator == 0 then None else Some r
 
--- colour_primaries, transfer_characteristics and matrix_coefficients, where they are given (E.2.1)
-abbrev pub colour_of : Sps → Option Colour
-colour_of s = option_and_then (λ v. v.colour) (in_vui (λ v. v.video_signal) s)
-
 -- chroma_sample_loc_type_top_field, where it is given (E.2.1)
 abbrev pub chroma_place : Sps → Option ℕ
 chroma_place s = option_map (λ l. l.chroma_sample_loc_type_top_field) (in_vui (λ v. v.chroma_location) s)
@@ -68,13 +59,13 @@ said_by s = record {
   crop = crop_of s.frame_cropping;
   sample_aspect = ratio_given (sample_aspect (in_vui (λ v. v.aspect) s));
   full_range = full_range (in_vui (λ v. v.video_signal) s);
-  colour = colour_of s;
+  colour = colour_in s;
   chroma_place = chroma_place s;
   profile_idc = s.profile_idc;
   constraint_set1_flag = s.constraint_flags.constraint_set1_flag;
   constraint_set3_flag = s.constraint_flags.constraint_set3_flag;
   level_idc = s.level_idc;
-  timing = timing_of s;
+  timing = in_vui (λ v. v.timing) s;
   max_num_ref_frames = s.max_num_ref_frames;
   max_num_reorder_frames = reorder_number s;
 }

@@ -1,8 +1,8 @@
 //! What a sequence parameter set says of the pictures (7.3.2.1.1, E.1.1).
 
 ghost use Rattle.std.specs.Prelude.{◌≡◌};
-ghost use Rattle.avc_info.specs.Facts.{chroma_place, coded_size, colour_of, crop_of, ratio_given};
-ghost use Rattle.avc_info.specs.Facts.{reorder_number, said_by, timing_of};
+ghost use Rattle.avc_info.specs.Facts.{chroma_place, coded_size, crop_of, ratio_given};
+ghost use Rattle.avc_info.specs.Facts.{reorder_number, said_by};
 
 use avc_formats::{Presentation, Ratio};
 use avc_params::{Colour, Cropping, Sps, Timing};
@@ -82,13 +82,13 @@ impl SequenceFacts {
             crop: crop_of(sps.frame_cropping),
             sample_aspect: ratio_given(shown.sample_aspect),
             full_range: shown.full_range,
-            colour: colour_of(sps),
+            colour: sps.colour(),
             chroma_place: chroma_place(sps),
             profile_idc: sps.profile_idc,
             constraint_set1_flag: sps.constraint_flags.constraint_set1_flag,
             constraint_set3_flag: sps.constraint_flags.constraint_set3_flag,
             level_idc: sps.level_idc,
-            timing: timing_of(sps),
+            timing: sps.timing(),
             max_num_ref_frames: sps.max_num_ref_frames,
             max_num_reorder_frames: reorder_number(sps),
         }
@@ -134,35 +134,11 @@ fn ratio_given(ratio: Ratio) -> Option<Ratio>
     }
 }
 
-fn colour_of(sps: &Sps) -> Option<Colour>
-    ensures { result ≡ colour_of sps.now }
-{
-    match &sps.vui {
-        Some(vui) => match vui.video_signal {
-            Some(signal) => signal.colour,
-            None => None,
-        },
-        None => None,
-    }
-}
-
 fn chroma_place(sps: &Sps) -> Option<u64>
     ensures { result ≡ chroma_place sps.now }
 {
-    match &sps.vui {
-        Some(vui) => match vui.chroma_location {
-            Some(location) => Some(u64::from(location.chroma_sample_loc_type_top_field)),
-            None => None,
-        },
-        None => None,
-    }
-}
-
-fn timing_of(sps: &Sps) -> Option<Timing>
-    ensures { result ≡ timing_of sps.now }
-{
-    match &sps.vui {
-        Some(vui) => vui.timing,
+    match sps.chroma_location() {
+        Some(location) => Some(u64::from(location.chroma_sample_loc_type_top_field)),
         None => None,
     }
 }
@@ -170,11 +146,8 @@ fn timing_of(sps: &Sps) -> Option<Timing>
 fn reorder_number(sps: &Sps) -> Option<u64>
     ensures { result ≡ reorder_number sps.now }
 {
-    match &sps.vui {
-        Some(vui) => match vui.restriction {
-            Some(restriction) => Some(u64::from(restriction.max_num_reorder_frames)),
-            None => None,
-        },
+    match sps.max_num_reorder_frames() {
+        Some(number) => Some(u64::from(number)),
         None => None,
     }
 }

@@ -13,6 +13,7 @@ mod sps_reading;
 mod stored;
 mod syntax;
 mod table;
+mod video_usability;
 mod vui;
 mod vui_reading;
 

@@ -205,6 +205,25 @@ pictures_before xs ys h = grind (arith, list_all-append is_picture xs ys, h)
 pub pictures_behind : (xs ys : List Event) → ArePictures (xs ++ ys) → ArePictures ys
 pictures_behind xs ys h = grind (arith, list_all-append is_picture xs ys, h)
 
+-- ---- events that are the same but for the numbers of units
+
+abbrev pub AreAlike : (xs ys : List Event) → Type 0
+AreAlike xs ys = unnumbered xs ≡ unnumbered ys
+
+pub joined_alike : (xs xs' ys ys' : List Event) → AreAlike xs xs' → AreAlike ys ys' → AreAlike (xs ++ ys) (xs' ++ ys')
+joined_alike xs xs' ys ys' e g =
+    let zero_event : Event → Event = renumbered_event (λ unit. 0) in
+    map-append zero_event xs ys ∙ ap₂ (λ a b. a ++ b) e g ∙ sym (map-append zero_event xs' ys')
+
+kinds_kept : (es : List Event) → list_all is_picture (unnumbered es) ≡ list_all is_picture es
+kinds_kept [] = refl
+kinds_kept (Picture p ∷ es) = kinds_kept es
+kinds_kept (Refused n f ∷ es) = refl
+
+-- where these are pictures, so are those
+pub pictures_alike : (xs ys : List Event) → AreAlike xs ys → ArePictures xs → ArePictures ys
+pictures_alike xs ys e h = sym (kinds_kept ys) ∙ sym (ap (list_all is_picture) e) ∙ kinds_kept xs ∙ h
+
 none_refused : (xs : List Event) (n : ℕ) (f : Fault) → ArePictures (xs ++ Refused n f ∷ []) → ⊥
 none_refused xs n f h = (cc (pictures_behind xs (Refused n f ∷ []) h))
 
@@ -646,13 +665,15 @@ silent_events max us s waits h = silent_units (cut max us) s waits (All-map IsSi
 
 -- Where a piece begins, its segment comes behind what the end of the stream would let out there.
 events_added : (x : Bool) (events_of : List Unit → List Event) (of_piece : List Unit → List Event) (us p : List Unit) (ps : List (List Unit)) (whole : List Event) →
-    whole ≡ events_of us ++ flat_map of_piece ps → (x ≡ true → events_of us ≡ events_of [] ++ of_piece p) →
-    whole ≡ events_of (if x then [] else us) ++ flat_map of_piece (elim x [ true ↦ p ∷ ps | false ↦ ps ])
+    AreAlike whole (events_of us ++ flat_map of_piece ps) → (x ≡ true → AreAlike (events_of us) (events_of [] ++ of_piece p)) →
+    AreAlike whole (events_of (if x then [] else us) ++ flat_map of_piece (elim x [ true ↦ p ∷ ps | false ↦ ps ]))
 events_added true events_of of_piece us p ps whole split start =
-    split ∙ ap (λ es. es ++ flat_map of_piece ps) (start refl) ∙ append_assoc (events_of []) (of_piece p) (flat_map of_piece ps)
+    split
+    ∙ joined_alike (events_of us) (events_of [] ++ of_piece p) (flat_map of_piece ps) (flat_map of_piece ps) (start refl) refl
+    ∙ ap unnumbered (append_assoc (events_of []) (of_piece p) (flat_map of_piece ps))
 events_added false events_of of_piece us p ps whole split start = split
 
-module _ (again : SetsAreInForceAgain) (are : SetsInForceAreUnits) (no_units : PicturesNameNoUnits) (anew : StartUnitsBeginAnew) (output : Output) (max : ℕ) where
+module _ (again : SetsAreInForceAgain) (are : SetsInForceAreUnits) (keeps : EventsKeepButNumbers) (anew : StartUnitsBeginAnew) (output : Output) (max : ℕ) where
   abbrev of_piece : List Unit → List Event
   of_piece us = events_from (first_state output) (cut max us) true
 
@@ -660,10 +681,11 @@ module _ (again : SetsAreInForceAgain) (are : SetsInForceAreUnits) (no_units : P
   at_start : (before after : List Unit) (u : Unit) (s : State) → is_start u ≡ true → AreOff (drop 1 (drop_flags [] (cut max (before ++ u ∷ after)))) →
       IsThrough output max before s → All (IsAcceptedWithin max) before → IsAcceptedWithin max u → All (IsAcceptedWithin max) after →
       ArePictures (events_from s (cut max (u ∷ segment after)) true) →
-      events_from s (cut max (u ∷ segment after)) true ≡ at_end s.output s.phase ++ of_piece (piece before u after)
+      AreAlike (events_from s (cut max (u ∷ segment after)) true) (at_end s.output s.phase ++ of_piece (piece before u after))
   at_start before after u s is off through a b k pictures = by (is_start (unit_within max u)) refl
     where
-      by : (x : Bool) → is_start (unit_within max u) ≡ x → events_from s (cut max (u ∷ segment after)) true ≡ at_end s.output s.phase ++ of_piece (piece before u after)
+      by : (x : Bool) → is_start (unit_within max u) ≡ x →
+          AreAlike (events_from s (cut max (u ∷ segment after)) true) (at_end s.output s.phase ++ of_piece (piece before u after))
       by true starts =
           let us = cut max (u ∷ segment after) in
           let t = record s { phase = waiting } in
@@ -671,69 +693,75 @@ module _ (again : SetsAreInForceAgain) (are : SetsInForceAreUnits) (no_units : P
           let flags = subst (λ vs. AreOff (drop 1 (drop_flags [] vs))) (map-append (unit_within max) before (u ∷ after)) off in
           let start = begin_anew anew output (cut max before) (unit_within max u) (cut max after) (cut max (segment after)) s
           (All-map IsAccepted (unit_within max) before a) flags through.is starts pictures in
-          let of_start = pictures_behind (at_end s.output s.phase) (events_from t us true) (sym (ap (list_all is_picture) start) ∙ pictures) in
           let sets : sets_after (set_units (cut max (front before))) ≡ sets_after s.sets = sets_alike again max before a ∙ ap sets_after (sym through.same_sets) in
-          start ∙ ap (λ es. at_end s.output s.phase ++ es)
-          (sym (piece_events are max output before after u a k ∙ no_units t t' us us (sym through.same_output) refl refl sets refl of_start))
+          let same : AreAlike (of_piece (piece before u after)) (events_from t us true) =
+          ap unnumbered (piece_events are max output before after u a k) ∙ keeps t t' us us (sym through.same_output) refl refl sets refl in
+          ap unnumbered start
+          ∙ joined_alike (at_end s.output s.phase) (at_end s.output s.phase) (events_from t us true) (of_piece (piece before u after)) refl (sym same)
       by false none =
           let o = after_unit s (unit_within max u) in
           let here = pictures_before o.events (events_from (state_after s (unit_within max u) o) (cut max (segment after)) true) pictures in
           let waits : s.phase ≡ waiting = phase_waits s.phase (λ runs. cc (none, is, same_start max u (is_whole s (unit_within max u) runs here))) in
           let silent = All-cons (IsSilentWithin max) u (segment after) (record { accepted = b; no_start = none }) (silent_segment max after k) in
           let t = with_sets (first_state output) (set_units (cut max (front before))) in
-          silent_events max (u ∷ segment after) s waits silent
+          ap unnumbered
+          (silent_events max (u ∷ segment after) s waits silent
           ∙ sym (ap₂ (λ p es. at_end s.output p ++ es) waits
-          (piece_events are max output before after u a k ∙ silent_events max (u ∷ segment after) t refl silent))
+          (piece_events are max output before after u a k ∙ silent_events max (u ∷ segment after) t refl silent)))
 
   pieces_joined : (all before after : List Unit) (s : State) → AreOff (drop 1 (drop_flags [] (cut max all))) → all ≡ before ++ after → IsThrough output max before s →
       All (IsAcceptedWithin max) before → All (IsAcceptedWithin max) after → ArePictures (events_from s (cut max after) true) →
-      events_from s (cut max after) true ≡ events_from s (cut max (segment after)) true ++ flat_map of_piece (piece_units before after)
-  pieces_joined all before [] s off here through a b pictures = sym (append-nil (events_from s [] true))
+      AreAlike (events_from s (cut max after) true) (events_from s (cut max (segment after)) true ++ flat_map of_piece (piece_units before after))
+  pieces_joined all before [] s off here through a b pictures = ap unnumbered (sym (append-nil (events_from s [] true)))
   pieces_joined all before (u ∷ after) s off here through a b pictures =
       let o = after_unit s (unit_within max u) in
       let next = state_after s (unit_within max u) o in
       let ps = piece_units (before ++ u ∷ []) after in
       let this = All-head (IsAcceptedWithin max) u after b in
       let behind = All-tail (IsAcceptedWithin max) u after b in
+      let whole = events_from s (cut max (u ∷ after)) true in
+      let first_segment = events_from s (cut max (u ∷ segment after)) true in
+      let next_segment = events_from next (cut max (segment after)) true in
       let later = pieces_joined all (before ++ u ∷ []) after next off (here ∙ sym (append_assoc before (u ∷ []) after)) (is_through_more output max before u s this through)
       (All-push (IsAcceptedWithin max) before u a this) behind (pictures_behind o.events (events_from next (cut max after) true) pictures) in
-      let split : events_from s (cut max (u ∷ after)) true ≡ events_from s (cut max (u ∷ segment after)) true ++ flat_map of_piece ps =
-      ap (λ es. o.events ++ es) later ∙ sym (append_assoc o.events (events_from next (cut max (segment after)) true) (flat_map of_piece ps)) in
-      events_added (is_start u) (λ us. events_from s (cut max us) true) of_piece (u ∷ segment after) (piece before u after) ps (events_from s (cut max (u ∷ after)) true) split
+      let split : AreAlike whole (first_segment ++ flat_map of_piece ps) =
+      joined_alike o.events o.events (events_from next (cut max after) true) (next_segment ++ flat_map of_piece ps) refl later
+      ∙ ap unnumbered (sym (append_assoc o.events next_segment (flat_map of_piece ps))) in
+      events_added (is_start u) (λ us. events_from s (cut max us) true) of_piece (u ∷ segment after) (piece before u after) ps whole split
       (λ is. at_start before after u s is (subst (λ us. AreOff (drop 1 (drop_flags [] (cut max us)))) here off) through a this behind
-      (pictures_before (events_from s (cut max (u ∷ segment after)) true) (flat_map of_piece ps) (sym (ap (list_all is_picture) split) ∙ pictures)))
-      ∙ ap (λ us. events_from s (cut max us) true ++ flat_map of_piece (piece_units before (u ∷ after))) (sym (starts_now (is_start u) u after refl))
+      (pictures_before first_segment (flat_map of_piece ps) (pictures_alike whole (first_segment ++ flat_map of_piece ps) split pictures)))
+      ∙ ap (λ us. unnumbered (events_from s (cut max us) true ++ flat_map of_piece (piece_units before (u ∷ after)))) (sym (starts_now (is_start u) u after refl))
 
   -- The events are those of the pieces, one after the other.
   events_joined : (all : List Unit) → AreOff (drop 1 (drop_flags [] (cut max all))) → ArePictures (events_from (first_state output) (cut max all) true) →
-      events_from (first_state output) (cut max all) true ≡ flat_map of_piece (piece_units [] all)
+      AreAlike (events_from (first_state output) (cut max all) true) (flat_map of_piece (piece_units [] all))
   events_joined all off pictures =
       let first = first_state output in
       let accepted = all_accepted max all first pictures in
       pieces_joined all [] all first off refl (record { is = refl; same_output = refl; same_sets = refl }) (All-nil (IsAcceptedWithin max)) accepted pictures
-      ∙ ap (λ es. es ++ flat_map of_piece (piece_units [] all)) (silent_events max (segment all) first refl (silent_segment max all accepted))
+      ∙ ap (λ es. unnumbered (es ++ flat_map of_piece (piece_units [] all))) (silent_events max (segment all) first refl (silent_segment max all accepted))
 
   -- What is written of a piece hands out what the piece does.
-  written_alike : WrittenUnitsStandAlone → (bytes : List ℕ) (ps : List (List Unit)) → All (All (IsOf bytes)) ps → ArePictures (flat_map of_piece ps) →
-      flat_map (λ p. events output max p true) (map (flat_map written) ps) ≡ flat_map of_piece ps
-  written_alike alone bytes [] h pictures = refl
-  written_alike alone bytes (p ∷ ps) h pictures =
+  written_alike : WrittenUnitsStandAlone → (bytes : List ℕ) (ps : List (List Unit)) → All (All (IsOf bytes)) ps →
+      AreAlike (flat_map (λ p. events output max p true) (map (flat_map written) ps)) (flat_map of_piece ps)
+  written_alike alone bytes [] h = refl
+  written_alike alone bytes (p ∷ ps) h =
       let first = first_state output in
-      ap₂ (λ a b. a ++ b)
-      (no_units first first (cut max p) (units max (flat_map written p) true) refl refl refl refl (read_back alone max bytes p (All-head (All (IsOf bytes)) p ps h))
-      (pictures_before (of_piece p) (flat_map of_piece ps) pictures))
-      (written_alike alone bytes ps (All-tail (All (IsOf bytes)) p ps h) (pictures_behind (of_piece p) (flat_map of_piece ps) pictures))
+      joined_alike (events output max (flat_map written p) true) (of_piece p)
+      (flat_map (λ q. events output max q true) (map (flat_map written) ps)) (flat_map of_piece ps)
+      (keeps first first (cut max p) (units max (flat_map written p) true) refl refl refl refl (read_back alone max bytes p (All-head (All (IsOf bytes)) p ps h)))
+      (written_alike alone bytes ps (All-tail (All (IsOf bytes)) p ps h))
 
-pub pieces_decode_alike_so : SetsAreInForceAgain → SetsInForceAreUnits → PicturesNameNoUnits → StartUnitsBeginAnew → WrittenUnitsStandAlone
+pub pieces_decode_alike_so : SetsAreInForceAgain → SetsInForceAreUnits → EventsKeepButNumbers → StartUnitsBeginAnew → WrittenUnitsStandAlone
     → UnitsAreWithin → UnitsAreWhole → PiecesDecodeAlike
-pieces_decode_alike_so again are no_units anew alone within whole output max bytes short pictures off =
+pieces_decode_alike_so again are keeps anew alone within whole output max bytes short pictures off =
     let us = units (length bytes) bytes true in
     let same : units max bytes true ≡ cut max us = within (length bytes) max bytes true (omega arith) in
     let here : ArePictures (events_from (first_state output) (cut max us) true) = subst (λ vs. ArePictures (events_from (first_state output) vs true)) same pictures in
-    let joins = events_joined again are no_units anew output max us (subst (λ vs. AreOff (drop 1 (drop_flags [] vs))) same off) here in
-    ap (λ vs. events_from (first_state output) vs true) same ∙ joins
-    ∙ sym (written_alike again are no_units anew output max alone bytes (piece_units [] us) (pieces_of_stream whole bytes) (sym (ap (list_all is_picture) joins) ∙ here))
-    ∙ ap (flat_map (λ p. events output max p true)) (sym (pieces_written [] us))
+    ap (λ vs. unnumbered (events_from (first_state output) vs true)) same
+    ∙ events_joined again are keeps anew output max us (subst (λ vs. AreOff (drop 1 (drop_flags [] vs))) same off) here
+    ∙ sym (written_alike again are keeps anew output max alone bytes (piece_units [] us) (pieces_of_stream whole bytes))
+    ∙ ap (λ ps. unnumbered (flat_map (λ p. events output max p true) ps)) (sym (pieces_written [] us))
 
 -- ---- worked examples
 

@@ -10,7 +10,7 @@ use Rattle.avc_slice.specs.declared.slice.Slice.{Slice}
 use Rattle.avc_units.specs.Grouping.{is_start, slice_in, tables}
 use Rattle.avc_decoder.specs.Output.{Output}
 use Rattle.avc_decoder.specs.Events.{events}
-use Rattle.avc_decoder.specs.Laws.{is_picture}
+use Rattle.avc_decoder.specs.Laws.{is_picture, unnumbered}
 use Rattle.avc_tools.specs.Pieces.{pieces}
 
 -- the marking has no_output_of_prior_pics_flag 1
@@ -31,11 +31,11 @@ drop_flags before (u ∷ after) =
     elim (is_start u) [ true ↦ drops_prior (slice_in (tables before) u) ∷ others | false ↦ others ]
 
 -- Where a stream has no refusal, and no IDR picture but the first drops what is held, its pictures
--- are those of its pieces.
+-- are those of its pieces, but for the numbers of their units.
 abbrev pub PiecesDecodeAlike : Type 0
 PiecesDecodeAlike =
     (output : Output) (max : ℕ) (bytes : List ℕ) →
     length bytes + sum_by length (pieces bytes) < 2 ^ 64 - 1 →
     IsTrue (list_all is_picture (events output max bytes true)) →
     IsTrue (list_all (λ f. not f) (drop 1 (drop_flags [] (units max bytes true)))) →
-    events output max bytes true ≡ flat_map (λ piece. events output max piece true) (pieces bytes)
+    unnumbered (events output max bytes true) ≡ unnumbered (flat_map (λ piece. events output max piece true) (pieces bytes))

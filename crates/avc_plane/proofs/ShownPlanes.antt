@@ -3,6 +3,7 @@ use Rattle.std.proofs.Common.{◌≡◌, ◌∙◌, ℕ, ◌+◌, ◌-◌, ◌�
 use Rattle.avc_types.specs.Whole.{IsWhole}
 use Rattle.avc_types.specs.declared.picture.Crop.{Crop}
 use Rattle.avc_types.specs.declared.picture.Picture.{Picture}
+use Rattle.avc_types.specs.declared.picture_info.PictureInfo.{PictureInfo}
 use Rattle.avc_plane.specs.Padded.{HaveRowsFrom}
 use Rattle.avc_plane.specs.Plane.{Plane}
 use Rattle.avc_plane.specs.Planes.{Planes, AreSubsampled}
@@ -22,37 +23,37 @@ shown_fits Luma size before after fits = omega arith
 shown_fits Cb size before after fits = omega arith
 shown_fits Cr size before after fits = omega arith
 
-columns_are : (s : Planes) (crop : Crop) (c : Component) → AreSubsampled s → columns_of (picture_of s crop) c ≡ (part_of s c).width
-columns_are s crop Luma half = refl
-columns_are s crop Cb half = omega (arith, half.cb_width)
-columns_are s crop Cr half = omega (arith, half.cr_width)
+columns_are : (s : Planes) (crop : Crop) (info : PictureInfo) (c : Component) → AreSubsampled s → columns_of (picture_of s crop info) c ≡ (part_of s c).width
+columns_are s crop info Luma half = refl
+columns_are s crop info Cb half = omega (arith, half.cb_width)
+columns_are s crop info Cr half = omega (arith, half.cr_width)
 
-rows_are : (s : Planes) (crop : Crop) (c : Component) → AreSubsampled s → rows_of (picture_of s crop) c ≡ (part_of s c).height
-rows_are s crop Luma half = refl
-rows_are s crop Cb half = omega (arith, half.cb_height)
-rows_are s crop Cr half = omega (arith, half.cr_height)
+rows_are : (s : Planes) (crop : Crop) (info : PictureInfo) (c : Component) → AreSubsampled s → rows_of (picture_of s crop info) c ≡ (part_of s c).height
+rows_are s crop info Luma half = refl
+rows_are s crop info Cb half = omega (arith, half.cb_height)
+rows_are s crop info Cr half = omega (arith, half.cr_height)
 
-samples_are : (s : Planes) (crop : Crop) (c : Component) → samples_of (picture_of s crop) c ≡ (part_of s c).samples
-samples_are s crop Luma = refl
-samples_are s crop Cb = refl
-samples_are s crop Cr = refl
+samples_are : (s : Planes) (crop : Crop) (info : PictureInfo) (c : Component) → samples_of (picture_of s crop info) c ≡ (part_of s c).samples
+samples_are s crop info Luma = refl
+samples_are s crop info Cb = refl
+samples_are s crop info Cr = refl
 
-lent_part : (s : Planes) (crop : Crop) (c : Component) (lent : List ℕ) (stride : ℕ) → AreSubsampled s → IsWhole (picture_of s crop)
-    → HaveRowsFrom (part_of s c) (scaled c crop.left) (scaled c crop.top) lent stride → IsLent (picture_of s crop) c lent stride
-lent_part s crop c lent stride half whole rows =
-    let columns = columns_are s crop c half in
+lent_part : (s : Planes) (crop : Crop) (info : PictureInfo) (c : Component) (lent : List ℕ) (stride : ℕ) → AreSubsampled s → IsWhole (picture_of s crop info)
+    → HaveRowsFrom (part_of s c) (scaled c crop.left) (scaled c crop.top) lent stride → IsLent (picture_of s crop info) c lent stride
+lent_part s crop info c lent stride half whole rows =
+    let columns = columns_are s crop info c half in
     let narrow = shown_fits c (s.luma).width crop.left crop.right whole.columns in
     let low = shown_fits c (s.luma).height crop.top crop.bottom whole.rows in
     record {
       apart = omega (arith, rows.apart, columns, narrow);
-      inside = λ x y column row. rows.inside x y (omega (arith, columns, narrow)) (omega (arith, rows_are s crop c half, low));
+      inside = λ x y column row. rows.inside x y (omega (arith, columns, narrow)) (omega (arith, rows_are s crop info c half, low));
       at = λ x y column row.
-          rows.at x y (omega (arith, columns, narrow)) (omega (arith, rows_are s crop c half, low))
-          ∙ rw (columns, samples_are s crop c) refl;
+          rows.at x y (omega (arith, columns, narrow)) (omega (arith, rows_are s crop info c half, low))
+          ∙ rw (columns, samples_are s crop info c) refl;
     }
 
 -- rows of the plane of a component, from its first sample that is shown on
-pub lent_is : (t s : Planes) (crop : Crop) (p : Picture) (c : Component) (lent : List ℕ) (stride : ℕ) → t ≡ s → picture_of s crop ≡ p
+pub lent_is : (t s : Planes) (crop : Crop) (info : PictureInfo) (p : Picture) (c : Component) (lent : List ℕ) (stride : ℕ) → t ≡ s → picture_of s crop info ≡ p
     → AreSubsampled s → IsWhole p → HaveRowsFrom (part_of t c) (scaled c crop.left) (scaled c crop.top) lent stride → IsLent p c lent stride
-lent_is t s crop p c lent stride same is half whole rows =
-    rw (← is) (lent_part s crop c lent stride half (rw is whole) (rw (← same) rows))
+lent_is t s crop info p c lent stride same is half whole rows =
+    rw (← is) (lent_part s crop info c lent stride half (rw is whole) (rw (← same) rows))

@@ -2,17 +2,19 @@
 use Rattle.std.specs.Prelude.{◌≡◌, ℕ, ◌+◌, ◌-◌, ◌*◌, ◌/◌, ◌<◌, ◌≤◌, List, length, slice_index}
 use Rattle.avc_types.specs.declared.picture.Crop.{Crop}
 use Rattle.avc_types.specs.declared.picture.Picture.{Picture}
+use Rattle.avc_types.specs.declared.picture_info.PictureInfo.{PictureInfo}
 use Rattle.avc_plane.specs.Planes.{Planes}
 use Rattle.avc_plane.specs.declared.component.Component.{Component}
 use Rattle.avc_plane.specs.declared.component.Component.TheVariants.{Luma, Cb, Cr}
 
 -- the picture of these planes, of which the crop is not shown: its size is that of the luma plane
 -- (6.2)
-abbrev pub picture_of : Planes → Crop → Picture
-picture_of p crop = record {
+abbrev pub picture_of : Planes → Crop → PictureInfo → Picture
+picture_of p crop info = record {
   width = (p.luma).width;
   height = (p.luma).height;
   crop = crop;
+  info = info;
   luma = (p.luma).samples;
   cb = (p.cb).samples;
   cr = (p.cr).samples;

@@ -10,7 +10,7 @@ ghost use Rattle.avc_plane.specs.Spare.{is_sized};
 use crate::padded::PaddedPlane;
 use crate::plane::Plane;
 use crate::shared::SharedPlanes;
-use avc_types::{Crop, Mark, MarkedFrame, OutOfMemory};
+use avc_types::{Crop, Mark, MarkedFrame, OutOfMemory, PictureInfo};
 use std::alloc::Global;
 
 /// The planes of a picture at 4:2:0 (6.2). Those of chroma are half as wide and half as high as
@@ -113,6 +113,9 @@ pub struct Frame<const PAD: usize> {
 
     /// The cropping rectangle in luma samples (7.4.2.1.1).
     pub crop: Crop,
+
+    /// What is known of the picture; of a missing frame number it says nothing.
+    pub info: PictureInfo,
 }
 
 impl<const PAD: usize> Frame<PAD> {

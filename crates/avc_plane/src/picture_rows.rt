@@ -6,7 +6,7 @@ ghost use Rattle.avc_types.specs.Whole.{IsWhole};
 ghost use Rattle.avc_plane.specs.Shown.{samples_of, columns_of, rows_of};
 
 use crate::component::Component;
-use avc_types::{Crop, Picture};
+use avc_types::{Crop, Picture, PictureInfo};
 
 /// A decoded picture, read row by row.
 pub trait PictureRows {
@@ -26,6 +26,10 @@ pub trait PictureRows {
     /// What is not shown of it.
     fn crop(&self) -> Crop
         ensures { result ≡ (picture self.now).crop };
+
+    /// What is known of it beside its samples.
+    fn info(&self) -> PictureInfo
+        ensures { result ≡ (picture self.now).info };
 
     /// Whether its planes and its crop fit its size.
     fn is_whole(&self) -> bool
@@ -61,6 +65,10 @@ impl PictureRows for Picture {
 
     fn crop(&self) -> Crop {
         self.crop
+    }
+
+    fn info(&self) -> PictureInfo {
+        self.info
     }
 
     fn is_whole(&self) -> bool {

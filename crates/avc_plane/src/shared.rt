@@ -12,7 +12,7 @@ use crate::component::Component;
 use crate::frame::PaddedPlanes;
 use crate::lent::LentPlane;
 use crate::picture_rows::{PictureRows, fits};
-use avc_types::{Crop, OutOfMemory, Picture};
+use avc_types::{Crop, OutOfMemory, Picture, PictureInfo};
 use std::alloc::Global;
 use std::marker::Model;
 use std::rc::Rc;
@@ -117,6 +117,7 @@ impl<const PAD: usize> EmptiedPlanes<PAD> {
 pub struct SharedPicture {
     planes: SharedPlanes<PADDING>,
     crop: Crop,
+    info: PictureInfo,
 }
 
 impl Model for SharedPicture {
@@ -126,15 +127,15 @@ impl Model for SharedPicture {
 
     ghost use Rattle.avc_plane.specs.Shown.{picture_of};
 
-    ghost view = { λ p. picture_of p.planes p.crop };
+    ghost view = { λ p. picture_of p.planes p.crop p.info };
 }
 
 impl SharedPicture {
     /// The picture of these planes of which `crop` is not shown.
-    pub fn new(planes: SharedPlanes<PADDING>, crop: Crop) -> Self
-        ensures { result ≡ picture_of planes crop }
+    pub fn new(planes: SharedPlanes<PADDING>, crop: Crop, info: PictureInfo) -> Self
+        ensures { result ≡ picture_of planes crop info }
     {
-        SharedPicture { planes, crop }
+        SharedPicture { planes, crop, info }
     }
 
     /// A copy in memory of its own.
@@ -146,6 +147,7 @@ impl SharedPicture {
             width: planes.luma.width() as u32,
             height: planes.luma.height() as u32,
             crop: self.crop,
+            info: self.info,
             luma: planes.luma.to_bytes(alloc)?,
             cb: planes.cb.to_bytes(alloc)?,
             cr: planes.cr.to_bytes(alloc)?,
@@ -181,6 +183,10 @@ impl PictureRows for SharedPicture {
 
     fn crop(&self) -> Crop {
         self.crop
+    }
+
+    fn info(&self) -> PictureInfo {
+        self.info
     }
 
     fn is_whole(&self) -> bool {

@@ -4,7 +4,7 @@ ghost use Rattle.std.specs.Prelude.{IfOk};
 ghost use Rattle.avc_types.specs.Whole.{IsWhole};
 
 use crate::limited_writer::{LimitedWriter, Refusal};
-use avc_types::{Bytes, Crop, Picture};
+use avc_types::{Bytes, Crop, Picture, PictureInfo};
 use avc_yuv::{WriteFault, write_i420};
 use std::alloc::{AllocError, Global};
 use std::test::Fail;
@@ -22,6 +22,7 @@ fn grey(alloc: Global) -> Result<Picture, AllocError>
             top: 0,
             bottom: 6,
         },
+        info: PictureInfo::none(),
         luma: Bytes::from_vec(vec![in alloc; 128; 256]?),
         cb: Bytes::from_vec(vec![in alloc; 128; 64]?),
         cr: Bytes::from_vec(vec![in alloc; 128; 64]?),
@@ -39,6 +40,7 @@ fn tall(alloc: Global, rows: u32) -> Result<Picture, AllocError> {
             top: 0,
             bottom: 400_u32.saturating_sub(rows),
         },
+        info: PictureInfo::none(),
         luma: Bytes::from_vec(vec![in alloc; 128; 160_000]?),
         cb: Bytes::from_vec(vec![in alloc; 128; 40_000]?),
         cr: Bytes::from_vec(vec![in alloc; 128; 40_000]?),

@@ -4,7 +4,7 @@ ghost use Rattle.std.specs.Prelude.{◌≡◌};
 
 use avc_dpb::{ArrivingFrame, Dpb, Output};
 use avc_plane::{Frame, PADDING, PictureRows, Planes, SharedPicture, SharedPlanes};
-use avc_types::{Crop, Mark, OutOfMemory};
+use avc_types::{Crop, Mark, OutOfMemory, PictureInfo};
 use std::alloc::{AllocError, Global};
 use std::test::Fail;
 
@@ -89,6 +89,10 @@ fn frame(alloc: Global, number: u32, mark: Option<Mark>) -> Result<Frame<PADDING
             right: 2,
             top: 0,
             bottom: 4,
+        },
+        info: PictureInfo {
+            unit: u64::from(number),
+            ..PictureInfo::none()
         },
     })
 }
@@ -294,6 +298,7 @@ fn shows_its_picture(rt: HostRuntime) -> Result<(), Fail> {
     for shared in out.as_slice() {
         let picture = shared.to_picture(rt.alloc())?;
         assert_eq!(rt; (picture.width, picture.crop.bottom), (16, 4));
+        assert_eq!(rt; (picture.info.unit, shared.info().unit), (16, 16));
         assert_eq!(rt;
             (picture.luma.as_slice().len(), picture.cr.as_slice().len()),
             (256, 64)

@@ -1,6 +1,7 @@
 //! A decoded picture, and what is not shown of it.
 
 use crate::bytes::Bytes;
+use crate::picture_info::PictureInfo;
 
 /// What is not shown of a coded picture (7.4.2.1.1), in luma samples from each side.
 #[derive(Clone, Copy, Debug, PartialEq, Eq)]
@@ -21,6 +22,8 @@ pub struct Picture {
     pub height: u32,
 
     pub crop: Crop,
+
+    pub info: PictureInfo,
 
     /// The luma samples, row by row.
     pub luma: Bytes,

@@ -1,6 +1,7 @@
 -- The rows of a window, gathered into writes and laid into memory.
 pub mod Common
 unfoldable pub use Common.*
+use Rattle.avc_types.specs.PictureInfos.{no_picture_info}
 
 -- ---- bytes that are written in parts, and the rows of a window
 
@@ -337,6 +338,7 @@ rising = record {
   width = 16;
   height = 16;
   crop = record { left = 0; right = 6; top = 0; bottom = 6 };
+  info = no_picture_info;
   luma = range_with_len 0 256;
   cb = replicate 64 0x40;
   cr = replicate 64 0xC0;

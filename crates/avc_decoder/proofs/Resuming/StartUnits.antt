@@ -6,8 +6,12 @@ use Rattle.avc_decoder.specs.Events.{running}
 use Rattle.avc_types.specs.Results.{◌>>=◌}
 use Rattle.avc_units.specs.Grouping.{slice, sps as sps_kind, pps as pps_kind}
 use Rattle.avc_types.specs.declared.fault.Fault.TheVariants as faults
+pub use Rattle.avc_decoder.proofs.RenumberedHistories.{either-same}
+use Rattle.avc_decoder.proofs.RenumberedHistories.{renumbered_decoded, renumbered_history, renumbered_opening, stored_frames-same, closing-same}
+use Rattle.avc_decoder.proofs.RenumberedHistories.{opening-same, output_pictures-same, held_pictures-same, output_at_closing-same}
 
--- ---- units with other numbers: slices, pictures and events are the same but for these: what names a unit, with that unit's other number
+-- ---- units with other numbers: slices, pictures, histories and events are the same but for these: what names a unit, with that unit's other
+-- number
 
 abbrev pub renumbered_slice : (ℕ → ℕ) → Slice → Slice
 renumbered_slice r s = record s { unit = r s.unit }
@@ -19,16 +23,12 @@ abbrev pub renumbered_progress : (ℕ → ℕ) → Progress → Progress
 renumbered_progress r g = record g { fault = option_map (renumbered_fault r) g.fault }
 
 abbrev pub renumbered_picture : (ℕ → ℕ) → OpenPicture → OpenPicture
-renumbered_picture r o = record o { last = renumbered_slice r o.last; earlier = map (renumbered_slice r) o.earlier }
+renumbered_picture r o =
+    record o { before = renumbered_history r o.before; last = renumbered_slice r o.last; earlier = map (renumbered_slice r) o.earlier }
 
 abbrev pub renumbered_phase : (ℕ → ℕ) → Phase → Phase
 renumbered_phase r waiting = waiting
-renumbered_phase r (running h None) = running h None
-renumbered_phase r (running h (Some o)) = running h (Some (renumbered_picture r o))
-
-abbrev pub renumbered_event : (ℕ → ℕ) → Event → Event
-renumbered_event r (Picture p) = Picture p
-renumbered_event r (Refused unit f) = Refused (r unit) f
+renumbered_phase r (running h o) = running (renumbered_history r h) (option_map (renumbered_picture r) o)
 
 abbrev pub renumbered_outcome : (ℕ → ℕ) → Outcome → Outcome
 renumbered_outcome r x = record x { events = map (renumbered_event r) x.events; phase = renumbered_phase r x.phase }
@@ -45,15 +45,10 @@ abbrev pub renumbered_step : (ℕ → ℕ) → Step → Step
 renumbered_step r what = record what { next = renumbered_next r what.next }
 
 abbrev renumbered_result : (ℕ → ℕ) → Result History (ℕ × Fault) → Result History (ℕ × Fault)
-renumbered_result r (Ok h) = Ok h
+renumbered_result r (Ok h) = Ok (renumbered_history r h)
 renumbered_result r (Err found) = Err (renumbered_fault r found)
 
 -- by a test, where it is the same in each case
-pub either-same : {A : Type 0} (f : A → A) (b : Bool) (x' x y' y : A) → x' ≡ f x → y' ≡ f y
-    → ◌≡◌ {A = A} (elim b [ true ↦ x' | false ↦ y' ]) (f (elim b [ true ↦ x | false ↦ y ]))
-either-same f true x' x y' y e g = e
-either-same f false x' x y' y e g = g
-
 if-same : {A : Type 0} (f : A → A) (b : Bool) (x' x y' y : A) → x' ≡ f x → y' ≡ f y
     → ◌≡◌ {A = A} (if b then x' else y') (f (if b then x else y))
 if-same f true x' x y' y e g = e
@@ -112,49 +107,75 @@ oldest-same r s (older ∷ others) = oldest-same r older others
 header-same : (r : ℕ → ℕ) (o : OpenPicture) → first_header (renumbered_picture r o) ≡ first_header o
 header-same r o = ap (λ (s : Slice). s.header) (oldest-same r o.last o.earlier)
 
+start-same : (r : ℕ → ℕ) (o : OpenPicture) (h : History) → start_on (renumbered_picture r o) (renumbered_history r h) ≡ start_on o h
+start-same r o h = ap (λ frames. record (start_on o h) { frames = frames }) (stored_frames-same r h)
+
 on-same : (r : ℕ → ℕ) (o : OpenPicture) (h : History)
-    → progress_on (renumbered_picture r o) h ≡ renumbered_progress r (progress_on o h)
-on-same r o h = progress-same r (start_on o h) (o.last ∷ o.earlier)
+    → progress_on (renumbered_picture r o) (renumbered_history r h) ≡ renumbered_progress r (progress_on o h)
+on-same r o h = ap (λ p. progress p (map (renumbered_slice r) (slices_of o))) (start-same r o h) ∙ progress-same r (start_on o h) (slices_of o)
 
-closed-same : (r : ℕ → ℕ) (o : OpenPicture) (h : History) → closed_history (renumbered_picture r o) h ≡ closed_history o h
-closed-same r o h = ap₂ (λ hd g. history_after_closing o.sps hd (deblocked (coded_of (start_on o h) g)) h) (header-same r o) (on-same r o h)
+planes-same : (r : ℕ → ℕ) (o : OpenPicture) (h : History)
+    → picture_planes (renumbered_picture r o) (renumbered_history r h) ≡ picture_planes o h
+planes-same r o h = ap₂ (λ p g. deblocked (coded_of p g)) (start-same r o h) (on-same r o h)
 
-history-same : (r : ℕ → ℕ) (o : OpenPicture) → history_of (renumbered_picture r o) ≡ history_of o
+closed-same : (r : ℕ → ℕ) (o : OpenPicture) (h : History)
+    → closed_history (renumbered_picture r o) (renumbered_history r h) ≡ renumbered_opening r (closed_history o h)
+closed-same r o h =
+    ap₂ (λ (s : Slice) planes. history_after_closing o.sps s.header s.unit planes (renumbered_history r h))
+    (oldest-same r o.last o.earlier) (planes-same r o h)
+    ∙ closing-same r o.sps (first_header o) (first_slice o).unit (picture_planes o h) h
+
+opened-same : (r : ℕ → ℕ) (o : OpenPicture)
+    → history_at_opening_of (renumbered_picture r o) ≡ renumbered_opening r (history_at_opening_of o)
+opened-same r o =
+    ap (λ hd. history_at_opening o.sps hd (renumbered_history r o.before)) (header-same r o) ∙ opening-same r o.sps (first_header o) o.before
+
+history-cases : (r : ℕ → ℕ) (address : ℕ) (opened : Result History Fault) (before : History)
+    → history_by address (renumbered_opening r opened) (renumbered_history r before) ≡ renumbered_history r (history_by address opened before)
+history-cases r zero (Ok h) before = refl
+history-cases r _ opened before = refl
+
+history-same : (r : ℕ → ℕ) (o : OpenPicture) → history_of (renumbered_picture r o) ≡ renumbered_history r (history_of o)
 history-same r o =
-    ap (λ (hd : Header). history_by hd.first_mb_in_slice (history_at_opening o.sps hd o.before) o.before) (header-same r o)
+    ap₂ (λ (hd : Header) opened. history_by hd.first_mb_in_slice opened (renumbered_history r o.before)) (header-same r o) (opened-same r o)
+    ∙ history-cases r (first_header o).first_mb_in_slice (history_at_opening_of o) o.before
 
-count-same : (address : ℕ) (opened : Result History Fault) (a b : History → ℕ) → ((h : History) → a h ≡ b h)
-    → count_by address opened a ≡ count_by address opened b
-count-same zero (Ok h) a b e = e h
-count-same _ opened a b e = refl
+count-same : (r : ℕ → ℕ) (address : ℕ) (opened : Result History Fault) (a b : History → ℕ)
+    → ((h : History) → a (renumbered_history r h) ≡ b h)
+    → count_by address (renumbered_opening r opened) a ≡ count_by address opened b
+count-same r zero (Ok h) a b e = e h
+count-same r _ opened a b e = refl
 
 read-same : (r : ℕ → ℕ) (o : OpenPicture) → read_of (renumbered_picture r o) ≡ read_of o
 read-same r o =
     let counted : History → ℕ = λ h. (progress_on (renumbered_picture r o) h).read in
-    ap (λ (hd : Header). count_by hd.first_mb_in_slice (history_at_opening o.sps hd o.before) counted) (header-same r o)
-    ∙ count-same (first_header o).first_mb_in_slice (history_at_opening_of o) _ _ (λ h. ap (λ (g : Progress). g.read) (on-same r o h))
+    ap₂ (λ (hd : Header) opened. count_by hd.first_mb_in_slice opened counted) (header-same r o) (opened-same r o)
+    ∙ count-same r (first_header o).first_mb_in_slice (history_at_opening_of o) _ _ (λ h. ap (λ (g : Progress). g.read) (on-same r o h))
 
 pub facts-same : (r : ℕ → ℕ) (o : OpenPicture) → open_picture_facts (renumbered_picture r o) ≡ open_picture_facts o
 facts-same r o =
-    ap (λ h. facts_by (o.last).header (is_full (start_on o h) (progress_on (renumbered_picture r o) h))) (history-same r o)
+    let o' = renumbered_picture r o in
+    ap (λ h. facts_by (o.last).header (is_full (start_on o' h) (progress_on o' h))) (history-same r o)
     ∙ ap (λ g. facts_by (o.last).header (is_full (start_on o (history_of o)) g)) (on-same r o (history_of o))
 
 -- ---- its first fault
 
 later-cases : (r : ℕ → ℕ) (f : Option (ℕ × Fault)) (closing full : Bool) (unit : ℕ) (closed : Result History Fault)
-    → then_closing (option_map (renumbered_fault r) f) closing (by_full full (r unit) closed)
+    → then_closing (option_map (renumbered_fault r) f) closing (by_full full (r unit) (renumbered_opening r closed))
     ≡ option_map (renumbered_fault r) (then_closing f closing (by_full full unit closed))
 later-cases r None true true unit (Ok h) = refl
 later-cases r _ closing full unit closed = refl
 
 fault-same : (r : ℕ → ℕ) (address unit : ℕ) (opened : Result History Fault) (a b : History → Option (ℕ × Fault))
-    → ((h : History) → a h ≡ option_map (renumbered_fault r) (b h))
-    → fault_by address (r unit) opened a ≡ option_map (renumbered_fault r) (fault_by address unit opened b)
+    → ((h : History) → a (renumbered_history r h) ≡ option_map (renumbered_fault r) (b h))
+    → fault_by address (r unit) (renumbered_opening r opened) a ≡ option_map (renumbered_fault r) (fault_by address unit opened b)
 fault-same r zero unit (Ok h) a b e = e h
 fault-same r _ unit opened a b e = refl
 
 later-same : (r : ℕ → ℕ) (o : OpenPicture) (closing : Bool) (h : History)
-    → then_closing (progress_on (renumbered_picture r o) h).fault closing (found_at_closing (renumbered_picture r o) h)
+    → let o' = renumbered_picture r o in
+    let h' = renumbered_history r h in
+    then_closing (progress_on o' h').fault closing (found_at_closing o' h')
     ≡ option_map (renumbered_fault r) (then_closing (progress_on o h).fault closing (found_at_closing o h))
 later-same r o closing h =
     ap₂ (λ (g : Progress) c. then_closing g.fault closing (by_full (is_full (start_on o h) g) (r (o.last).unit) c)) (on-same r o h) (closed-same r o h)
@@ -165,24 +186,32 @@ pub first_fault-same : (r : ℕ → ℕ) (o : OpenPicture) (closing : Bool)
 first_fault-same r o closing =
     let o' = renumbered_picture r o in
     let later : History → Option (ℕ × Fault) = λ h. then_closing (progress_on o' h).fault closing (found_at_closing o' h) in
-    ap (λ (s : Slice). fault_by (s.header).first_mb_in_slice s.unit (history_at_opening o.sps s.header o.before) later)
-    (oldest-same r o.last o.earlier)
+    ap₂ (λ (s : Slice) opened. fault_by (s.header).first_mb_in_slice s.unit opened later) (oldest-same r o.last o.earlier) (opened-same r o)
     ∙ fault-same r (first_header o).first_mb_in_slice (first_slice o).unit (history_at_opening_of o) _ _ (later-same r o closing)
 
 -- ---- closing it
 
-pictures-same : (r : ℕ → ℕ) (out : List Decoded) → map (renumbered_event r) (pictures out) ≡ pictures out
+pictures-same : (r : ℕ → ℕ) (out : List Decoded) → map (renumbered_event r) (pictures out) ≡ pictures (map (renumbered_decoded r) out)
 pictures-same r [] = refl
-pictures-same r (p ∷ out) = ap (λ es. Picture p ∷ es) (pictures-same r out)
+pictures-same r (p ∷ out) = ap (λ es. Picture (renumbered_decoded r p) ∷ es) (pictures-same r out)
+
+-- the pictures that go out, as events
+shown-same : (r : ℕ → ℕ) (out' out : List Decoded) → out' ≡ map (renumbered_decoded r) out → pictures out' ≡ map (renumbered_event r) (pictures out)
+shown-same r out' out e = ap pictures e ∙ sym (pictures-same r out)
+
+shown_held-same : (output : Output) (r : ℕ → ℕ) (h : History)
+    → pictures (held_pictures output (renumbered_history r h)) ≡ map (renumbered_event r) (pictures (held_pictures output h))
+shown_held-same output r h = shown-same r _ _ (held_pictures-same output r h)
 
 failed-same : (output : Output) (r : ℕ → ℕ) (h : History) (unit : ℕ) (f : Fault) (read : ℕ)
-    → failed_at output h (r unit) f read ≡ renumbered_outcome r (failed_at output h unit f read)
+    → failed_at output (renumbered_history r h) (r unit) f read ≡ renumbered_outcome r (failed_at output h unit f read)
 failed-same output r h unit f read =
-    ap (λ es. outcome_of es waiting read) (sym (map-append (renumbered_event r) (pictures (held_pictures output h)) (Refused unit f ∷ [])
-    ∙ ap (λ es. es ++ Refused (r unit) f ∷ []) (pictures-same r (held_pictures output h))))
+    ap (λ es. outcome_of (es ++ Refused (r unit) f ∷ []) waiting read) (shown_held-same output r h)
+    ∙ ap (λ es. outcome_of es waiting read) (sym (map-append (renumbered_event r) (pictures (held_pictures output h)) (Refused unit f ∷ [])))
 
 result-cases : (r : ℕ → ℕ) (o : OpenPicture) (f : Option (ℕ × Fault)) (c : Result History Fault)
-    → unless_found (option_map (renumbered_fault r) f) (at_last_slice (renumbered_picture r o) c) ≡ renumbered_result r (unless_found f (at_last_slice o c))
+    → unless_found (option_map (renumbered_fault r) f) (at_last_slice (renumbered_picture r o) (renumbered_opening r c))
+    ≡ renumbered_result r (unless_found f (at_last_slice o c))
 result-cases r o None (Ok h) = refl
 result-cases r o _ c = refl
 
@@ -196,8 +225,9 @@ result-same r o =
 outcome-same : (output : Output) (r : ℕ → ℕ) (o : OpenPicture) (x : Result History (ℕ × Fault))
     → closed_outcome output (renumbered_picture r o) (renumbered_result r x) ≡ renumbered_outcome r (closed_outcome output o x)
 outcome-same output r o (Ok h) =
-    ap₂ (λ hd b. outcome_of (pictures (output_at_closing output hd b h)) (running h None) 0) (header-same r o) (history-same r o)
-    ∙ ap (λ es. outcome_of es (running h None) 0) (sym (pictures-same r (output_at_closing output (first_header o) (history_of o) h)))
+    let h' = renumbered_history r h in
+    ap₂ (λ hd b. outcome_of (pictures (output_at_closing output hd b h')) (running h' None) 0) (header-same r o) (history-same r o)
+    ∙ ap (λ es. outcome_of es (running h' None) 0) (shown-same r _ _ (output_at_closing-same output r (first_header o) (history_of o) h))
 outcome-same output r o (Err found) =
     ap (λ b. failed_at output b (r found.0) found.1 0) (history-same r o)
     ∙ failed-same output r (history_of o) found.0 found.1 0
@@ -209,23 +239,27 @@ closed_picture-same output r o = ap (closed_outcome output (renumbered_picture r
 -- ---- a slice more
 
 slice_outcome-same : (output : Output) (r : ℕ → ℕ) (f : Option (ℕ × Fault)) (before : History) (o : OpenPicture) (now : History) (read : ℕ)
-    → slice_outcome output (option_map (renumbered_fault r) f) before (renumbered_picture r o) now read
+    → slice_outcome output (option_map (renumbered_fault r) f) (renumbered_history r before) (renumbered_picture r o) (renumbered_history r now) read
     ≡ renumbered_outcome r (slice_outcome output f before o now read)
 slice_outcome-same output r (Some found) before o now read = failed-same output r before found.0 found.1 read
 slice_outcome-same output r None before o now read =
-    ap (λ es. outcome_of es (running o.before (Some (renumbered_picture r o))) read) (sym (pictures-same r (output_pictures output before now)))
+    let o' = renumbered_picture r o in
+    ap (λ es. outcome_of es (running o'.before (Some o')) read) (shown-same r _ _ (output_pictures-same output r before now))
 
 with_slice-same : (output : Output) (r : ℕ → ℕ) (before : History) (already : ℕ) (o : OpenPicture)
-    → with_slice output before already (renumbered_picture r o) ≡ renumbered_outcome r (with_slice output before already o)
+    → with_slice output (renumbered_history r before) already (renumbered_picture r o) ≡ renumbered_outcome r (with_slice output before already o)
 with_slice-same output r before already o =
     let o' = renumbered_picture r o in
-    ap (λ f. slice_outcome output f before o' (history_of o') (read_of o' - already)) (first_fault-same r o false)
-    ∙ ap (λ h. slice_outcome output (option_map (renumbered_fault r) (first_fault o false)) before o' h (read_of o' - already)) (history-same r o)
-    ∙ ap (λ n. slice_outcome output (option_map (renumbered_fault r) (first_fault o false)) before o' (history_of o) (n - already)) (read-same r o)
+    let before' = renumbered_history r before in
+    let fault = option_map (renumbered_fault r) (first_fault o false) in
+    ap (λ f. slice_outcome output f before' o' (history_of o') (read_of o' - already)) (first_fault-same r o false)
+    ∙ ap (λ h. slice_outcome output fault before' o' h (read_of o' - already)) (history-same r o)
+    ∙ ap (λ n. slice_outcome output fault before' o' (renumbered_history r (history_of o)) (n - already)) (read-same r o)
     ∙ slice_outcome-same output r (first_fault o false) before o (history_of o) (read_of o - already)
 
 first_slice-same : (output : Output) (r : ℕ → ℕ) (named : Option (Pps × Sps)) (before : History) (s : Slice)
-    → after_first_slice output named before (renumbered_slice r s) ≡ renumbered_outcome r (after_first_slice output named before s)
+    → after_first_slice output named (renumbered_history r before) (renumbered_slice r s)
+    ≡ renumbered_outcome r (after_first_slice output named before s)
 first_slice-same output r None before s = refl
 first_slice-same output r (Some named) before s =
     with_slice-same output r before 0 (record { before = before; sps = named.1; pps = named.0; last = s; earlier = [] })
@@ -236,19 +270,32 @@ next_slice-same output r (running h (Some o)) s =
     let more : OpenPicture = record o { last = s; earlier = o.last ∷ o.earlier } in
     ap₂ (λ b n. with_slice output b n (renumbered_picture r more)) (history-same r o) (read-same r o)
     ∙ with_slice-same output r (history_of o) (read_of o) more
-next_slice-same output r p s = refl
+next_slice-same output r (running h None) s = refl
+next_slice-same output r waiting s = refl
 
 -- ---- a unit
 
--- what is the same of an open picture is the same of the phase
-pub phase-same : {A : Type 0} (r : ℕ → ℕ) (say : Phase → A)
-    → ((h : History) (o : OpenPicture) → say (running h (Some (renumbered_picture r o))) ≡ say (running h (Some o)))
-    → (p : Phase) → say (renumbered_phase r p) ≡ say p
-phase-same r say same (running h (Some o)) = same h o
-phase-same r say same p = refl
+waiting-same : (r : ℕ → ℕ) (p : Phase) → is_waiting (renumbered_phase r p) ≡ is_waiting p
+waiting-same r waiting = refl
+waiting-same r (running h o) = refl
 
-history_in-same : (r : ℕ → ℕ) (p : Phase) → history_in (renumbered_phase r p) ≡ history_in p
-history_in-same r p = phase-same r history_in (λ h o. history-same r o) p
+pub running-same : (r : ℕ → ℕ) (p : Phase) → is_running (renumbered_phase r p) ≡ is_running p
+running-same r waiting = refl
+running-same r (running h o) = refl
+
+pub open_facts-same : (r : ℕ → ℕ) (p : Phase) → open_facts_in (renumbered_phase r p) ≡ open_facts_in p
+open_facts-same r waiting = refl
+open_facts-same r (running h None) = refl
+open_facts-same r (running h (Some o)) = ap (λ facts. Some facts) (facts-same r o)
+
+base-same : (r : ℕ → ℕ) (p : Phase) → base_in (renumbered_phase r p) ≡ renumbered_history r (base_in p)
+base-same r waiting = refl
+base-same r (running h o) = refl
+
+history_in-same : (r : ℕ → ℕ) (p : Phase) → history_in (renumbered_phase r p) ≡ renumbered_history r (history_in p)
+history_in-same r waiting = refl
+history_in-same r (running h None) = refl
+history_in-same r (running h (Some o)) = history-same r o
 
 next-same : (output : Output) (r : ℕ → ℕ) (sets : Sets) (unit : ℕ) (p : Phase) (n : Next)
     → after_next output sets (r unit) (renumbered_phase r p) (renumbered_next r n) ≡ renumbered_outcome r (after_next output sets unit p n)
@@ -256,7 +303,7 @@ next-same output r sets unit p (FaultOfOpen f) = ap (λ h. failed_at output h (r
 next-same output r sets unit p (FaultOfOwn f) = ap (λ h. failed_at output h (r unit) f 0) (history_in-same r p) ∙ failed-same output r (history_in p) unit f 0
 next-same output r sets unit p (Begins s) =
     let named = sets_named sets s.header in
-    ap (λ h. after_first_slice output named h (renumbered_slice r s)) (phase-same r base_in (λ h o. refl) p) ∙ first_slice-same output r named (base_in p) s
+    ap (λ h. after_first_slice output named h (renumbered_slice r s)) (base-same r p) ∙ first_slice-same output r named (base_in p) s
 next-same output r sets unit p (Continues s) = next_slice-same output r p s
 next-same output r sets unit p _ = refl
 
@@ -271,7 +318,7 @@ after_closing-same : (output : Output) (r : ℕ → ℕ) (sets : Sets) (unit : �
 after_closing-same output r sets unit what x =
     let x' = renumbered_outcome r x in
     ap (λ b. unless_silent (b && not what.even_after_fault) x' (after_next output sets (r unit) x'.phase (renumbered_next r what.next)))
-    (phase-same r is_waiting (λ h o. refl) x.phase)
+    (waiting-same r x.phase)
     ∙ either-same (renumbered_outcome r) (is_waiting x.phase && not what.even_after_fault) _ _ _ _ refl
     (ap (followed_by x') (next-same output r sets unit x.phase what.next) ∙ followed-same r x (after_next output sets unit x.phase what.next))
 
@@ -282,14 +329,14 @@ in_phase-same output r sets unit what (running h (Some o)) =
     (ap (after_closing output sets (r unit) (renumbered_step r what)) (closed_picture-same output r o)
     ∙ after_closing-same output r sets unit what (closed_picture output o))
     (next-same output r sets unit (running h (Some o)) what.next)
-in_phase-same output r sets unit what p = next-same output r sets unit p what.next
+in_phase-same output r sets unit what (running h None) = next-same output r sets unit (running h None) what.next
+in_phase-same output r sets unit what waiting = next-same output r sets unit waiting what.next
 
 -- ---- the end
 
 held-same : (output : Output) (r : ℕ → ℕ) (p : Phase) → held_after output (renumbered_phase r p) ≡ map (renumbered_event r) (held_after output p)
 held-same output r waiting = refl
-held-same output r (running h None) = sym (pictures-same r (held_pictures output h))
-held-same output r (running h (Some o)) = sym (pictures-same r (held_pictures output h))
+held-same output r (running h o) = shown_held-same output r h
 
 and_held-same : (output : Output) (r : ℕ → ℕ) (x : Outcome)
     → events_and_held output (renumbered_outcome r x) ≡ map (renumbered_event r) (events_and_held output x)
@@ -299,7 +346,8 @@ and_held-same output r x =
 
 pub at_end-same : (output : Output) (r : ℕ → ℕ) (p : Phase) → at_end output (renumbered_phase r p) ≡ map (renumbered_event r) (at_end output p)
 at_end-same output r (running h (Some o)) = ap (events_and_held output) (closed_picture-same output r o) ∙ and_held-same output r (closed_picture output o)
-at_end-same output r p = held-same output r p
+at_end-same output r (running h None) = shown_held-same output r h
+at_end-same output r waiting = refl
 
 -- ---- an open IDR picture: it gives what it gives with no sequence before it, and when it is closed, or refused, what that sequence holds
 -- goes out.
@@ -347,15 +395,18 @@ progress_same before o first = progress-other (start_on o before) (stored_frames
 earlier_none : (h : Header) (before : History) → is_idr h ≡ true → earlier_in_sequence h before ≡ []
 earlier_none h before idr = ap (λ (b : Bool). elim b as (λ _. History) [ true ↦ [] | false ↦ before ]) idr
 
-abbrev closed_behind : Sps → Header → Planes → (earlier : History) → Result History Fault
-closed_behind sps h planes earlier = marks_of (decoded_picture sps h planes ∷ earlier) >>= λ m. Ok (decoded_picture sps h planes ∷ earlier)
+abbrev closed_behind : Sps → Header → (unit : ℕ) → Planes → (earlier : History) → Result History Fault
+closed_behind sps h unit planes earlier =
+    let full = decoded_picture sps h (info_of sps h unit earlier) planes ∷ earlier in
+    marks_of full >>= λ m. Ok full
 
 closed_same : (before : History) (o : OpenPicture) → IsFirstPicture o
     → closed_history (picture_on before o) before ≡ closed_history (picture_on [] o) []
 closed_same before o first =
     let h = first_header o in
-    ap (λ planes. history_after_closing o.sps h planes before) (planes-other (start_on o before) (stored_frames []) (slices_of o) first.intra)
-    ∙ ap (closed_behind o.sps h (picture_planes o [])) (earlier_none h before first.idr ∙ sym (earlier_none h [] first.idr))
+    let unit = (first_slice o).unit in
+    ap (λ planes. history_after_closing o.sps h unit planes before) (planes-other (start_on o before) (stored_frames []) (slices_of o) first.intra)
+    ∙ ap (closed_behind o.sps h unit (picture_planes o [])) (earlier_none h before first.idr ∙ sym (earlier_none h [] first.idr))
 
 -- ---- its first fault
 

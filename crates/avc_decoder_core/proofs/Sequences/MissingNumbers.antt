@@ -583,7 +583,7 @@ missing_marked max a index (suc n) (suc i) low = grind (arith, nat_tests, missin
 
 -- a frame for a missing number
 abbrev missing_of : Sps → ℕ → Frame 16
-missing_of sps n = coded_frame sps None n (Some Short)
+missing_of sps n = coded_frame sps no_picture_info None n (Some Short)
 
 -- what the frames of the missing numbers show, and what those before show
 at_missing : {A : Type 0} (f g : ℕ → A) (max w t q : ℕ) → ((i : ℕ) → i < w → f (q + i) ≡ g ((t + i) % max)) →

@@ -32,11 +32,11 @@ pub use Rattle.avc_decoder.specs.Events.{events, Outcome, Phase, State, after_ne
 pub use Rattle.avc_decoder.specs.Events.{events_from, failed_at, followed_by, held_after, history_in, in_phase, is_running, is_waiting, no_change}
 pub use Rattle.avc_decoder.specs.Events.{open_facts_in, running, state_after, events_and_held, first_state}
 pub use Rattle.avc_decoder.specs.FirstFault.{OpenPicture, history_of}
-pub use Rattle.avc_decoder.specs.Laws.{is_picture, state_through, PicturesNameNoUnits, LetsPriorPicturesOut, StartUnitsBeginAnew}
+pub use Rattle.avc_decoder.specs.Laws.{is_picture, state_through, EventsKeepButNumbers, LetsPriorPicturesOut, StartUnitsBeginAnew, renumbered_event, unnumbered}
 pub use Rattle.avc_decoder.specs.Output.{Output}
 pub use Rattle.avc_decoder.specs.Output.TheVariants.{Full}
 pub use Rattle.avc_decoder.specs.SeenEvents.{Event}
-pub use Rattle.avc_decoder.specs.declared.event.Event.TheVariants.{Refused}
+pub use Rattle.avc_decoder.specs.declared.event.Event.TheVariants.{Picture, Refused}
 pub use Rattle.avc_params.specs.PpsReading.{pps_after, pps as pps_part}
 pub use Rattle.avc_params.specs.Reading.{pps_id, sps_id, pps_of, read_value, sps_of, whole}
 pub use Rattle.avc_params.specs.SpsReading.{identity, sps_after, sps as sps_part}

@@ -22,9 +22,10 @@ pub use Rattle.avc_annexb.specs.Scanning.{HasNoBoundary, ScannedBytes, IsAt, Has
 pub use Rattle.avc_annexb.specs.Scanning.{HasNoZero, HasOneMore, HasOneMoreAtMost, HasTaken, AreReady, IsOpenUnit, with_bytes, IsSplitterStateIn, has_ended, has_failed, splitter_state, HasScanned}
 pub use Rattle.avc_annexb.specs.SplitterState.{SplitterState, TakesUnit, next_unit_of, after_next_unit, units_waiting}
 pub use Rattle.avc_annexb.specs.Units.{PlacedUnit, placed_units, is_start, is_end, before_end, without_last_zeros, unit_at, unit_bytes, saturated, numbered}
-pub use Rattle.avc_annexb.specs.Units.{unit_of, units, nal_unit_type, nal_ref_idc}
+pub use Rattle.avc_annexb.specs.Units.{unit_of, units, units_begun, nal_unit_type, nal_ref_idc}
 pub use Rattle.avc_annexb.specs.Written.{start_code, written}
 pub use Rattle.avc_annexb.specs.declared.open_unit.OpenUnit.{OpenUnit}
+pub use Rattle.avc_annexb.specs.declared.ready.Ready.{Ready}
 pub use Rattle.avc_annexb.specs.declared.scanner.Scanner.{Scanner}
 pub use Rattle.avc_annexb.specs.declared.splitter.SplitterPhase.{SplitterPhase}
 pub use Rattle.avc_annexb.specs.declared.splitter.SplitterPhase.TheVariants.{Running, Ended, Failed}

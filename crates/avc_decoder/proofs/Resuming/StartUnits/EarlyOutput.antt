@@ -55,8 +55,9 @@ crop_fits : (width height : ℕ) (c : Option Cropping) → IfSome c (IsCropping 
 crop_fits width height None w = (omega arith, omega arith)
 crop_fits width height (Some c) w = (omega (arith, w.columns), omega (arith, w.rows))
 
-picture_whole : (sps : Sps) (planes : Planes) → IsSps sps → IsSized (width_in_mbs sps) (height_in_mbs sps) planes → IsWhole (picture_of sps planes)
-picture_whole sps planes is s =
+picture_whole : (sps : Sps) (info : PictureInfo) (planes : Planes) → IsSps sps → IsSized (width_in_mbs sps) (height_in_mbs sps) planes
+    → IsWhole (picture_of sps info planes)
+picture_whole sps info planes is s =
     let size = ap₂ (λ m n. m * n) (sym s.luma.columns) (sym s.luma.rows) in
     let halves = ap₂ (λ m n. m * n) (sym (ap (λ m. m / 2) s.luma.columns ∙ half (width_in_mbs sps))) (sym (ap (λ m. m / 2) s.luma.rows ∙ half (height_in_mbs sps))) in
     let fits = crop_fits (16 * width_in_mbs sps) (16 * height_in_mbs sps) sps.frame_cropping is.crop in
@@ -85,7 +86,7 @@ good_at h index g = by_difference (length h - index)
     by_difference (suc n) = good_get h n g
 
 shown_whole : (e : Option Entry) (more : List Decoded) → GoodAt e → AllWhole (pictures more) → AllWhole (pictures (entry_pictures e ++ more))
-shown_whole (Some (decoded_picture sps h planes)) more g w = (picture_whole sps planes g.0 g.1, w)
+shown_whole (Some (decoded_picture sps h info planes)) more g w = (picture_whole sps info planes g.0 g.1, w)
 shown_whole _ more g w = w
 
 pictures_whole : (h : History) (indices : List ℕ) → AllGood h → AllWhole (pictures (pictures_at h indices))

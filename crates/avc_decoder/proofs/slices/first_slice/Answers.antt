@@ -1,14 +1,14 @@
 use Rattle.avc_decoder.proofs.Resuming.{arith, rules, subst, sym, ◌∙◌, sets_after, base_in, failed_at, IsOpened, current_history, Stops, phase_of}
-use Rattle.avc_decoder.proofs.Resuming.{base_here, named_first, none_open, frames_fit, first_slice_more, first_unopened}
+use Rattle.avc_decoder.proofs.Resuming.{base_here, named_first, none_open, frames_fit, first_slice_more, first_unopened, open_picture_start}
 use Rattle.avc_decoder.proofs.slices.first_slice.Goals as goal
 
 pub begin-requires : goal.begin-requires
 begin-requires c =
     let t = c.args.stream.now in
     let sets = c.sets_of-sets in
-    let opened = subst (IsOpened t.sequence sets.result.sps.now c.args.slice.now.header c.in-Ok.out.items)
+    let opened = subst (IsOpened t.sequence (open_picture_start sets.result.sps.now c.args.slice.now) c.in-Ok.out.items)
     (sym c.keep_emptied.ensures.sequence) c.in-Ok.ensures.ok in
-    let fit = frames_fit t.sequence c.keep_emptied.new.sequence sets.result.sps.now c.args.slice.now.header
+    let fit = frames_fit t.sequence c.keep_emptied.new.sequence sets.result.sps.now c.args.slice.now
     c.in-Ok.out.items c.frames_for-frames.result.now opened c.frames_for-frames.ensures.value
     c.frames_for-frames.ensures.sized in
     (omega arith, (omega arith, (omega arith, (omega arith, (sets.ensures.sps, (sets.ensures.pps, fit))))))
@@ -22,7 +22,7 @@ returns-in_ok-decode_slice-in-Ok c =
     let sps = sets.result.sps.now in
     let pps = sets.result.pps.now in
     let frames = c.frames_for-frames.result.now in
-    let opened = subst (IsOpened t.sequence sps slice.header c.in-Ok.out.items)
+    let opened = subst (IsOpened t.sequence (open_picture_start sps slice) c.in-Ok.out.items)
     (sym c.keep_emptied.ensures.sequence) c.in-Ok.ensures.ok in
     let d = c.in_ok-decode_slice-in-Ok.ensures in
     first_slice_more c.missing_numbers_keep_the_order.ensures t.sequence c.keep_emptied.new.sequence t'.sequence t.queue

@@ -260,12 +260,12 @@ stored_references output e h arriving m marked arrives is all alone stays low st
 
 -- The entry may come: it has the parameter set of its sequence, or begins one.
 abbrev pub Follows : Entry → History → Type 0
-Follows (decoded_picture sps header planes) h =
+Follows (decoded_picture sps header info planes) h =
     CanFollow h sps header × AreSized (width_in_mbs sps) (height_in_mbs sps) planes × (is_idr header ≡ true → h ≡ [])
 Follows (missing_frame sps frame_num) h = is_same_sps (sequence_sps h) sps ≡ true
 
 abbrev pub sps_of : Entry → Sps
-sps_of (decoded_picture sps header planes) = sps
+sps_of (decoded_picture sps header info planes) = sps
 sps_of (missing_frame sps frame_num) = sps
 
 -- ---- no more reference frames than there may be
@@ -291,13 +291,13 @@ few_in_sequence e h m m' same few after = by (sequence_sps h) same few
 pub is_few : (e : Entry) (h : History) (m m' : Marks) → Follows e h → IfSome (sequence_sps h) (AreFew m) →
     marks_after (marking_entry e) (length h) (marking_entry e).marking m ≡ Ok m' → IfSome (sequence_sps (e ∷ h)) (AreFew m') × AreFew m' (sps_of e)
 is_few (missing_frame sps frame_num) h m m' follows few after = few_in_sequence (missing_frame sps frame_num) h m m' follows few after
-is_few (decoded_picture sps header planes) h m m' follows few after = by (is_idr header) refl
+is_few (decoded_picture sps header info planes) h m m' follows few after = by (is_idr header) refl
   where
     by : (idr : Bool) → is_idr header ≡ idr → IfSome (elim idr as (λ _. Option Sps) [ true ↦ Some sps | false ↦ sequence_sps h ]) (AreFew m') × AreFew m' sps
     by true idr =
-        let one = one_after_idr header (marking_entry (decoded_picture sps header planes)) (length h) m m' ((follows.0).idr idr) after in
+        let one = one_after_idr header (marking_entry (decoded_picture sps header info planes)) (length h) m m' ((follows.0).idr idr) after in
         (omega (arith, one), omega (arith, one))
-    by false idr = few_in_sequence (decoded_picture sps header planes) h m m' ((follows.0).same idr) few after
+    by false idr = few_in_sequence (decoded_picture sps header info planes) h m m' ((follows.0).same idr) few after
 
 -- ---- one size
 
@@ -344,10 +344,10 @@ sized_in_sequence output e h same own low sized =
 pub still_sized : (output : Output) (e : Entry) (h : History) → Follows e h → Each (λ p. p < length h) (indices_in (buffer_of output h)) →
     IfSome (sequence_sps h) (IsSized output h) → IfSome (sequence_sps (e ∷ h)) (IsSized output (e ∷ h))
 still_sized output (missing_frame sps frame_num) h follows low sized = sized_in_sequence output (missing_frame sps frame_num) h follows tt low sized
-still_sized output (decoded_picture sps header planes) h follows low sized = by (is_idr header) refl
+still_sized output (decoded_picture sps header info planes) h follows low sized = by (is_idr header) refl
   where
     e : Entry
-    e = decoded_picture sps header planes
+    e = decoded_picture sps header info planes
 
     by : (idr : Bool) → is_idr header ≡ idr → IfSome (elim idr as (λ _. Option Sps) [ true ↦ Some sps | false ↦ sequence_sps h ]) (IsSized output (e ∷ h))
     by true idr =
@@ -435,15 +435,15 @@ stored_by : (e : Entry) (h : History) (m m' : Marks) → Follows e h → Each (�
     marks_after (marking_entry e) (length h) (marking_entry e).marking m ≡ Ok m' → is_index_of m'.references (length h) ≡ true →
     ((arrival e h).is_reference || not (arrival e h).existing) ≡ true
 stored_by (missing_frame sps frame_num) h m m' follows low after own = refl
-stored_by (decoded_picture sps header planes) h m m' follows low after own = ap (λ b. b || false) (by_marking header.marking refl)
+stored_by (decoded_picture sps header info planes) h m m' follows low after own = ap (λ b. b || false) (by_marking header.marking refl)
   where
-    same_marks : marks_after (marking_entry (decoded_picture sps header planes)) (length h) None m ≡ Ok m' → m.references ≡ m'.references
+    same_marks : marks_after (marking_entry (decoded_picture sps header info planes)) (length h) None m ≡ Ok m' → m.references ≡ m'.references
     same_marks is = ap or_no_references is
 
     by_marking : (marking : Option Marking) → header.marking ≡ marking → is_reference header ≡ true
     by_marking (Some marking) is = sym (follows.0).reference ∙ ap is_some is
     by_marking None is =
-        let same = same_marks (ap (λ x. marks_after (marking_entry (decoded_picture sps header planes)) (length h) x m) (sym is) ∙ after) in
+        let same = same_marks (ap (λ x. marks_after (marking_entry (decoded_picture sps header info planes)) (length h) x m) (sym is) ∙ after) in
         wrong (sym (not_index_of m.references (length h) low) ∙ ap (λ rs. is_index_of rs (length h)) same ∙ own)
 
 prior_stays : (e : Entry) (h : History) → unmarks_all (marking_entry e).marking ≡ false → (arrival e h).prior_pictures ≡ remain
@@ -603,12 +603,12 @@ missing_arrives sps frame_num h capacity is m marked = grind arith
 abbrev pub picture_arrival : (order : ℤ) (reference : Bool) (capacity : ℕ) (limit : Option ℕ) → ArrivingFrame
 picture_arrival order reference capacity limit = record { pic_order_cnt = order; existing = true; is_reference = reference; capacity = capacity; max_num_reorder_frames = limit }
 
-pub picture_arrives : (sps : Sps) (header : Header) (planes : Planes) (h : History) (order : ℤ) (reference : Bool) (capacity : ℕ) (limit : Option ℕ) → order ≡ order_or_0 (order_counts sps header (pasts h)) →
-    reference ≡ is_reference header → capacity ≡ dpb_size sps → limit ≡ reorder_limit sps → (m : Marks) → marks_of (decoded_picture sps header planes ∷ h) ≡ Ok m →
-    Arrives (decoded_picture sps header planes) h (picture_arrival order reference capacity limit) m
-picture_arrives sps header planes h order reference capacity limit order_is reference_is is limit_is m marked = grind arith
+pub picture_arrives : (sps : Sps) (header : Header) (info : PictureInfo) (planes : Planes) (h : History) (order : ℤ) (reference : Bool) (capacity : ℕ) (limit : Option ℕ) → order ≡ order_or_0 (order_counts sps header (pasts h)) →
+    reference ≡ is_reference header → capacity ≡ dpb_size sps → limit ≡ reorder_limit sps → (m : Marks) → marks_of (decoded_picture sps header info planes ∷ h) ≡ Ok m →
+    Arrives (decoded_picture sps header info planes) h (picture_arrival order reference capacity limit) m
+picture_arrives sps header info planes h order reference capacity limit order_is reference_is is limit_is m marked = grind arith
 
-pub picture_previous : (sps : Sps) (header : Header) (planes : Planes) (h : History) (previous frame_num new_previous : ℕ) → previous ≡ prev_ref_frame_num (marking_entries h) →
+pub picture_previous : (sps : Sps) (header : Header) (info : PictureInfo) (planes : Planes) (h : History) (previous frame_num new_previous : ℕ) → previous ≡ prev_ref_frame_num (marking_entries h) →
     frame_num ≡ frame_num_after_marking (picture_entry sps header) → new_previous ≡ (if is_some header.marking then frame_num else previous) →
-    new_previous ≡ prev_ref_frame_num (marking_entries (decoded_picture sps header planes ∷ h))
-picture_previous sps header planes h previous frame_num new_previous previous_is number is = grind arith
+    new_previous ≡ prev_ref_frame_num (marking_entries (decoded_picture sps header info planes ∷ h))
+picture_previous sps header info planes h previous frame_num new_previous previous_is number is = grind arith

@@ -5,7 +5,9 @@ use Rattle.avc_annexb.specs.SplitterState.{unit_count, TakesUnit}
 use Rattle.avc_decoder.specs.Machine.{IsRefused}
 use Rattle.avc_decoder.specs.Machine as machine
 use Rattle.avc_decoder.specs.declared.calls.Reply.TheVariants as replies
+use Rattle.avc_types.specs.PictureInfos.{unspecified}
 use Rattle.avc_types.specs.declared.fault.Fault.TheVariants as faults
+use Rattle.std.specs.Prelude.{pos}
 
 -- ---- the events of a stream's units, one after another, and the state after them: the state
 
@@ -736,6 +738,7 @@ rising : events Full max (sets ++ pcm first_mb (range_with_len 0 256 ++ replicat
       width = 16;
       height = 16;
       crop = record { left = 0; right = 0; top = 0; bottom = 0 };
+      info = record { unit = 2; is_idr = true; frame_num = 0; pic_order_cnt = pos 0; usability = unspecified };
       luma = range_with_len 0 256;
       cb = replicate 64 0x40;
       cr = replicate 64 0xC0;
@@ -822,6 +825,25 @@ begun_late = refl
 
 truncated : seen_all (sets ++ pcm first_mb (replicate 300 80)) true ≡ refusal 2 faults.Truncated ∷ []
 truncated = refl
+
+-- ---- what is known of pictures
+
+abbrev infos_of : List ℕ → List PictureInfo
+infos_of bytes = map (λ p. p.info) (pictures_in (events Full max bytes true))
+
+-- by order count type 2 PicOrderCnt is twice frame_num
+infos : infos_of (sets ++ pcm first_mb (of_one 80) ++ skipping)
+    ≡ record { unit = 2; is_idr = true; frame_num = 0; pic_order_cnt = pos 0; usability = unspecified }
+    ∷ record { unit = 3; is_idr = false; frame_num = 1; pic_order_cnt = pos 2; usability = unspecified }
+    ∷ []
+infos = refl
+
+-- of two slices the first one's unit
+first_unit : map (λ i. i.unit) (infos_of (sps_wide ++ pps_plain ++ pcm first_mb (of_one 80) ++ pcm second_mb (of_one 90))) ≡ 2 ∷ []
+first_unit = refl
+
+restricted : map (λ i. i.usability) (infos_of picture_in_order) ≡ record unspecified { max_num_reorder_frames = Some 0 } ∷ []
+restricted = refl
 
 -- ---- the macroblocks that are read
 

@@ -177,7 +177,14 @@ shown_one e m l = grind arith
 -- ---- the entries of a history with one entry more
 
 pub entry_before : (e : Entry) (h : History) (p : ℕ) → p < length h → entry_at (e ∷ h) p ≡ entry_at h p
-entry_before e h p low = grind arith
+entry_before e h p low = by (length h - p) (length (e ∷ h) - p) (omega (arith, low)) (omega (arith, low))
+  where
+    entry_in : History → ℕ → Option Entry
+    entry_in l d = elim d [ zero ↦ None | suc n ↦ slice_get l n ]
+
+    by : (d more : ℕ) → more ≡ suc d → 0 < d → entry_in (e ∷ h) more ≡ entry_in h d
+    by zero more is some = absurd (omega (arith, some))
+    by (suc d) more is some = ap (entry_in (e ∷ h)) is
 
 pub entry_newest : (e : Entry) (h : History) → entry_at (e ∷ h) (length h) ≡ Some e
 entry_newest e h = grind arith

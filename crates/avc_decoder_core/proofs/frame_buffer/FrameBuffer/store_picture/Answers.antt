@@ -16,7 +16,7 @@ returns-in_err-mark-clause-err c =
     let sps = c.args.sps.now in
     let header = c.args.header.now in
     let planes = c.args.planes in
-    let e = decoded_picture sps header planes in
+    let e = decoded_picture sps header c.args.info planes in
     let on : i.failed ≡ false = ap (λ v. v.failed) c.self.view_is ∙ c.requires.going in
     let before : h ≡ c.args.self.now.history = ap (λ v. v.history) c.self.view_is in
     let old = c.marked_frames-marked.result.items in
@@ -39,7 +39,7 @@ returns-in_err-more-clause-closed c =
 
 -- the entry
 abbrev entry : goal.After-self-2-1 → Entry
-entry c = decoded_picture c.args.sps.now c.args.header.now c.args.planes
+entry c = decoded_picture c.args.sps.now c.args.header.now c.args.info c.args.planes
 
 -- It has come to the history.
 record IsStored (c : goal.After-self-2-1) : Type 0 where
@@ -56,7 +56,7 @@ stored c =
     let sps = c.args.sps.now in
     let header = c.args.header.now in
     let planes = c.args.planes in
-    let e = decoded_picture sps header planes in
+    let e = decoded_picture sps header c.args.info planes in
     let on : i.failed ≡ false = ap (λ v. v.failed) c.self.view_is ∙ c.requires.going in
     let before : h ≡ c.args.self.now.history = ap (λ v. v.history) c.self.view_is in
     let old = c.marked_frames-marked.result.items in
@@ -69,14 +69,14 @@ stored c =
     ∙ ap (λ n. frame_num_after_marking (marking_entry n header.marking)) c.new_frame-new.ensures in
     let set : c.set_marks.new.dpb ≡ with_all_marks i.dpb new = c.set_marks.ensures ∙ ap (with_all_marks i.dpb) c.as_slice.ensures.value in
     let last : (c.len.result - 1) + 1 ≡ length new = omega (arith, c.len.ensures.value, c.in_ok-mark.ensures.length) in
-    let same : decoded_picture c.copied.result c.copied-2.result planes ≡ e =
-    ap₂ (λ s t. decoded_picture s t planes) c.copied.ensures c.copied-2.ensures in
+    let same : decoded_picture c.copied.result c.copied-2.result c.args.info planes ≡ e =
+    ap₂ (λ s t. decoded_picture s t c.args.info planes) c.copied.ensures c.copied-2.ensures in
     let made =
     frame_made e _ new c.deref.result.now c.entry_frame-frame.result (c.len.result - 1) _ same
     c.deref.ensures.0 c.entry_frame-frame.ensures in
     let follows = subst (λ h. CanFollow h sps header) (sym before) c.requires.follows in
-    let count = to_z w32 (of_z w32 c.args.pic_order_cnt) in
-    let back : count ≡ c.args.pic_order_cnt = search rules in
+    let count = to_z w32 (of_z w32 c.args.info.pic_order_cnt) in
+    let back : count ≡ c.args.info.pic_order_cnt = search rules in
     let order = back ∙ c.requires.pic_order_cnt ∙ ap (λ h. order_or_0 (order_counts sps header (pasts h))) (sym before) in
     let state = c.self.invariant on in
     record {
@@ -87,11 +87,11 @@ stored c =
           c.set_marks.new.dpb c.output_prior_pictures.new.dpb c.store.new.self set
           c.in_ok-prior.prior.items c.in_ok-more.more.items (rw (← c.in_ok-prior.ensures.same) at c.output_prior_pictures.ensures.ok) c.output_prior_pictures.ensures.kept
           c.entry_frame-frame.result (c.len.result - 1) _ last made
-          (picture_arrival count c.is_reference.result c.dpb_size.result c.reorder_limit.result)
-          (picture_arrives sps header planes h count c.is_reference.result c.dpb_size.result c.reorder_limit.result
-          order c.is_reference.ensures c.dpb_size.ensures c.reorder_limit.ensures)
+          (picture_arrival count c.is_reference.result c.dpb_size.result c.max_num_reorder_frames.result)
+          (picture_arrives sps header c.args.info planes h count c.is_reference.result c.dpb_size.result c.max_num_reorder_frames.result
+          order c.is_reference.ensures c.dpb_size.ensures c.max_num_reorder_frames.ensures)
           (rw (← c.in_ok-more.ensures.same) at c.store.ensures.ok) c.store.ensures.kept c.prev_ref_frame_num_after-self-inside.result
-          (picture_previous sps header planes h i.prev_ref_frame_num
+          (picture_previous sps header c.args.info planes h i.prev_ref_frame_num
           c.frame_num_after_marking-frame_num.result c.prev_ref_frame_num_after-self-inside.result
           state.previous_is number c.prev_ref_frame_num_after-self-inside.ensures);
     }

@@ -1,7 +1,7 @@
-use Rattle.avc_decoder_core.proofs.Sequences.{◌≡◌, ◌∙◌, ap, ap₂, sym, subst, false, Err, None, Some, Option, List, to_z, of_z, w32, rules, option_map}
+use Rattle.avc_decoder_core.proofs.Sequences.{◌≡◌, ◌∙◌, ap, ap₂, sym, subst, false, Err, None, Some, Option, List, option_map}
 use Rattle.avc_decoder_core.proofs.Sequences.{Output, order_count_state, HistoryEntry, OpenPicture, Inside, history_of}
 use Rattle.avc_decoder_core.proofs.Sequences.{FrameBufferState, output_at_closing, SequenceState, OpenPictureStart, History, marks_of}
-use Rattle.avc_decoder_core.proofs.Sequences.{pasts, sequence_sps, with_picture, IsSequenceState, IsStateOf, open_picture_of, IsRefusedOn, IsStoredOn}
+use Rattle.avc_decoder_core.proofs.Sequences.{info_of, known, pasts, sequence_sps, with_picture, IsSequenceState, IsStateOf, PictureInfo, open_picture_of, IsRefusedOn, IsStoredOn}
 use Rattle.avc_decoder_core.proofs.Sequences.{can_store, closing_refused, current_is, is_closed, open_is, refused_on, set_then, stored_on, unchanged}
 use Rattle.avc_decoder_core.proofs.sequence.Sequence.close.Goals as goal
 
@@ -17,18 +17,28 @@ store_picture-requires c =
     let opened : s.open_picture ≡ Some p = sym c.take.ensures.value ∙ c.in-Some.is in
     let state = kept s p c.self.invariant c.in_ok-check.ensures.going opened in
     let can = can_store (history_of s.closed.items) p s.buffer c.begin_sequence-begun.new.self c.in_ok-prior.prior.items state.going state.stands (rw (← c.in_ok-prior.ensures.same) at c.begin_sequence-begun.ensures.ok) in
-    let back : to_z w32 (of_z w32 p.pic_order_cnt) ≡ p.pic_order_cnt = search rules in
     record {
       going = can.going;
       sps = state.stands.limits;
       follows = can.follows;
       first = can.first;
-      pic_order_cnt = back ∙ can.order_is;
+      pic_order_cnt = ap (λ (i : PictureInfo). i.pic_order_cnt) c.info.ensures ∙ can.order_is;
       sized = c.requires.sized (open_picture_of p) (sym (ap (λ (v : SequenceState). v.open_picture) c.self.view_is) ∙ ap (option_map open_picture_of) opened);
     }
 
-stored : (c : goal.After-self-1) → IsStoredOn c.in-Some.open_picture.sps c.in-Some.open_picture.header c.args.planes c.self.inside.buffer c.in_ok-out-in-Ok.out.items c.store_picture.new.self
-stored c = stored_on _ _ _ _ _ _ _ _ _ (rw (← c.in_ok-prior.ensures.same) at c.begin_sequence-begun.ensures.ok) c.in-Ok.ensures.ok (rw (← c.in_ok-out-in-Ok.ensures.same) at c.joined.ensures)
+-- what is known of it
+known_there : (c : goal.After-self-1) → c.info.result ≡ info_of c.in-Some.open_picture.sps c.in-Some.open_picture.header c.in-Some.open_picture.unit
+    c.begin_sequence-begun.new.self.history
+known_there c =
+    let s = c.self.inside in
+    let p = c.in-Some.open_picture in
+    let state = kept s p c.self.invariant c.in_ok-check.ensures.going (sym c.take.ensures.value ∙ c.in-Some.is) in
+    known p c.begin_sequence-begun.new.self c.info.result c.info.ensures
+    (can_store (history_of s.closed.items) p s.buffer c.begin_sequence-begun.new.self c.in_ok-prior.prior.items state.going state.stands
+    (rw (← c.in_ok-prior.ensures.same) at c.begin_sequence-begun.ensures.ok))
+
+stored : (c : goal.After-self-1) → IsStoredOn c.in-Some.open_picture.sps c.in-Some.open_picture.header c.in-Some.open_picture.unit c.args.planes c.self.inside.buffer c.in_ok-out-in-Ok.out.items c.store_picture.new.self
+stored c = stored_on _ _ _ _ _ _ _ _ _ _ _ (rw (← c.in_ok-prior.ensures.same) at c.begin_sequence-begun.ensures.ok) (known_there c) c.in-Ok.ensures.ok (rw (← c.in_ok-out-in-Ok.ensures.same) at c.joined.ensures)
 
 pub invariant_of-self-in-Ok : goal.invariant_of-self-in-Ok
 invariant_of-self-in-Ok c = λ going.
@@ -43,7 +53,7 @@ invariant_of-self-in-Ok c = λ going.
       counts = state.counts ∙ ap (λ l. order_count_state (pasts l)) (sym done.history);
       set =
           c.set_after-self-inside.ensures
-          ∙ set_then p.sps p.header c.args.planes s.buffer.history c.take-in-Ok.result (c.take-in-Ok.ensures.value ∙ state.set)
+          ∙ set_then p.sps p.header p.unit c.args.planes s.buffer.history c.take-in-Ok.result (c.take-in-Ok.ensures.value ∙ state.set)
           ∙ ap sequence_sps (sym done.history);
     })
 
@@ -58,7 +68,7 @@ returns-in-Ok-clause-ok c o told =
     let output : s.buffer.output ≡ old.output = ap (λ (v : SequenceState). v.output) c.self.view_is in
     let current = current_is (history_of s.closed.items) s.buffer.history s.open_picture s.buffer.frames s.buffer.output s.failed old (c.self.invariant c.in_ok-check.ensures.going).stands c.self.view_is in
     let same = open_is picture s.open_picture o old opened (ap (λ (v : SequenceState). v.open_picture) c.self.view_is) told in
-    let after = with_picture picture.sps picture.header planes s.buffer.history in
+    let after = with_picture picture.sps picture.header picture.unit planes s.buffer.history in
     rw (c.in_ok-out-in-Ok.ensures.going, c.in_ok-prior.ensures.going, c.in_ok-check.ensures.going, ← same)
     (is_closed old _ (open_picture_of picture) planes c.store_picture.new.self.frames s.buffer.history c.in_ok-out-in-Ok.out.items
     (sym (ap (λ (v : SequenceState). v.failed) c.self.view_is) ∙ c.in_ok-check.ensures.going) current done.marked
@@ -67,12 +77,15 @@ returns-in-Ok-clause-ok c o told =
     ∙ ap (λ (m : Output). record { history = after; open_picture = None; frames = c.store_picture.new.self.frames; output = m; failed = false }) (done.output ∙ output))
     (done.pictures ∙ ap (λ (m : Output). output_at_closing m picture.header s.buffer.history after) output))
 
-not_stored : (c : goal.After-drop-prior) → IsRefusedOn c.in-Some.open_picture.sps c.in-Some.open_picture.header c.args.planes c.self.inside.buffer c.in-Err-Fault.fault c.store_picture.new.self
+not_stored : (c : goal.After-drop-prior) → IsRefusedOn c.in-Some.open_picture.sps c.in-Some.open_picture.header c.in-Some.open_picture.unit c.args.planes c.self.inside.buffer c.in-Err-Fault.fault c.store_picture.new.self
 not_stored c =
     let p = c.in-Some.open_picture in
     let state = kept c.self.inside p c.self.invariant c.in_ok-check.ensures.going (sym c.take.ensures.value ∙ c.in-Some.is) in
     let refuses = rw (c.in-Err-Fault.field-0-is) at c.in-Err-Fault.ensures.err in
-    refused_on _ _ _ _ c.begin_sequence-begun.new.self _ c.in_ok-prior.prior.items _ (state.stands.follows).idr (rw (← c.in_ok-prior.ensures.same) at c.begin_sequence-begun.ensures.ok) refuses.1 refuses.2
+    let begins = rw (← c.in_ok-prior.ensures.same) at c.begin_sequence-begun.ensures.ok in
+    let there = known p c.begin_sequence-begun.new.self c.info.result c.info.ensures
+    (can_store (history_of c.self.inside.closed.items) p c.self.inside.buffer c.begin_sequence-begun.new.self c.in_ok-prior.prior.items state.going state.stands begins) in
+    refused_on _ _ _ _ _ _ c.begin_sequence-begun.new.self _ c.in_ok-prior.prior.items _ (state.stands.follows).idr begins there refuses.1 refuses.2
 
 pub invariant_of-self-in-Err-Fault : goal.invariant_of-self-in-Err-Fault
 invariant_of-self-in-Err-Fault c = λ going.
@@ -94,5 +107,5 @@ returns-in-Err-Fault-clause-err c o told =
       ap (λ (items : List HistoryEntry). record { history = history_of items; open_picture = Some (open_picture_of picture); frames = c.store_picture.new.self.frames; output = c.store_picture.new.self.output; failed = false }) c.in-Err-Fault.ensures.kept
           ∙ unchanged (history_of s.closed.items) s.open_picture (Some picture) s.buffer.frames c.store_picture.new.self.frames s.buffer.output c.store_picture.new.self.output s.failed old opened (ap (λ (b : FrameBufferState). b.frames) refused.same) (ap (λ (b : FrameBufferState). b.output) refused.same) c.in_ok-check.ensures.going c.self.view_is,
       closing_refused o planes old s.buffer.history c.in-Err-Fault.fault current
-          (subst (λ (p : OpenPictureStart). marks_of (with_picture p.sps p.header planes s.buffer.history) ≡ Err c.in-Err-Fault.fault) same refused.refused),
+          (subst (λ (p : OpenPictureStart). marks_of (with_picture p.sps p.header p.unit planes s.buffer.history) ≡ Err c.in-Err-Fault.fault) same refused.refused),
     )

@@ -11,7 +11,7 @@ invariant_of-self-2 c = λ going.
     (ap (λ (v : SequenceState). v.open_picture) c.self.view_is ∙ c.requires.rest) (c.self.invariant c.in_ok-check.ensures.going).stands in
     let back : to_z w32 (of_z w32 o.pic_order_cnt) ≡ o.pic_order_cnt = search rules in
     rw (c.copied.ensures, c.copied-2.ensures, back)
-    (opened_state c.args.sps.now c.args.header.now (history_of s.closed.items) s.buffer.history o c.store_missing-stored.new.buffer s.sps
+    (opened_state c.args.sps.now c.args.header.now c.args.unit (history_of s.closed.items) s.buffer.history o c.store_missing-stored.new.buffer s.sps
     c.requires.sps c.requires.marking c.requires.reference (rw (← c.in_ok-out.ensures.same) at c.store_missing-stored.ensures).going rest (c.self.invariant c.in_ok-check.ensures.going).set
     (rw (← c.self.view_is) at c.in_ok-opening.ensures) (rw (← c.in_ok-out.ensures.same) at c.store_missing-stored.ensures).history)
 

@@ -73,7 +73,7 @@ gone_later output old new f =
 
 -- a closed picture has the size of its parameter set
 abbrev pub Good : Entry → Type 0
-Good (decoded_picture sps h planes) = IsSps sps × IsSized (width_in_mbs sps) (height_in_mbs sps) planes
+Good (decoded_picture sps h info planes) = IsSps sps × IsSized (width_in_mbs sps) (height_in_mbs sps) planes
 Good (missing_frame sps frame_num) = Prim.Unit {0}
 
 abbrev pub AllGood : History → Type 0
@@ -164,9 +164,9 @@ has_closed o full e = by_fault (first_fault o true) refl (closed_history o (hist
     by_fault _ is r closed e' = cc
 
 -- the history that it gives can be marked
-pub closing_is : (sps : Sps) (hd : Header) (planes : Planes) (h full : History) → history_after_closing sps hd planes h ≡ Ok full
-    → (full ≡ with_picture sps hd planes h) × (is_ok (marks_of full) ≡ true)
-closing_is sps hd planes h full e = by_marks (with_picture sps hd planes h) (marks_of (with_picture sps hd planes h)) refl e
+pub closing_is : (sps : Sps) (hd : Header) (unit : ℕ) (planes : Planes) (h full : History) → history_after_closing sps hd unit planes h ≡ Ok full
+    → (full ≡ with_picture sps hd unit planes h) × (is_ok (marks_of full) ≡ true)
+closing_is sps hd unit planes h full e = by_marks (with_picture sps hd unit planes h) (marks_of (with_picture sps hd unit planes h)) refl e
   where
     by_marks : (x : History) (r : Result Marks Fault) → marks_of x ≡ r → (r >>= λ m. Ok x) ≡ Ok full
         → (full ≡ x) × (is_ok (marks_of full) ≡ true)
@@ -181,7 +181,8 @@ pub record IsSoundlyClosed (o : OpenPicture) (full : History) : Type 0 where
 pub closed_sound : (o : OpenPicture) (full : History) → IsSoundOpen o → closing_result o ≡ Ok full → IsSoundlyClosed o full
 closed_sound o full s e =
     let c = has_closed o full e in
-    let closing = closing_is o.sps (first_header o) (picture_planes o (history_of o)) (history_of o) full c.1 in
+    let closing = closing_is o.sps hd (first_slice o).unit (picture_planes o base) base full c.1 in
+    let known = info_of o.sps hd (first_slice o).unit (earlier_in_sequence hd base) in
     record {
       sound = record {
         each = subst EachCanCome (sym closing.0) (can_come c.0 (is_idr hd) refl);
@@ -190,7 +191,7 @@ closed_sound o full s e =
             let before = either AllGood (is_idr hd) [] base (λ _. tt) (λ _. (base_grows o s.before).sound.good l) in
             subst AllGood (sym closing.0) ((s.limits l, l.0 (start_on o base) (slices_of o)), before);
       };
-      follows = record { more = decoded_picture o.sps (first_header o) (picture_planes o (history_of o)) ∷ []; is = closing.0 };
+      follows = record { more = decoded_picture o.sps hd known (picture_planes o base) ∷ []; is = closing.0 };
     }
   where
     hd : Header

@@ -57,6 +57,8 @@ pub use Rattle.avc_types.specs.declared.fault.Fault.{Fault}
 pub use Rattle.avc_types.specs.declared.marked_frame.MarkedFrame.{MarkedFrame}
 pub use Rattle.avc_types.specs.declared.picture.Picture.{Picture}
 pub use Rattle.avc_types.specs.declared.picture_error.PictureError.{PictureError}
+pub use Rattle.avc_types.specs.PictureInfos.{no_picture_info}
+pub use Rattle.avc_types.specs.declared.picture_info.PictureInfo.{PictureInfo}
 pub use Rattle.avc_types.specs.declared.picture_error.PictureError.TheVariants.{Fault as Faulty, OutOfMemory as NoMemory}
 pub use Rattle.avc_types.specs.declared.references.Mark.{Mark}
 pub use Rattle.avc_types.specs.declared.references.Mark.TheVariants.{Short}
@@ -72,7 +74,7 @@ pub use Rattle.avc_decoder_core.specs.Gaps.{missing_references, stored_missing, 
 pub use Rattle.avc_decoder_core.specs.History.{Entry, History, entry_at, planes_in, stored, buffer_of, marks_of, arrival, arrivals, new_output, all_held}
 pub use Rattle.avc_decoder_core.specs.History.{is_same_sps, prior_pictures_of, decoded_picture, missing_frame, sequence_sps, marking_entries, or_no_references}
 pub use Rattle.avc_decoder_core.specs.History.{order_or_0, pasts, picture_entry, reorder_limit, earlier_in_sequence, history_at_opening, with_missing}
-pub use Rattle.avc_decoder_core.specs.History.{with_order_counts, references_of, history_after_closing, with_picture}
+pub use Rattle.avc_decoder_core.specs.History.{with_order_counts, references_of, history_after_closing, info_of, info_with, with_picture}
 pub use Rattle.avc_decoder_core.specs.Laws.{MissingNumbersKeepTheOrder}
 pub use Rattle.avc_decoder_core.specs.Opening.{counts_over, missing_before, opening_on, with_all_missing, Finds, StoresAll, set_with, IsOpening}
 pub use Rattle.avc_decoder_core.specs.Pictures.{entry_pictures, pictures_at, output_pictures, held_pictures, output_at_closing}

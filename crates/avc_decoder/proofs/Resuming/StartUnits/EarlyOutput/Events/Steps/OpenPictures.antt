@@ -300,10 +300,14 @@ fit_set sps (Some before) frames same fit =
     rw (← size.0, ← size.1) fit
 
 -- the frames have the size of the picture that is opened
-pub frames_fit : (s s1 : SequenceState) (sps : Sps) (h : Header) (out : List Decoded) (frames : List (Frame 16)) → IsOpened s sps h out s1 → frames ≡ frames_for h s1
-    → (is_idr h ≡ false → s1.failed ≡ false → AreFramesIn (current_history s1) s1.frames) → AreFramesOf sps frames
-frames_fit s s1 sps h out frames i is sized = by_idr (is_idr h) refl is
+pub frames_fit : (s s1 : SequenceState) (sps : Sps) (first : Slice) (out : List Decoded) (frames : List (Frame 16))
+    → IsOpened s (open_picture_start sps first) out s1 → frames ≡ frames_for first.header s1
+    → (is_idr first.header ≡ false → s1.failed ≡ false → AreFramesIn (current_history s1) s1.frames) → AreFramesOf sps frames
+frames_fit s s1 sps first out frames i is sized = by_idr (is_idr h) refl is
   where
+    h : Header
+    h = first.header
+
     by_idr : (idr : Bool) → is_idr h ≡ idr → frames ≡ elim idr [ true ↦ [] | false ↦ s1.frames ] → AreFramesOf sps frames
     by_idr true other e = rw e (record { few = omega arith; sized = All-nil _ })
     by_idr false other e =
@@ -403,7 +407,7 @@ closes_short t t' c {f} w is answer stops =
 -- it was finished, and the sequence says what comes of it
 finished : (s : SequenceState) (c : CurrentPicture) (w : IsOpenIn s c) (planes : PaddedPlanes 16) (r : Result History Fault)
     → IsFinishAnswer c.decoder (Ok planes)
-    → history_after_closing (c.decoder).sps (oldest w.last w.earlier).header (padded_planes_of planes) (current_history s) ≡ r
+    → history_after_closing (c.decoder).sps (oldest w.last w.earlier).header (oldest w.last w.earlier).unit (padded_planes_of planes) (current_history s) ≡ r
     → let o = opened_as s c.decoder w.last w.earlier in closing_result o ≡ at_last_slice o r
 finished s c w planes r answer closes =
     let o = opened_as s c.decoder w.last w.earlier in
@@ -414,7 +418,7 @@ finished s c w planes r answer closes =
     let ends = on_open s c w (λ x. fault_at_end x.fault (is_full start x) ≡ None) answer.0 in
     let made = on_open s c w (λ x. padded_planes_of planes ≡ deblocked (coded_of start x)) answer.1 in
     closes_by o h r (stands_as s c w) well (full_alone g.fault (is_full start g) well ends)
-    (ap (λ ps. history_after_closing o.sps (first_header o) ps h) (sym made) ∙ closes)
+    (ap (λ ps. history_after_closing o.sps (first_header o) (first_slice o).unit ps h) (sym made) ∙ closes)
 
 pub closes_done : {s s' : SequenceState} {q q' : QueueState} {n : ℕ} {table : List SetUnit} (c : CurrentPicture)
     (planes : PaddedPlanes 16) (shared : Planes) (out : List Decoded) → IsOpenIn s c → IsFinishAnswer c.decoder (Ok planes)
@@ -447,13 +451,13 @@ pub closes_unmarked : (t t' : Stream) (between : SequenceState) (c : CurrentPict
     {e : PictureError} → IsOpenIn t.sequence c → IsFinishAnswer c.decoder (Ok planes)
     → shared ≡ padded_planes_of planes
     → ((p : OpenPictureStart) → t.sequence.open_picture ≡ Some p
-    → Fails t.sequence (history_after_closing p.sps p.header shared (current_history t.sequence)) e between) → e ≡ Faulty f
+    → Fails t.sequence (history_after_closing p.sps p.header p.unit shared (current_history t.sequence)) e between) → e ≡ Faulty f
     → WaitsAfter (record t { sequence = between }) (failed_at between.output (current_history between) c.last_unit f 0).events t'
     → HasOutcome t (closed_in t.sequence.output (phase_of t.sequence (Running (Some c)))) t'
 closes_unmarked t t' between c planes shared {f} w answer same refuses is stops =
     let s = t.sequence in
     let k : (s.failed ≡ false) × (between ≡ s) × (history_after_closing (c.decoder).sps
-    (oldest w.last w.earlier).header (padded_planes_of planes) (current_history s) ≡ Err f) = rw (is, same) at (refuses _ w.open_picture) in
+    (oldest w.last w.earlier).header (oldest w.last w.earlier).unit (padded_planes_of planes) (current_history s) ≡ Err f) = rw (is, same) at (refuses _ w.open_picture) in
     fails t t' c f w (finished s c w planes (Err f) answer k.2 ∙ rw w.unit refl) (rw k.1 at stops)
 
 -- the planes have the size of the picture that is open
@@ -476,7 +480,7 @@ slice_is output before after already o f st e =
 record Awaits (s : SequenceState) (c : CurrentPicture) (slice : Slice) (earlier : List Slice) : Type 0 where
   on : s.failed ≡ false
   slices : (c.decoder).slices ≡ earlier
-  open_picture : s.open_picture ≡ Some (record { sps = (c.decoder).sps; header = (oldest slice earlier).header })
+  open_picture : s.open_picture ≡ Some (open_picture_start (c.decoder).sps (oldest slice earlier))
   first : ((oldest slice earlier).header).first_mb_in_slice ≡ 0
   stands : history_at_opening (c.decoder).sps (oldest slice earlier).header s.history ≡ Ok (current_history s)
 
@@ -623,7 +627,7 @@ first_unopened t t' between sps pps slice h {f} base none first fails is stops n
 pub first_slice_more : MissingNumbersKeepTheOrder → (s s1 s' : SequenceState) (q q1 q' : QueueState) (n n' : ℕ)
     (table table' : List SetUnit) (sps : Sps) (pps : Pps) (frames : List (Frame 16)) (slice : Slice)
     (out : List Decoded) (h : History) (c : CurrentPicture) (p' : PhaseHere)
-    → h ≡ s.history → (slice.header).first_mb_in_slice ≡ 0 → IsOpened s sps slice.header out s1
+    → h ≡ s.history → (slice.header).first_mb_in_slice ≡ 0 → IsOpened s (open_picture_start sps slice) out s1
     → q1 ≡ with_events (pictures out) q → c.decoder ≡ no_slice_yet sps pps frames → Decodes c slice s1 q1 p' s' q'
     → n' ≡ more_read n (read_of_slice (current_history s1) c.decoder slice) → table' ≡ table
     → sets_named (sets_after table) slice.header ≡ Some (pps, sps)
@@ -632,7 +636,7 @@ pub first_slice_more : MissingNumbersKeepTheOrder → (s s1 s' : SequenceState) 
     p' q' n' table'
 first_slice_more law s s1 s' q q1 q' n n' table table' sps pps frames slice out h c p' base first i eq ed k er same names
     named =
-    let opened = with_open_picture sps slice.header s1.frames s in
+    let opened = with_open_picture (open_picture_start sps slice) s1.frames s in
     let begun : CurrentPicture = record c { decoder = no_slice_yet sps pps frames } in
     let o = opened_as opened begun.decoder slice [] in
     let full = current_history opened in

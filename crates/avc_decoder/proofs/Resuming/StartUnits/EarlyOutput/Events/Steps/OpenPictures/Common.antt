@@ -31,7 +31,7 @@ pub use Rattle.avc_decoder_core.proofs.Sequences.MissingNumbers.Entries.{Extends
 pub use Rattle.avc_decoder_core.proofs.Sequences.MissingNumbers.Entries.{all_indices_below}
 pub use Rattle.avc_decoder_core.specs.History.{History, history_at_opening, is_same_sps, stored_frames, history_after_closing, buffer_of, Entry, all_held}
 pub use Rattle.avc_decoder_core.specs.History.{arrival, arrivals, decoded_picture, earlier_in_sequence, entry_at, marks_of, missing_frame, new_output}
-pub use Rattle.avc_decoder_core.specs.History.{with_missing, with_picture, pasts}
+pub use Rattle.avc_decoder_core.specs.History.{with_missing, with_picture, info_of, pasts}
 pub use Rattle.avc_decoder_core.specs.Laws.{MissingNumbersKeepTheOrder}
 pub use Rattle.avc_decoder_core.specs.Pictures.{output_pictures, output_at_closing, held_pictures, pictures_at, entry_pictures, no_output_of_prior_pics}
 pub use Rattle.avc_decoder_core.specs.Pictures.{crop_of, picture_of}
@@ -79,6 +79,7 @@ pub use Rattle.avc_types.specs.declared.fault.Fault.{Fault}
 pub use Rattle.avc_types.specs.declared.fault.Fault.TheVariants.{MissingMacroblocks, DataPartition, ForbiddenBit}
 pub use Rattle.avc_types.specs.declared.memory.OutOfMemory.{OutOfMemory}
 pub use Rattle.avc_types.specs.declared.picture.Picture.{Picture as Decoded}
+pub use Rattle.avc_types.specs.declared.picture_info.PictureInfo.{PictureInfo}
 pub use Rattle.avc_types.specs.declared.picture_error.PictureError.{PictureError}
 pub use Rattle.avc_types.specs.declared.picture_error.PictureError.TheVariants.{Fault as Faulty}
 pub use Rattle.avc_types.specs.declared.references.Marking.{Marking}
@@ -101,7 +102,7 @@ pub use Rattle.avc_decoder.specs.FirstFault.{OpenPicture, closed_history, progre
 pub use Rattle.avc_decoder.specs.FirstFault.{history_of, read_of, oldest, picture_planes, slices_of}
 pub use Rattle.avc_decoder.specs.Headline.{SinceReset, no_call, with_call, since_reset, defined_events, TakesThem, TakesAll}
 pub use Rattle.avc_decoder.specs.Laws.{EventsOnlyGrow, state_through, renumbered, PicturesAreWhole, is_picture, StartUnitsBeginAnew, CanStart, HaveOwnNumbers}
-pub use Rattle.avc_decoder.specs.Laws.{StartsAnew, closing_events, PicturesNameNoUnits}
+pub use Rattle.avc_decoder.specs.Laws.{StartsAnew, closing_events, EventsKeepButNumbers, renumbered_event}
 pub use Rattle.avc_decoder.specs.Machine.{Machine, IsFeedAnswer, IsUpToUnit, new_machine, Run, IsCallAnswer, after_flush, after_take, next_event, after_feed as after_call}
 pub use Rattle.avc_decoder.specs.PictureFrames.{CanHave, HasItsFrames, IsISlice, frames_for, progress_on_history, read_of_slice, start_with}
 pub use Rattle.avc_decoder.specs.QueueState.{QueueState, IsBehind, after_queue_take, passed_on, with_events}
@@ -109,7 +110,7 @@ pub use Rattle.avc_decoder.specs.States.{ComesTo, HasOutcome, IsOpenIn, Stops, W
 pub use Rattle.avc_decoder.specs.States.{DecodesAs, IsNamed, Works, current_in, HasAnswered, IsAnswerIn, picture_answer, with_last, IsPhase, is_waiting_in}
 pub use Rattle.avc_decoder.specs.States.{last_header_in, FitsPhase, HasStep, StreamState, after_stream_end, after_unit_in_stream, stream_state, EndsIn, FeedsIn}
 pub use Rattle.avc_decoder.specs.States.{HandlesAll, IsDecoded, IsDecoderState, after_units_in_stream, IsStream, queue_in, ArePassedOn, AreParts, IsWorking, HaveDecoded}
-pub use Rattle.avc_decoder.specs.States.{Feeds, FeedsUnit, FeedsUnitIn, Ends, PartsOrRefusal, WantsNone}
+pub use Rattle.avc_decoder.specs.States.{Feeds, FeedsUnit, FeedsUnitIn, Ends, PartsOrRefusal, WantsNone, open_picture_start}
 pub use Rattle.avc_decoder.specs.declared.parts.Fed.{Fed}
 pub use Rattle.avc_decoder.specs.declared.calls.Call.{Call}
 pub use Rattle.avc_decoder.specs.declared.calls.Call.TheVariants.{Feed, Take, Flush, Reset}
