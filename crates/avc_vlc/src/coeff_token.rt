@@ -1,13 +1,13 @@
 //! coeff_token (9.2.1, Table 9-5). A table has a row for each number of zeros in front of the first 1, the last for all
 //! that are more, and a column for each value of the three bits behind that 1.
-ghost use Rattle.std.specs.Prelude.{◌≡◌, ◌≤◌, ◌<◌, ℤ, List, Bool, false, length, Some, Ok, IfOk};
-ghost use Rattle.std.specs.Prelude.{IsTrue, OnErr};
+ghost use Rattle.std.specs.Prelude.{◌≡◌, ◌≤◌, ◌<◌, ◌^◌, ℤ, List, Bool, false, length, Some, Ok};
+ghost use Rattle.std.specs.Prelude.{IfOk, IsTrue, OnErr};
 ghost use Rattle.avc_bits.specs.Bits.{bits_of};
 ghost use Rattle.avc_bits.specs.Reader.{Reads, reader_bits, reader_bytes};
 ghost use Rattle.avc_vlc.specs.Tables.{coeff_token_0, coeff_token_2, coeff_token_4};
 ghost use Rattle.avc_vlc.specs.Tables.{coeff_token_chroma_dc};
 ghost use Rattle.avc_vlc.specs.Reading.{IsToken, Table, coeff_token, token, token_table, tokens};
-ghost use Rattle.avc_vlc.specs.Reading.{tokens_8};
+ghost use Rattle.avc_vlc.specs.Reading.{tokens_8, IsNext};
 ghost use Rattle.avc_vlc.specs.Indexing.{Decides, IsIndexed, Shows, six_bit_entry, six_bit_number};
 ghost use Rattle.avc_vlc.specs.Writing.{is_token_same, token_word, word_bits, word_of};
 ghost use Rattle.std.specs.Option.{option_map};
@@ -79,6 +79,8 @@ fn read_coded(reader: &mut BitReader, entry: Entry<Token>, nc: i8) -> Result<Tok
 #[inline(always)]
 pub fn pass_no_levels(reader: &mut BitReader, nc: i8) -> bool
     ensures read { IsTrue result → coeff_token nc (reader_bits reader.old) ≡ Ok (token 0 0, reader_bits reader.new) }
+    ensures taken { (word : List Bool) → token_word nc (token 0 0) ≡ Some word → IsNext word (reader_bits reader.old).ahead
+        → 264 ≤ length (reader_bits reader.old).ahead → IsTrue result }
     ensures bytes { reader_bytes reader.new ≡ reader_bytes reader.old }
     ensures stays { result ≡ false → reader.new ≡ reader.old }
 {
@@ -102,9 +104,11 @@ pub fn pass_no_levels(reader: &mut BitReader, nc: i8) -> bool
 #[inline(always)]
 fn pass_word(reader: &mut BitReader, count: u32, number: u32) -> bool
     requires few { count ≤ 16 }
+    requires below { number < 2 ^ count }
     requires ahead { 256 ≤ length (reader_bits reader.old).ahead }
     ensures read { (nc : ℤ) (t : Token) → token_word nc t ≡ Some (bits_of count number) → IsTrue result
         → coeff_token nc (reader_bits reader.old) ≡ Ok (t, reader_bits reader.new) }
+    ensures taken { IsNext (bits_of count number) (reader_bits reader.old).ahead → IsTrue result }
     ensures bytes { reader_bytes reader.new ≡ reader_bytes reader.old }
     ensures stays { result ≡ false → reader.new ≡ reader.old }
 {

@@ -2,8 +2,8 @@
 //! each number of zeros in front of the first 1, the last for all that are more, and a column for
 //! each value of the two bits behind that 1.
 ghost use Rattle.std.specs.Prelude.{◌≡◌, ◌+◌, ◌≤◌, ◌<◌, List, Bool, Ok, Err, IfOk, IfSome, OnErr};
-ghost use Rattle.std.specs.Prelude.{length};
-ghost use Rattle.avc_bits.specs.Bits.{Bits, passed};
+ghost use Rattle.std.specs.Prelude.{length, take};
+ghost use Rattle.avc_bits.specs.Bits.{Bits, number_of, passed};
 ghost use Rattle.avc_bits.specs.Reader.{IsWindow, Reads, reader_bits, reader_bytes};
 ghost use Rattle.avc_vlc.specs.Reading.{run_before, run_table};
 ghost use Rattle.avc_vlc.specs.Indexing.{AreRuns, AreShortRuns, Decides, Shows, entry_of_run};
@@ -184,6 +184,7 @@ pub fn short_run(window: Window, first: u32, zeros_left: u8) -> Run
     requires within { first + 3 ≤ 57 }
     ensures read { (b : Bits) → IsWindow window b → 1 ≤ result.length
         → run_before zeros_left (passed b first) ≡ Ok (result.zeros, passed b (first + result.length)) }
+    ensures exact { (b : Bits) → IsWindow window b → result ≡ short_run zeros_left (number_of (take 3 (passed b first).ahead)) }
     ensures most { result.zeros ≤ zeros_left }
     ensures short { result.length ≤ 3 }
 {
