@@ -48,7 +48,7 @@ extern "C" {
 #endif
 
 #define AVCDEC_VERSION_MAJOR 0
-#define AVCDEC_VERSION_MINOR 1
+#define AVCDEC_VERSION_MINOR 2
 #define AVCDEC_VERSION_PATCH 0
 
 /* Whether a decoder is open, and what the library holds of it. All zero, it is closed; so it is before avcdec_open. From then until
@@ -65,7 +65,7 @@ typedef struct avcdec_decoder {
 typedef uint32_t avcdec_status;
 enum {
     AVCDEC_OK = 0,
-    AVCDEC_OUT_OF_MEMORY = 1, /* no memory was found; feed, flush and take answer so until avcdec_reset or avcdec_close */
+    AVCDEC_OUT_OF_MEMORY = 1, /* no memory was found; feed, flush, mark and take answer so until avcdec_reset or avcdec_close */
     AVCDEC_ENDED = 2,         /* avcdec_flush has ended the stream; events may still be taken */
     AVCDEC_CLOSED = 3,        /* the decoder is closed */
     AVCDEC_IS_OPEN = 4,       /* the decoder is open already */
@@ -89,9 +89,11 @@ enum { AVCDEC_LUMA = 0, AVCDEC_CB = 1, AVCDEC_CR = 2 };
 typedef struct avcdec_event {
     uint32_t kind;
     uint32_t fault;         /* of a refusal: number of the fault; avcdec_fault_name has its name */
-    uint64_t unit;          /* of a refusal: the NAL unit in which the fault stands, counted from 0 since open or reset */
+    uint64_t unit;          /* the NAL unit in which the fault stands, or which brought the picture's first slice, counted from 0 since
+                               open or reset */
     uint32_t width, height; /* of a picture: coded size in luma samples; a chroma plane has half of each */
     uint32_t crop_left, crop_right, crop_top, crop_bottom; /* of a picture: luma samples not shown, from each side; all even */
+    uint64_t value;         /* the value that avcdec_mark gave to that unit, as a time; 0 where no mark was made before it */
 } avcdec_event;
 
 /* The name of a status, as "out of memory". What this header defines itself (static inline) is tested, and not proved as the rest is. */
@@ -132,11 +134,21 @@ avcdec_status avcdec_feed(avcdec_decoder *decoder, const uint8_t *bytes, size_t 
  * OK; OUT_OF_MEMORY; ENDED (nothing changes); CLOSED. But for OK, *used is 0. */
 avcdec_status avcdec_feed_unit(avcdec_decoder *decoder, const uint8_t *bytes, size_t length, size_t *used);
 
+/* Gives a value, as the time of a packet, to all units that begin with the bytes given from here on, up to the next mark. An event has
+ * the value of its unit, a picture that of its first slice's, in whichever order pictures come: mark before each packet is given. A unit
+ * begins with its first byte behind a start code, and one that is under way keeps the value that it has.
+ * The newest 1,024 marks are kept, of marks at one unit the last; a picture waits behind 16 others at most. avcdec_reset forgets them.
+ * Not every value comes back. Once an IDR picture has come (avcdec_picture_info), no picture of a unit before its own comes any more;
+ * nor does any behind the last event after avcdec_flush.
+ * OK; OUT_OF_MEMORY (where an earlier call found none; nothing changes); CLOSED. Asks for no memory. */
+avcdec_status avcdec_mark(avcdec_decoder *decoder, uint64_t value);
+
 /* Ends the stream: the last unit ends, and all pictures that are held go out, to be taken.
  * OK; OUT_OF_MEMORY; ENDED (nothing changes); CLOSED. */
 avcdec_status avcdec_flush(avcdec_decoder *decoder);
 
-/* Begins a new stream and forgets the old one: parameter sets, pictures, events that were not taken, want of memory, and the end.
+/* Begins a new stream and forgets the old one: parameter sets, pictures, events that were not taken, marks, want of memory, and the
+ * end.
  * The choice of early stays. Decoding begins at the next IDR picture that has its parameter sets.
  * OK; CLOSED. */
 avcdec_status avcdec_reset(avcdec_decoder *decoder);
@@ -146,6 +158,25 @@ avcdec_status avcdec_reset(avcdec_decoder *decoder);
  * OK (*event is set; its kind is AVCDEC_NOTHING where there is none yet); OUT_OF_MEMORY (its kind is AVCDEC_NOTHING);
  * CLOSED (*event is not touched). */
 avcdec_status avcdec_take(avcdec_decoder *decoder, avcdec_event *event);
+
+/* What is known of a picture beside its samples. A flag is 0 or 1. What the stream's VUI parameters (E.2.1) do not give has the value
+ * that the standard infers. */
+typedef struct avcdec_info {
+    uint64_t unit;                /* as that of the event: of the picture's first slice */
+    int32_t pic_order_cnt;        /* PicOrderCnt (8.2.1): pictures from one IDR picture to the next go out in its order */
+    uint32_t is_idr;              /* a flag: nothing before this picture is needed to decode what follows it */
+    uint32_t frame_num;           /* of its slices (7.4.3) */
+    uint32_t sar_width, sar_height; /* shape of a luma sample, of which only the ratio matters; both 0 where it is not given */
+    uint32_t video_full_range_flag; /* samples take all values from 0 to 255 */
+    uint32_t colour_primaries, transfer_characteristics, matrix_coefficients; /* Tables E-3 to E-5; 2 where they are not given */
+    uint32_t chroma_sample_loc_type; /* figure E-1 */
+    uint32_t num_units_in_tick, time_scale; /* time_scale / (2 * num_units_in_tick) frames a second; both 0 where they are not given */
+    uint32_t has_max_num_reorder_frames, max_num_reorder_frames; /* a flag, and the number where it is given */
+} avcdec_info;
+
+/* Tells what is known of the picture that was taken last. Asks for no memory.
+ * OK (*info is set); NO_PICTURE; CLOSED. But for OK, *info is not touched. */
+avcdec_status avcdec_picture_info(avcdec_decoder *decoder, avcdec_info *info);
 
 /* What is shown of a plane, where it lies in the library's memory: row y are the `columns` bytes from samples + y * stride on. */
 typedef struct avcdec_rows {

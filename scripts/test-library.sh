@@ -82,7 +82,7 @@ for file in decode call; do
     holds "$file" compile "$top/examples/c/$file.c" "$file" "$sanitizer"
     holds "$file for C++" "$cxx" -x c++ -std=c++11 -Wall -Wextra -Wpedantic -Werror -I"$work/usr/include" -c "$top/examples/c/$file.c" -o "$work/$file.o"
 done
-for file in pieces growths packets faults; do
+for file in pieces growths packets faults marks; do
     holds "$file" compile "$top/bindings/c/tests/$file.c" "$file" "$sanitizer"
 done
 told
@@ -244,6 +244,30 @@ for stream in "$vectors"/*/*.264; do
     seed=$((seed + 1))
     "$work/pieces" "$seed" "$stream" "$work/out" 2>"$work/told"
     holds "$base, seed $seed" is_decoded "$base" $? "$base.md5"
+done
+told
+
+# whether the values of a stream's packets come back with its pictures as a line of marks.txt says
+has_values() {
+    # places are words
+    # shellcheck disable=SC2086
+    "$work/marks" "$vectors/$1.264" $2 >"$work/told" && [ "$(cat "$work/told")" = " $3" ]
+}
+
+# whether the events' values are those of marks at random places, by the units that the program counts itself
+has_random_values() {
+    "$work/marks" "$2" "$1" >/dev/null
+}
+
+part 'values of marks'
+while IFS='|' read -r stream places wanted; do
+    holds "$stream" has_values "$stream" "$places" "$wanted"
+done <"$top/bindings/c/tests/marks.txt"
+seed=1
+for stream in "$vectors"/cases/*.264 "$vectors"/corners/*.264 "$vectors"/foreign/*.264; do
+    [ "$(wc -c <"$stream")" -lt 20000 ] || continue
+    seed=$((seed + 1))
+    holds "$stream, seed $seed" has_random_values "$stream" "$seed"
 done
 told
 

@@ -1,8 +1,8 @@
 /* The element avcdec: a GstVideoDecoder over libavcdec.
  *
  * Each buffer is one access unit (alignment=au). It is given to the library unit by unit and ended at once, so that its picture is
- * decoded before the buffer is done with. A picture is copied once, from the library's rows into the buffer that goes out. A picture that the library hands out belongs to the waiting frame with the least timestamp, since pictures
- * come in output order. */
+ * decoded before the buffer is done with. A picture is copied once, from the library's rows into the buffer that goes out. Before each
+ * access unit a mark is made with the number of its frame: that number comes back with its picture (avcdec_mark). */
 #ifdef HAVE_CONFIG_H
 #include "config.h"
 #endif
@@ -17,7 +17,7 @@
 #define PACKAGE "avcdec"
 #endif
 #ifndef VERSION
-#define VERSION "0.1.0"
+#define VERSION "0.2.0"
 #endif
 
 GST_DEBUG_CATEGORY_STATIC(avcdec_debug);
@@ -171,34 +171,25 @@ static gboolean negotiate(GstAvcdec *self, const avcdec_event *picture) {
     return gst_video_decoder_negotiate(decoder);
 }
 
-/* A waiting frame by what the base class knows of it; a frame that it has given up is forgotten. */
-static GstVideoCodecFrame *waiting_frame(GstAvcdec *self, GList *link) {
-    return gst_video_decoder_get_frame(GST_VIDEO_DECODER(self), GPOINTER_TO_UINT(link->data));
+/* Drops the frame that waits first: its picture never comes. The base class may have given it up. */
+static void drop_first(GstAvcdec *self) {
+    GstVideoDecoder *decoder = GST_VIDEO_DECODER(self);
+    GstVideoCodecFrame *frame = gst_video_decoder_get_frame(decoder, (int)GPOINTER_TO_UINT(g_queue_pop_head(&self->waiting)));
+    if (frame != NULL)
+        gst_video_decoder_drop_frame(decoder, frame);
 }
 
-/* The waiting frame with the least timestamp; where one has none, the one decoded first. */
-static GstVideoCodecFrame *next_in_output_order(GstAvcdec *self) {
-    GList *best = NULL;
-    GstClockTime least = GST_CLOCK_TIME_NONE;
-    for (GList *link = self->waiting.head; link != NULL;) {
-        GList *next = link->next;
-        GstVideoCodecFrame *frame = waiting_frame(self, link);
-        if (frame == NULL) {
-            g_queue_delete_link(&self->waiting, link);
-        } else {
-            if (best == NULL || (GST_CLOCK_TIME_IS_VALID(frame->pts) && GST_CLOCK_TIME_IS_VALID(least) && frame->pts < least)) {
-                best = link;
-                least = frame->pts;
-            }
-            gst_video_codec_frame_unref(frame);
-        }
-        link = next;
-    }
-    if (best == NULL)
+/* The frame of a picture. Once an IDR picture has come, none that was decoded before it comes any more. */
+static GstVideoCodecFrame *frame_of(GstAvcdec *self, const avcdec_event *picture) {
+    GList *link = g_queue_find(&self->waiting, GUINT_TO_POINTER((guint)picture->value));
+    avcdec_info info;
+    if (link == NULL)
         return NULL;
-    GstVideoCodecFrame *frame = waiting_frame(self, best);
-    g_queue_delete_link(&self->waiting, best);
-    return frame;
+    if (avcdec_picture_info(&self->decoder, &info) == AVCDEC_OK && info.is_idr)
+        while (self->waiting.head != link)
+            drop_first(self);
+    g_queue_delete_link(&self->waiting, link);
+    return gst_video_decoder_get_frame(GST_VIDEO_DECODER(self), (int)picture->value);
 }
 
 static gboolean copy_picture(GstAvcdec *self, GstBuffer *buffer) {
@@ -223,7 +214,7 @@ static gboolean copy_picture(GstAvcdec *self, GstBuffer *buffer) {
 
 static GstFlowReturn hand_out(GstAvcdec *self, const avcdec_event *picture) {
     GstVideoDecoder *decoder = GST_VIDEO_DECODER(self);
-    GstVideoCodecFrame *frame = next_in_output_order(self);
+    GstVideoCodecFrame *frame = frame_of(self, picture);
     if (frame == NULL) {
         GST_DEBUG_OBJECT(self, "a picture without a frame");
         return GST_FLOW_OK;
@@ -304,6 +295,8 @@ static void wait_once_read(GstAvcdec *self, const GstVideoCodecFrame *frame, Acc
 /* Feeds an access unit, unit by unit, and its end; takes all events after each. */
 static GstFlowReturn feed_access_unit(GstAvcdec *self, const GstVideoCodecFrame *frame, const guint8 *bytes, gsize length, AccessUnit *fed) {
     GstFlowReturn flow = GST_FLOW_OK;
+    if (avcdec_mark(&self->decoder, frame->system_frame_number) != AVCDEC_OK)
+        return wants_memory(self);
     for (gsize at = 0, used; flow == GST_FLOW_OK && at < length; at += used) {
         if (avcdec_feed_unit(&self->decoder, bytes + at, length - at, &used) != AVCDEC_OK)
             return wants_memory(self);
@@ -338,12 +331,8 @@ static GstFlowReturn gst_avcdec_handle_frame(GstVideoDecoder *decoder, GstVideoC
     } else {
         gst_video_codec_frame_unref(frame);
     }
-    while (g_queue_get_length(&self->waiting) > MAX_WAITING) {
-        GstVideoCodecFrame *lost = waiting_frame(self, self->waiting.head);
-        g_queue_pop_head(&self->waiting);
-        if (lost != NULL)
-            gst_video_decoder_drop_frame(decoder, lost);
-    }
+    while (g_queue_get_length(&self->waiting) > MAX_WAITING)
+        drop_first(self);
     follow_latency(self);
     return flow;
 }

@@ -116,8 +116,9 @@ for stream in encoder/pub_x_aud encoder/pub_x_keyint3 encoder/pub_x_allintra enc
     holds "pictures of $stream" is_decoded "$top/vectors/$stream"
 done
 
-# by itself: caps, flush, end
+# by itself: caps, times, flush, end
 counted caps
+counted times
 counted flush
 counted end
 
@@ -171,7 +172,7 @@ if command -v valgrind >/dev/null; then
             --errors-for-leak-kinds=definite --suppressions="$here/tests/glib.supp" "$@" >"$work/told" 2>"$work/noise"
         [ $? != 99 ]
     }
-    for words in caps flush end; do
+    for words in caps times flush end; do
         holds "valgrind: $words" checked "$work/element" "$words"
     done
     holds 'valgrind: a file' checked gst-launch-1.0 -q filesrc location="$top/vectors/encoder/pub_x_aud.264" ! h264parse ! avcdec ! fakesink

@@ -1,5 +1,5 @@
 // The types of avcdec-client.mjs.
-import type { Crop, DecoderOptions, FeedOptions, FrameInit, Plane, Refusal } from './avcdec.mjs';
+import type { Crop, DecodeOptions, DecoderOptions, FrameInit, PictureInfo, Plane, Refusal } from './avcdec.mjs';
 
 /** A picture with samples of its own, as I420 without gaps. */
 export class OwnPicture {
@@ -10,6 +10,9 @@ export class OwnPicture {
     readonly codedWidth: number;
     readonly codedHeight: number;
     readonly crop: Crop;
+    readonly unit: number;
+    readonly value: bigint;
+    readonly info: PictureInfo;
     readonly size: number;
     samples: Uint8Array;
     readonly planes: [Plane, Plane, Plane];
@@ -18,7 +21,7 @@ export class OwnPicture {
     frame(init: FrameInit): VideoFrame;
 }
 
-export type OwnEvent = OwnPicture | Pick<Refusal, 'kind' | 'unit' | 'fault' | 'name'>;
+export type OwnEvent = OwnPicture | Pick<Refusal, 'kind' | 'unit' | 'fault' | 'name' | 'value'>;
 
 /** A decoder in a worker of its own. Calls are answered in their order, and fail with OutOfMemory or DecoderError. */
 export class WorkerDecoder {
@@ -27,7 +30,7 @@ export class WorkerDecoder {
     readonly version: string | undefined;
     readonly memory: number;
     readonly turns: number;
-    decode(bytes: Uint8Array, options?: FeedOptions & { transfer?: boolean }): Promise<OwnEvent[]>;
+    decode(bytes: Uint8Array, options?: DecodeOptions & { transfer?: boolean }): Promise<OwnEvent[]>;
     flush(): Promise<OwnEvent[]>;
     reset(): Promise<void>;
     /** Takes the samples of a picture that is done with, for later pictures. */

@@ -86,11 +86,12 @@ export class WorkerDecoder {
         return this.#ready.then(() => {});
     }
 
-    /** Gives bytes (Annex B) and answers the events that they bring; with `endsUnit` they end with a whole access unit. All pictures of a call are
-     * answered together: give an access unit or 65,536 bytes at a time. With `transfer` the buffer of the bytes goes to the worker. */
-    async decode(bytes, { endsUnit = false, transfer = false } = {}) {
+    /** Gives bytes (Annex B) and answers the events that they bring; with `endsUnit` they end with a whole access unit, and with `value` their units
+     * are marked. All pictures of a call are answered together: give an access unit or 65,536 bytes at a time. With `transfer` the buffer of the
+     * bytes goes to the worker. */
+    async decode(bytes, { endsUnit = false, value, transfer = false } = {}) {
         await this.#ready;
-        return (await this.#ask('decode', { bytes, endsUnit }, transfer ? [bytes.buffer] : [])).events;
+        return (await this.#ask('decode', { bytes, endsUnit, value }, transfer ? [bytes.buffer] : [])).events;
     }
 
     /** Ends the stream; answers what was held. */

@@ -24,8 +24,8 @@ class Here {
         this.decoder = decoder;
     }
 
-    async decode(bytes, take) {
-        for (const event of this.decoder.decode(bytes, { endsUnit: true })) take(event);
+    async decode(bytes, value, take) {
+        for (const event of this.decoder.decode(bytes, { endsUnit: true, value })) take(event);
     }
 
     async flush(take) {
@@ -48,8 +48,8 @@ class There {
         this.decoder = decoder;
     }
 
-    async decode(bytes, take) {
-        (await this.decoder.decode(bytes, { endsUnit: true, transfer: true })).forEach(take);
+    async decode(bytes, value, take) {
+        (await this.decoder.decode(bytes, { endsUnit: true, value, transfer: true })).forEach(take);
     }
 
     async flush(take) {
@@ -65,40 +65,29 @@ class There {
     }
 }
 
-/** Which chunk each picture comes from. Pictures come in output order, and in no other way than this do they name their chunk: of the chunks
- * of the earliest coded video sequence that wait, the one with the least timestamp is shown first. */
+// as many marks as the library keeps
+const MOST_WAITING = 1024;
+
+/** The chunks whose pictures may come, by the values that the library gives back with them. */
 class Waiting {
-    #sequences = [[]];
-    #isLost = false;
-    #current;
+    #chunks = new Map();
+    #last = 0n;
 
-    /** A chunk that is decoded now. */
-    begin(chunk, { coded, idr }) {
-        this.#current = chunk;
-        if (idr) this.#sequences.push([]);
-        if (idr) this.#isLost = false;
-        if (coded && !this.#isLost) this.#sequences.at(-1).push(chunk);
+    /** A chunk that is decoded now: what its units are marked with. */
+    begin(chunk) {
+        this.#chunks.set(++this.#last, chunk);
+        if (this.#chunks.size > MOST_WAITING) this.#chunks.delete(this.#chunks.keys().next().value);
+        return this.#last;
     }
 
-    /** The pictures of a chunk are out: an IDR picture has let all before it go, or dropped them (no_output_of_prior_pics_flag). */
-    end({ idr }) {
-        if (idr) this.#sequences.splice(0, this.#sequences.length - 1);
+    /** The chunk of an event. */
+    of({ value }) {
+        return this.#chunks.get(value);
     }
 
-    /** The chunk that is decoded now is refused: no picture comes of it, nor of those up to the next IDR picture. */
-    refuse() {
-        this.#isLost = true;
-        for (const list of this.#sequences) if (list.at(-1) === this.#current) list.pop();
-        return this.#current;
-    }
-
-    /** The chunk of the next picture. */
-    next() {
-        const list = this.#sequences.find(it => it.length > 0);
-        if (list === undefined) return this.#current;
-        let least = 0;
-        for (let at = 1; at < list.length; at++) if (list[at].timestamp < list[least].timestamp) least = at;
-        return list.splice(least, 1)[0];
+    /** A picture is out. Once it is an IDR picture, those before it let no more go. */
+    shown({ value, info }) {
+        if (info.isIdr) for (const other of this.#chunks.keys()) if (other < value) this.#chunks.delete(other);
     }
 }
 
@@ -278,13 +267,11 @@ export class AvcVideoDecoder extends EventTarget {
         const bytes = this.#config.avcc ? this.#config.avcc.annexB(sample) : sample;
         // a stream that begins anew has no parameter sets: it is given those that came last
         const before = this.#isFresh ? this.#sets.bytes : new Uint8Array(0);
-        const told = this.#sets.note(bytes);
+        this.#sets.note(bytes);
         this.#isFresh = false;
         const given = before.length > 0 ? joined(before, bytes) : bytes;
         const round = this.#round;
-        this.#waiting.begin(chunk, told);
-        await this.#engine.decode(given, event => round === this.#round && this.#take(event));
-        if (round === this.#round) this.#waiting.end(told);
+        await this.#engine.decode(given, this.#waiting.begin(chunk), event => round === this.#round && this.#take(event));
     }
 
     async #drain() {
@@ -300,12 +287,13 @@ export class AvcVideoDecoder extends EventTarget {
 
     #take(event) {
         if (event.kind === 'refused') return this.#refuse(event);
-        const { timestamp, duration } = this.#waiting.next();
+        const { timestamp, duration } = this.#waiting.of(event);
+        this.#waiting.shown(event);
         this.#output(event.frame({ timestamp, duration, ...this.#shape(event) }));
     }
 
-    #refuse({ unit, fault: number, name }) {
-        const { timestamp } = this.#waiting.refuse();
+    #refuse(event) {
+        const { unit, fault: number, name } = event, timestamp = this.#waiting.of(event).timestamp;
         const why = fault('EncodingError', `unit ${unit} refused: ${number} ${name}`, { unit, fault: number, faultName: name, timestamp });
         if (this.#refused) return this.#refused(why);
         throw why;

@@ -10,13 +10,13 @@ function parcel(picture) {
     let buffer;
     while ((buffer = spare.pop()) && buffer.byteLength !== picture.size);
     const samples = picture.copy(new Uint8Array(buffer ?? new ArrayBuffer(picture.size)));
-    const { codedWidth, codedHeight, crop, width, height } = picture;
-    return { kind: 'picture', codedWidth, codedHeight, crop, width, height, samples };
+    const { codedWidth, codedHeight, crop, width, height, unit, value, info } = picture;
+    return { kind: 'picture', codedWidth, codedHeight, crop, width, height, unit, value, info, samples };
 }
 
 function taken(events) {
     const list = [];
-    for (const event of events) list.push(event.kind === 'picture' ? parcel(event) : { kind: event.kind, unit: event.unit, fault: event.fault, name: event.name });
+    for (const event of events) list.push(event.kind === 'picture' ? parcel(event) : { ...event });
     return list;
 }
 
@@ -26,8 +26,8 @@ const calls = {
         decoder = new Decoder(library, { early });
         return { version: library.version };
     },
-    decode({ bytes, endsUnit }) {
-        return { events: taken(decoder.decode(bytes, { endsUnit })) };
+    decode({ bytes, endsUnit, value }) {
+        return { events: taken(decoder.decode(bytes, { endsUnit, value })) };
     },
     flush() {
         decoder.flush();

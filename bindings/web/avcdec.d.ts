@@ -55,6 +55,23 @@ export interface FrameInit {
     displayHeight?: number;
 }
 
+/** What is known of a picture beside its samples: those of avcdec_info in include/avcdec.h. */
+export interface PictureInfo {
+    readonly picOrderCnt: number;
+    readonly isIdr: boolean;
+    readonly frameNum: number;
+    readonly sarWidth: number;
+    readonly sarHeight: number;
+    readonly videoFullRange: boolean;
+    readonly colourPrimaries: number;
+    readonly transferCharacteristics: number;
+    readonly matrixCoefficients: number;
+    readonly chromaSampleLocType: number;
+    readonly numUnitsInTick: number;
+    readonly timeScale: number;
+    readonly maxNumReorderFrames: number | undefined;
+}
+
 /** A picture, in output order. Its samples are there until the next event is taken, or the decoder is reset or closed; copies stay. */
 export class Picture {
     private constructor();
@@ -65,6 +82,11 @@ export class Picture {
     readonly codedWidth: number;
     readonly codedHeight: number;
     readonly crop: Crop;
+    /** The NAL unit of its first slice, counted from 0 since the decoder was made or reset. */
+    readonly unit: number;
+    /** The value that a mark gave to that unit; 0n where none was made before it. */
+    readonly value: bigint;
+    readonly info: PictureInfo;
     /** Bytes of the picture as I420. */
     readonly size: number;
     /** Luma, Cb, Cr as views of the module's memory, to be read and not written; any further call may end them. */
@@ -76,12 +98,14 @@ export class Picture {
 
 /** A refusal of a picture, or of a unit. */
 export class Refusal {
-    constructor(unit: number, fault: number, name: string | undefined);
+    constructor(unit: number, fault: number, name: string | undefined, value?: bigint);
     readonly kind: 'refused';
     /** NAL units are counted from 0 since the decoder was made or reset. */
     readonly unit: number;
     readonly fault: number;
     readonly name: string | undefined;
+    /** The value that a mark gave to the unit; 0n where none was made before it. */
+    readonly value: bigint;
 }
 
 export type DecodedEvent = Picture | Refusal;
@@ -96,11 +120,18 @@ export interface DecoderOptions {
     early?: boolean;
 }
 
+export interface DecodeOptions extends FeedOptions {
+    /** What the units that begin in the bytes are marked with. */
+    value?: bigint;
+}
+
 /** A decoder. Bytes are Annex B, cut anywhere. Each call throws OutOfMemory where no memory is found, and DecoderError otherwise. */
 export class Decoder {
     constructor(library: Library, options?: DecoderOptions);
     /** Gives bytes, one unit at a time, and yields what they bring. */
-    decode(bytes: Uint8Array, options?: FeedOptions): Generator<DecodedEvent, void, undefined>;
+    decode(bytes: Uint8Array, options?: DecodeOptions): Generator<DecodedEvent, void, undefined>;
+    /** Gives a value to the units that begin with the bytes given from here on; each event has that of its unit. */
+    mark(value: bigint): void;
     /** Gives bytes at once; events wait until they are taken. */
     feed(bytes: Uint8Array, options?: FeedOptions): void;
     /** Ends the stream: all pictures that are held can be taken. */

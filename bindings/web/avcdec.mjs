@@ -10,7 +10,7 @@
 
 const OK = 0, OUT_OF_MEMORY = 1, ENDED = 2;
 const NOTHING = 0, PICTURE = 1;
-const EVENT_SIZE = 40, DECODER_SIZE = 16, ROWS_SIZE = 32, USED_SIZE = 8, NAME_SIZE = 32, PIECE = 65536;
+const EVENT_SIZE = 48, DECODER_SIZE = 16, ROWS_SIZE = 32, INFO_SIZE = 64, USED_SIZE = 8, NAME_SIZE = 32, PIECE = 65536;
 const END_OF_ACCESS_UNIT = Uint8Array.of(0, 0, 1, 9, 0xf0, 0, 0, 1);
 
 /** A call that did not do its work. `status` is a number of avcdec_status. */
@@ -138,8 +138,8 @@ class Handle {
         this.library = library;
         this.blocks = [];
         try {
-            for (const size of [DECODER_SIZE, EVENT_SIZE, PIECE, ROWS_SIZE]) this.blocks.push(library.allocate(size));
-            [this.decoder, this.event, this.piece, this.rows] = this.blocks;
+            for (const size of [DECODER_SIZE, EVENT_SIZE, PIECE, ROWS_SIZE, INFO_SIZE]) this.blocks.push(library.allocate(size));
+            [this.decoder, this.event, this.piece, this.rows, this.info] = this.blocks;
             library.bytes(this.decoder, DECODER_SIZE).fill(0);
             check(library.calls.avcdec_open(this.self, early ? 1 : 0));
         } catch (thrown) {
@@ -162,6 +162,17 @@ class Handle {
         }
         check(library.calls.avcdec_feed_unit(this.self, at, size, library.address(rows)));
         return Number(library.view(rows, USED_SIZE).getBigUint64(0, true));
+    }
+
+    /** What is known of the picture that was taken last, beside its samples; its fields have the standard's names in JavaScript's letters. */
+    pictureInfo() {
+        check(this.library.calls.avcdec_picture_info(this.self, this.library.address(this.info)));
+        const view = this.library.view(this.info, INFO_SIZE), word = at => view.getUint32(at, true);
+        return {
+            picOrderCnt: view.getInt32(8, true), isIdr: word(12) !== 0, frameNum: word(16), sarWidth: word(20), sarHeight: word(24),
+            videoFullRange: word(28) !== 0, colourPrimaries: word(32), transferCharacteristics: word(36), matrixCoefficients: word(40),
+            chromaSampleLocType: word(44), numUnitsInTick: word(48), timeScale: word(52), maxNumReorderFrames: word(56) ? word(60) : undefined,
+        };
     }
 
     release() {
@@ -211,10 +222,11 @@ const forgotten = new FinalizationRegistry(handle => handle.close());
 export class Refusal {
     kind = 'refused';
 
-    constructor(unit, fault, name) {
+    constructor(unit, fault, name, value = 0n) {
         this.unit = unit;
         this.fault = fault;
         this.name = name;
+        this.value = value;
     }
 }
 
@@ -231,10 +243,13 @@ export class Picture {
     #taken;
     kind = 'picture';
 
-    constructor(decoder, handle, word) {
+    constructor(decoder, handle, word, { unit, value }) {
         this.#decoder = decoder;
         this.#handle = handle;
         this.#taken = handle.taken;
+        this.unit = unit;
+        this.value = value;
+        this.info = handle.pictureInfo();
         this.codedWidth = word(16);
         this.codedHeight = word(20);
         this.crop = { left: word(24), right: word(28), top: word(32), bottom: word(36) };
@@ -292,14 +307,15 @@ export class Decoder {
     }
 
     /** Gives bytes and yields the events that they bring, one unit at a time, so that few pictures wait. With `endsUnit` the bytes end with a
-     * whole access unit, as a packet or a container's sample does: its picture is decoded now (this counts one more unit). Take all
-     * events: bytes that were not come to are not given. */
-    *decode(bytes, { endsUnit = false } = {}) {
+     * whole access unit, as a packet or a container's sample does: its picture is decoded now (this counts one more unit). With `value` the units
+     * that begin in them are marked. Take all events: bytes that were not come to are not given. */
+    *decode(bytes, { endsUnit = false, value } = {}) {
         const handle = this.#open, { library } = handle, mine = {}, begun = handle.begun;
         const isOver = () => !handle.isOpen || handle.begun !== begun;
         if (this.#feeding) throw new DecoderError('an earlier decode is not at its end');
         this.#feeding = mine;
         try {
+            if (value !== undefined) this.mark(value);
             for (const given of endsUnit ? [bytes, END_OF_ACCESS_UNIT] : [bytes])
                 for (let from = 0; from < given.length; from += PIECE) {
                     const piece = given.subarray(from, from + PIECE);
@@ -313,6 +329,13 @@ export class Decoder {
         } finally {
             if (this.#feeding === mine) this.#feeding = undefined;
         }
+    }
+
+    /** Gives a value, from 0n to 2n ** 64n - 1n, to the units that begin with the bytes given from here on, up to the next mark. Each event has
+     * that of its unit, in whichever order pictures come: see avcdec_mark in include/avcdec.h. */
+    mark(value) {
+        if (BigInt.asUintN(64, value) !== value) throw new RangeError('avcdec: a value from 0n to 2n ** 64n - 1n is wanted');
+        check(this.#library.calls.avcdec_mark(this.#open.self, value));
     }
 
     /** Gives bytes, all at once. Their pictures wait, each in memory of its own, until they are taken: give at most 65,536 bytes or one access
@@ -360,8 +383,9 @@ export class Decoder {
         check(library.calls.avcdec_take(handle.self, library.address(handle.event)));
         const view = library.view(handle.event, EVENT_SIZE), word = at => view.getUint32(at, true);
         if (word(0) === NOTHING) return undefined;
-        if (word(0) === PICTURE) return new Picture(this, handle, word);
-        return new Refusal(Number(view.getBigUint64(8, true)), word(4), library.faultName(word(4)));
+        const unit = Number(view.getBigUint64(8, true)), value = view.getBigUint64(40, true);
+        if (word(0) === PICTURE) return new Picture(this, handle, word, { unit, value });
+        return new Refusal(unit, word(4), library.faultName(word(4)), value);
     }
 
     /** How many macroblocks were read since the last reset: a measure of the work done. */

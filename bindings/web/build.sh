@@ -27,9 +27,6 @@ kit=$(dirname "$(rt doc)")
 work=$(mktemp -d)
 trap 'rm -rf "$work"' EXIT
 
-# the library, proved, for this machine
-LIBRARY_ONLY=1 "$top/scripts/install.sh" "$work/usr"
-
 # a toolchain whose clang keeps the module
 mkdir -p "$work/tool/bin" "$work/kept"
 for name in clang ld.lld llvm-ar; do
@@ -43,27 +40,8 @@ done
 ln -s "$kit/toolchain/bin/rattle-x64" "$work/tool/bin/rattle-x64"
 ln -s "$kit/toolchain/lib" "$work/tool/lib"
 
-# the words that rt gives, but for the toolchain: the libraries that crates.txt names, of this repository or else of the toolchain
-crate=$top/crates/avc_c
-set --
-for name in std $(sed -n 's/^avc_c staticlib://p' "$top/crates.txt"); do
-    from=$top/crates/$name/out/rlib
-    [ -d "$top/crates/$name" ] || from=$kit/rlibs
-    set -- "$@" --extern "$name=$from/$name.rlib"
-done
-for folder in "$kit/rlibs" "$top"/crates/*/out/rlib; do
-    set -- "$@" -L "dependency=$folder"
-done
-(cd "$crate" && "$kit/bin/rattle" build --crate-name avc_c src/lib.rt "$@" --antt-project "$kit/rattle/logic/antt-project.json" \
-    --logic-built "$kit/logic_built" --links avc_c= --crate-type staticlib --target x86_64-unknown-linux-gnu --jobs 1 --backend llvm \
-    --incremental out/incremental --toolchain "$work/tool" -o "$work/libavc_c.a") >"$work/told" 2>&1 || {
-    cat "$work/told" >&2
-    exit 1
-}
-grep 'logic=proved' "$work/told" >&2 || {
-    echo 'build.sh: the library is not proved' >&2
-    exit 1
-}
+# the library, proved and built
+"$top/scripts/prove.py" --toolchain "$work/tool" --to "$work" avc_c >&2
 clang=$kit/toolchain/bin/clang
 "$clang" --target=x86_64-unknown-linux-gnu -x ir "$work/kept/module.bc" -S -emit-llvm -Xclang -disable-llvm-passes -O3 -o "$work/library.ll"
 "$here/make/link.sh" "$work/library.ll" "$out" "$kind" >&2

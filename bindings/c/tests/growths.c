@@ -46,7 +46,7 @@ static void add(given *to, const uint8_t *bytes, size_t count) {
         to->sum = to->sum * 1099511628211u + bytes[at] + 1;
 }
 
-/* To lend, to copy and to count take no memory and free none, and what is lent is what is copied. */
+/* To lend, to copy, to tell and to count take no memory and free none, and what is lent is what is copied. */
 static void compare_lent(avcdec_decoder *decoder, uint8_t *samples) {
     long before = growths, held = blocks;
     for (uint32_t plane = AVCDEC_LUMA; plane <= AVCDEC_CR; plane++) {
@@ -60,7 +60,8 @@ static void compare_lent(avcdec_decoder *decoder, uint8_t *samples) {
             CHECK(memcmp(lent.samples + y * lent.stride, samples + y * lent.columns, lent.columns) == 0);
         samples += size;
     }
-    CHECK(avcdec_turns(decoder) > 0 && growths == before && blocks == held);
+    avcdec_info info;
+    CHECK(avcdec_picture_info(decoder, &info) == AVCDEC_OK && avcdec_turns(decoder) > 0 && growths == before && blocks == held);
 }
 
 static avcdec_status take_events(avcdec_decoder *decoder, given *to) {
@@ -81,8 +82,10 @@ static avcdec_status take_events(avcdec_decoder *decoder, given *to) {
     return status;
 }
 
-/* Feeds at most 500 bytes, or a unit; *used says how many. */
+/* Feeds at most 500 bytes, or a unit, with a mark, which takes no memory; *used says how many. */
 static avcdec_status feed(avcdec_decoder *decoder, size_t at, bool by_unit, size_t *used) {
+    long before = growths, held = blocks;
+    CHECK(avcdec_mark(decoder, at) == AVCDEC_OK && growths == before && blocks == held);
     if (by_unit)
         return avcdec_feed_unit(decoder, stream + at, length - at, used);
     *used = length - at < 500 ? length - at : 500;
@@ -135,6 +138,7 @@ static given try_decoding(bool by_unit) {
         CHECK(status == AVCDEC_OUT_OF_MEMORY && growths == refuse);
         size_t used = 1;
         CHECK(avcdec_feed(&decoder, stream, 1) == AVCDEC_OUT_OF_MEMORY && avcdec_flush(&decoder) == AVCDEC_OUT_OF_MEMORY);
+        CHECK(avcdec_mark(&decoder, 1) == AVCDEC_OUT_OF_MEMORY);
         CHECK(avcdec_feed_unit(&decoder, stream, 1, &used) == AVCDEC_OUT_OF_MEMORY && used == 0);
         CHECK(avcdec_take(&decoder, &event) == AVCDEC_OUT_OF_MEMORY && event.kind == AVCDEC_NOTHING);
         begin_anew(&decoder, refuse % 2 == 1);

@@ -91,10 +91,10 @@ static void take_events(avcdec_decoder *decoder, FILE *out) {
         if (event.kind == AVCDEC_NOTHING)
             return;
         if (event.kind == AVCDEC_PICTURE) {
-            CHECK(event.fault == 0 && event.unit == 0);
+            CHECK(event.fault == 0 && event.value == 0);
             write_picture(decoder, &event, out);
         } else {
-            CHECK(event.kind == AVCDEC_REFUSED && event.width == 0 && event.crop_left == 0);
+            CHECK(event.kind == AVCDEC_REFUSED && event.width == 0 && event.crop_left == 0 && event.value == 0);
             tell_refusal(decoder, &event);
         }
     }

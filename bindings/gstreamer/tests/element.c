@@ -1,6 +1,6 @@
 /* Tests of the element avcdec as it is used: live with losses and damage, by seeking, over RTP, and by itself in a harness.
  *
- *     element caps | flush | end | live ENCODER DROPPED DAMAGED STREAM | seek FILE | rtp
+ *     element caps | times | flush | end | live ENCODER DROPPED DAMAGED STREAM | seek FILE | rtp
  *
  * Each prints a line 'N passed, M failed' at its end. live writes to STREAM the bytes that the element was given. */
 #include <gst/app/gstappsink.h>
@@ -305,6 +305,36 @@ static void caps(void) {
     gst_harness_teardown(h);
 }
 
+/* Each picture has what came with its own buffer, whatever the times say: the stream of vectors/cases/order_type_0_twice.264, in which the
+ * third of three pictures goes out second. */
+static void times(void) {
+    static const guint8 stream[] = {0, 0, 0, 1, 0x67, 0x42, 0xC0, 0x0A, 0xF4, 0xE2, 0, 0, 0, 1, 0x68, 0xCE, 0x38, 0x80, 0, 0, 1, 0x65, 0x88, 0x84,
+                                    0x09, 0x3C, 0, 0, 1, 0x41, 0x88, 0x8A, 0x24, 0xD6, 0, 0, 1, 0x01, 0x88, 0x91, 0x49, 0xE0};
+    static const gsize places[] = {0, 26, 34, sizeof stream};
+    static const guint wanted[] = {0, 2, 1};
+    for (int given = 0; given < 2; given++) {
+        GstHarness *h = gst_harness_new("avcdec");
+        gst_harness_set_src_caps_str(h, sink_caps);
+        for (guint k = 0; k < 3; k++) {
+            GstBuffer *buffer = buffer_of(stream + places[k], places[k + 1] - places[k], wanted[k]);
+            GST_BUFFER_DURATION(buffer) = (k + 1) * GST_MSECOND;
+            if (!given)
+                GST_BUFFER_PTS(buffer) = GST_CLOCK_TIME_NONE;
+            gst_harness_push(h, buffer);
+        }
+        gst_harness_push_event(h, gst_event_new_eos());
+        holds("three pictures", gst_harness_buffers_in_queue(h) == 3);
+        for (guint k = 0; k < 3 && gst_harness_buffers_in_queue(h) > 0; k++) {
+            GstBuffer *buffer = gst_harness_pull(h);
+            holds(given ? "the duration of its buffer" : "the duration of its buffer, without times",
+                  GST_BUFFER_DURATION(buffer) == (wanted[k] + 1) * GST_MSECOND);
+            holds("its time", !given || GST_BUFFER_PTS(buffer) == k * GST_SECOND / 25);
+            gst_buffer_unref(buffer);
+        }
+        gst_harness_teardown(h);
+    }
+}
+
 /* After a flush the parameter sets that came last still hold, and a picture that was held is forgotten. */
 static void flush(void) {
     GstHarness *h = gst_harness_new("avcdec");
@@ -352,6 +382,8 @@ int main(int count, char **words) {
     const char *what = count > 1 ? words[1] : "";
     if (strcmp(what, "caps") == 0)
         caps();
+    else if (strcmp(what, "times") == 0)
+        times();
     else if (strcmp(what, "flush") == 0)
         flush();
     else if (strcmp(what, "end") == 0)

@@ -22,17 +22,17 @@ import operator
 import os
 import sys
 from dataclasses import dataclass
-from typing import TYPE_CHECKING, Any, BinaryIO, Iterable, Iterator, Optional, Tuple, Union
+from typing import TYPE_CHECKING, Any, BinaryIO, Iterable, Iterator, NamedTuple, Optional, Tuple, Union
 
 if TYPE_CHECKING:
     import numpy
     import numpy.typing
 
 __all__ = [
-    "Closed", "Decoder", "Ended", "Error", "Event", "OutOfMemory", "Picture", "Plane", "Refusal", "decode", "version",
+    "Closed", "Decoder", "Ended", "Error", "Event", "OutOfMemory", "Picture", "PictureInfo", "Plane", "Refusal", "decode", "version",
 ]
 
-__version__ = "0.1.0"
+__version__ = "0.2.0"
 
 _PICTURE, _REFUSED = 1, 2
 _NAME_SIZE = 32
@@ -55,6 +55,27 @@ class _Event(ctypes.Structure):
         ("crop_right", ctypes.c_uint32),
         ("crop_top", ctypes.c_uint32),
         ("crop_bottom", ctypes.c_uint32),
+        ("value", ctypes.c_uint64),
+    ]
+
+
+class _Info(ctypes.Structure):
+    _fields_ = [
+        ("unit", ctypes.c_uint64),
+        ("pic_order_cnt", ctypes.c_int32),
+        ("is_idr", ctypes.c_uint32),
+        ("frame_num", ctypes.c_uint32),
+        ("sar_width", ctypes.c_uint32),
+        ("sar_height", ctypes.c_uint32),
+        ("video_full_range_flag", ctypes.c_uint32),
+        ("colour_primaries", ctypes.c_uint32),
+        ("transfer_characteristics", ctypes.c_uint32),
+        ("matrix_coefficients", ctypes.c_uint32),
+        ("chroma_sample_loc_type", ctypes.c_uint32),
+        ("num_units_in_tick", ctypes.c_uint32),
+        ("time_scale", ctypes.c_uint32),
+        ("has_max_num_reorder_frames", ctypes.c_uint32),
+        ("max_num_reorder_frames", ctypes.c_uint32),
     ]
 
 
@@ -86,9 +107,11 @@ def _load() -> ctypes.CDLL:
         ("avcdec_close", None, [handle]),
         ("avcdec_feed", status, [handle, ctypes.c_void_p, ctypes.c_size_t]),
         ("avcdec_feed_unit", status, [handle, ctypes.c_void_p, ctypes.c_size_t, ctypes.POINTER(ctypes.c_size_t)]),
+        ("avcdec_mark", status, [handle, ctypes.c_uint64]),
         ("avcdec_flush", status, [handle]),
         ("avcdec_reset", status, [handle]),
         ("avcdec_take", status, [handle, ctypes.POINTER(_Event)]),
+        ("avcdec_picture_info", status, [handle, ctypes.POINTER(_Info)]),
         ("avcdec_lend_plane", status, [handle, ctypes.c_uint32, ctypes.POINTER(_Rows)]),
         ("avcdec_copy_i420", status, [handle, ctypes.c_void_p, ctypes.c_size_t]),
         ("avcdec_turns", ctypes.c_uint64, [handle]),
@@ -140,6 +163,8 @@ class Refusal:
     """The NAL unit in which the fault stands, counted from 0 since the last reset."""
     fault: int
     """The number of the fault."""
+    value: int = 0
+    """The value that `Decoder.mark` gave to the unit; 0 where no mark was made before it."""
 
     @property
     def name(self) -> str:
@@ -219,6 +244,36 @@ class _LentPlane(Plane):
             raise BufferError("a view")
 
 
+class PictureInfo(NamedTuple):
+    """What is known of a picture beside its samples. The fields from `sar_width` on are the stream's VUI parameters (E.2.1), with the values
+    that the standard infers where they are not given."""
+
+    unit: int
+    """The NAL unit that brought its first slice, counted from 0 since the last reset."""
+    is_idr: bool
+    """Whether it is an IDR picture: nothing before it is needed to decode what follows it."""
+    frame_num: int
+    """frame_num of its slices (7.4.3)."""
+    pic_order_cnt: int
+    """PicOrderCnt (8.2.1): pictures from one IDR picture to the next go out in its order."""
+    sar_width: int
+    """The shape of a luma sample, of which only the ratio to `sar_height` matters. Both are 0 where it is not given."""
+    sar_height: int
+    video_full_range_flag: bool
+    """Whether samples take all values from 0 to 255."""
+    colour_primaries: int
+    """Table E-3; 2 where it is not given, as the two after it."""
+    transfer_characteristics: int
+    matrix_coefficients: int
+    chroma_sample_loc_type: int
+    """Figure E-1."""
+    num_units_in_tick: int
+    """There are time_scale / (2 * num_units_in_tick) frames in a second. Both are 0 where they are not given."""
+    time_scale: int
+    max_num_reorder_frames: Optional[int]
+    """Behind how many frames, at most, one goes out that came before them; nothing where it is not given."""
+
+
 @dataclass(frozen=True)
 class Picture:
     """What is shown of a decoded picture: the crop window, at 4:2:0 with samples of eight bits."""
@@ -231,6 +286,10 @@ class Picture:
     luma: Plane
     cb: Plane
     cr: Plane
+    info: PictureInfo
+    """What is known of it beside its samples."""
+    value: int
+    """The value that `Decoder.mark` gave to the unit of its first slice; 0 where no mark was made before it."""
 
     @property
     def planes(self) -> Tuple[Plane, Plane, Plane]:
@@ -245,7 +304,7 @@ class Picture:
 
     def copy(self) -> Picture:
         """The picture in memory of its own."""
-        return _of_i420(self.width, self.height, self.coded_size, self.i420)
+        return _of_i420(self.width, self.height, self.coded_size, self.i420, self.info, self.value)
 
     def __eq__(self, other: object) -> bool:
         if not isinstance(other, Picture):
@@ -259,12 +318,13 @@ class Picture:
         return f"Picture({self.width}x{self.height})"
 
 
-def _of_i420(width: int, height: int, coded_size: Tuple[int, int], i420: bytes) -> Picture:
+def _of_i420(width: int, height: int, coded_size: Tuple[int, int], i420: bytes, info: PictureInfo, value: int) -> Picture:
     start, planes = 0, []
     for columns, rows in [(width, height), (width // 2, height // 2), (width // 2, height // 2)]:
         planes.append(Plane(memoryview(i420)[start : start + columns * rows], columns, columns, rows))
         start += columns * rows
-    return Picture(width, height, coded_size, *planes)
+    luma, cb, cr = planes
+    return Picture(width, height, coded_size, luma, cb, cr, info, value)
 
 
 Event = Union[Picture, Refusal]
@@ -300,6 +360,14 @@ class Decoder:
         _tell(_library.avcdec_feed_unit(self._handle, _address(piece) + start, len(piece) - start, used))
         return used.value
 
+    def mark(self, value: int) -> None:
+        """Gives a value from 0 to 2**64 - 1, as the time of a packet, to all units that begin with the bytes fed from here on, up to the next
+        mark. Each event has that of its unit, in whichever order pictures come. The newest 1,024 marks are kept, of one unit the last; a reset
+        forgets them."""
+        if not 0 <= value < 1 << 64:
+            raise OverflowError(f"{value} is no value from 0 to 2**64 - 1")
+        _tell(_library.avcdec_mark(self._handle, value))
+
     def end_access_unit(self) -> None:
         """Says that the bytes so far end with a whole access unit: its picture is decoded now. It adds 1 to the count of units."""
         self.feed(b"\x00\x00\x01\x09\xf0\x00\x00\x01")
@@ -323,7 +391,7 @@ class Decoder:
         if event.kind == _PICTURE:
             return self._lend(event) if lend else self._copy(event)
         if event.kind == _REFUSED:
-            return Refusal(event.unit, event.fault)
+            return Refusal(event.unit, event.fault, event.value)
         return None
 
     def events(self, lend: bool = False) -> Iterator[Event]:
@@ -365,7 +433,7 @@ class Decoder:
         height = event.height - event.crop_top - event.crop_bottom
         i420 = _new_bytes(width * height + 2 * (width // 2) * (height // 2))
         _tell(_library.avcdec_copy_i420(self._handle, _address(i420), len(i420)))
-        return _of_i420(width, height, (event.width, event.height), i420)
+        return _of_i420(width, height, (event.width, event.height), i420, self._info(), event.value)
 
     def _lend(self, event: _Event) -> Picture:
         for plane in range(3):
@@ -373,7 +441,17 @@ class Decoder:
             _tell(_library.avcdec_lend_plane(self._handle, plane, rows))
             self._lent.append(_LentPlane(rows))
         luma, cb, cr = self._lent
-        return Picture(luma.width, luma.height, (event.width, event.height), luma, cb, cr)
+        return Picture(luma.width, luma.height, (event.width, event.height), luma, cb, cr, self._info(), event.value)
+
+    # of the picture that was taken last
+    def _info(self) -> PictureInfo:
+        told = _Info()
+        _tell(_library.avcdec_picture_info(self._handle, told))
+        return PictureInfo(
+            told.unit, bool(told.is_idr), told.frame_num, told.pic_order_cnt, told.sar_width, told.sar_height, bool(told.video_full_range_flag),
+            told.colour_primaries, told.transfer_characteristics, told.matrix_coefficients, told.chroma_sample_loc_type,
+            told.num_units_in_tick, told.time_scale, told.max_num_reorder_frames if told.has_max_num_reorder_frames else None,
+        )
 
     # the rows that are lent come back
     def _take_back(self) -> None:

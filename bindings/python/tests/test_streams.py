@@ -206,6 +206,47 @@ class Calls(unittest.TestCase):
                     told = "22 MissingMacroblocks" if count == 25 else "1 Truncated"
                     self.assertEqual([str(event) for event in events], [f"refused unit 2: {told}"])
 
+    def test_values_come_back_with_their_pictures(self) -> None:
+        # where libavcodec's parser cuts the stream, which packet each picture is of by its decoder, and what its trace of the headers tells:
+        # unit, nal_unit_type 5, frame_num, PicOrderCnt (type 0)
+        places = [0, 26, 34, 42, 50, 58]
+        wanted = [(0, 2, True, 0, 0), (34, 4, False, 2, 2), (26, 3, False, 1, 4), (42, 5, True, 0, 0), (58, 7, False, 2, 2), (50, 6, False, 1, 4)]
+        data = (VECTORS / "cases" / "order_type_0_twice.264").read_bytes()
+        for lend in [False, True]:
+            told = []
+            with avcdec.Decoder() as decoder:
+                for begin, end in zip(places, places[1:] + [len(data)]):
+                    decoder.mark(begin)
+                    for event in decoder.decode(data[begin:end], lend):
+                        told.append((event.value, *event.info[:4]))
+                decoder.flush()
+                told += [(event.value, *event.copy().info[:4]) for event in decoder.events(lend)]
+            self.assertEqual(told, wanted)
+
+    def test_a_refusal_has_the_value_of_its_unit(self) -> None:
+        with avcdec.Decoder() as decoder:
+            decoder.feed(bytes.fromhex("000001E7"))
+            decoder.mark(2**64 - 1)
+            decoder.feed(bytes.fromhex("42000001E842"))
+            decoder.flush()
+            self.assertEqual(list(decoder.events()), [avcdec.Refusal(0, 4), avcdec.Refusal(1, 4, 2**64 - 1)])
+            decoder.reset()
+            decoder.feed(bytes.fromhex("000001E742"))
+            decoder.flush()
+            self.assertEqual(decoder.take(), avcdec.Refusal(0, 4))
+            for value in [-1, 2**64]:
+                with self.assertRaises(OverflowError):
+                    decoder.mark(value)
+        with self.assertRaises(avcdec.Closed):
+            decoder.mark(0)
+
+    def test_the_info_has_what_the_stream_says_of_showing(self) -> None:
+        # by libavcodec's trace of the headers; aspect_ratio_idc is 14, which is 4 to 3 (Table E-1)
+        with_vui = next(avcdec.decode(VECTORS / "encoder" / "pub_x_hrd_vui.264"))
+        self.assertEqual(with_vui.info[4:], (4, 3, True, 1, 1, 1, 2, 1, 50, 0))
+        (without,) = avcdec.decode(GREY)
+        self.assertEqual(without.info, avcdec.PictureInfo(2, True, 0, 0, 0, 0, False, 2, 2, 2, 0, 0, 0, None))
+
     def test_a_picture_is_shown_short(self) -> None:
         (picture,) = avcdec.decode(GREY)
         self.assertEqual((repr(picture), repr(picture.cb)), ("Picture(16x16)", "Plane(8x8)"))
@@ -225,8 +266,8 @@ class Calls(unittest.TestCase):
             self.assertEqual(picture.copy().i420, picture.i420)
 
     def test_the_version_is_that_of_the_header(self) -> None:
-        self.assertEqual(avcdec.version(), (0, 1, 0))
-        self.assertEqual(avcdec.__version__, "0.1.0")
+        self.assertEqual(avcdec.version(), (0, 2, 0))
+        self.assertEqual(avcdec.__version__, "0.2.0")
 
 
 if __name__ == "__main__":

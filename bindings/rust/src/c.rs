@@ -40,6 +40,27 @@ pub struct Event {
     pub crop_right: u32,
     pub crop_top: u32,
     pub crop_bottom: u32,
+    pub value: u64,
+}
+
+#[repr(C)]
+#[derive(Clone, Copy, Default)]
+pub struct Info {
+    pub unit: u64,
+    pub pic_order_cnt: i32,
+    pub is_idr: u32,
+    pub frame_num: u32,
+    pub sar_width: u32,
+    pub sar_height: u32,
+    pub video_full_range_flag: u32,
+    pub colour_primaries: u32,
+    pub transfer_characteristics: u32,
+    pub matrix_coefficients: u32,
+    pub chroma_sample_loc_type: u32,
+    pub num_units_in_tick: u32,
+    pub time_scale: u32,
+    pub has_max_num_reorder_frames: u32,
+    pub max_num_reorder_frames: u32,
 }
 
 #[repr(C)]
@@ -73,9 +94,11 @@ extern "C" {
         length: usize,
         used: *mut usize,
     ) -> u32;
+    pub fn avcdec_mark(decoder: *mut Decoder, value: u64) -> u32;
     pub fn avcdec_flush(decoder: *mut Decoder) -> u32;
     pub fn avcdec_reset(decoder: *mut Decoder) -> u32;
     pub fn avcdec_take(decoder: *mut Decoder, event: *mut Event) -> u32;
+    pub fn avcdec_picture_info(decoder: *mut Decoder, info: *mut Info) -> u32;
     pub fn avcdec_lend_plane(decoder: *mut Decoder, plane: u32, rows: *mut Rows) -> u32;
     pub fn avcdec_turns(decoder: *mut Decoder) -> u64;
     pub fn avcdec_fault_name(fault: u32, name: *mut c_char, length: usize) -> u32;

@@ -86,6 +86,8 @@ pub struct Refusal {
     pub unit: u64,
     /// What is wrong.
     pub fault: Fault,
+    /// The value that [`Decoder::mark`](crate::Decoder::mark) gave to the unit; 0 where no mark was made before it.
+    pub value: u64,
 }
 
 impl fmt::Display for Refusal {

@@ -39,12 +39,15 @@
 mod c;
 mod events;
 mod fault;
+mod info;
 mod picture;
 
 pub use events::{decode, events, Events};
 pub use fault::{Fault, FaultName, Refusal};
+pub use info::PictureInfo;
 pub use picture::{OwnedPicture, Picture, Plane};
 
+use picture::About;
 use std::{fmt, io};
 
 /// When pictures go out.
@@ -96,6 +99,16 @@ pub enum Event<'a> {
 }
 
 impl Event<'_> {
+    /// The value that [`Decoder::mark`] gave to the unit of the picture's first slice, or of the refusal; 0 where no mark was made before
+    /// it.
+    #[must_use]
+    pub fn value(&self) -> u64 {
+        match self {
+            Event::Picture(picture) => picture.value(),
+            Event::Refused(refusal) => refusal.value,
+        }
+    }
+
     /// The event with its picture in memory of its own.
     pub fn keep(&self) -> Result<OwnedEvent, Error> {
         Ok(match self {
@@ -161,6 +174,24 @@ impl Decoder {
             c::avcdec_feed_unit(&mut self.handle, bytes.as_ptr(), bytes.len(), &mut used)
         })?;
         Ok(used)
+    }
+
+    /// Gives a value, as the time of a packet, to all units that begin with the bytes fed from here on, up to the next mark. Each event has
+    /// that of its unit, in whichever order pictures come. The newest 1,024 marks are kept, of one unit the last; a reset forgets them.
+    ///
+    /// ```
+    /// # let packets = [(40, [0u8, 0, 1, 0xE7, 0x42])];
+    /// # let mut decoder = avcdec::Decoder::new(avcdec::Output::Full)?;
+    /// for (time, packet) in packets {
+    ///     decoder.mark(time)?;
+    ///     decoder.decode(&packet, |event| Ok::<(), avcdec::Error>(println!("{}: {event:?}", event.value())))?;
+    /// }
+    /// # decoder.flush()?;
+    /// # assert_eq!(decoder.take()?.map(|event| event.value()), Some(40));
+    /// # Ok::<(), avcdec::Error>(())
+    /// ```
+    pub fn mark(&mut self, value: u64) -> Result<(), Error> {
+        told(unsafe { c::avcdec_mark(&mut self.handle, value) })
     }
 
     /// Feeds bytes unit by unit and hands on each event as it comes. After an error of `each` the bytes of the unit before are fed, and
@@ -289,6 +320,7 @@ impl Decoder {
             c::REFUSED => Some(Event::Refused(Refusal {
                 unit: event.unit,
                 fault: Fault::new(event.fault),
+                value: event.value,
             })),
             _ => None,
         }
@@ -296,8 +328,15 @@ impl Decoder {
 
     // the picture that was taken last
     fn picture(&mut self, event: &c::Event) -> Picture<'_> {
-        let coded = (event.width as usize, event.height as usize);
-        Picture::new(coded, [0, 1, 2].map(|plane| self.plane(plane)))
+        let mut info = c::Info::default();
+        let status = unsafe { c::avcdec_picture_info(&mut self.handle, &mut info) };
+        assert_eq!(status, c::OK, "a picture was taken");
+        let about = About {
+            coded: (event.width as usize, event.height as usize),
+            value: event.value,
+            info: PictureInfo::of(&info),
+        };
+        Picture::new(about, [0, 1, 2].map(|plane| self.plane(plane)))
     }
 
     // One plane of it. Its rows stay until the next take, reset or close, which the borrow of the decoder keeps away.

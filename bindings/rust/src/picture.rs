@@ -1,14 +1,32 @@
-use crate::{c, Error};
+use crate::{c, Error, PictureInfo};
 use std::fmt;
+use std::hash::{Hash, Hasher};
 use std::slice;
+
+// what is told of a picture beside its planes
+#[derive(Clone, Copy)]
+pub(crate) struct About {
+    pub(crate) coded: (usize, usize),
+    pub(crate) value: u64,
+    pub(crate) info: PictureInfo,
+}
+
+impl About {
+    // of an empty one
+    const NOTHING: About = About {
+        coded: (0, 0),
+        value: 0,
+        info: PictureInfo::NOTHING,
+    };
+}
 
 /// What is shown of a decoded picture: the crop window, at 4:2:0 with samples of eight bits.
 ///
 /// Its planes lie in the decoder's memory and are not copied: it borrows the decoder, until the next call. To keep it, copy it by
-/// [`Picture::keep`], [`Picture::to_i420`] or [`Picture::copy_i420`].
-#[derive(Clone, Copy, PartialEq, Eq)]
+/// [`Picture::keep`], [`Picture::to_i420`] or [`Picture::copy_i420`]. Two pictures are equal where their sizes are and they show the same.
+#[derive(Clone, Copy)]
 pub struct Picture<'a> {
-    coded: (usize, usize),
+    about: About,
     planes: [Plane<'a>; 3],
 }
 
@@ -72,6 +90,14 @@ impl fmt::Debug for Plane<'_> {
     }
 }
 
+impl PartialEq for Picture<'_> {
+    fn eq(&self, other: &Picture<'_>) -> bool {
+        (self.coded_size(), self.planes) == (other.coded_size(), other.planes)
+    }
+}
+
+impl Eq for Picture<'_> {}
+
 impl fmt::Debug for Picture<'_> {
     fn fmt(&self, f: &mut fmt::Formatter<'_>) -> fmt::Result {
         write!(f, "Picture({}x{})", self.width(), self.height())
@@ -79,8 +105,8 @@ impl fmt::Debug for Picture<'_> {
 }
 
 impl<'a> Picture<'a> {
-    pub(crate) fn new(coded: (usize, usize), planes: [Plane<'a>; 3]) -> Picture<'a> {
-        Picture { coded, planes }
+    pub(crate) fn new(about: About, planes: [Plane<'a>; 3]) -> Picture<'a> {
+        Picture { about, planes }
     }
 
     /// In luma samples.
@@ -98,7 +124,19 @@ impl<'a> Picture<'a> {
     /// Width and height as coded, without cropping, in luma samples.
     #[must_use]
     pub fn coded_size(&self) -> (usize, usize) {
-        self.coded
+        self.about.coded
+    }
+
+    /// What is known of it beside its samples.
+    #[must_use]
+    pub fn info(&self) -> PictureInfo {
+        self.about.info
+    }
+
+    /// The value that [`Decoder::mark`](crate::Decoder::mark) gave to the unit of its first slice; 0 where no mark was made before it.
+    #[must_use]
+    pub fn value(&self) -> u64 {
+        self.about.value
     }
 
     /// The luma samples.
@@ -163,9 +201,9 @@ impl<'a> Picture<'a> {
     /// The same in memory that is there already and is used again; it grows where the picture is larger. Where it can't, `to` is empty.
     pub fn keep_in(&self, to: &mut OwnedPicture) -> Result<(), Error> {
         to.i420.clear();
-        (to.coded, to.shown) = ((0, 0), (0, 0));
+        (to.about, to.shown) = (About::NOTHING, (0, 0));
         self.add_i420(&mut to.i420)?;
-        (to.coded, to.shown) = (self.coded, (self.width(), self.height()));
+        (to.about, to.shown) = (self.about, (self.width(), self.height()));
         Ok(())
     }
 
@@ -181,10 +219,9 @@ impl<'a> Picture<'a> {
 }
 
 /// What is shown of a decoded picture, in memory of its own: I420, without gaps. [`Picture::keep`], [`Picture::keep_in`] and
-/// [`Decoder::take_into`](crate::Decoder::take_into) fill it.
-#[derive(Default, PartialEq, Eq, Hash)]
+/// [`Decoder::take_into`](crate::Decoder::take_into) fill it. Two are equal as two [`Picture`]s are.
 pub struct OwnedPicture {
-    coded: (usize, usize),
+    about: About,
     shown: (usize, usize),
     i420: Vec<u8>,
 }
@@ -194,7 +231,7 @@ impl OwnedPicture {
     #[must_use]
     pub const fn new() -> OwnedPicture {
         OwnedPicture {
-            coded: (0, 0),
+            about: About::NOTHING,
             shown: (0, 0),
             i420: Vec::new(),
         }
@@ -212,7 +249,7 @@ impl OwnedPicture {
             width: width / parts,
             height: height / parts,
         };
-        Picture::new(self.coded, [plane(luma, 1), plane(cb, 2), plane(cr, 2)])
+        Picture::new(self.about, [plane(luma, 1), plane(cb, 2), plane(cr, 2)])
     }
 
     /// Luma, Cb and Cr, each row by row without gaps.
@@ -225,6 +262,26 @@ impl OwnedPicture {
     #[must_use]
     pub fn into_i420(self) -> Vec<u8> {
         self.i420
+    }
+}
+
+impl Default for OwnedPicture {
+    fn default() -> OwnedPicture {
+        OwnedPicture::new()
+    }
+}
+
+impl PartialEq for OwnedPicture {
+    fn eq(&self, other: &OwnedPicture) -> bool {
+        self.picture() == other.picture()
+    }
+}
+
+impl Eq for OwnedPicture {}
+
+impl Hash for OwnedPicture {
+    fn hash<H: Hasher>(&self, state: &mut H) {
+        (self.about.coded, self.shown, &self.i420).hash(state);
     }
 }
 

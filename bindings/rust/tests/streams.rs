@@ -171,7 +171,12 @@ fn a_refusal_names_unit_and_fault() {
         .feed(&[0, 0, 0, 1, 0x67, 0x64, 0x00, 0x0A, 0xDA, 0x71])
         .unwrap();
     decoder.flush().unwrap();
-    let Ok(Some(Event::Refused(Refusal { unit, fault }))) = decoder.take() else {
+    let Ok(Some(Event::Refused(Refusal {
+        unit,
+        fault,
+        value: 0,
+    }))) = decoder.take()
+    else {
         panic!("no refusal");
     };
     assert_eq!((unit, fault.number(), &*fault.name()), (0, 10, "Profile"));
@@ -246,4 +251,87 @@ fn a_fault_of_reading_is_the_last_event() {
     };
     assert_eq!(error.kind(), io::ErrorKind::ConnectionReset);
     assert!(events.next().is_none() && events.next().is_none());
+}
+
+// a packet: what is given to it as value, and its bytes
+fn packets<'a>(bytes: &'a [u8], places: &[usize]) -> Vec<(u64, &'a [u8])> {
+    let ends = places.iter().skip(1).copied().chain([bytes.len()]);
+    places
+        .iter()
+        .zip(ends)
+        .map(|(begin, end)| (*begin as u64, &bytes[*begin..end]))
+        .collect()
+}
+
+// The packets begin where libavcodec's parser cuts the stream, and its decoder says which packet each picture is of. The unit, frame_num
+// and PicOrderCnt (type 0) are those that its trace of the headers tells.
+#[test]
+fn values_come_back_with_their_pictures() {
+    // value, unit, nal_unit_type 5, frame_num, PicOrderCnt
+    let expected = [
+        (0, 2, true, 0, 0),
+        (34, 4, false, 2, 2),
+        (26, 3, false, 1, 4),
+        (42, 5, true, 0, 0),
+        (58, 7, false, 2, 2),
+        (50, 6, false, 1, 4),
+    ];
+    let bytes = fs::read(cases().join("order_type_0_twice.264")).unwrap();
+    let mut told = Vec::new();
+    let mut add = |event: Event<'_>| {
+        let Event::Picture(picture) = event else {
+            panic!("{event:?}");
+        };
+        let (value, info) = (picture.value(), picture.info());
+        let kept = picture.keep()?;
+        let kept = kept.picture();
+        assert_eq!(
+            (event.value(), kept.value(), kept.info()),
+            (value, value, info)
+        );
+        told.push((
+            value,
+            info.unit,
+            info.is_idr,
+            info.frame_num,
+            info.pic_order_cnt,
+        ));
+        Ok::<(), Error>(())
+    };
+    let mut decoder = Decoder::new(Output::Full).unwrap();
+    for (value, packet) in packets(&bytes, &[0, 26, 34, 42, 50, 58]) {
+        decoder.mark(value).unwrap();
+        decoder.decode(packet, &mut add).unwrap();
+    }
+    decoder.finish(&mut add).unwrap();
+    assert_eq!(told, expected);
+}
+
+#[test]
+fn a_refusal_has_the_value_of_its_unit() {
+    let mut decoder = Decoder::new(Output::Full).unwrap();
+    decoder.feed(&[0, 0, 1, 0xE7]).unwrap();
+    decoder.mark(u64::MAX).unwrap();
+    decoder.feed(&[0x42, 0, 0, 1, 0xE8, 0x42]).unwrap();
+    decoder.flush().unwrap();
+    let mut told = Vec::new();
+    decoder
+        .take_all(|event| {
+            told.push((event.value(), event.keep()?));
+            Ok::<(), Error>(())
+        })
+        .unwrap();
+    let refusal = |event: &OwnedEvent| match event {
+        OwnedEvent::Refused(refusal) => (refusal.unit, refusal.value),
+        OwnedEvent::Picture(picture) => panic!("{picture:?}"),
+    };
+    let told: Vec<(u64, (u64, u64))> = told
+        .iter()
+        .map(|(value, event)| (*value, refusal(event)))
+        .collect();
+    assert_eq!(told, [(0, (0, 0)), (u64::MAX, (1, u64::MAX))]);
+    decoder.reset();
+    decoder.feed(&[0, 0, 1, 0xE7, 0x42]).unwrap();
+    decoder.flush().unwrap();
+    assert_eq!(decoder.take().unwrap().map(|event| event.value()), Some(0));
 }

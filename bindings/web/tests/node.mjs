@@ -128,6 +128,41 @@ async function calls() {
         decoder.close();
         await throws(() => decoder.take(), DecoderError, 'closed');
     });
+    // where libavcodec's parser cuts the stream, and by its decoder and its trace of the headers of each picture: its packet, unit, nal_unit_type 5,
+    // frame_num and PicOrderCnt (type 0)
+    const reordered = bytesOf('cases/order_type_0_twice'), places = [0, 26, 34, 42, 50, 58];
+    const told = [[0, 2, true, 0, 0], [34, 4, false, 2, 2], [26, 3, false, 1, 4], [42, 5, true, 0, 0], [58, 7, false, 2, 2], [50, 6, false, 1, 4]];
+    const tell = ({ value, unit, info }) => [Number(value), unit, info.isIdr, info.frameNum, info.picOrderCnt];
+    await test('values come back with their pictures', () => {
+        const decoder = new Decoder(library), got = [];
+        places.forEach((from, at) => got.push(...[...decoder.decode(reordered.subarray(from, places[at + 1]), { value: BigInt(from) })].map(tell)));
+        decoder.flush();
+        got.push(...[...decoder.events()].map(tell));
+        same(got, told);
+        decoder.close();
+    });
+    await test('values come back from a worker', async () => {
+        const decoder = new WorkerDecoder({ module }), got = [];
+        for (const [at, from] of places.entries()) got.push(...(await decoder.decode(reordered.slice(from, places[at + 1]), { value: BigInt(from) })).map(tell));
+        got.push(...(await decoder.flush()).map(tell));
+        same(got, told);
+        decoder.close();
+    });
+    await test('a frame has the timestamp of its chunk, whatever it is', async () => {
+        const units = places.map((from, at) => ({ key: told.some(it => it[0] === from && it[2]), bytes: reordered.slice(from, places[at + 1]) }));
+        const { frames, errors } = await shaped(units, { library });
+        same([frames.map(it => it.timestamp), errors.length], [[0, 80, 40, 120, 200, 160], 0]);
+    });
+    await test('values are numbers of 64 bits, and a refusal has that of its unit', async () => {
+        const decoder = new Decoder(library);
+        await throws(() => decoder.mark(-1n), RangeError, 'value');
+        decoder.feed(Uint8Array.of(0, 0, 1, 0xe7));
+        decoder.mark(2n ** 64n - 1n);
+        decoder.feed(Uint8Array.of(0x42, 0, 0, 1, 0xe8, 0x42));
+        decoder.flush();
+        same([...decoder.events()].map(it => [it.unit, String(it.value)]), [[0, '0'], [1, String(2n ** 64n - 1n)]]);
+        decoder.close();
+    });
     await test('decoding goes on after a loop that was left', () => {
         const decoder = new Decoder(library);
         for (const event of decoder.decode(bytes)) { void event; break; }

@@ -1,5 +1,6 @@
 -- What C's calls of one decoder, from open to close, tell of the stream.
-use Rattle.std.specs.Prelude.{◌≡◌, ℕ, Bool, List, [], ◌∷◌, take, Option, Some, None, Result, Ok, Err}
+use Rattle.std.specs.Prelude.{◌≡◌, ◌⊎◌, ℕ, Bool, List, [], ◌∷◌, ◌++◌, take, Option, Some, None, Result, Ok, Err}
+use Rattle.avc_annexb.specs.Units.{units_begun}
 use Rattle.avc_types.specs.declared.picture.Picture.{Picture}
 use Rattle.avc_decoder.specs.Machine.{after_feed, after_flush, new_machine, Run}
 use Rattle.avc_decoder.specs.declared.calls.Call.{Call}
@@ -8,20 +9,23 @@ use Rattle.avc_decoder.specs.declared.calls.Reply.{Reply}
 use Rattle.avc_decoder.specs.declared.calls.Reply.TheVariants as replies
 use Rattle.avc_decoder.specs.declared.error.DecodeError.{DecodeError}
 use Rattle.avc_c.specs.EventRecords.{call_status, picture_of, record_of, take_status}
-use Rattle.avc_c.specs.Exports.{max_unit, opened, output_of, IsFed, IsOpened, IsReset, IsTaken, IsUnitFed}
+use Rattle.avc_c.specs.Exports.{max_unit, opened, output_of, IsFed, IsMarkMade, IsOpened, IsReset, IsTaken, IsUnitFed}
+use Rattle.avc_c.specs.Marks.{with_mark}
 use Rattle.avc_c.specs.Statuses.{number_of}
 use Rattle.avc_c.specs.declared.address.OpenDecoder.{OpenDecoder}
 use Rattle.avc_c.specs.declared.event.EventRecord.{EventRecord}
+use Rattle.avc_c.specs.declared.marks.Mark.{Mark}
 use Rattle.avc_c.specs.declared.status.Status.TheVariants as statuses
 
 -- A call that C makes of an open decoder. To look is to copy its picture or a plane, to be lent a
--- plane, or to count; to open it changes nothing either.
+-- plane or told of the picture, or to count; to open it changes nothing either.
 pub data CallOfC : Type 0 where
   feeds : List ℕ → CallOfC
   feeds_unit : List ℕ → CallOfC
   takes : CallOfC
   flushes : CallOfC
   resets : CallOfC
+  makes_mark : ℕ → CallOfC
   opens : Bool → CallOfC
   looks : CallOfC
 
@@ -38,6 +42,7 @@ IsAnswered old (feeds_unit bytes) before told new = IsUnitFed bytes old told.sta
 IsAnswered old takes before told new = IsTaken old before told.status told.event new
 IsAnswered old flushes before told new = IsFed after_flush old told.status new
 IsAnswered old resets before told new = IsReset old told.status new
+IsAnswered old (makes_mark value) before told new = IsMarkMade value old told.status new
 IsAnswered old (opens early) before told new = IsOpened early old told.status new
 IsAnswered old looks before told new = new ≡ old
 
@@ -54,28 +59,52 @@ abbrev pub given_by : Result (Unit {0}) DecodeError → (used : ℕ) → List �
 given_by (Ok done) used bytes = take used bytes
 given_by (Err error) used bytes = bytes
 
+-- what is there between two calls of C: the picture that was taken last, the marks, and the bytes
+-- given since the last reset
+pub record Between : Type 0 where
+  pub picture : Option Picture
+  pub marks : List Mark
+  pub bytes : List ℕ
+
+-- nothing yet, or behind a reset
+abbrev pub at_start : Between
+at_start = record { picture = None; marks = []; bytes = [] }
+
+-- with the bytes of a feed that was carried out
+abbrev pub after_bytes : Result (Unit {0}) DecodeError → List ℕ → Between → Between
+after_bytes (Ok done) piece b = record b { bytes = b.bytes ++ piece }
+after_bytes (Err error) piece b = b
+
+-- with a mark at the unit that will begin next
+abbrev pub marked_at_bytes : (value : ℕ) → Between → Between
+marked_at_bytes value b = record b { marks = with_mark (record { unit = units_begun max_unit b.bytes; value = value }) b.marks }
+
 -- What C was told of these calls is what the machine replies to its own calls `made`: each of C's
 -- feeds, take, flush and reset is one of the machine's, a feed of one unit being a feed of the
--- bytes that it took, and `picture` becomes that of the last take.
-abbrev pub Tells : (picture : Option Picture) → List CallOfC → List Told → (made : List Call) → List Reply → (last : Option Picture) → Type 0
-Tells picture [] [] [] [] last = last ≡ picture
-Tells picture (feeds piece ∷ calls) (told ∷ all_told) (Feed bytes ∷ made) (replies.Fed answer ∷ replies) last =
-    (bytes ≡ piece) × (told.status ≡ number_of (call_status answer)) × Tells picture calls all_told made replies last
-Tells picture (feeds_unit piece ∷ calls) (told ∷ all_told) (Feed bytes ∷ made) (replies.Fed answer ∷ replies) last =
-    (bytes ≡ given_by answer told.used piece) × (told.status ≡ number_of (call_status answer)) × Tells picture calls all_told made replies last
-Tells picture (takes ∷ calls) (told ∷ all_told) (Take ∷ made) (replies.Taken answer ∷ replies) last =
-    (told.status ≡ number_of (take_status answer)) × (told.event ≡ record_of answer) × Tells (picture_of answer) calls all_told made replies last
-Tells picture (flushes ∷ calls) (told ∷ all_told) (Flush ∷ made) (replies.Flushed answer ∷ replies) last =
-    (told.status ≡ number_of (call_status answer)) × Tells picture calls all_told made replies last
-Tells picture (resets ∷ calls) (told ∷ all_told) (Reset ∷ made) (replies.Reset ∷ replies) last =
-    (told.status ≡ number_of statuses.Ok) × Tells None calls all_told made replies last
-Tells picture (opens early ∷ calls) (told ∷ all_told) made replies last = (told.status ≡ number_of statuses.IsOpen) × Tells picture calls all_told made replies last
-Tells picture (looks ∷ calls) (told ∷ all_told) made replies last = Tells picture calls all_told made replies last
-Tells picture calls all_told made replies last = ⊥
+-- bytes that it took. An event has the value of the marks that were made, and the picture becomes
+-- that of the last take.
+abbrev pub Tells : Between → List CallOfC → List Told → (made : List Call) → List Reply → (last : OpenDecoder) → Type 0
+Tells b [] [] [] [] last = (last.picture ≡ b.picture) × (last.marks ≡ b.marks)
+Tells b (feeds piece ∷ calls) (told ∷ all_told) (Feed bytes ∷ made) (replies.Fed answer ∷ replies) last =
+    (bytes ≡ piece) × (told.status ≡ number_of (call_status answer)) × Tells (after_bytes answer bytes b) calls all_told made replies last
+Tells b (feeds_unit piece ∷ calls) (told ∷ all_told) (Feed bytes ∷ made) (replies.Fed answer ∷ replies) last =
+    (bytes ≡ given_by answer told.used piece) × (told.status ≡ number_of (call_status answer)) × Tells (after_bytes answer bytes b) calls all_told made replies last
+Tells b (takes ∷ calls) (told ∷ all_told) (Take ∷ made) (replies.Taken answer ∷ replies) last =
+    (told.status ≡ number_of (take_status answer)) × (told.event ≡ record_of b.marks answer) × Tells (record b { picture = picture_of answer }) calls all_told made replies last
+Tells b (flushes ∷ calls) (told ∷ all_told) (Flush ∷ made) (replies.Flushed answer ∷ replies) last =
+    (told.status ≡ number_of (call_status answer)) × Tells b calls all_told made replies last
+Tells b (resets ∷ calls) (told ∷ all_told) (Reset ∷ made) (replies.Reset ∷ replies) last =
+    (told.status ≡ number_of statuses.Ok) × Tells at_start calls all_told made replies last
+Tells b (makes_mark value ∷ calls) (told ∷ all_told) made replies last =
+    ((told.status ≡ number_of statuses.Ok) × Tells (marked_at_bytes value b) calls all_told made replies last)
+    ⊎ ((told.status ≡ number_of statuses.OutOfMemory) × Tells b calls all_told made replies last)
+Tells b (opens early ∷ calls) (told ∷ all_told) made replies last = (told.status ≡ number_of statuses.IsOpen) × Tells b calls all_told made replies last
+Tells b (looks ∷ calls) (told ∷ all_told) made replies last = Tells b calls all_told made replies last
+Tells b calls all_told made replies last = ⊥
 
--- However C calls a decoder from open to close, it is told the replies of a run of the machine, and
--- the picture that it may copy is that of the last take.
+-- However C calls a decoder from open to close, it is told the replies of a run of the machine, its
+-- events have the values of its marks, and the picture that it may copy is that of the last take.
 abbrev pub CallsAreARun : Type 0
 CallsAreARun =
     (early : Bool) (calls : List CallOfC) (told : List Told) (last : OpenDecoder) → AreAnswered (Some (opened early)) calls told (Some last) →
-    (made : List Call) × (answers : List Reply) × Run max_unit (new_machine (output_of early)) made answers last.decoder × Tells None calls told made answers last.picture
+    (made : List Call) × (answers : List Reply) × Run max_unit (new_machine (output_of early)) made answers last.decoder × Tells at_start calls told made answers last

@@ -1,5 +1,6 @@
 -- What each call of C does to a decoder, or to none.
-use Rattle.std.specs.Prelude.{◌≡◌, ◌⊎◌, ℕ, Bool, true, false, List, Option, Some, None, Result}
+use Rattle.std.specs.Prelude.{◌≡◌, ◌⊎◌, ℕ, Bool, true, false, List, [], Option, Some, None, Result}
+use Rattle.avc_annexb.specs.Units.{units_begun}
 use Rattle.avc_dpb.specs.declared.output.Output.{Output}
 use Rattle.avc_dpb.specs.declared.output.Output.TheVariants.{Early, Full}
 use Rattle.avc_decoder.specs.Machine.{Machine, new_machine, IsCount, IsFeedAnswer, IsFeedUnitAnswer, IsTakeAnswer}
@@ -7,11 +8,15 @@ use Rattle.avc_decoder.specs.declared.error.DecodeError.{DecodeError}
 use Rattle.avc_decoder.specs.SeenEvents.{Event}
 use Rattle.avc_c.specs.Copies.{IsI420Copied, IsPlaneCopied}
 use Rattle.avc_c.specs.EventRecords.{call_status, picture_of, record_of, take_status, unit_status, used_by}
+use Rattle.avc_c.specs.InfoRecords.{IsInfoTold}
 use Rattle.avc_c.specs.Loans.{IsPlaneLent}
+use Rattle.avc_c.specs.Marks.{with_mark}
 use Rattle.avc_c.specs.Statuses.{number_of}
 use Rattle.avc_c.specs.declared.address.OpenDecoder.{OpenDecoder}
 use Rattle.avc_c.specs.declared.event.EventRecord.{EventRecord}
+use Rattle.avc_c.specs.declared.info.InfoRecord.{InfoRecord}
 use Rattle.avc_c.specs.declared.rows.LentRows.{LentRows}
+use Rattle.avc_c.specs.declared.status.Status.{Status}
 use Rattle.avc_c.specs.declared.status.Status.TheVariants.{Ok, OutOfMemory, Closed, IsOpen}
 
 -- the most bytes of a unit
@@ -23,41 +28,62 @@ abbrev pub output_of : (early : Bool) → Output
 output_of true = Early
 output_of false = Full
 
--- a decoder as it is opened: of no bytes, and with no picture
+-- a decoder as it is opened: of no bytes, with no picture and no mark
 abbrev pub opened : (early : Bool) → OpenDecoder
-opened early = record { decoder = new_machine (output_of early); picture = None }
+opened early = record { decoder = new_machine (output_of early); picture = None; marks = [] }
 
 -- a decoder is opened, or there was no memory; an open one stays as it is
 abbrev pub IsOpened : (early : Bool) → Option OpenDecoder → (status : ℕ) → Option OpenDecoder → Type 0
 IsOpened early (Some d) status new = (status ≡ number_of IsOpen) × (new ≡ Some d)
 IsOpened early None status new = ((status ≡ number_of Ok) × (new ≡ Some (opened early))) ⊎ ((status ≡ number_of OutOfMemory) × (new ≡ None))
 
--- bytes are fed, or the end is told; the picture that was taken stays
+-- bytes are fed, or the end is told; the picture that was taken stays, and the marks
 abbrev pub IsFed : (after : Machine → Machine) → Option OpenDecoder → (status : ℕ) → Option OpenDecoder → Type 0
 IsFed after None status new = (status ≡ number_of Closed) × (new ≡ None)
 IsFed after (Some d) status new =
     (answer : Result (Unit {0}) DecodeError) × (m : Machine) × IsFeedAnswer d.decoder (after d.decoder) answer m × (status ≡ number_of (call_status answer))
-    × (new ≡ Some (record { decoder = m; picture = d.picture }))
+    × (new ≡ Some (record d { decoder = m }))
 
 -- bytes are fed up to where a unit has ended, and `used` says how many; the picture that was taken
--- stays
+-- stays, and the marks
 abbrev pub IsUnitFed : (bytes : List ℕ) → Option OpenDecoder → (status used : ℕ) → Option OpenDecoder → Type 0
 IsUnitFed bytes None status used new = (status ≡ number_of Closed) × (used ≡ 0) × (new ≡ None)
 IsUnitFed bytes (Some d) status used new =
     (answer : Result ℕ DecodeError) × (m : Machine) × IsFeedUnitAnswer max_unit d.decoder bytes answer m × (status ≡ number_of (unit_status answer))
-    × (used ≡ used_by answer) × (new ≡ Some (record { decoder = m; picture = d.picture }))
+    × (used ≡ used_by answer) × (new ≡ Some (record d { decoder = m }))
 
--- a new stream begins, with no picture
+-- a new stream begins, with no picture and no mark
 abbrev pub IsReset : Option OpenDecoder → (status : ℕ) → Option OpenDecoder → Type 0
 IsReset None status new = (status ≡ number_of Closed) × (new ≡ None)
-IsReset (Some d) status new = (status ≡ number_of Ok) × (new ≡ Some (record { decoder = new_machine (d.decoder).output; picture = None }))
+IsReset (Some d) status new = (status ≡ number_of Ok) × (new ≡ Some (record { decoder = new_machine (d.decoder).output; picture = None; marks = [] }))
 
--- the next event is told, and its picture kept
+-- the next event is told, with the value of its unit, and its picture kept
 abbrev pub IsTaken : Option OpenDecoder → (before : EventRecord) → (status : ℕ) → (event : EventRecord) → Option OpenDecoder → Type 0
 IsTaken None before status event new = (status ≡ number_of Closed) × (event ≡ before) × (new ≡ None)
 IsTaken (Some d) before status event new =
     (answer : Result (Option Event) DecodeError) × (m : Machine) × IsTakeAnswer max_unit d.decoder answer m × (status ≡ number_of (take_status answer))
-    × (event ≡ record_of answer) × (new ≡ Some (record { decoder = m; picture = picture_of answer }))
+    × (event ≡ record_of d.marks answer) × (new ≡ Some (record d { decoder = m; picture = picture_of answer }))
+
+-- the status of a mark: after want of memory none is made
+abbrev pub mark_status : OpenDecoder → Status
+mark_status d = elim (d.decoder).failed [ true ↦ OutOfMemory | false ↦ Ok ]
+
+-- with a mark at the unit that will begin next
+abbrev pub after_mark : (value : ℕ) → OpenDecoder → OpenDecoder
+after_mark value d = elim (d.decoder).failed [
+  | true ↦ d
+  | false ↦ record d { marks = with_mark (record { unit = units_begun max_unit (d.decoder).bytes; value = value }) d.marks }
+]
+
+-- a value is given to the units that begin from here on
+abbrev pub IsMarkMade : (value : ℕ) → Option OpenDecoder → (status : ℕ) → Option OpenDecoder → Type 0
+IsMarkMade value None status new = (status ≡ number_of Closed) × (new ≡ None)
+IsMarkMade value (Some d) status new = (status ≡ number_of (mark_status d)) × (new ≡ Some (after_mark value d))
+
+-- what is known of the picture that was taken last is told
+abbrev pub IsInfoToldOut : Option OpenDecoder → (old : InfoRecord) → (status : ℕ) → (new : InfoRecord) → Type 0
+IsInfoToldOut None old status new = (status ≡ number_of Closed) × (new ≡ old)
+IsInfoToldOut (Some d) old status new = IsInfoTold d.picture old status new
 
 -- the picture that was taken last is copied
 abbrev pub IsI420CopiedOut : Option OpenDecoder → (old : List ℕ) → (status : ℕ) → (new : List ℕ) → Type 0

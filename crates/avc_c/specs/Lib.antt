@@ -3,7 +3,9 @@ pub mod Copies
 pub mod EventRecords
 pub mod Exports
 pub mod FaultNames
+pub mod InfoRecords
 pub mod Loans
+pub mod Marks
 pub mod OpenDecoders
 pub mod Owned
 pub mod Statuses

@@ -3,19 +3,39 @@
 ghost use Rattle.std.specs.Prelude.{◌≡◌, Option, Some, None};
 ghost use Rattle.avc_c.specs.declared.address.OpenDecoder.{OpenDecoder};
 ghost use Rattle.avc_c.specs.OpenDecoders.{IsOpen};
+ghost use Rattle.avc_c.specs.Exports.{after_mark, mark_status};
 
+use crate::marks::{Mark, Marks};
 use crate::picture::LastPicture;
 use crate::raw_box::RawBox;
+use crate::status::Status;
 use avc_decoder::Decoder;
 use avc_plane::SharedPicture;
 use std::alloc::Global;
 use std::marker::Model;
 
-/// A decoder and the picture that was taken last.
+/// A decoder, the picture that was taken last, and the marks of its stream.
 #[derive(Drop)]
 pub struct OpenDecoder {
     pub decoder: Decoder<134_217_728, SharedPicture>,
     pub picture: LastPicture,
+    pub marks: Marks,
+}
+
+impl OpenDecoder {
+    /// Gives a value to the units that begin from here on.
+    pub(crate) fn mark(&mut self, value: u64) -> Status
+        ensures status { result ≡ mark_status self.old }
+        ensures marked { self.new ≡ after_mark value self.old }
+    {
+        match self.decoder.units_begun() {
+            Ok(unit) => {
+                self.marks.add(Mark { unit, value });
+                Status::Ok
+            }
+            Err(refusal) => Status::from(refusal),
+        }
+    }
 }
 
 /// Where an open decoder lies, of which it is the owner; or nothing. It is not `Drop`, so that no

@@ -1,15 +1,18 @@
 //! The functions that libavcdec exports.
 
-ghost use Rattle.std.specs.Prelude.{◌≡◌, Some, None, IfOk};
+ghost use Rattle.std.specs.Prelude.{◌≡◌, [], Some, None, IfOk};
 ghost use Rattle.avc_decoder.specs.Machine.{after_feed, after_flush, new_machine};
 ghost use Rattle.avc_c.specs.Exports.{IsOpened, IsFed, IsUnitFed, IsReset, IsTaken};
 ghost use Rattle.avc_c.specs.Exports.{IsI420CopiedOut, IsPlaneCopiedOut, IsPlaneLentOut, IsCounted};
+ghost use Rattle.avc_c.specs.Exports.{IsInfoToldOut, IsMarkMade};
 ghost use Rattle.avc_c.specs.FaultNames.{IsNamed};
 
 use crate::address::OpenDecoder;
 use crate::event::EventRecord;
 use crate::fault::copy_name;
 use crate::handle::DecoderHandle;
+use crate::info::InfoRecord;
+use crate::marks::Marks;
 use crate::picture::LastPicture;
 use crate::rows::LentRows;
 use crate::status::Status;
@@ -20,11 +23,12 @@ use std::alloc::Global;
 
 /// A decoder of no bytes, and with no picture.
 fn new_decoder(alloc: Global, output: Output) -> Result<Box<OpenDecoder>, OutOfMemory>
-    ensures { IfOk result (λ open_decoder. open_decoder.value ≡ record { decoder = new_machine output; picture = None }) }
+    ensures { IfOk result (λ open_decoder. open_decoder.value ≡ record { decoder = new_machine output; picture = None; marks = [] }) }
 {
     let open = OpenDecoder {
         decoder: Decoder::sharing(alloc, output),
         picture: LastPicture::none(),
+        marks: Marks::none(),
     };
     let open = Box::new(alloc, open)?;
     Ok(open)
@@ -108,6 +112,21 @@ pub extern "C" fn avcdec_flush(alloc: Global, decoder: &mut DecoderHandle) -> u3
     Status::of_call(answer).number()
 }
 
+/// Gives a value to the units that begin with the bytes from here on. Each event has that of its
+/// unit.
+#[unsafe(no_mangle)]
+pub extern "C" fn avcdec_mark(alloc: Global, decoder: &mut DecoderHandle, value: u64) -> u32
+    ensures { IsMarkMade value decoder.old.address.decoder result decoder.new.address.decoder }
+{
+    if !decoder.is_open {
+        return Status::Closed.number();
+    }
+    let mut open = decoder.remove(alloc);
+    let status = open.mark(value);
+    decoder.insert(open);
+    status.number()
+}
+
 /// Begins a new stream.
 #[unsafe(no_mangle)]
 pub extern "C" fn avcdec_reset(alloc: Global, decoder: &mut DecoderHandle) -> u32
@@ -119,6 +138,7 @@ pub extern "C" fn avcdec_reset(alloc: Global, decoder: &mut DecoderHandle) -> u3
     let mut open = decoder.remove(alloc);
     open.decoder.reset();
     open.picture = LastPicture::none();
+    open.marks = Marks::none();
     decoder.insert(open);
     Status::Ok.number()
 }
@@ -139,8 +159,27 @@ pub extern "C" fn avcdec_take(
     let mut open = decoder.remove(alloc);
     let answer = open.decoder.take();
     let status = Status::of_take(&answer);
-    *event = EventRecord::of(&answer);
+    *event = EventRecord::of(&answer, &open.marks);
     open.picture = LastPicture::of(answer);
+    decoder.insert(open);
+    status.number()
+}
+
+/// Tells what is known of the picture that was taken last, beside its samples.
+#[unsafe(no_mangle)]
+pub extern "C" fn avcdec_picture_info(
+    alloc: Global,
+    decoder: &mut DecoderHandle,
+    info: &mut InfoRecord,
+) -> u32
+    ensures decoder { decoder.new.address.decoder ≡ decoder.old.address.decoder }
+    ensures told { IsInfoToldOut decoder.old.address.decoder info.old result info.new }
+{
+    if !decoder.is_open {
+        return Status::Closed.number();
+    }
+    let open = decoder.remove(alloc);
+    let status = open.picture.tell_info(info);
     decoder.insert(open);
     status.number()
 }
@@ -233,7 +272,7 @@ pub extern "C" fn avcdec_fault_name(fault: u32, name: &mut [u8]) -> u32
 /// The version of the library: 65536 times its first number, 256 times its second, and its third.
 #[unsafe(no_mangle)]
 pub extern "C" fn avcdec_version() -> u32
-    ensures { result ≡ 0x00_01_00 }
+    ensures { result ≡ 0x00_02_00 }
 {
-    0x00_01_00
+    0x00_02_00
 }

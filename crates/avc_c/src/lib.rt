@@ -6,7 +6,9 @@ mod event;
 mod exports;
 mod fault;
 mod handle;
+mod info;
 pub mod laws;
+mod marks;
 mod picture;
 mod raw_box;
 mod rows;
@@ -16,10 +18,12 @@ pub use address::{DecoderAddress, OpenDecoder};
 pub use event::EventRecord;
 pub use exports::{
     avcdec_close, avcdec_copy_i420, avcdec_copy_plane, avcdec_fault_name, avcdec_feed,
-    avcdec_feed_unit, avcdec_flush, avcdec_lend_plane, avcdec_open, avcdec_reset, avcdec_take,
-    avcdec_turns, avcdec_version,
+    avcdec_feed_unit, avcdec_flush, avcdec_lend_plane, avcdec_mark, avcdec_open,
+    avcdec_picture_info, avcdec_reset, avcdec_take, avcdec_turns, avcdec_version,
 };
 pub use handle::DecoderHandle;
+pub use info::InfoRecord;
+pub use marks::{Mark, Marks};
 pub use picture::LastPicture;
 pub use rows::LentRows;
 pub use status::Status;

@@ -5,12 +5,14 @@ ghost use Rattle.avc_types.specs.Whole.{IsWhole};
 ghost use Rattle.avc_c.specs.EventRecords.{picture_of};
 ghost use Rattle.avc_c.specs.Statuses.{number_of};
 ghost use Rattle.avc_c.specs.Copies.{IsI420Copied, IsPlaneCopied, component_of};
+ghost use Rattle.avc_c.specs.InfoRecords.{IsInfoTold};
 ghost use Rattle.avc_c.specs.Loans.{IsPlaneLent};
 
+use crate::info::InfoRecord;
 use crate::rows::LentRows;
 use crate::status::Status;
 use avc_decoder::{DecodeError, Event};
-use avc_plane::SharedPicture;
+use avc_plane::{PictureRows, SharedPicture};
 use avc_yuv::{Component, copy_i420, copy_plane, i420_len, plane_columns, plane_len};
 use std::marker::Model;
 
@@ -53,6 +55,17 @@ impl LastPicture {
             Ok(None) => LastPicture::none(),
             Err(_) => LastPicture::none(),
         }
+    }
+
+    /// Tells what is known of it beside its samples.
+    pub(crate) fn tell_info(&self, info: &mut InfoRecord) -> Status
+        ensures { IsInfoTold self.now info.old (number_of result) info.new }
+    {
+        let Some(picture) = &self.picture else {
+            return Status::NoPicture;
+        };
+        *info = InfoRecord::of(&picture.info());
+        Status::Ok
     }
 
     /// Copies what is shown, as I420.
