@@ -28,9 +28,11 @@ import sys
 
 
 class Pictures:
-    """Pictures of one size as I420: width and height as coded, and what the crop leaves out, in luma samples."""
+    """Pictures of one size as I420: width and height as coded, and what the crop leaves out, in luma samples. Each is a reference picture of
+    one slice, in decoding order, and the first slice is in this unit: so count ffmpeg's trace_headers."""
 
-    def __init__(self, name, width, height, left, right, top, bottom):
+    def __init__(self, name, width, height, left, right, top, bottom, unit, max_frame_num):
+        self.unit, self.max_frame_num = unit, max_frame_num
         self.columns, self.rows = width // 16, height // 16
         self.left, self.top = left, top
         self.width, self.height = width - left - right, height - top - bottom
@@ -80,6 +82,8 @@ class Pictures:
         mb_x, mb_y = self.macroblock(component, column, row)
         letters = {frozenset(): ".", frozenset("L"): "L", frozenset("C"): "C", frozenset("LC"): "B"}
         lines = [
+            f"picture {picture} has frame_num {picture % self.max_frame_num}, PicOrderCnt {2 * picture} and its first slice in unit"
+            f" {picture + self.unit}",
             f"picture {picture}: {count} of {self.size} samples differ, in {len(marks)} of {self.columns * self.rows} macroblocks",
             f"first: macroblock {mb_y * self.columns + mb_x} (column {mb_x}, row {mb_y}), {component} sample at column {column}, row {row}"
             f" (coded column {x}, row {y}): {our}, the other's {their}",
@@ -91,10 +95,10 @@ class Pictures:
 
 def main():
     name, other, wanted = sys.argv[1:4]
-    pictures = Pictures(name, *(int(word) for word in sys.argv[4:10]))
+    pictures = Pictures(name, *(int(word) for word in sys.argv[4:12]))
     size, all_bytes = pictures.size, pictures.bytes
     count = len(all_bytes) // size
-    kind, words = sys.argv[10], sys.argv[11:]
+    kind, words = sys.argv[12], sys.argv[13:]
     ours = bytes(all_bytes)
     text = ""
     if kind == "change":  # PICTURE COMPONENT COLUMN ROW BY: one sample
@@ -137,7 +141,7 @@ def main():
 main()
 END
 
-# NAME WIDTH HEIGHT LEFT RIGHT TOP BOTTOM: the stream that the rows below are about, and its pictures, by their md5
+# NAME WIDTH HEIGHT LEFT RIGHT TOP BOTTOM UNIT MAXFRAMENUM: the stream that the rows below are about, and its pictures, by their md5
 about() {
     stream=$here/encoder/$1.264
     shift
@@ -167,7 +171,7 @@ row() {
 }
 
 # ten pictures of 150x90 of 160x96
-about pub_o_crop_150x90 160 96 0 10 0 6
+about pub_o_crop_150x90 160 96 0 10 0 6 2 32768
 row 'the same' 0 -- more 0
 row 'a luma sample of the first macroblock' 1 -- change 0 luma 0 0 1
 row 'a luma sample' 1 -- change 3 luma 77 41 5
@@ -260,7 +264,7 @@ for words in compare 'compare -' 'compare - -' "compare --max-diff 256 $work/our
 done
 
 # 168x130 of 176x144, cropped on all sides: the last sample of a macroblock, and the first of the next
-about pub_f_cropleft 176 144 6 2 10 4
+about pub_f_cropleft 176 144 6 2 10 4 3 16
 row 'the last luma sample of the first macroblock' 1 -- change 1 luma 9 5 3
 row 'the first of another' 1 -- change 1 luma 10 6 3
 row 'the last Cb sample of the first macroblock' 1 -- change 4 Cb 4 2 1

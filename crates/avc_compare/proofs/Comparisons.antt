@@ -121,7 +121,7 @@ found grow most count output unread l l' other o o' m m' a a' r r' event verdict
           false,
           at.3,
           record { consumed = all_theirs; whole = λ over. cc },
-          (p, compared.0, record { front = i.done; rest = at.2; before = i.theirs; parts = at.4; bytes = refl; alike = i.alike }, ends.0, ends.1, ends.2, ends.3),
+          (p, compared.0, record { front = i.done; rest = at.2; before = i.theirs; parts = at.4; bytes = refl; alike = i.alike }, ends.0, ends.1, ends.2),
         )
     by (Picture p) Same next' ends = absurd ends
     by (Picture p) (More n) next' ends = absurd ends
@@ -291,17 +291,17 @@ i420_count p =
     ∙ ap (λ n. shown_samples (shape_of p) Luma + shown_samples (shape_of p) Cb + n) cr_is
 
 -- the samples that were compared are the picture's and those that were read
-pub judged : (most number count : ℕ) (p : Decoded) (old new : Option (List ℕ)) (shape : Shape) (ours theirs bytes : List ℕ) (found : Option Verdict) → shape ≡ shape_of p → ours ≡ i420 p → theirs ≡ bytes
-    → Consumes old new (take count bytes) → length bytes ≤ count → length bytes ≡ length (i420 p) → FindsIn most number shape ours theirs found → ComparesPicture most number p old new (Ok found)
-judged most number count p old new shape ours theirs bytes found shaped whole read consumed all long finds =
-    by found (subst (λ s. FindsIn most number s (i420 p) bytes found) shaped (subst (λ o. FindsIn most number shape o bytes found) whole (subst (λ t. FindsIn most number shape ours t found) read finds)))
+pub judged : (most number count : ℕ) (p : Decoded) (old new : Option (List ℕ)) (picture : ComparedPicture) (ours theirs bytes : List ℕ) (found : Option Verdict) → picture ≡ compared_picture number p → ours ≡ i420 p → theirs ≡ bytes
+    → Consumes old new (take count bytes) → length bytes ≤ count → length bytes ≡ length (i420 p) → FindsIn most picture ours theirs found → ComparesPicture most number p old new (Ok found)
+judged most number count p old new picture ours theirs bytes found compared whole read consumed all long finds =
+    by found (subst (λ s. FindsIn most s (i420 p) bytes found) compared (subst (λ o. FindsIn most picture o bytes found) whole (subst (λ t. FindsIn most picture ours t found) read finds)))
   where
     here : Consumes old new bytes
     here = subst (Consumes old new) (take_all count bytes all) consumed
 
-    by : (f : Option Verdict) → FindsIn most number (shape_of p) (i420 p) bytes f → ComparesPicture most number p old new (Ok f)
+    by : (f : Option Verdict) → FindsIn most (compared_picture number p) (i420 p) bytes f → ComparesPicture most number p old new (Ok f)
     by None same = (bytes, here, long, same)
-    by (Some (Differs d)) is = (bytes, here, (long, is.0, is.1, is.2))
+    by (Some (Differs d)) is = (bytes, here, (long, is.0, is.1))
     by (Some Same) is = absurd is
     by (Some (Fewer n)) is = absurd is
     by (Some (More n)) is = absurd is

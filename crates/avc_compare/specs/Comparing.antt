@@ -13,6 +13,7 @@ use Rattle.avc_console.specs.Reading.{max_unit, HasRead}
 use Rattle.avc_console.specs.declared.fault.RunFault.TheVariants.{Read, Endless, Memory}
 use Rattle.avc_console.specs.declared.report.Report.{Report}
 use Rattle.avc_events.specs.EventReports.{report_of, shown}
+use Rattle.avc_compare.specs.declared.verdict.ComparedPicture.{ComparedPicture}
 use Rattle.avc_compare.specs.declared.verdict.CompareFault.{CompareFault}
 use Rattle.avc_compare.specs.declared.verdict.CompareFault.TheVariants.{Ours, Theirs}
 use Rattle.avc_compare.specs.declared.verdict.Verdict.{Verdict}
@@ -39,6 +40,10 @@ pub record IsReached (most : ℕ) (events : List Event) (p : Decoded) (theirs he
   pub bytes : theirs ≡ before ++ here
   pub alike : IsAlike most front before report
 
+-- which picture is compared, that of this number
+abbrev pub compared_picture : (number : ℕ) → Decoded → ComparedPicture
+compared_picture number p = record { number = number; info = p.info; shape = shape_of p }
+
 -- What becomes of the comparison of the events that a stream defines, all or so far, with the
 -- other's bytes, all or so far. A picture's number is that of the pictures before it (the greatest
 -- number, once there).
@@ -49,8 +54,8 @@ Finds most events all theirs over report (More number) =
 Finds most events all theirs over report (Fewer number) =
     (p : Decoded) × (here : List ℕ) × IsReached most events p theirs here report × (over ≡ true) × (length here < length (i420 p)) × (number ≡ report.pictures)
 Finds most events all theirs over report (Differs d) =
-    (p : Decoded) × (here : List ℕ) × IsReached most events p theirs here report × (length here ≡ length (i420 p)) × (d.number ≡ report.pictures)
-    × (d.shape ≡ shape_of p) × IsDifference (shape_of p) most (i420 p) here d.difference
+    (p : Decoded) × (here : List ℕ) × IsReached most events p theirs here report × (length here ≡ length (i420 p))
+    × (d.picture ≡ compared_picture report.pictures p) × IsDifference (shape_of p) most (i420 p) here d.difference
 
 -- Why a comparison was broken off after the first of a stream's events: a read of the stream
 -- failed, when no event was left; or there were so many bytes and events; or the other's file can't

@@ -5,7 +5,6 @@ use Rattle.avc_types.specs.declared.picture.Picture.{Picture as Decoded}
 use Rattle.avc_yuv.specs.I420.{i420}
 use Rattle.avc_difference.specs.Differences.{AreSame, IsDifference}
 use Rattle.avc_difference.specs.Places.{shape_of}
-use Rattle.avc_difference.specs.declared.place.Shape.{Shape}
 use Rattle.avc_decoder.specs.Machine.{Machine}
 use Rattle.avc_decoder.specs.Output.{Output}
 use Rattle.avc_decoder.specs.SeenEvents.{Event}
@@ -13,9 +12,10 @@ use Rattle.avc_decoder.specs.declared.event.Event.TheVariants.{Picture}
 use Rattle.avc_console.specs.declared.fault.RunFault.TheVariants.{Memory}
 use Rattle.avc_console.specs.declared.report.Report.{Report}
 use Rattle.avc_events.specs.EventReports.{report_with}
-use Rattle.avc_compare.specs.Comparing.{IsAlike, IsSame}
+use Rattle.avc_compare.specs.Comparing.{compared_picture, IsAlike, IsSame}
 use Rattle.avc_compare.specs.Kept.{Waiting}
 use Rattle.avc_compare.specs.Reading.{IsReading}
+use Rattle.avc_compare.specs.declared.verdict.ComparedPicture.{ComparedPicture}
 use Rattle.avc_compare.specs.declared.verdict.CompareFault.{CompareFault}
 use Rattle.avc_compare.specs.declared.verdict.CompareFault.TheVariants.{Ours, Theirs}
 use Rattle.avc_compare.specs.declared.verdict.Verdict.{Verdict}
@@ -25,7 +25,7 @@ use Rattle.avc_compare.specs.declared.verdict.Verdict.TheVariants.{Differs, Fewe
 abbrev pub EndsAt : (most number : ℕ) → Decoded → (here : List ℕ) → (left : Option (List ℕ)) → Verdict → Type 0
 EndsAt most number p here left (Fewer n) = (length here < length (i420 p)) × IsAtEnd left × (n ≡ number)
 EndsAt most number p here left (Differs d) =
-    (length here ≡ length (i420 p)) × (d.number ≡ number) × (d.shape ≡ shape_of p) × IsDifference (shape_of p) most (i420 p) here d.difference
+    (length here ≡ length (i420 p)) × (d.picture ≡ compared_picture number p) × IsDifference (shape_of p) most (i420 p) here d.difference
 EndsAt most number p here left _ = ⊥
 
 -- the same of an event: at a refusal it doesn't end
@@ -62,11 +62,11 @@ pub record IsComparing (most count : ℕ) (output : Output) (unread left other r
   pub alike : IsAlike most done theirs report
   pub many : count ≤ length done
 
--- Two pictures of this shape are the same, or the verdict tells their difference.
-abbrev pub FindsIn : (most number : ℕ) → Shape → (ours theirs : List ℕ) → Option Verdict → Type 0
-FindsIn most number shape ours theirs None = AreSame most ours theirs
-FindsIn most number shape ours theirs (Some (Differs d)) = (d.number ≡ number) × (d.shape ≡ shape) × IsDifference shape most ours theirs d.difference
-FindsIn most number shape ours theirs (Some _) = ⊥
+-- The samples of this picture are the other's, or the verdict tells their difference.
+abbrev pub FindsIn : (most : ℕ) → ComparedPicture → (ours theirs : List ℕ) → Option Verdict → Type 0
+FindsIn most picture ours theirs None = AreSame most ours theirs
+FindsIn most picture ours theirs (Some (Differs d)) = (d.picture ≡ picture) × IsDifference picture.shape most ours theirs d.difference
+FindsIn most picture ours theirs (Some _) = ⊥
 
 -- Behind all pictures: no byte of the other is left, or one is read.
 abbrev pub EndsAll : (number : ℕ) → (old new : Option (List ℕ)) → Result Verdict CompareFault → Type 0

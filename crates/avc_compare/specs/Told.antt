@@ -1,6 +1,6 @@
 -- What is told of a comparison, and how the command ends.
 use Rattle.std.specs.Prelude.{◌≡◌, ℕ, Bool, true, false, if◌then◌else◌, List, [], ◌++◌, length, Option, Result, Ok, Err, codes}
-use Rattle.std.specs.Fmt.{decimal}
+use Rattle.std.specs.Fmt.{decimal, signed_decimal}
 use Rattle.std.specs.Borrow.{Bor}
 use Rattle.std.specs.Io.KnownBytes.{Appends}
 use Rattle.avc_difference.specs.Places.{macroblocks}
@@ -15,6 +15,7 @@ use Rattle.avc_console.specs.declared.report.Report.{Report}
 use Rattle.avc_formats.specs.Formats.{StopsPicture}
 use Rattle.avc_console.specs.Status.{other_status}
 use Rattle.avc_compare.specs.Comparing.{Compares}
+use Rattle.avc_compare.specs.declared.verdict.ComparedPicture.{ComparedPicture}
 use Rattle.avc_compare.specs.declared.verdict.CompareFault.{CompareFault}
 use Rattle.avc_compare.specs.declared.verdict.CompareFault.TheVariants.{Ours, Theirs}
 use Rattle.avc_compare.specs.declared.verdict.Verdict.{Verdict}
@@ -28,16 +29,22 @@ fewer_line number = codes "the other has fewer pictures: it ends before picture 
 abbrev pub more_line : (number : ℕ) → List ℕ
 more_line number = codes "the other has more pictures: it goes on behind all " ++ decimal number ++ newline
 
+-- how the picture that differs is numbered (7.4.3, 8.2.1), and the unit of its first slice
+abbrev pub info_line : ComparedPicture → List ℕ
+info_line p =
+    codes "picture " ++ decimal p.number ++ codes " has frame_num " ++ decimal p.info.frame_num ++ codes ", PicOrderCnt " ++ signed_decimal p.info.pic_order_cnt
+    ++ codes " and its first slice in unit " ++ decimal p.info.unit ++ newline
+
 -- what is written of a comparison
 abbrev pub verdict_text : Verdict → List ℕ
 verdict_text Same = []
-verdict_text (Differs d) = difference_text d.number d.shape d.difference
+verdict_text (Differs d) = info_line d.picture ++ difference_text d.picture.number d.picture.shape d.difference
 verdict_text (Fewer number) = fewer_line number
 verdict_text (More number) = more_line number
 
 -- A difference has a mark for each macroblock of its picture.
 abbrev pub HasMarks : Verdict → Type 0
-HasMarks (Differs d) = length (d.difference).marks.items ≡ macroblocks d.shape
+HasMarks (Differs d) = length (d.difference).marks.items ≡ macroblocks d.picture.shape
 HasMarks _ = Unit {0}
 
 -- This text was written; after a write fault less than all of it, and after want of memory none of

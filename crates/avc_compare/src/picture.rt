@@ -4,12 +4,13 @@ ghost use Rattle.std.specs.Prelude.{◌≡◌, ℕ, ◌<◌, ◌≤◌, List, le
 ghost use Rattle.std.specs.Io.KnownBytes.{Consumes, IsAtEnd};
 ghost use Rattle.avc_types.specs.Whole.{IsWhole};
 ghost use Rattle.avc_yuv.specs.I420.{i420};
-ghost use Rattle.avc_difference.specs.Places.{sample_count, shape_of};
+ghost use Rattle.avc_difference.specs.Places.{sample_count};
 ghost use Rattle.avc_console.specs.declared.fault.RunFault.TheVariants as faults;
+ghost use Rattle.avc_compare.specs.Comparing.{compared_picture};
 ghost use Rattle.avc_compare.specs.Running.{ComparesPicture, FindsIn};
 ghost use Rattle.avc_compare.specs.declared.verdict.CompareFault.TheVariants as ends;
 
-use crate::verdict::{CompareFault, Differing, Verdict};
+use crate::verdict::{CompareFault, ComparedPicture, Differing, Verdict};
 use avc_console::{RunFault, read_once};
 use avc_difference::{Shape, find_difference};
 use avc_plane::{PictureRows, SharedPicture};
@@ -35,7 +36,8 @@ pub(crate) fn compare_picture<O: Read>(
     if count < ours.len() {
         return Ok(Some(Verdict::Fewer(number)));
     }
-    Ok(judge(alloc, most, number, shape_of(picture), &ours, &theirs)?)
+    let compared = compared_picture(number, picture);
+    Ok(judge(alloc, most, compared, &ours, &theirs)?)
 }
 
 // What is shown of a picture, as I420.
@@ -58,13 +60,17 @@ fn zeros(alloc: Global, count: usize) -> Result<Vec<u8>, RunFault>
     Ok(vec![in alloc; 0; count]?)
 }
 
-fn shape_of(picture: &SharedPicture) -> Shape
-    ensures { result ≡ shape_of picture.now }
+fn compared_picture(number: u64, picture: &SharedPicture) -> ComparedPicture
+    ensures { result ≡ compared_picture number picture.now }
 {
-    Shape {
-        width: picture.width(),
-        height: picture.height(),
-        crop: picture.crop(),
+    ComparedPicture {
+        number,
+        info: picture.info(),
+        shape: Shape {
+            width: picture.width(),
+            height: picture.height(),
+            crop: picture.crop(),
+        },
     }
 }
 
@@ -92,20 +98,18 @@ pub(crate) fn read_other<O: Read>(bytes: &mut [u8], other: &mut O) -> Result<usi
 fn judge(
     alloc: Global,
     most: u8,
-    number: u64,
-    shape: Shape,
+    picture: ComparedPicture,
     ours: &[u8],
     theirs: &[u8],
 ) -> Result<Option<Verdict>, RunFault>
     requires same { length theirs.now ≡ length ours.now }
-    requires whole { length ours.now ≡ sample_count shape }
-    ensures ok { IfOk result (λ found. FindsIn most number shape ours.now theirs.now found) }
+    requires whole { length ours.now ≡ sample_count picture.shape }
+    ensures ok { IfOk result (λ found. FindsIn most picture ours.now theirs.now found) }
     ensures err { IfErr result (λ fault. fault ≡ faults.Memory) }
 {
-    match find_difference(alloc, shape, most, ours, theirs)? {
+    match find_difference(alloc, picture.shape, most, ours, theirs)? {
         Some(difference) => Ok(Some(Verdict::Differs(Differing {
-            number,
-            shape,
+            picture,
             difference,
         }))),
         None => Ok(None),

@@ -1,9 +1,9 @@
 //! What is told of a comparison.
 
 ghost use Rattle.std.specs.Prelude.{◌≡◌, ◌++◌, OnOk, string_bytes};
-ghost use Rattle.avc_compare.specs.Told.{fewer_line, more_line, verdict_text, HasMarks};
+ghost use Rattle.avc_compare.specs.Told.{fewer_line, info_line, more_line, verdict_text, HasMarks};
 
-use crate::verdict::Verdict;
+use crate::verdict::{ComparedPicture, Verdict};
 use avc_difference::add_difference;
 use avc_types::OutOfMemory;
 
@@ -14,15 +14,26 @@ pub fn add_verdict(text: &mut String, verdict: &Verdict) -> Result<(), OutOfMemo
 {
     match verdict {
         Verdict::Same => Ok(()),
-        Verdict::Differs(differing) => add_difference(
-            text,
-            differing.number,
-            differing.shape,
-            &differing.difference,
-        ),
+        Verdict::Differs(differing) => {
+            let picture = differing.picture;
+            add_info(text, picture)?;
+            add_difference(text, picture.number, picture.shape, &differing.difference)
+        }
         Verdict::Fewer(number) => add_fewer(text, *number),
         Verdict::More(number) => add_more(text, *number),
     }
+}
+
+fn add_info(text: &mut String, picture: ComparedPicture) -> Result<(), OutOfMemory>
+    ensures { OnOk result (string_bytes text.new ≡ string_bytes text.old ++ info_line picture) }
+{
+    let ComparedPicture { number, info, .. } = picture;
+    writeln!(
+        text,
+        "picture {number} has frame_num {}, PicOrderCnt {} and its first slice in unit {}",
+        info.frame_num, info.pic_order_cnt, info.unit
+    )?;
+    Ok(())
 }
 
 fn add_fewer(text: &mut String, number: u64) -> Result<(), OutOfMemory>

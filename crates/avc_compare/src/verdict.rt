@@ -5,6 +5,7 @@ ghost use Rattle.avc_compare.specs.declared.verdict.CompareFault.TheVariants.{Ou
 
 use avc_console::RunFault;
 use avc_difference::{Difference, Shape};
+use avc_types::PictureInfo;
 use thiserror::Error;
 
 /// What becomes of the comparison of a stream's pictures with another decoder's.
@@ -24,13 +25,21 @@ pub enum Verdict {
     More(u64),
 }
 
-/// A picture that differs.
-#[derive(Debug, Drop)]
-pub struct Differing {
+/// Which picture is compared.
+#[derive(Clone, Copy, Debug, PartialEq, Eq)]
+pub struct ComparedPicture {
     /// Its number in output order, from 0; the greatest number, once there.
     pub number: u64,
 
+    pub info: PictureInfo,
+
     pub shape: Shape,
+}
+
+/// A picture that differs.
+#[derive(Debug, Drop)]
+pub struct Differing {
+    pub picture: ComparedPicture,
 
     pub difference: Difference,
 }

@@ -41,6 +41,8 @@ pub use Rattle.avc_yuv.specs.I420.{chroma_window, i420, luma_window, shown_heigh
 pub use Rattle.avc_compare.specs.Comparing.{BreaksOffFor, Compares, Finds, IsAlike, IsBrokenOff, IsReached, IsSame}
 pub use Rattle.avc_compare.specs.Kept.{nothing_read, Waiting}
 pub use Rattle.avc_compare.specs.Reading.{BreaksReading, Fills, IsNext, IsReading, IsReadOff, IsWholeIfAny, ReadsOn, StopsFor, TakesNext}
+pub use Rattle.avc_compare.specs.Comparing.{compared_picture}
+pub use Rattle.avc_compare.specs.declared.verdict.ComparedPicture.{ComparedPicture}
 pub use Rattle.avc_compare.specs.Running.{ComparesEvent, ComparesPicture, EndsAll, EndsAt, EndsAtEvent, FindsIn, IsComparing, StopsAt}
 pub use Rattle.avc_compare.specs.Told.{fault_names, run_fault, verdict_text, WritesText}
 pub use Rattle.avc_console.specs.Reporting.{report_in}
