@@ -1,7 +1,8 @@
 #!/bin/sh
 # Sees that want of memory is made of an allocator's refusal alone. `OutOfMemory` has a private field, so that only its own file makes one; here
 # it is seen that no other file makes up what an allocator answers (AllocError, AllocFailed), or an error that tells callers of it and holds
-# none (DecodeError, RunFault, and C's Status). Each line that names one of them as a value stands below, with the reason why it may.
+# none (DecodeError, RunFault, and C's Status); and none of the other faults that end a run (RunFault, CompareFault). Each line that names
+# one of them as a value stands below, with the reason why it may.
 set -eu
 export LC_ALL=C
 cd "$(dirname "$0")/.."
@@ -33,10 +34,33 @@ avc_events/src/calls.rt: Err(_) => Err(RunFault::Memory),
 avc_events/src/calls.rt: Err(_) => Err(RunFault::Memory),
 # the system gave no memory for the words of the command line
 avc_request/src/reading.rt: Err(error) if error.kind() == io::ErrorKind::OutOfMemory => Err(AllocError.into()),
+# a read answered an error
+avc_console/src/read.rt: Err(_) => Err(RunFault::Read),
+# the input, or the other's, is no file that can be opened
+avc_cli/src/comparing.rt: let ending = fail(RunFault::Read, &names, &mut console.errors);
+avc_cli/src/main.rt: let ending = fail(RunFault::Read, &names_of(request), &mut rt.stderr());
+# the file of frame times can't be made or written
+avc_cli/src/main.rt: let ending = fail(RunFault::Write, &names, &mut rt.stderr());
+# the system did not take the words of the help
+avc_cli/src/main.rt: Err(_) => Err(RunFault::Write),
+# a write answered an error, or took no byte
+avc_console/src/fault.rt: RunFault::Write
+# more reads, or events, than a run may take
+avc_console/src/streaming.rt: Err(RunFault::Endless)
+avc_run/src/decoding.rt: Err(RunFault::Endless)
+avc_compare/src/stream.rt: Err(RunFault::Endless)
+avc_compare/src/comparison.rt: Err(CompareFault::Ours(RunFault::Endless))
+# a picture has not the size that the head says
+avc_formats/src/headed.rt: return Err(RunFault::Size);
+# a read of the other's pictures answered an error, which is told as a read fault
+avc_compare/src/picture.rt: Err(_) => return Err(CompareFault::Theirs),
+avc_compare/src/program.rt: tell(Err(RunFault::Read), tally, &named, errors)
+# of a fault of the run itself
+avc_compare/src/verdict.rt: CompareFault::Ours(fault)
 LINES
 
 # without the tests, the file that makes OutOfMemory, imports under their own names, types, and what stands in patterns
-grep -rE 'AllocError|AllocFailed|alloc::\*|(DecodeError|ErrorKind|Status)::OutOfMemory|RunFault::Memory|(DecodeError|RunFault|Status) as ' \
+grep -rE 'AllocError|AllocFailed|alloc::\*|(DecodeError|ErrorKind|Status)::OutOfMemory|RunFault::(Read|Endless|Write|Memory|Size)|CompareFault::(Ours|Theirs)|(DecodeError|RunFault|CompareFault|Status) as ' \
     crates/*/src --include='*.rt' |
     grep -vE '^crates/(avc_tests|avc_stream_tests)/|^crates/avc_types/src/memory\.rt:|^[^:]*:(ghost|//)' |
     sed -E 's|^crates/||; s|: *|: |' |
@@ -46,11 +70,11 @@ grep -rE 'AllocError|AllocFailed|alloc::\*|(DecodeError|ErrorKind|Status)::OutOf
         if (rest ~ /^(pub )?use / && rest !~ / as |\*/) next
         gsub(/Result<[^=]*, AllocError>|From<(AllocError|AllocFailed<T>)>|_error: (AllocError|AllocFailed<T>)/, "", rest)
         if (rest ~ /=>/ && rest !~ / if /) sub(/^.*=> */, "", rest)
-        if (rest ~ /AllocError|AllocFailed|::\*|::OutOfMemory|RunFault::Memory| as /) print
+        if (rest ~ /AllocError|AllocFailed|::\*|::OutOfMemory|RunFault::[A-Z]|CompareFault::[A-Z]| as /) print
     }' | sort >"$work/found"
 sort "$work/known" >"$work/sorted"
 if ! diff "$work/sorted" "$work/found" >"$work/differs"; then
-    echo "want of memory is told where it was not (>), or no longer where it was (<):" >&2
+    echo "want of memory, or a fault, is told where it was not (>), or no longer where it was (<):" >&2
     cat "$work/differs" >&2
     exit 1
 fi

@@ -3,7 +3,8 @@
 # by unit with its planes lent, and of the tests about want of memory. The program must end with status 4 and one line, behind the first of the refusals that it tells with ample memory, having written a first
 # part of what it writes then, or do all as with ample memory, where it can do without that growth; the tests say themselves what must
 # stand. Then each read of the program fails once, though those after it would not: it must end with status 3 and one line, behind the
-# first refusals, having written a first part. Wants a C compiler,
+# first refusals, having written a first part. At last growths as large as a plane of luma are counted: a long stream, and one with many
+# refusals, take no more of them than the decoder has frames, by README's formula for memory. Wants a C compiler,
 # and the program, the library and the tests: what is not proved and built yet is so first. The last line is 'N passed, M failed', where N
 # counts growths and reads; how far it is stands on standard error.
 set -u
@@ -23,27 +24,30 @@ cat >"$room/refuse.c" <<'C'
 #include <stdlib.h>
 #include <unistd.h>
 
-static long count, refused, reads;
+static long count, refused, reads, large;
+static size_t least;
 
-// Whether this growth is the one to refuse.
-static int refuses(void) {
+// Whether this growth is the one to refuse. Those of LEAST bytes and more are counted apart, where that is given.
+static int refuses(size_t size) {
     if (!count) {
-        char *text = getenv("REFUSED");
+        char *text = getenv("REFUSED"), *bytes = getenv("LEAST");
         refused = text ? atol(text) : 0;
+        least = bytes ? (size_t)atol(bytes) : 0;
     }
+    if (size >= least) large++;
     return ++count == refused;
 }
 
 void *malloc(size_t size) {
     static void *(*real)(size_t);
     if (!real) real = (void *(*)(size_t))dlsym(RTLD_NEXT, "malloc");
-    return refuses() ? NULL : real(size);
+    return refuses(size) ? NULL : real(size);
 }
 
 void *realloc(void *old, size_t size) {
     static void *(*real)(void *, size_t);
     if (!real) real = (void *(*)(void *, size_t))dlsym(RTLD_NEXT, "realloc");
-    return refuses() ? NULL : real(old, size);
+    return refuses(size) ? NULL : real(old, size);
 }
 
 // Where a read is to fail, or the reads are counted, the standard input gives at most 100 bytes a read.
@@ -60,7 +64,7 @@ ssize_t read(int file, void *to, size_t size) {
 }
 
 __attribute__((destructor)) static void tell(void) {
-    long growths = count;
+    long growths = large;
     char *file = getenv("COUNTED");
     FILE *out = file ? fopen(file, "w") : NULL;
     if (out) fprintf(out, "%ld\n", getenv("FAILING") ? reads : growths);
@@ -185,6 +189,16 @@ growing_at_most() {
     judge $? "growths in $3"
 }
 
+# A stream of 352x288, of whose pictures the buffer holds at most so many, and in which so much is refused: the growths as large as a plane of
+# luma, s(352)(288 + 32) bytes with s(352) = 384 (README), are no more than the decoder has frames at once. These are those in the buffer and the
+# open one, and as many that went out and were not yet written, which the program takes after each unit.
+planes_at_most() {
+    LEAST=122880 COUNTED=$work/count LD_PRELOAD=$room/refuse.so "$program" decode <"$3" >/dev/null 2>"$work/told"
+    number=$(cat "$work/count")
+    [ "$(grep -c '^refused unit ' "$work/told")" = "$2" ] && [ "$number" -ge 1 ] && [ "$number" -le $((2 * ($1 + 1))) ]
+    judge $? "planes of ${3##*/}, of which $2 pictures are refused"
+}
+
 say 'refuses each growth of memory once: of the program, of the library, of tests'
 "$top/avcdec" --help >/dev/null || exit 1
 program=$top/crates/avc_cli/out/avc_cli
@@ -224,6 +238,15 @@ beside refused_in_test avc_stream_tests stream_texts::texts_and_pieces
 beside refused_in_test avc_stream_tests decoder_calls::decodes_again_after_want_of_memory
 beside refused_in_test avc_stream_tests worked_streams::the_first_again_after_want_of_memory
 beside growing_at_most 20000 avc_stream_tests decoder_calls::two_hundred_pictures_byte_by_byte
+# ten coded video sequences of 30 pictures each; and forty times the first two pictures and a part of the third, which is refused
+i=0
+while [ "$i" -lt 40 ]; do
+    i=$((i + 1))
+    [ "$i" -gt 10 ] || cat "$here/speed/cif.264" >>"$room/long.264"
+    head -c 6200 "$here/speed/cif.264" >>"$room/refused.264"
+done
+beside planes_at_most 3 0 "$room/long.264"
+beside planes_at_most 3 40 "$room/refused.264"
 say "$jobs parts side by side"
 tell_while how_far
 # shellcheck disable=SC2086 # they are words

@@ -1,9 +1,10 @@
 //! A run: a stream decoded, and its pictures written as they go out.
 
-ghost use Rattle.std.specs.Prelude.{◌≡◌, ◌∷◌, [], take, IfErr, IfOk, OnOk};
+ghost use Rattle.std.specs.Prelude.{◌≡◌, ◌∷◌, [], false, take, Err, IfErr, IfOk, OnOk};
 ghost use Rattle.std.specs.Io.KnownBytes.{prepend_known};
 ghost use Rattle.avc_types.specs.Whole.{IsWhole};
 ghost use Rattle.avc_console.specs.Reading.{max_unit};
+ghost use Rattle.avc_console.specs.declared.fault.RunFault.TheVariants as faults;
 ghost use Rattle.avc_console.specs.Reporting.{no_report, TellsOn};
 ghost use Rattle.avc_events.specs.EventReports.{report_with, IfPicture};
 ghost use Rattle.avc_run.specs.Decoding.{Decodes};
@@ -286,6 +287,7 @@ fn handle<F: PictureFormat, T: Reporter, E: Write, V: Watch, W: Write>(
         (W.contents writer.old) (W.contents writer.new) (event ∷ [])) }
     ensures err { IfErr result (λ fault. BreaksOffFrom (F.format format.now) (T.reported report.old).report (T.reported report.new).report fault
         (W.contents writer.old) (W.contents writer.new) (event ∷ [])) }
+    ensures size { IfPicture event (λ p. (F.format format.now).fits (T.reported report.old).report.pictures p ≡ false → result ≡ Err faults.Size) }
     ensures told { TellsOn (T.reported report.old) (T.reported report.new) (E.contents errors.old) (E.contents errors.new) }
 {
     match event {

@@ -1,9 +1,11 @@
 pub mod Ending
 pub mod FrameTimes
+pub mod FromPieces
 pub mod Inputs
 pub mod LossLines
 pub mod Manners
 pub mod Outcomes
+pub mod Outputs
 pub mod Progress
 pub mod Rates
 pub mod Reasons

@@ -1,14 +1,13 @@
 -- What is lost behind refusals, followed beside decoding.
-use Rattle.std.specs.Prelude.{◌≡◌, ◌⊎◌, ℕ, ◌==◌, Bool, false, if◌then◌else◌, List, Option, Some, None}
+use Rattle.std.specs.Prelude.{◌≡◌, ℕ, ◌==◌, Bool, false, if◌then◌else◌, List, Option, Some, None}
 use Rattle.avc_annexb.specs.SplitterState.{after_feed, after_finish}
 use Rattle.avc_tools.specs.Losses.{Followed}
 use Rattle.avc_tools.specs.declared.losses.SeenUnit.{SeenUnit}
 
--- What is followed goes on so, or no more for want of memory. Where nothing is followed, nothing
--- is.
+-- What is followed goes on so. Where nothing is followed, nothing is.
 abbrev pub GoesOn : (step : Followed → Followed) → (old new : Option Followed) → Type 0
 GoesOn step None new = new ≡ None
-GoesOn step (Some f) new = (new ≡ Some (step f)) ⊎ (new ≡ None)
+GoesOn step (Some f) new = new ≡ Some (step f)
 
 -- with the next bytes of the stream
 abbrev pub with_bytes : (piece : List ℕ) → Followed → Followed

@@ -4,7 +4,7 @@ use Rattle.std.specs.Fmt.{decimal}
 use Rattle.avc_annexb.specs.Units.{saturated}
 use Rattle.avc_console.specs.declared.reporter.Counts.{Counts}
 use Rattle.avc_shell.specs.declared.progress.Place.{Place}
-use Rattle.avc_shell.specs.Rates.{Looks}
+use Rattle.avc_shell.specs.Rates.{new_search, Looks}
 use Rattle.avc_shell.specs.declared.progress_state.ProgressState.{ProgressState}
 
 -- tenths, in decimal
@@ -90,6 +90,12 @@ is_line_due before now = nat_le 250 (millis_in (now - before))
 -- the line so many nanoseconds after the start
 abbrev pub line_at : ProgressState → (nanoseconds : ℕ) → List ℕ
 line_at s n = progress_line s.counts s.place (saturated (millis_in n)) s.rate.found
+
+-- Before any read of an input of so many bytes, where that is known.
+pub record IsFirst (size : Option ℕ) (s : ProgressState) : Type 0 where
+  pub counts : s.counts ≡ no_counts
+  pub place : s.place ≡ first_place size
+  pub rate : s.rate ≡ new_search
 
 -- After a read of these bytes, when the stream had come to this, where a line is wanted.
 abbrev pub IsReadOn : (piece : List ℕ) → Counts → (old new : Option ProgressState) → Type 0

@@ -1,19 +1,20 @@
 -- The search for a stream's frame rate.
-use Rattle.std.specs.Prelude.{◌≡◌, ◌⊎◌, ℕ, ◌<◌, false, ◌||◌, if◌then◌else◌, List, [], ◌++◌, length, Option, Some, None, is_some, nat_le}
+use Rattle.std.specs.Prelude.{◌≡◌, ◌⊎◌, ℕ, ◌<◌, Bool, true, false, ◌||◌, if◌then◌else◌, List, [], ◌++◌, length, Option, Some, None, is_some, nat_le}
 use Rattle.avc_tools.specs.Streams.{StreamSoFar}
 use Rattle.avc_info.specs.Info.{facts_so_far}
 use Rattle.avc_info.specs.Text.{frame_rate}
 use Rattle.avc_info.specs.declared.sequence_facts.SequenceFacts.{SequenceFacts}
 
--- What a search came to: the bytes that it has looked at, as long as it goes on, and the frames in
--- a thousand seconds, once they are known.
+-- What a search came to: the bytes that it has looked at, as long as it goes on, the frames in a
+-- thousand seconds, once they are known, and whether memory was wanting.
 pub record Search : Type 0 where
   pub searched : Option (List ℕ)
   pub found : Option ℕ
+  pub failed : Bool
 
 -- at the start of a stream
 abbrev pub new_search : Search
-new_search = record { searched = Some []; found = None }
+new_search = record { searched = Some []; found = None; failed = false }
 
 -- how many bytes are looked at
 abbrev pub most : ℕ
@@ -33,13 +34,17 @@ abbrev pub looked : (bytes : List ℕ) → Search
 looked bytes = record {
   searched = if is_some (first_sequence bytes) || nat_le most (length bytes) then None else Some bytes;
   found = rate_of (first_sequence bytes);
+  failed = false;
 }
 
--- One that is over stays as it is. One that goes on takes the next bytes, or is over for want of
--- memory.
+-- over for want of memory
+abbrev pub given_up : (found : Option ℕ) → Search
+given_up found = record { searched = None; found = found; failed = true }
+
+-- One that is over stays as it is. One that goes on takes the next bytes, or is given up.
 abbrev pub Looks : (searched : Option (List ℕ)) → (piece : List ℕ) → (old new : Search) → Type 0
 Looks None piece old new = new ≡ old
-Looks (Some bytes) piece old new = (new ≡ looked (bytes ++ piece)) ⊎ (new ≡ record { searched = None; found = old.found })
+Looks (Some bytes) piece old new = (new ≡ looked (bytes ++ piece)) ⊎ (new ≡ given_up old.found)
 
 -- ---- for the invariant
 

@@ -1,6 +1,7 @@
 //! How long each picture took.
 
-ghost use Rattle.std.specs.Prelude.{◌≡◌, ◌-◌, IfOk, string_bytes};
+ghost use Rattle.std.specs.Prelude.{◌≡◌, ◌-◌, true, is_some, None, IfOk, codes};
+ghost use Rattle.std.specs.Prelude.{string_bytes};
 ghost use Rattle.std.specs.Duration.{as_nanos};
 ghost use Rattle.avc_shell.specs.FrameTimes.{time_line};
 
@@ -34,7 +35,11 @@ impl FrameTimes<'_> {
         rt: &'a HostRuntime,
         name: &str,
         errors: Errors<'a>,
-    ) -> io::Result<FrameTimes<'a>> {
+    ) -> io::Result<FrameTimes<'a>>
+        ensures before { IfOk result (λ times. as_nanos times.before ≡ 0) }
+        ensures fault { IfOk result (λ times. times.fault ≡ None) }
+        ensures standard { name.now ≡ codes "-" → IfOk result (λ times. times.file ≡ None) }
+    {
         let file = if name == STANDARD {
             None
         } else {
@@ -52,7 +57,9 @@ impl FrameTimes<'_> {
 
     /// A picture was written. Where the clock or memory fails there is no line, and after a write
     /// fault no further one.
-    pub fn note_picture(&mut self) {
+    pub fn note_picture(&mut self)
+        ensures { is_some self.old.fault ≡ true → self.new.fault ≡ self.old.fault }
+    {
         if self.fault.is_some() {
             return;
         }

@@ -1,6 +1,10 @@
 //! What is decoded of a stream from one of its pieces on.
 
-ghost use Rattle.std.specs.Prelude.{◌≡◌, ◌++◌, drop, length, min, take};
+ghost use Rattle.std.specs.Prelude.{◌≡◌, ◌++◌, [], drop, length, min, take, None, IfOk, OnOk};
+ghost use Rattle.std.specs.Io.{ReadsAtMost};
+ghost use Rattle.std.specs.Io.KnownBytes.{ReadConsumes};
+ghost use Rattle.avc_tools.specs.Streams.{new_stream};
+ghost use Rattle.avc_shell.specs.FromPieces.{GivesOn};
 
 use avc_console::{PIECE, READS};
 use avc_tools::{StreamText, TailText};
@@ -28,7 +32,10 @@ impl<'a, R> FromPiece<'a, R> {
         alloc: Global,
         number: u32,
         reader: &'a mut R,
-    ) -> Result<FromPiece<'a, R>, OutOfMemory> {
+    ) -> Result<FromPiece<'a, R>, OutOfMemory>
+        ensures tail { IfOk result (λ from. from.tail ≡ record { number = number; stream = new_stream }) }
+        ensures waiting { IfOk result (λ from. drop from.given from.ready.items ≡ []) }
+    {
         Ok(FromPiece {
             reader,
             tail: TailText::new(alloc, number)?,
@@ -53,7 +60,9 @@ impl<'a, R> FromPiece<'a, R> {
 
 impl<R: Read> FromPiece<'_, R> {
     // Reads on, once all that has come was given.
-    fn read_on(&mut self) -> io::Result<()> {
+    fn read_on(&mut self) -> io::Result<()>
+        ensures { OnOk result (GivesOn self.old.tail self.new.tail [] (drop self.new.given self.new.ready.items) []) }
+    {
         let mut piece = [0; PIECE];
         let len = self.reader.read(&mut piece)?;
         let added = if len == 0 {
@@ -82,7 +91,12 @@ impl<R: Read> Read for FromPiece<'_, R> {
 
     ghost remaining = { λ _. None };
 
-    fn read(&mut self, buf: &mut [u8]) -> io::Result<usize> {
+    fn read(&mut self, buf: &mut [u8]) -> io::Result<usize>
+        ensures bound { ReadsAtMost result buf.new }
+        ensures bytes { ReadConsumes None None result buf.new }
+        ensures given { IfOk result (λ len. GivesOn self.old.tail self.new.tail (drop self.old.given self.old.ready.items)
+            (drop self.new.given self.new.ready.items) (take len buf.new)) }
+    {
         'reads: for _read in 0..READS {
             if self.given < self.ready.len() {
                 let len = copied(&self.ready[self.given..], buf);

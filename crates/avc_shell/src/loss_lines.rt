@@ -1,15 +1,17 @@
 //! What is lost behind refusals, told as decoding goes on.
 
-ghost use Rattle.std.specs.Prelude.{◌≡◌, ◌⊎◌, true, Some, None, IfOk, OnOk};
+ghost use Rattle.std.specs.Prelude.{◌≡◌, false, true, if◌then◌else◌, is_some, Some, None};
+ghost use Rattle.std.specs.Prelude.{IfOk, IfSome, OnOk};
 ghost use Rattle.avc_annexb.specs.SplitterState.{next_unit_of};
 ghost use Rattle.avc_console.specs.Reading.{max_unit};
-ghost use Rattle.avc_shell.specs.LossLines.{is_at, passed_in, place_of, slice_behind, with_bytes};
-ghost use Rattle.avc_shell.specs.LossLines.{with_end, GoesOn};
-ghost use Rattle.avc_tools.specs.Losses.{behind, seen};
+ghost use Rattle.avc_shell.specs.LossLines.{is_at, passed_in, place_of, slice_behind};
+ghost use Rattle.avc_shell.specs.LossLines.{with_bytes, with_end, GoesOn};
+ghost use Rattle.avc_tools.specs.Losses.{behind, new_followed, seen};
+ghost use Rattle.avc_types.specs.declared.fault.Fault.TheVariants as refusals;
 
 use avc_console::{MAX_UNIT, tell_loss};
 use avc_tools::{Losses, SeenUnit};
-use avc_types::{Fault, OutOfMemory};
+use avc_types::{Fault, OutOfMemory, WantOfMemory};
 
 /// Tells behind the refusal of a unit with its picture that decoding waits, and counts the slices
 /// that it passes over, where more than the lines that scripts read may be told.
@@ -18,6 +20,7 @@ pub struct LossLines<'a> {
     rt: &'a HostRuntime,
     // none where they are not told, and once memory was wanting
     losses: Option<Losses<MAX_UNIT>>,
+    failed: WantOfMemory,
     // the last slice among the units that were taken: it is refused, too, where its picture turns
     // out faulty when it is closed
     last_slice: Option<u64>,
@@ -25,7 +28,10 @@ pub struct LossLines<'a> {
 
 impl LossLines<'_> {
     /// Of a stream of which nothing was read.
-    pub fn new(rt: &HostRuntime, are_told: bool) -> LossLines<'_> {
+    pub fn new(rt: &HostRuntime, are_told: bool) -> LossLines<'_>
+        ensures losses { result.losses ≡ (if are_told then Some new_followed else None) }
+        ensures failed { result.failed ≡ false }
+    {
         let losses = if are_told {
             Some(Losses::new(rt.alloc()))
         } else {
@@ -34,36 +40,46 @@ impl LossLines<'_> {
         LossLines {
             rt,
             losses,
+            failed: WantOfMemory::none(),
             last_slice: None,
         }
     }
 
     /// The next bytes of the stream.
     pub fn note_bytes(&mut self, piece: &[u8])
-        ensures { GoesOn (with_bytes piece.now) self.old.losses self.new.losses }
+        ensures { self.new.failed ≡ false → GoesOn (with_bytes piece.now) self.old.losses self.new.losses }
     {
-        if let Some(losses) = self.losses.take() {
-            self.losses = with_bytes(losses, piece);
+        if let Some(mut losses) = self.losses.take() {
+            if self.failed.keep(losses.feed(piece)).is_ok() {
+                self.losses = Some(losses);
+            }
         }
     }
 
     /// The end of the stream.
     pub fn note_end(&mut self)
-        ensures { GoesOn with_end self.old.losses self.new.losses }
+        ensures { self.new.failed ≡ false → GoesOn with_end self.old.losses self.new.losses }
     {
-        if let Some(losses) = self.losses.take() {
-            self.losses = with_end(losses);
+        if let Some(mut losses) = self.losses.take() {
+            if self.failed.keep(losses.finish()).is_ok() {
+                self.losses = Some(losses);
+            }
         }
     }
 
     /// A refusal, behind which a line is told where decoding waits. A unit whose forbidden_zero_bit
     /// is 1, and a parameter set, is refused alone.
-    pub fn note_refusal(&mut self, unit: u64, fault: Fault) {
+    pub fn note_refusal(&mut self, unit: u64, fault: Fault)
+        ensures waits { self.new.failed ≡ false → (fault ≡ refusals.ForbiddenBit → ⊥) → is_at self.new.last_slice unit ≡ true
+            → IfSome self.new.losses (λ f. f.waits ≡ true) }
+        ensures goes_on { self.new.failed ≡ false → is_some self.new.losses ≡ is_some self.old.losses }
+    {
         if let Fault::ForbiddenBit = fault {
             return;
         }
         if let Some(mut losses) = self.losses.take() {
-            if let Ok(is_lost) = lose_at(&mut losses, &mut self.last_slice, unit) {
+            let lost = lose_at(&mut losses, &mut self.last_slice, unit);
+            if let Ok(is_lost) = self.failed.keep(lost) {
                 self.losses = Some(losses);
                 let _ = tell_loss(unit, is_lost, &mut self.rt.stderr());
             }
@@ -71,9 +87,12 @@ impl LossLines<'_> {
     }
 
     /// All refusals by the bytes so far were noted.
-    pub fn note_units(&mut self) {
+    pub fn note_units(&mut self)
+        ensures { self.new.failed ≡ false → is_some self.new.losses ≡ is_some self.old.losses }
+    {
         if let Some(mut losses) = self.losses.take() {
-            if take_all(&mut losses, &mut self.last_slice).is_ok() {
+            let taken = take_all(&mut losses, &mut self.last_slice);
+            if self.failed.keep(taken).is_ok() {
                 self.losses = Some(losses);
             }
         }
@@ -87,26 +106,6 @@ impl LossLines<'_> {
             Some(losses) => Some(losses.passed()),
             None => None,
         }
-    }
-}
-
-// With the next bytes of the stream, or nothing for want of memory.
-fn with_bytes(mut losses: Losses<MAX_UNIT>, piece: &[u8]) -> Option<Losses<MAX_UNIT>>
-    ensures { (result ≡ Some (with_bytes piece.now losses)) ⊎ (result ≡ None) }
-{
-    match losses.feed(piece) {
-        Ok(()) => Some(losses),
-        Err(_) => None,
-    }
-}
-
-// With the end of the stream, or nothing for want of memory.
-fn with_end(mut losses: Losses<MAX_UNIT>) -> Option<Losses<MAX_UNIT>>
-    ensures { (result ≡ Some (with_end losses)) ⊎ (result ≡ None) }
-{
-    match losses.finish() {
-        Ok(()) => Some(losses),
-        Err(_) => None,
     }
 }
 

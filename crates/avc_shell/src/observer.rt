@@ -1,6 +1,6 @@
 //! What is known of a run while it goes on, and at its end.
 
-ghost use Rattle.std.specs.Prelude.{◌≡◌, None};
+ghost use Rattle.std.specs.Prelude.{◌≡◌, false, None, IfSome};
 ghost use Rattle.std.specs.Option.{option_map};
 ghost use Rattle.avc_shell.specs.LossLines.{passed_in, with_bytes, with_end, GoesOn};
 ghost use Rattle.avc_shell.specs.Outcomes.{outcome_after};
@@ -61,7 +61,9 @@ impl<'a> Observer<'a> {
     }
 
     /// Why times could not be written, where that is so.
-    pub fn times_fault(&self) -> Option<ErrorKind> {
+    pub fn times_fault(&self) -> Option<ErrorKind>
+        ensures { IfSome self.now.times (λ times. result ≡ times.fault) }
+    {
         match &self.times {
             Some(times) => times.fault(),
             None => None,
@@ -71,13 +73,13 @@ impl<'a> Observer<'a> {
 
 impl Watch for Observer<'_> {
     fn note_bytes(&mut self, piece: &[u8])
-        ensures { GoesOn (with_bytes piece.now) self.old.losses.losses self.new.losses.losses }
+        ensures { self.new.losses.failed ≡ false → GoesOn (with_bytes piece.now) self.old.losses.losses self.new.losses.losses }
     {
         self.losses.note_bytes(piece);
     }
 
     fn note_end(&mut self)
-        ensures { GoesOn with_end self.old.losses.losses self.new.losses.losses }
+        ensures { self.new.losses.failed ≡ false → GoesOn with_end self.old.losses.losses self.new.losses.losses }
     {
         self.losses.note_end();
     }

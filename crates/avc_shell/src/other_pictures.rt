@@ -1,6 +1,8 @@
 //! The pictures of another decoder: samples one behind another, or those of YUV4MPEG2, whose lines are left out.
 
+ghost use Rattle.std.specs.Prelude.{◌≡◌, ◌+◌, ◌-◌, ◌<◌, ◌≤◌, drop, length, take, false, true, IfOk};
 ghost use Rattle.std.specs.Io.{ReadsAtMost};
+ghost use Rattle.avc_shell.specs.declared.other_pictures.Place.TheVariants as places;
 
 use crate::from_piece::copied;
 use crate::y4m_header::picture_len;
@@ -48,7 +50,10 @@ pub struct OtherPictures<R> {
 
 impl<R> OtherPictures<R> {
     /// Of which nothing has been read.
-    pub fn new(reader: R) -> OtherPictures<R> {
+    pub fn new(reader: R) -> OtherPictures<R>
+        ensures place { result.place ≡ places.Start }
+        ensures valid { result.is_invalid ≡ false }
+    {
         OtherPictures {
             reader,
             place: Place::Start,
@@ -65,11 +70,15 @@ impl<R> OtherPictures<R> {
 
     /// Whether they are YUV4MPEG2 that is not read: its samples are not 4:2:0 with 8 bits, or a
     /// line is missing.
-    pub fn is_invalid(&self) -> bool {
+    pub fn is_invalid(&self) -> bool
+        ensures { result ≡ self.now.is_invalid }
+    {
         self.is_invalid
     }
 
-    fn refuse(&mut self) -> io::Error {
+    fn refuse(&mut self) -> io::Error
+        ensures { self.new.is_invalid ≡ true }
+    {
         self.is_invalid = true;
         io::Error::from(ErrorKind::InvalidData)
     }
@@ -77,7 +86,9 @@ impl<R> OtherPictures<R> {
 
 impl<R: Read> OtherPictures<R> {
     // Reads so many bytes of a line at the most, up to its end. Answers whether it has one.
-    fn read_line(&mut self, most: usize) -> io::Result<bool> {
+    fn read_line(&mut self, most: usize) -> io::Result<bool>
+        ensures { self.new.picture_len ≡ self.old.picture_len }
+    {
         let mut byte = [0];
         'bytes: for _byte in 0..most {
             if self.reader.read(&mut byte)? == 0 || byte[0] == b'\n' {
@@ -110,7 +121,9 @@ impl<R: Read> OtherPictures<R> {
     }
 
     // Reads the line of the next picture. Without one all pictures were read.
-    fn begin_picture(&mut self) -> io::Result<bool> {
+    fn begin_picture(&mut self) -> io::Result<bool>
+        ensures { IfOk result (λ is. is ≡ true → self.new.place ≡ places.Picture self.old.picture_len) }
+    {
         self.line.clear();
         let is_whole = self.read_line(LINE)?;
         if self.line.is_empty() && !is_whole {
@@ -126,6 +139,8 @@ impl<R: Read> OtherPictures<R> {
     // Samples alone: first those that were read when it was seen what they are.
     fn read_samples(&mut self, given: usize, buf: &mut [u8]) -> io::Result<usize>
         ensures bound { ReadsAtMost result buf.new }
+        ensures first { given < length self.old.line.items → IfOk result (λ len. take len buf.new ≡ take len (drop given self.old.line.items)) }
+        ensures given { given < length self.old.line.items → IfOk result (λ len. self.new.place ≡ places.Samples (given + len)) }
     {
         if given >= self.line.len() {
             return self.reader.read(buf);
@@ -138,6 +153,8 @@ impl<R: Read> OtherPictures<R> {
     // Samples of a picture of which so many are left.
     fn read_picture(&mut self, left: u64, buf: &mut [u8]) -> io::Result<usize>
         ensures bound { ReadsAtMost result buf.new }
+        ensures few { IfOk result (λ len. len ≤ left) }
+        ensures left { IfOk result (λ len. self.new.place ≡ places.Picture (left - len)) }
     {
         let most = buf.len().min(left as usize);
         let len = self.reader.read(&mut buf[..most])?;

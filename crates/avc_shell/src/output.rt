@@ -1,9 +1,10 @@
 //! What is written.
 
-ghost use Rattle.std.specs.Prelude.{◌≡◌, Some, None, IfErr, OnOk};
+ghost use Rattle.std.specs.Prelude.{◌≡◌, Some, None, is_some, IfErr, OnOk};
 ghost use Rattle.std.specs.Io.{WritesAtMost};
 ghost use Rattle.std.specs.Io.KnownBytes.{Keeps, WriteAppends};
 ghost use Rattle.std.specs.IoError.{error_kind};
+ghost use Rattle.avc_shell.specs.Outputs.{next_number};
 
 use avc_request::Numbered;
 use std::cell::Cell;
@@ -95,6 +96,21 @@ impl<'a> PictureFiles<'a> {
         }
     }
 
+    // Makes the file of the next picture.
+    fn begin(&mut self) -> io::Result<File>
+        ensures { OnOk result (self.new.number ≡ next_number (is_some self.old.file) self.old.number) }
+    {
+        let number = if self.file.is_some() {
+            self.number.saturating_add(1)
+        } else {
+            self.number
+        };
+        let file = self.make(number)?;
+        self.number = number;
+        self.before = self.pictures.get();
+        Ok(file)
+    }
+
     // Makes the file of this number.
     fn make(&self, number: u64) -> io::Result<File> {
         let name = match self.name.file_name(self.rt.alloc(), number) {
@@ -122,16 +138,9 @@ impl Write for PictureFiles<'_> {
                 return file.write(buf);
             }
         }
-        let number = if self.file.is_some() {
-            self.number.saturating_add(1)
-        } else {
-            self.number
-        };
-        let mut file = self.make(number)?;
+        let mut file = self.begin()?;
         let taken = file.write(buf);
         self.file = Some(file);
-        self.number = number;
-        self.before = self.pictures.get();
         taken
     }
 

@@ -1,11 +1,11 @@
 //! The line that says how far decoding is.
 
-ghost use Rattle.std.specs.Prelude.{◌≡◌, ◌<◌, ◌++◌, IfOk, OnOk, string_bytes};
+ghost use Rattle.std.specs.Prelude.{◌≡◌, ◌<◌, ◌++◌, false, None, IfOk, IfSome, OnOk, string_bytes};
 ghost use Rattle.std.specs.Option.{option_map};
 ghost use Rattle.avc_shell.specs.Progress.{clock_text, counts_text, left_text, place_by};
 ghost use Rattle.avc_shell.specs.Progress.{place_text, progress_line, speed_text};
 ghost use Rattle.avc_shell.specs.Progress.{place_after, tenths_text, times_by, times_text, IsLast};
-ghost use Rattle.avc_shell.specs.Progress.{IsReadOn};
+ghost use Rattle.avc_shell.specs.Progress.{IsFirst, IsReadOn};
 ghost use Rattle.avc_shell.specs.Rates.{Looks};
 
 use crate::progress_state::ProgressState;
@@ -39,7 +39,10 @@ impl Progress<'_> {
         is_wanted: bool,
         size: Option<u64>,
         stands: &'a Cell<bool>,
-    ) -> Progress<'a> {
+    ) -> Progress<'a>
+        ensures unwanted { is_wanted ≡ false → result.meter ≡ None }
+        ensures first { IfSome result.meter (λ m. IsFirst size m.state) }
+    {
         let meter = if is_wanted {
             Meter::new(rt, size, stands)
         } else {
@@ -81,11 +84,9 @@ struct Meter<'a> {
 }
 
 impl Meter<'_> {
-    fn new<'a>(
-        rt: &'a HostRuntime,
-        size: Option<u64>,
-        stands: &'a Cell<bool>,
-    ) -> Option<Meter<'a>> {
+    fn new<'a>(rt: &'a HostRuntime, size: Option<u64>, stands: &'a Cell<bool>) -> Option<Meter<'a>>
+        ensures { IfSome result (λ m. IsFirst size m.state) }
+    {
         let start = Instant::now(rt).ok()?;
         Some(Meter {
             rt,

@@ -1,10 +1,11 @@
 //! The search for a stream's frame rate.
 
 ghost use Rattle.std.specs.Prelude.{◌≡◌, ◌⊎◌, ◌++◌, [], length, None, Some, false};
-ghost use Rattle.avc_shell.specs.Rates.{looked, new_search, rate_of, IsGoingOn, Looks};
+ghost use Rattle.avc_shell.specs.Rates.{given_up, looked, new_search, rate_of, IsGoingOn, Looks};
 
 use avc_info::{InfoLines, SequenceFacts, frame_rate};
 use avc_tools::{ForPeople, StreamText};
+use avc_types::WantOfMemory;
 use std::alloc::Global;
 use std::marker::Model;
 
@@ -12,14 +13,15 @@ use std::marker::Model;
 const MOST: usize = 1_048_576;
 
 /// Finds a stream's frame rate at its beginning: that of the sequence parameter set of its first
-/// slice, where it says one. A contract sees the bytes that have come, as long as it searches, and
-/// what was found.
+/// slice, where it says one. A contract sees the bytes that have come, as long as it searches, what
+/// was found, and whether memory was wanting.
 #[derive(Drop)]
 pub struct RateSearch {
     // until the search is over
     lines: Option<InfoLines<ForPeople>>,
     seen: usize,
     found: Option<u64>,
+    failed: WantOfMemory,
 }
 
 impl Model for RateSearch {
@@ -27,7 +29,7 @@ impl Model for RateSearch {
 
     ghost Value = { Search };
 
-    ghost view = { λ r. record { searched = bytes_of r.lines; found = r.found } };
+    ghost view = { λ r. record { searched = bytes_of r.lines; found = r.found; failed = r.failed } };
 
     ghost invariant = { λ r. IsSearching r.lines r.seen };
 }
@@ -41,6 +43,7 @@ impl RateSearch {
             lines: Some(InfoLines::new(alloc, ForPeople)),
             seen: 0,
             found: None,
+            failed: WantOfMemory::none(),
         }
     }
 
@@ -69,16 +72,18 @@ fn searched(
     found: Option<u64>,
 ) -> RateSearch
     requires { IsGoingOn lines seen }
-    ensures { (result ≡ looked (lines.bytes ++ piece.now)) ⊎ (result ≡ record { searched = None; found = found }) }
+    ensures { (result ≡ looked (lines.bytes ++ piece.now)) ⊎ (result ≡ given_up found) }
 {
     let seen = seen + piece.len();
     let mut lines = lines;
-    match lines.feed(piece) {
+    let mut failed = WantOfMemory::none();
+    match failed.keep(lines.feed(piece)) {
         Ok(_) => after(lines, seen),
         Err(_) => RateSearch {
             lines: None,
             seen,
             found,
+            failed,
         },
     }
 }
@@ -96,12 +101,14 @@ fn after(lines: InfoLines<ForPeople>, seen: usize) -> RateSearch
             lines: None,
             seen,
             found,
+            failed: WantOfMemory::none(),
         };
     }
     RateSearch {
         lines: Some(lines),
         seen,
         found,
+        failed: WantOfMemory::none(),
     }
 }
 
