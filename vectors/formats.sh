@@ -31,3 +31,27 @@ for name in \
     ffmpeg -v quiet -nostdin -flags unaligned -i "$here/$name.264" -vf setpts=N/FRAME_RATE/TB -fps_mode passthrough -fflags +bitexact \
         -f framemd5 - >"$here/$name.framemd5"
 done
+
+# NAME.types: the md5 of QP_Y and type of each macroblock that ffmpeg decodes, one a line, in decoding order: i is I_NxN, I Intra 16x16, P I_PCM
+# (without its QP, for which ffmpeg shows that of deblocking), S P_Skip, > another inter macroblock, with -, | or + where it is 16x8, 8x16 or
+# 8x8. What its first reading of the stream shows, by another decoder, is left out.
+for name in \
+    corners/i_pcm_in_p_e0 encoder/pub_o_qp12 encoder/pub_o_rc_quality encoder/pub_o_rowslices encoder/pub_x_aud encoder/pub_x_tiny16 \
+    generated/pubgen_28 pcm/pcm_3; do
+    ffmpeg -hide_banner -nostdin -threads 1 -debug qp+mb_type -i "$here/$name.264" -f null - 2>&1 | awk '
+        /^\[h264 @ [0-9a-fx]*\] New frame/ { rows = 1; if ($3 != decoder) { decoder = $3; count = 0 }; next }
+        /^\[h264 @ [0-9a-fx]*\] ( *[0-9]+[iIPS>][-+| ][= ])+$/ && rows {
+            line = $0
+            sub(/^\[h264 @ [0-9a-fx]*\] /, "", line)
+            while (match(line, /^ *[0-9]+[iIPS>][-+| ][= ]/)) {
+                one = substr(line, 1, RLENGTH)
+                line = substr(line, RLENGTH + 1)
+                gsub(/[ =]/, "", one)
+                sub(/^[0-9]*P$/, "P", one)
+                told[count++] = one
+            }
+            next
+        }
+        { rows = 0 }
+        END { for (k = 0; k < count; k++) print told[k] }' | md5sum >"$here/$name.types"
+done

@@ -3,7 +3,7 @@
 # NAME.md5 the md5 of its pictures as I420, NAME.early, where there is one, the other md5 that `decode --early` gives, NAME.refused,
 # where there is one, the standard error with status 1 (else nothing is written there, and the status is 0), NAME.units,
 # NAME.headers, NAME.info and NAME.json, where there are such, what these commands (and `info --json`) write, NAME.y4m the md5 of
-# ffmpeg's YUV4MPEG2 and NAME.framemd5 its framemd5 (formats.sh), and NAME.piece_0 and so on all pieces that `cut` writes. Words and
+# ffmpeg's YUV4MPEG2, NAME.framemd5 its framemd5 and NAME.types the md5 of its macroblock types (formats.sh), and NAME.piece_0 and so on all pieces that `cut` writes. Words and
 # faults of reading and writing are tried after that. The last line is 'N passed, M failed'; how far it is stands on standard error.
 set -u
 here=$(cd "$(dirname "$0")" && pwd)
@@ -108,6 +108,38 @@ is_cut_as_it_should() {
     fi
 }
 
+# What `macroblocks` tells of the same slice. By hand: its header has 17 bits, and each macroblock is Intra 16x16 with DC prediction
+# (00100 is mb_type 3), intra_chroma_pred_mode 0, mb_qp_delta 0 and no pattern; of the first no level is coded, of the second one of
+# Intra16x16DCLevel (000101 is coeff_token with total_coeff 1). What was read stands before the fault.
+tells_its_macroblocks() {
+    none='luma 0 0 0 0 0 0 0 0 0 0 0 0 0 0 0 0 cb 0 0 0 0 cr 0 0 0 0 cbdc 0 crdc 0'
+    {
+        [ "$1" -ge 25 ] && echo "2 slice 0 mb 0 I_16x16_2_0_0 qp 26 chroma 0 dc 0 cbp 0 $none"
+        case $1 in
+        ? | 1[0-6]) echo '2 refused 1 Truncated' ;;
+        25) ;;
+        58) echo "2 slice 0 mb 1 I_16x16_2_0_0 qp 26 chroma 0 dc 1 cbp 0 $none" ;;
+        *) echo "2 slice 0 fault 1 Truncated at macroblock $(($1 > 25))" ;;
+        esac
+    } >"$work/expected"
+    printf "\\000\\000\\000\\001\\147\\102\\300\\012\\332\\054\\100\\000\\000\\000\\001\\150\\316\\070\\200\\000\\000\\001$(cut_slice "$1")" |
+        "$program" macroblocks >"$work/lines" 2>"$work/told" && cmp -s "$work/lines" "$work/expected"
+}
+
+# QP_Y and the type of each macroblock, by the lines of `macroblocks`, as ffmpeg shows them (formats.sh)
+types_in_lines() {
+    awk '$2 == "slice" && $4 == "mb" {
+        if ($6 == "I_PCM") print "P"
+        else if ($6 == "I_NxN") print $8 "i"
+        else if ($6 ~ /^I_16x16/) print $8 "I"
+        else if ($6 == "P_Skip") print $8 "S"
+        else if ($6 == "P_L0_16x16") print $8 ">"
+        else if ($6 == "P_L0_L0_16x8") print $8 ">-"
+        else if ($6 == "P_L0_L0_8x16") print $8 ">|"
+        else print $8 ">+"
+    }'
+}
+
 # The pieces of a stream with several IDR pictures, decoded one by one, give what the whole gives.
 pieces_decode_alike() {
     "$program" decode <"$1.264" >"$work/whole"
@@ -142,6 +174,42 @@ for line in sys.stdin:
     if told.get("kind") == "pps":
         told |= {"qp": 26 + told["pic_init_qp_minus26"], "refs": told["num_ref_idx_l0_default_active_minus1"] + 1}
     print(PLAIN[told.get("kind", sys.argv[1])].format(**told))
+END
+
+# the plain lines of macroblocks, by their JSON
+cat >"$work/plain_macroblocks.py" <<'END'
+import json, sys
+
+def listed(word, values):
+    return f" {word} " + " ".join(str(value) for value in values) if values else ""
+
+for line in sys.stdin:
+    told = json.loads(line)
+    if json.dumps(told, sort_keys=True, separators=(",", ":")) + "\n" != line:
+        sys.exit(f"not as python writes it: {line}")
+    if told["kind"] == "refused":
+        print(f"{told['unit']} refused {told['number']} {told['name']}")
+        continue
+    place = f"{told['unit']} slice {told['slice']}"
+    if told["kind"] == "fault":
+        print(f"{place} fault {told['number']} {told['name']} at macroblock {told['mbAddr']}")
+        continue
+    text = f"{place} mb {told['mbAddr']} {told['mb_type']} qp {told['QPY']}"
+    text += listed("modes", ["-" if mode is None else mode for mode in told["rem_intra4x4_pred_mode"]])
+    if told["intra_chroma_pred_mode"] is not None:
+        text += f" chroma {told['intra_chroma_pred_mode']}"
+    text += listed("sub", told["sub_mb_type"])
+    text += listed("ref", told["ref_idx_l0"])
+    text += listed("mvd", [f"{x},{y}" for x, y in told["mvd_l0"]])
+    counts = told["total_coeff"]
+    if counts is not None:
+        if counts["luma_dc"] is not None:
+            text += f" dc {counts['luma_dc']}"
+        text += f" cbp {told['coded_block_pattern']}"
+        for blocks in ("luma", "cb", "cr"):
+            text += listed(blocks, counts[blocks])
+        text += f" cbdc {counts['cb_dc']} crdc {counts['cr_dc']}"
+    print(text)
 END
 
 for stream in "$here"/*/*.264; do
@@ -182,6 +250,18 @@ for stream in "$here"/*/*.264; do
         judge "info --json of ${name#"$here"/}" $? 0 ''
         holds "JSON of ${name#"$here"/}" cmp -s "$work/lines" "$name.json"
     fi
+    if [ -f "$name.types" ]; then
+        "$program" macroblocks <"$stream" >"$work/lines" 2>"$work/told"
+        judge "macroblocks of ${name#"$here"/}" $? 0 ''
+        types_in_lines <"$work/lines" | md5sum >"$work/written"
+        holds "types of ${name#"$here"/}" cmp -s "$work/written" "$name.types"
+        if command -v python3 >/dev/null; then
+            "$program" macroblocks --json <"$stream" >"$work/written" 2>"$work/told"
+            judge "macroblocks --json of ${name#"$here"/}" $? 0 ''
+            python3 "$work/plain_macroblocks.py" <"$work/written" >"$work/expected"
+            holds "JSON of macroblocks of ${name#"$here"/}" cmp -s "$work/lines" "$work/expected"
+        fi
+    fi
     if [ -f "$name.y4m" ]; then
         "$program" decode --format y4m <"$stream" >"$work/pictures" 2>"$work/told"
         holds "y4m of ${name#"$here"/}" is_decoded "$name.y4m" $? 0 /dev/null
@@ -221,6 +301,7 @@ LC_ALL=C awk 'BEGIN {
 bits=0
 while [ "$bits" -le 58 ]; do
     holds "a slice of two macroblocks cut behind $bits bits" is_cut_as_it_should "$bits"
+    holds "its macroblocks" tells_its_macroblocks "$bits"
     bits=$((bits + 1))
 done
 
@@ -307,7 +388,7 @@ done
 
 # lines come while the stream goes on
 mkfifo "$work/live"
-for command in units headers pieces; do
+for command in units headers pieces macroblocks; do
     : >"$work/lines"
     "$program" "$command" <"$work/live" >"$work/lines" &
     exec 9>"$work/live"
@@ -446,7 +527,7 @@ judge 'help to a full device' $? 3 'avcdec: write fault
 holds 'version as Cargo has it' grep -qx 'avcdec [0-9]*\.[0-9]*\.[0-9]*' "$work/written"
 "$program" --help >"$work/written"
 holds 'exit statuses in the help' grep -q '^Exit status: 0 ' "$work/written"
-for command in decode units headers info cut compare; do
+for command in decode units headers macroblocks info cut compare; do
     "$program" "$command" --help >"$work/written"
     holds "an example in the help of $command" grep -q "^Example: avcdec $command " "$work/written"
 done
@@ -1015,7 +1096,7 @@ END
     completes() {
         bash "$work/complete" "$here/../docs/avcdec.bash" "$@"
     }
-    for command in decode units headers info cut compare; do
+    for command in decode units headers macroblocks info cut compare; do
         completes avcdec '' | grep -qx "$command"
         holds "$command is completed" [ $? = 0 ]
         "$program" "$command" --help >"$work/help"

@@ -6,7 +6,7 @@ use Rattle.avc_request.specs.declared.request.Form.{Form}
 use Rattle.avc_request.specs.declared.request.Form.TheVariants as forms
 use Rattle.avc_request.specs.declared.request.Showing.{Showing}
 use Rattle.avc_request.specs.declared.request.Subject.{Subject}
-use Rattle.avc_request.specs.declared.request.Subject.TheVariants.{Headers, Info, Pieces, Units}
+use Rattle.avc_request.specs.declared.request.Subject.TheVariants.{Headers, Info, Macroblocks, Pieces, Units}
 use Rattle.avc_request.specs.declared.request.Task.{Task}
 use Rattle.avc_request.specs.declared.request.Task.TheVariants as tasks
 use Rattle.avc_request.specs.declared.request.Wording.{Wording}
@@ -24,6 +24,9 @@ use Rattle.avc_info.specs.Info.{info_so_far}
 use Rattle.avc_info.specs.Json.{json_line}
 use Rattle.avc_info.specs.ListingJson.{header_json, piece_json, unit_json}
 use Rattle.avc_info.specs.PictureText.{info_text}
+use Rattle.avc_macroblocks.specs.Json.{for_programs}
+use Rattle.avc_macroblocks.specs.Lines.{for_people}
+use Rattle.avc_macroblocks.specs.Listing.{macroblock_lines_so_far}
 use Rattle.avc_formats.specs.Formats.{plain, Format}
 use Rattle.avc_formats.specs.Headed.{headed}
 use Rattle.avc_formats.specs.Selecting.{selected}
@@ -63,19 +66,22 @@ EndsShowing (forms.Verify digest) s alone names explained unread left held holds
 
 -- ---- what is told of a stream
 
--- the one of four texts that is on this subject
-abbrev pub text_on : Subject → (of_units of_headers of_pieces of_all : List ℕ → (ended : Bool) → List ℕ) → List ℕ → (ended : Bool) → List ℕ
-text_on Units of_units of_headers of_pieces of_all = of_units
-text_on Headers of_units of_headers of_pieces of_all = of_headers
-text_on Pieces of_units of_headers of_pieces of_all = of_pieces
-text_on Info of_units of_headers of_pieces of_all = of_all
+-- the one of five texts that is on this subject
+abbrev pub text_on : Subject → (of_units of_headers of_pieces of_macroblocks of_all : List ℕ → (ended : Bool) → List ℕ) → List ℕ → (ended : Bool) → List ℕ
+text_on Units of_units of_headers of_pieces of_macroblocks of_all = of_units
+text_on Headers of_units of_headers of_pieces of_macroblocks of_all = of_headers
+text_on Pieces of_units of_headers of_pieces of_macroblocks of_all = of_pieces
+text_on Macroblocks of_units of_headers of_pieces of_macroblocks of_all = of_macroblocks
+text_on Info of_units of_headers of_pieces of_macroblocks of_all = of_all
 
 -- in a wording
 abbrev pub text_in : Wording → Subject → List ℕ → (ended : Bool) → List ℕ
 text_in Plain subject =
-    text_on subject (unit_lines_so_far unit_line) (header_lines_so_far header_line) (cut_point_lines_so_far cut_point_line) (info_so_far info_text)
+    text_on subject (unit_lines_so_far unit_line) (header_lines_so_far header_line) (cut_point_lines_so_far cut_point_line)
+    (macroblock_lines_so_far for_people) (info_so_far info_text)
 text_in Json subject =
-    text_on subject (unit_lines_so_far unit_json) (header_lines_so_far header_json) (cut_point_lines_so_far piece_json) (info_so_far json_line)
+    text_on subject (unit_lines_so_far unit_json) (header_lines_so_far header_json) (cut_point_lines_so_far piece_json)
+    (macroblock_lines_so_far for_programs) (info_so_far json_line)
 
 -- ---- comparing
 

@@ -5,6 +5,7 @@ ghost use Rattle.std.specs.Prelude.{◌≡◌, is_some};
 ghost use Rattle.avc_tools.specs.CutPoints.{cut_point_lines_so_far};
 ghost use Rattle.avc_tools.specs.Lines.{header_lines_so_far, unit_lines_so_far};
 ghost use Rattle.avc_info.specs.Info.{info_so_far};
+ghost use Rattle.avc_macroblocks.specs.Listing.{macroblock_lines_so_far};
 ghost use Rattle.avc_console.specs.Program.{EndsListing};
 ghost use Rattle.avc_formats.specs.Headed.{headed};
 ghost use Rattle.avc_run.specs.BySet.{EndsDecodingBySet};
@@ -18,6 +19,7 @@ use avc_console::{
 };
 use avc_formats::{HeadedFormat, I420, Selected};
 use avc_info::{ForPrograms, InfoForm, info};
+use avc_macroblocks::{MacroblockForm, macroblocks};
 use avc_request::{Form, Request, Showing, Subject, Task, Wording, requested, words_of};
 use avc_run::{decode, decode_as, decode_headed, decode_md5, verify};
 use avc_shell::{
@@ -317,7 +319,7 @@ fn carry_out_between<R: Read, W: Write, E: Write, V: Watch>(
 }
 
 // Tells something of a stream in this form.
-fn tell<F: ListingForm + InfoForm + Drop, R: Read, W: Write, E: Write, V: Watch>(
+fn tell<F: ListingForm + MacroblockForm + InfoForm + Drop, R: Read, W: Write, E: Write, V: Watch>(
     alloc: Global,
     subject: Subject,
     form: F,
@@ -326,7 +328,8 @@ fn tell<F: ListingForm + InfoForm + Drop, R: Read, W: Write, E: Write, V: Watch>
     console: &mut Console<'_, E, V>,
 ) -> Ending
     ensures { EndsListing console.old.names
-        (text_on subject (unit_lines_so_far F.of_unit) (header_lines_so_far F.of_header) (cut_point_lines_so_far F.of_piece) (info_so_far F.text))
+        (text_on subject (unit_lines_so_far F.of_unit) (header_lines_so_far F.of_header) (cut_point_lines_so_far F.of_piece)
+        (macroblock_lines_so_far F.form) (info_so_far F.text))
         (R.remaining reader.old) (R.remaining reader.new) (W.contents writer.old) (W.contents writer.new)
         (E.contents console.old.errors) (E.contents console.new.errors) result }
 {
@@ -334,6 +337,7 @@ fn tell<F: ListingForm + InfoForm + Drop, R: Read, W: Write, E: Write, V: Watch>
         Subject::Units => units(alloc, form, reader, writer, console),
         Subject::Headers => headers(alloc, form, reader, writer, console),
         Subject::Pieces => pieces(alloc, form, reader, writer, console),
+        Subject::Macroblocks => macroblocks(alloc, form, reader, writer, console),
         Subject::Info => info(alloc, form, reader, writer, console),
     }
 }

@@ -3,7 +3,7 @@ use Rattle.std.specs.Prelude.{◌≡◌, ℕ, ◌^◌, ◌-◌, Bool, ◌==◌, 
 use Rattle.avc_dpb.specs.declared.output.Output.{Output}
 use Rattle.avc_dpb.specs.declared.output.Output.TheVariants.{Early, Full}
 use Rattle.avc_request.specs.declared.words.Command.{Command}
-use Rattle.avc_request.specs.declared.words.Command.TheVariants.{Compare, Cut, Decode, Headers, Info, Pieces, Units}
+use Rattle.avc_request.specs.declared.words.Command.TheVariants.{Compare, Cut, Decode, Headers, Info, Macroblocks, Pieces, Units}
 use Rattle.avc_request.specs.declared.file_kind.FileKind.{FileKind}
 use Rattle.avc_request.specs.declared.file_kind.FileKind.TheVariants as kinds
 use Rattle.avc_request.specs.declared.request.Form.{Form}
@@ -22,6 +22,7 @@ word_of Decode = codes "decode"
 word_of Units = codes "units"
 word_of Headers = codes "headers"
 word_of Pieces = codes "pieces"
+word_of Macroblocks = codes "macroblocks"
 word_of Info = codes "info"
 word_of Cut = codes "cut"
 word_of Compare = codes "compare"

@@ -11,6 +11,8 @@ pub(crate) const HEADERS: &str = "headers";
 
 pub(crate) const PIECES: &str = "pieces";
 
+pub(crate) const MACROBLOCKS: &str = "macroblocks";
+
 pub(crate) const INFO: &str = "info";
 
 pub(crate) const CUT: &str = "cut";
@@ -269,6 +271,15 @@ const COMMANDS: &[CommandWords] = &[
         words: &[JSON_WORD, INPUT_WORD],
     },
     CommandWords {
+        name: MACROBLOCKS,
+        about: "Prints a line for each macroblock as it is read, without decoding: INDEX slice N mb ADDRESS, its type, QP and syntax elements; faults that only decoding finds are not seen",
+        example: concat!(
+            "Example: avcdec macroblocks in.264 | grep -c P_Skip\n",
+            "         avcdec macroblocks --json in.264 | jq 'select(.mb_type == \"P_8x8\").mvd_l0'"
+        ),
+        words: &[JSON_WORD, INPUT_WORD],
+    },
+    CommandWords {
         name: INFO,
         about: "Prints the size, profile, level and frame rate, and counts of pictures and slices, without decoding",
         example: "Example: avcdec info in.264",
@@ -319,7 +330,7 @@ const COMMANDS: &[CommandWords] = &[
 pub(crate) fn grammar<'a>(alloc: Global) -> Result<Grammar<'a>, Error> {
     let mut program = Grammar::new(alloc, "avcdec")
         .bin_name("avcdec")?
-        .version("0.1.0")
+        .version("0.2.0")
         .about("Reads an H.264 byte stream (Annex B)")
         .after_help(STATUSES)
         .subcommand_required(true);

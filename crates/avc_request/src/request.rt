@@ -111,6 +111,9 @@ pub enum Subject {
     /// A line for each piece.
     Pieces,
 
+    /// A line for each macroblock.
+    Macroblocks,
+
     /// What the headers say of the stream.
     Info,
 }

@@ -8,8 +8,8 @@ ghost use Rattle.avc_request.specs.Numberings.{IsFileNamed};
 use crate::file_kind::{FileKind, file_kind};
 use crate::grammar::{
     COMPARE, CUT, DECODE, EARLY, EXPLAIN, FORMAT, FRAME_MD5, FRAME_TIMES, FROM, HEADERS, I420,
-    INFO, INPUT, JSON, LIMIT, MAX_DIFF, MD5, NULL, NUMBER, OTHER, OUTPUT, PIECES, PROGRESS, QUIET,
-    SKIP, STRICT, UNITS, VERIFY, Y4M, grammar,
+    INFO, INPUT, JSON, LIMIT, MACROBLOCKS, MAX_DIFF, MD5, NULL, NUMBER, OTHER, OUTPUT, PIECES,
+    PROGRESS, QUIET, SKIP, STRICT, UNITS, VERIFY, Y4M, grammar,
 };
 use crate::numbered::{Naming, Numbered, naming_of};
 use crate::request::{Form, Manner, Request, Showing, Subject, Task, Telling, Wording};
@@ -26,6 +26,7 @@ enum Command {
     Units,
     Headers,
     Pieces,
+    Macroblocks,
     Info,
     Cut,
     Compare,
@@ -63,6 +64,7 @@ fn command_named(name: &str) -> Option<Command>
         UNITS => Some(Command::Units),
         HEADERS => Some(Command::Headers),
         PIECES => Some(Command::Pieces),
+        MACROBLOCKS => Some(Command::Macroblocks),
         INFO => Some(Command::Info),
         CUT => Some(Command::Cut),
         COMPARE => Some(Command::Compare),
@@ -84,6 +86,7 @@ fn task_of(command: Command, matches: &ArgMatches<'_>, kind: FileKind) -> Option
         Command::Units => Some(telling_of(Subject::Units, matches)),
         Command::Headers => Some(telling_of(Subject::Headers, matches)),
         Command::Pieces => Some(telling_of(Subject::Pieces, matches)),
+        Command::Macroblocks => Some(telling_of(Subject::Macroblocks, matches)),
         Command::Info => Some(telling_of(Subject::Info, matches)),
         Command::Cut => {
             let number = matches.get_one::<u32>(NUMBER)?;
@@ -230,8 +233,12 @@ fn request_of<'a>(
 fn output_word<'a>(command: Command, matches: &ArgMatches<'a>) -> Option<&'a str> {
     match command {
         Command::Decode | Command::Cut => word(matches, OUTPUT),
-        Command::Units | Command::Headers | Command::Pieces | Command::Info | Command::Compare =>
-            None,
+        Command::Units
+        | Command::Headers
+        | Command::Pieces
+        | Command::Macroblocks
+        | Command::Info
+        | Command::Compare => None,
     }
 }
 
@@ -243,6 +250,7 @@ fn other_word<'a>(command: Command, matches: &ArgMatches<'a>) -> Option<&'a str>
         | Command::Units
         | Command::Headers
         | Command::Pieces
+        | Command::Macroblocks
         | Command::Info
         | Command::Cut => None,
     }
@@ -271,6 +279,7 @@ fn start_of(command: Command, matches: &ArgMatches<'_>) -> Option<u32> {
         Command::Units
         | Command::Headers
         | Command::Pieces
+        | Command::Macroblocks
         | Command::Info
         | Command::Compare
         | Command::Cut => None,
@@ -284,6 +293,7 @@ fn times_word<'a>(command: Command, matches: &ArgMatches<'a>) -> Option<&'a str>
         Command::Units
         | Command::Headers
         | Command::Pieces
+        | Command::Macroblocks
         | Command::Info
         | Command::Compare
         | Command::Cut => None,
@@ -304,13 +314,17 @@ fn manner_of(command: Command, matches: &ArgMatches<'_>) -> Manner {
             is_strict: false,
             is_explained: matches.get_flag(EXPLAIN),
         },
-        Command::Units | Command::Headers | Command::Pieces | Command::Info | Command::Cut =>
-            Manner {
-                progress: Telling::Never,
-                is_quiet: false,
-                is_strict: false,
-                is_explained: false,
-            },
+        Command::Units
+        | Command::Headers
+        | Command::Pieces
+        | Command::Macroblocks
+        | Command::Info
+        | Command::Cut => Manner {
+            progress: Telling::Never,
+            is_quiet: false,
+            is_strict: false,
+            is_explained: false,
+        },
     }
 }
 

@@ -1,0 +1,133 @@
+-- The JSON of macroblocks: an object in one line (RFC 8259) for each. The members stand in the order of their names.
+use Rattle.std.specs.Prelude.{ℕ, ℤ, List, [], ◌∷◌, map, Option, codes}
+use Rattle.serde_json.specs.Data.{Data, array, member, no_members, null, number, object, string}
+use Rattle.serde_json.specs.Find.{of_integer}
+use Rattle.serde_json.specs.View.{items_of}
+use Rattle.avc_types.specs.declared.fault.Fault.{Fault}
+use Rattle.avc_types.specs.declared.macroblock.Mvd.{Mvd}
+use Rattle.avc_types.specs.declared.macroblock.PMbType.{PMbType}
+use Rattle.avc_types.specs.declared.macroblock.PMbType.TheVariants.{P16x16, P16x8, P8x16, P8x8, P8x8Ref0}
+use Rattle.avc_types.specs.declared.macroblock.SubMbType.{SubMbType}
+use Rattle.avc_types.specs.Faults.{number_of, name_of}
+use Rattle.avc_types.specs.Macroblock.{total_coeff, Residual, MbSyntax, p_skip, i_pcm, i_nxn, i_16x16, p_inter, Mb}
+use Rattle.avc_info.specs.Json.{count, count_if_given}
+use Rattle.avc_info.specs.ListingJson.{line_of_data, refused_data}
+use Rattle.avc_macroblocks.specs.Forms.{Form}
+use Rattle.avc_macroblocks.specs.Lines.{pattern_of, sub_name, type_name}
+use Rattle.avc_macroblocks.specs.declared.place.MacroblockPlace.{MacroblockPlace}
+
+-- ---- elements, which are null or empty where a macroblock has them not
+
+-- coded_block_pattern (7.4.5)
+abbrev pub pattern_data : MbSyntax → Data
+pattern_data p_skip = null
+pattern_data (i_pcm luma cb cr) = null
+pattern_data (i_nxn modes chroma_mode r) = count (pattern_of r)
+pattern_data (i_16x16 mode chroma_mode r) = count (pattern_of r)
+pattern_data (p_inter mb_type ref_idx mvd r) = count (pattern_of r)
+
+-- intra_chroma_pred_mode (7.3.5.1)
+abbrev pub chroma_mode_data : MbSyntax → Data
+chroma_mode_data (i_nxn modes chroma_mode r) = count chroma_mode
+chroma_mode_data (i_16x16 mode chroma_mode r) = count chroma_mode
+chroma_mode_data p_skip = null
+chroma_mode_data (i_pcm luma cb cr) = null
+chroma_mode_data (p_inter mb_type ref_idx mvd r) = null
+
+-- null where prev_intra4x4_pred_mode_flag is 1, else rem_intra4x4_pred_mode (7.3.5.1)
+abbrev pub modes_data : MbSyntax → Data
+modes_data (i_nxn modes chroma_mode r) = array (items_of (map count_if_given modes))
+modes_data _ = array (items_of [])
+
+-- its horizontal and its vertical component (7.3.5.1)
+abbrev pub difference_data : Mvd → Data
+difference_data m = array (items_of (number (of_integer m.x) ∷ number (of_integer m.y) ∷ []))
+
+-- mvd_l0 of each part
+abbrev pub mvd_data : MbSyntax → Data
+mvd_data (p_inter mb_type ref_idx mvd r) = array (items_of (map difference_data mvd))
+mvd_data _ = array (items_of [])
+
+-- ref_idx_l0 of each partition
+abbrev pub ref_idx_data : MbSyntax → Data
+ref_idx_data (p_inter mb_type ref_idx mvd r) = array (items_of (map count ref_idx))
+ref_idx_data _ = array (items_of [])
+
+-- the name of sub_mb_type (Table 7-17)
+abbrev pub sub_data : SubMbType → Data
+sub_data s = string (sub_name s)
+
+-- the four of a macroblock that has them (7.3.5.2)
+abbrev pub subs_of : PMbType → List SubMbType
+subs_of (P8x8 subs) = subs
+subs_of (P8x8Ref0 subs) = subs
+subs_of _ = []
+
+-- of the four quarters
+abbrev pub subs_data : MbSyntax → Data
+subs_data (p_inter mb_type ref_idx mvd r) = array (items_of (map sub_data (subs_of mb_type)))
+subs_data _ = array (items_of [])
+
+-- total_coeff of a block (9.2.1)
+abbrev pub count_data : List ℤ → Data
+count_data levels = count (total_coeff levels)
+
+-- of the blocks of a component
+abbrev pub counts_data : List (List ℤ) → Data
+counts_data blocks = array (items_of (map count_data blocks))
+
+-- of all blocks, where that of the DC levels of luma is this
+abbrev pub total_coeff_data : (luma_dc : Data) → Residual → Data
+total_coeff_data luma_dc r =
+    object (member (codes "cb") (counts_data r.cb_ac)
+    (member (codes "cb_dc") (count_data r.cb_dc)
+    (member (codes "cr") (counts_data r.cr_ac)
+    (member (codes "cr_dc") (count_data r.cr_dc)
+    (member (codes "luma") (counts_data r.luma)
+    (member (codes "luma_dc") luma_dc no_members))))))
+
+-- of a macroblock that has some
+abbrev pub residual_data : MbSyntax → Data
+residual_data p_skip = null
+residual_data (i_pcm luma cb cr) = null
+residual_data (i_nxn modes chroma_mode r) = total_coeff_data null r
+residual_data (i_16x16 mode chroma_mode r) = total_coeff_data (count_data r.luma_dc) r
+residual_data (p_inter mb_type ref_idx mvd r) = total_coeff_data null r
+
+-- ---- lines
+
+-- a macroblock at this place: mbAddr is its address, slice the number of its slice in its picture,
+-- QPY is QP_Y
+abbrev pub macroblock_data : MacroblockPlace → Mb → Data
+macroblock_data place mb =
+    object (member (codes "QPY") (count mb.qp)
+    (member (codes "coded_block_pattern") (pattern_data mb.syntax)
+    (member (codes "intra_chroma_pred_mode") (chroma_mode_data mb.syntax)
+    (member (codes "kind") (string (codes "macroblock"))
+    (member (codes "mbAddr") (count place.address)
+    (member (codes "mb_type") (string (type_name mb.syntax))
+    (member (codes "mvd_l0") (mvd_data mb.syntax)
+    (member (codes "ref_idx_l0") (ref_idx_data mb.syntax)
+    (member (codes "rem_intra4x4_pred_mode") (modes_data mb.syntax)
+    (member (codes "slice") (count place.slice)
+    (member (codes "sub_mb_type") (subs_data mb.syntax)
+    (member (codes "total_coeff") (residual_data mb.syntax)
+    (member (codes "unit") (count place.unit) no_members)))))))))))))
+
+-- a fault in a slice, at the macroblock that comes then
+abbrev pub fault_data : MacroblockPlace → Fault → Data
+fault_data place f =
+    object (member (codes "kind") (string (codes "fault"))
+    (member (codes "mbAddr") (count place.address)
+    (member (codes "name") (string (name_of f))
+    (member (codes "number") (count (number_of f))
+    (member (codes "slice") (count place.slice)
+    (member (codes "unit") (count place.unit) no_members))))))
+
+-- the form for programs; a refusal as `headers` tells it
+abbrev pub for_programs : Form
+for_programs = record {
+  of_macroblock = λ place mb. line_of_data (macroblock_data place mb);
+  of_fault = λ place f. line_of_data (fault_data place f);
+  of_refusal = λ unit f. line_of_data (refused_data unit f);
+}

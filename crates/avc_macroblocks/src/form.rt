@@ -1,0 +1,81 @@
+//! Forms in which macroblocks are told.
+
+ghost use Rattle.std.specs.Prelude.{◌≡◌, ◌++◌, OnOk, string_bytes};
+ghost use Rattle.avc_macroblocks.specs.Forms.{Form};
+ghost use Rattle.avc_macroblocks.specs.Lines.{for_people};
+
+use crate::lines::{add_fault_line, add_macroblock_line, add_refusal_line};
+use crate::place::MacroblockPlace;
+use avc_tools::ForPeople;
+use avc_types::{Fault, Mb, OutOfMemory};
+use std::alloc::Global;
+
+/// A form in which macroblocks are told, a line for each.
+pub trait MacroblockForm {
+    /// What its lines are.
+    ghost form: { Form };
+
+    /// Adds the line of a macroblock at this place.
+    fn add_macroblock(
+        &self,
+        alloc: Global,
+        text: &mut String,
+        place: MacroblockPlace,
+        mb: &Mb,
+    ) -> Result<(), OutOfMemory>
+        ensures { OnOk result (string_bytes text.new ≡ string_bytes text.old ++ form.of_macroblock place mb.now) };
+
+    /// Adds the line of a fault in a slice, at the place where its next macroblock would stand.
+    fn add_fault(
+        &self,
+        alloc: Global,
+        text: &mut String,
+        place: MacroblockPlace,
+        fault: Fault,
+    ) -> Result<(), OutOfMemory>
+        ensures { OnOk result (string_bytes text.new ≡ string_bytes text.old ++ form.of_fault place fault) };
+
+    /// Adds the line of a unit that should bring a slice, and is refused.
+    fn add_refusal(
+        &self,
+        alloc: Global,
+        text: &mut String,
+        unit: u64,
+        fault: Fault,
+    ) -> Result<(), OutOfMemory>
+        ensures { OnOk result (string_bytes text.new ≡ string_bytes text.old ++ form.of_refusal unit fault) };
+}
+
+impl MacroblockForm for ForPeople {
+    ghost form = { for_people };
+
+    fn add_macroblock(
+        &self,
+        _alloc: Global,
+        text: &mut String,
+        place: MacroblockPlace,
+        mb: &Mb,
+    ) -> Result<(), OutOfMemory> {
+        add_macroblock_line(text, place, mb)
+    }
+
+    fn add_fault(
+        &self,
+        _alloc: Global,
+        text: &mut String,
+        place: MacroblockPlace,
+        fault: Fault,
+    ) -> Result<(), OutOfMemory> {
+        add_fault_line(text, place, fault)
+    }
+
+    fn add_refusal(
+        &self,
+        _alloc: Global,
+        text: &mut String,
+        unit: u64,
+        fault: Fault,
+    ) -> Result<(), OutOfMemory> {
+        add_refusal_line(text, unit, fault)
+    }
+}

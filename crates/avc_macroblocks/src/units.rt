@@ -1,0 +1,146 @@
+//! What each unit brings to whoever reads macroblocks.
+
+ghost use Rattle.std.specs.Prelude.{◌≡◌, ◌++◌, ◌∷◌, [], false, Option, Some, OnOk, string_bytes};
+ghost use Rattle.avc_annexb.specs.Units.{forbidden_zero_bit};
+ghost use Rattle.avc_params.specs.Tables.{sets_after};
+ghost use Rattle.avc_params.specs.Within.{IsPps, IsSps};
+ghost use Rattle.avc_slice.specs.Within.{IsHeader, IsReadUnder};
+ghost use Rattle.avc_units.specs.Grouping.{kind, list_of, rbsp_of, set_of, set_units};
+ghost use Rattle.avc_units.specs.Grouping.{pps as pps_kind, slice as slice_kind, sps as sps_kind};
+ghost use Rattle.avc_macroblocks.specs.Listing.{brought, brought_by, brought_under};
+ghost use Rattle.avc_macroblocks.specs.Pictures.{OpenPicture, sets_named};
+ghost use Rattle.avc_macroblocks.specs.Reading.{IsOpen, IsTold};
+
+use crate::form::MacroblockForm;
+use crate::picture::{Picture, picture_of};
+use crate::slices::add_slice;
+use avc_annexb::Unit;
+use avc_params::{ParamTable, Pps, Sps};
+use avc_slice::{Slice, read_header};
+use avc_types::{Fault, OutOfMemory};
+use avc_units::{UnitKind, kind_of, rbsp_of};
+use std::alloc::Global;
+
+/// The parameter sets that a slice names (7.4.1.2.1).
+#[derive(Clone, Copy)]
+struct NamedSets<'a> {
+    sps: &'a Sps,
+    pps: &'a Pps,
+}
+
+/// Those of a slice that was read under them.
+fn sets_of<'a>(table: &'a ParamTable, slice: &Slice) -> NamedSets<'a>
+    requires { IsReadUnder (sets_after table.now) slice.now.rbsp slice.now.header }
+    ensures named { sets_named (sets_after table.now) slice.now.header ≡ Some (result.pps.now, result.sps.now) }
+    ensures within { IsHeader result.sps.now result.pps.now slice.now.rbsp slice.now.header }
+    ensures sps { IsSps result.sps.now }
+    ensures pps { IsPps result.pps.now }
+{
+    let Some(pps) = table.pps(slice.header.pic_parameter_set_id) else {
+        unreachable!()
+    };
+    let Some(sps) = table.sps(pps.seq_parameter_set_id) else {
+        unreachable!()
+    };
+    NamedSets { sps, pps }
+}
+
+/// Adds the lines of a slice, and keeps what the picture's next slice asks for.
+fn add_read_slice<F: MacroblockForm>(
+    alloc: Global,
+    form: &F,
+    text: &mut String,
+    table: &ParamTable,
+    kept: &mut Option<Picture>,
+    slice: &Slice,
+) -> Result<(), OutOfMemory>
+    requires { IsReadUnder (sets_after table.now) slice.now.rbsp slice.now.header }
+    ensures { OnOk result ((p : Option OpenPicture) → IsOpen p kept.old
+        → IsTold F.form slice.now.unit p (brought_under (sets_after table.now) p slice.now) kept.new (string_bytes text.old) (string_bytes text.new)) }
+{
+    let sets = sets_of(table, slice);
+    let mut picture = picture_of(alloc, kept.take(), sets.sps, &slice.header)?;
+    add_slice(alloc, form, text, &mut picture, sets.pps, slice)?;
+    *kept = Some(picture);
+    Ok(())
+}
+
+/// Adds the lines of a slice's unit; `idr` says that its type is 5.
+fn add_slice_unit<F: MacroblockForm>(
+    alloc: Global,
+    form: &F,
+    text: &mut String,
+    table: &ParamTable,
+    kept: &mut Option<Picture>,
+    unit: &Unit,
+    idr: bool,
+) -> Result<(), OutOfMemory>
+    ensures { OnOk result ((p : Option OpenPicture) → IsOpen p kept.old
+        → IsTold F.form unit.now.index p (brought_by (sets_after table.now) p unit.now (slice_kind idr)) kept.new (string_bytes text.old) (string_bytes text.new)) }
+{
+    match rbsp_of(alloc, unit)? {
+        Some(rbsp) => match read_header(unit.header, rbsp.as_slice(), table) {
+            Ok(header) => {
+                let slice = Slice {
+                    unit: unit.index,
+                    header,
+                    rbsp,
+                };
+                add_read_slice(alloc, form, text, table, kept, &slice)
+            }
+            Err(fault) => form.add_refusal(alloc, text, unit.index, fault),
+        },
+        None => form.add_refusal(alloc, text, unit.index, Fault::NalTooLong),
+    }
+}
+
+/// Takes the unit of a sequence parameter set.
+fn put_sps(alloc: Global, table: &mut ParamTable, unit: &Unit) -> Result<(), OutOfMemory>
+    ensures { OnOk result (table.new ≡ table.old ++ list_of (set_of sps_kind (rbsp_of unit.now))) }
+{
+    match rbsp_of(alloc, unit)? {
+        Some(rbsp) => {
+            table.put_sps(rbsp.as_slice())?;
+            Ok(())
+        }
+        None => Ok(()),
+    }
+}
+
+/// Takes the unit of a picture parameter set.
+fn put_pps(alloc: Global, table: &mut ParamTable, unit: &Unit) -> Result<(), OutOfMemory>
+    ensures { OnOk result (table.new ≡ table.old ++ list_of (set_of pps_kind (rbsp_of unit.now))) }
+{
+    match rbsp_of(alloc, unit)? {
+        Some(rbsp) => {
+            table.put_pps(rbsp.as_slice())?;
+            Ok(())
+        }
+        None => Ok(()),
+    }
+}
+
+/// Adds the lines of a unit, and keeps its parameter set.
+pub(crate) fn add_unit<F: MacroblockForm>(
+    alloc: Global,
+    form: &F,
+    text: &mut String,
+    table: &mut ParamTable,
+    kept: &mut Option<Picture>,
+    unit: &Unit,
+) -> Result<(), OutOfMemory>
+    ensures told { OnOk result ((p : Option OpenPicture) → IsOpen p kept.old
+        → IsTold F.form unit.now.index p (brought (sets_after table.old) p unit.now) kept.new (string_bytes text.old) (string_bytes text.new)) }
+    ensures sets { OnOk result (table.new ≡ table.old ++ set_units (unit.now ∷ [])) }
+{
+    if unit.header >= 128 {
+        return form.add_refusal(alloc, text, unit.index, Fault::ForbiddenBit);
+    }
+    match kind_of(unit.header) {
+        UnitKind::Slice { idr } => add_slice_unit(alloc, form, text, table, kept, unit, idr),
+        UnitKind::Partition => form.add_refusal(alloc, text, unit.index, Fault::DataPartition),
+        UnitKind::Sps => put_sps(alloc, table, unit),
+        UnitKind::Pps => put_pps(alloc, table, unit),
+        UnitKind::Boundary | UnitKind::Other => Ok(()),
+    }
+}
