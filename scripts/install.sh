@@ -47,7 +47,7 @@ aarch64-unknown-linux-gnu)
     ;;
 esac
 work=$(mktemp -d)
-trap 'hush; put_back; rm -rf "$work"' EXIT
+trap 'hush; rm -rf "$work"' EXIT
 trap 'exit 130' INT TERM
 
 # the version that the header tells
@@ -62,54 +62,29 @@ is_old() {
     [ ! -e "$1" ] || [ -n "$(find "$top/crates.txt" "$top"/crates/*/src "$top"/crates/*/specs "$top"/crates/*/proofs -newer "$1" -print | head -n 1)" ]
 }
 
-# rt writes what it builds for each target and level to one file: that of x86-64-v2 is put aside while another is built, which has a file of
-# its own
-built=$top/crates/avc_c/out/libavc_c.a
+# build_if_old FILE WORDS..: the file is proved and built with these words of prove.py
+build_if_old() {
+    file=$1
+    shift
+    if is_old "$file"; then "$top/scripts/prove.py" "$@" >&2; fi
+}
+
+out=$top/crates/avc_c/out
 program=$top/crates/avc_cli/out/avc_cli
-put_back() {
-    for file in "$built" "$program"; do
-        if [ -e "$work/aside/${file##*/}" ]; then mv -f "$work/aside/${file##*/}" "$file"; fi
-    done
-}
-
-# built_beside FILE OTHER COMMAND..: what the command builds in place of FILE is moved to OTHER
-built_beside() {
-    own=$1
-    other=$2
-    shift 2
-    mkdir -p "$work/aside" "$(dirname "$other")"
-    if [ -e "$own" ]; then mv "$own" "$work/aside"; fi
-    (cd "$(dirname "$own")/.." && "$@") && mv -f "$own" "$other" && touch "$other" || return 1
-    put_back
-}
-
-# proves and builds the library for this machine
-build() {
-    "$top/scripts/prove.py" avc_c >&2
-    touch "$built"
-}
-
-library=$built
-[ "$target" = x86_64-unknown-linux-gnu ] || library=$top/crates/avc_c/out/$target/libavc_c.a
-say "to $to"
-if [ -z "${LIBRARY_ONLY:-}" ]; then
-    "$top/avcdec" --help >/dev/null
-fi
-if is_old "$library"; then
-    if is_old "$built"; then build; fi
-    if [ "$library" != "$built" ]; then
-        during "the library is proved and built for $target" built_beside "$built" "$library" rt lib --target "$target"
-    fi
-fi
-library_v3=$top/crates/avc_c/out/x86-64-v3/libavc_c.a
+library_v3=$out/x86-64-v3/libavc_c.a
 program_v3=$top/crates/avc_cli/out/x86-64-v3/avc_cli
+say "to $to"
+if [ -z "${LIBRARY_ONLY:-}" ]; then "$top/avcdec" --help >/dev/null; fi
+if [ "$target" = x86_64-unknown-linux-gnu ]; then
+    library=$out/libavc_c.a
+    build_if_old "$library" avc_c
+else
+    library=$out/$target/libavc_c.a
+    build_if_old "$library" --target "$target" avc_c
+fi
 if [ -n "${X86_64_V3:-}" ]; then
-    if is_old "$library_v3"; then
-        during 'the library is built for x86-64-v3' built_beside "$built" "$library_v3" rt lib --cpu x86-64-v3
-    fi
-    if [ -z "${LIBRARY_ONLY:-}" ] && is_old "$program_v3"; then
-        during 'the program is built for x86-64-v3' built_beside "$program" "$program_v3" rt run --cpu x86-64-v3 -- --help
-    fi
+    build_if_old "$library_v3" --cpu x86-64-v3 avc_c
+    if [ -z "${LIBRARY_ONLY:-}" ]; then build_if_old "$program_v3" --cpu x86-64-v3 avc_cli; fi
 fi
 "$cc" -O2 -fPIC -Wall -Wextra -I "$top/include" -c "$top/bindings/c/heap.c" -o "$work/heap.o"
 

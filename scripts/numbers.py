@@ -26,8 +26,9 @@ def read(name):
 
 def minutes(jobs):
     """How long the program's first start takes where nothing is proved, by the plan."""
-    _, times = prove.seconds()
-    return f"{prove.Proofs(['avc_cli'], prove.crates(), times, jobs).left():.0f}"
+    proofs = prove.proofs_of(prove.Kit(), prove.Crates(), ["avc_cli"])
+    proofs.jobs = jobs
+    return f"{proofs.left():.0f}"
 
 
 def constant(name):
@@ -49,7 +50,7 @@ def facts():
     return [
         ("README.md", r"(The first start takes )\d+( minutes)", minutes(4)),
         ("README.md", r"(minutes\s+on\s+four\s+processors\s+and\s+)\d+(\s+on\s+two)", minutes(2)),
-        ("README.md", r"(`rt\s+version`\s+)rattle-kit-\w+\s+logic\s+\w+(\))", prove.seconds()[0]),
+        ("README.md", r"(`rt\s+version`\s+)rattle-kit-\w+\s+logic\s+\w+(\))", prove.Kit().proved_with),
         ("README.md", r"(a\s+picture\s+at\s+most\s+)[\d,]+(\s+macroblocks)", constant("MAX_MACROBLOCKS")),
         ("README.md", r"(a\s+unit\s+at\s+most\s+)[\d,]+(\s+bytes)", constant("MAX_UNIT")),
         ("docs/speed.md", r"(The program has )[\d,]+( bytes)", size_of_program()),

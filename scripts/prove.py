@@ -1,15 +1,17 @@
 #!/usr/bin/env python3
-"""prove.py [--tests] CRATE..: proves the crates named and all that they stand on, and builds them: a program, or a library, or with --tests
-the program of their tests, which is run.
+"""prove.py [--tests] [--cpu LEVEL | --target TRIPLE] [--toolchain FOLDER] [--to FOLDER] CRATE..: proves the crates named and all that they
+stand on, and builds them: a program, a static library, or with --tests the program of their tests. With --cpu it is built for that level of
+x86-64, with --target for that machine; it goes to out/LEVEL/ or out/TRIPLE/ in the crate's folder, else to out/, or to the folder of --to.
+With --toolchain the compiler's parts are taken from there.
 
-Crates that don't stand on each other are proved side by side, as many as memory holds, and first those with the longest way of others
-behind them. A proof has one processor: its parts on several ones would each read all that it stands on, which takes longer but for the
-crate at the bottom, for which all others wait. A second proof can't go on in the folders of one repository, so each has a copy of the
-sources in a folder of its own; the toolchain lets a copy take what another one has proved. What was proved before is not proved again,
-also after an interrupt. Every half minute a line on standard error says what is being proved, and how long is left by the times of
-scripts/proof-times.txt.
+Crates that don't stand on each other are proved side by side, one a processor as far as memory holds, and first those with the longest way of
+others behind them. What a crate has proved is kept for those above it as statements alone, which are read sooner than proofs; a crate for
+which all others wait gets the processors that nobody else has. The toolchain's compiler is called for each as `rt lib` calls it.
+What was proved before is not proved again, also after an interrupt. Every half minute a line on standard error says what is being proved, and
+how long is left by the times of scripts/proof-times.txt.
 
---plan shows the order and how long it takes, and proves nothing."""
+--plan shows the order and how long it takes, and proves nothing. --times writes what each crate's proof took, for that list."""
+import argparse
 import hashlib
 import os
 import shutil
@@ -23,6 +25,7 @@ PARTS = ("src", "specs", "proofs")
 GIB = 1 << 30
 NEED = 3 * GIB  # the memory of one proof
 EVERY = 30  # seconds from one line to the next
+UNKNOWN = 60  # the seconds of a proof that the list of times doesn't have
 
 
 def say(text):
@@ -34,42 +37,8 @@ def lines_of(name):
         return [line for line in (line.split("#")[0].strip() for line in file) if line]
 
 
-def crates():
-    """The crates with those of the repository that each stands on."""
-    listed = {head.split()[0]: rest.split() for head, rest in (line.split(":") for line in lines_of("crates.txt"))}
-    return {name: [it for it in below if it in listed] for name, below in listed.items()}
-
-
-def seconds():
-    """How long the proof of each crate took on a processor without other work, and the toolchain that was used."""
-    rows = [line.split(":") for line in lines_of("scripts/proof-times.txt")]
-    times = {name: rest.strip() for name, rest in rows}
-    return times.pop("toolchain"), {name: int(it) for name, it in times.items()}
-
-
-def wanted_by(names, below):
-    """These crates and all that they stand on."""
-    found, left = set(), list(names)
-    while left:
-        name = left.pop()
-        if name not in found:
-            found.add(name)
-            left += below[name]
-    return found
-
-
-def ways(wanted, below, times):
-    """For each crate the longest way up from it, in seconds."""
-    way = {}
-
-    def of(name):
-        if name not in way:
-            way[name] = times.get(name, 60) + max([of(it) for it in wanted if name in below[it]], default=0)
-        return way[name]
-
-    for name in wanted:
-        of(name)
-    return way
+def told_by(*words):
+    return subprocess.run(words, capture_output=True, text=True, check=False).stdout.strip()
 
 
 def free_memory():
@@ -77,214 +46,293 @@ def free_memory():
         return next(1024 * int(line.split()[1]) for line in file if line.startswith("MemAvailable:"))
 
 
-def toolchain(proved_with):
-    """Says at once where there is none, or another one."""
-    if shutil.which("rt") is None:
-        say("the toolchain Rattle is not there: no `rt` on the path. It proves and builds the decoder. Whoever only wants to decode takes")
-        say("a release made by scripts/package.sh, which needs none.")
-        sys.exit(69)
-    here = subprocess.run(["rt", "version"], capture_output=True, text=True, check=False).stdout.strip()
-    if here != proved_with:
-        say(f"the toolchain here is '{here}', and the decoder was proved with '{proved_with}'. That is tried.")
+class Crates:
+    """The crates of the repository, with what each stands on."""
 
+    def __init__(self):
+        self.lines = {line.split(":")[0].split()[0]: line for line in lines_of("crates.txt")}
+        self.uses = {name: line.split(":")[1].split() for name, line in self.lines.items()}
 
-def kept_is_shared():
-    """Whether the toolchain can keep what a copy has proved for the others: its folder is there and this user's, or can be made."""
-    doc = subprocess.run(["rt", "doc"], capture_output=True, text=True, check=False).stdout.strip()
-    kit = os.path.dirname(doc)
-    kept = f"{os.path.dirname(kit)}/rattle-kept"
-    if os.path.isdir(kept):
-        return os.lstat(kept).st_uid == os.geteuid()
-    return os.access(os.path.dirname(kit), os.W_OK)
+    def below(self, name):
+        return [it for it in self.uses[name] if it in self.lines]
 
+    def with_below(self, names):
+        """These crates and all that they stand on, each behind those below it."""
+        found = []
 
-class Copy:
-    """A copy of the sources, in which one proof goes on at a time. Where it stands already, only what differs is copied."""
+        def add(name):
+            for it in self.below(name):
+                add(it)
+            if name not in found:
+                found.append(name)
 
-    def __init__(self, at):
-        self.at = at
-        os.makedirs(at, exist_ok=True)
-        # without it, and without .git, the toolchain looks further up for the repository's top
-        for name in ("crates.txt", "HANDLES"):
-            self.copy(f"{TOP}/{name}", f"{at}/{name}")
-        for crate in os.listdir(f"{TOP}/crates"):
-            for part in PARTS:
-                self.mirror(f"{TOP}/crates/{crate}/{part}", f"{at}/crates/{crate}/{part}")
-
-    def copy(self, source, target):
-        with open(source, "rb") as file:
-            text = file.read()
-        if os.path.isfile(target):
-            with open(target, "rb") as file:
-                if file.read() == text:
-                    return
-        with open(target, "wb") as file:
-            file.write(text)
-
-    def mirror(self, source, target):
-        if not os.path.isdir(source):
-            shutil.rmtree(target, ignore_errors=True)
-            return
-        os.makedirs(target, exist_ok=True)
-        names = set(os.listdir(source))
-        for name in set(os.listdir(target)) - names:
-            path = f"{target}/{name}"
-            if os.path.isdir(path):
-                shutil.rmtree(path)
-            else:
-                os.remove(path)
         for name in names:
-            if os.path.isdir(f"{source}/{name}"):
-                self.mirror(f"{source}/{name}", f"{target}/{name}")
-            else:
-                self.copy(f"{source}/{name}", f"{target}/{name}")
+            add(name)
+        return found
+
+    def is_program(self, name):
+        return os.path.isfile(f"{TOP}/crates/{name}/src/main.rt")
+
+    def is_static(self, name):
+        return "staticlib" in self.lines[name].split(":")[0].split()
+
+
+class Kit:
+    """The toolchain. Says at once where there is none, or another than the decoder was proved with."""
+
+    def __init__(self):
+        rows = [line.split(":") for line in lines_of("scripts/proof-times.txt")]
+        times = {name: rest.strip() for name, rest in rows}
+        self.proved_with = times.pop("toolchain")
+        # how long the proof of each crate takes on one processor, in seconds
+        self.seconds = {name: int(it) for name, it in times.items()}
+
+    def look(self):
+        if shutil.which("rt") is None:
+            say("the toolchain Rattle is not there: no `rt` on the path. It proves and builds the decoder. Whoever only wants to decode takes")
+            say("a release made by scripts/package.sh, which needs none.")
+            sys.exit(69)
+        self.version = told_by("rt", "version")
+        self.at = os.path.dirname(told_by("rt", "doc"))
+        if self.version != self.proved_with:
+            say(f"the toolchain here is '{self.version}', and the decoder was proved with '{self.proved_with}'. That is tried.")
+
+
+class Room:
+    """Where the libraries are that were proved, beside other caches of this user: each as its statements, and a file that says of what."""
+
+    def __init__(self, kit, crates):
+        cache = os.environ.get("XDG_CACHE_HOME") or os.path.expanduser("~/.cache")
+        self.at = f"{cache}/avcdec/{hashlib.sha256(TOP.encode()).hexdigest()[:16]}"
+        self.kit, self.crates, self.sums = kit, crates, {}
+        # the processor seconds of each crate that was proved
+        self.used = {}
+
+    def library(self, name):
+        return f"{self.at}/{name}.rlib"
+
+    def sum_of(self, name):
+        """Of all that the crate's proof reads: the toolchain, its line and its sources, and those below."""
+        if name not in self.sums:
+            found = hashlib.sha256(repr((self.kit.version, self.crates.lines[name])).encode())
+            for part in PARTS:
+                for at, folders, files in os.walk(f"{TOP}/crates/{name}/{part}"):
+                    folders.sort()
+                    for file in sorted(files):
+                        with open(f"{at}/{file}", "rb") as it:
+                            found.update(repr((os.path.relpath(f"{at}/{file}", TOP), it.read())).encode())
+            found.update(repr([self.sum_of(it) for it in self.crates.below(name)]).encode())
+            self.sums[name] = found.hexdigest()
+        return self.sums[name]
+
+    def has(self, name):
+        try:
+            with open(f"{self.library(name)}/../{name}.proved", encoding="utf-8") as file:
+                return file.read() == self.sum_of(name)
+        except OSError:
+            return False
+
+    def words(self, name):
+        """What the compiler wants to know of a crate."""
+        root = "src/main.rt" if self.crates.is_program(name) else "src/lib.rt"
+        words = ["--crate-name", name, root, "--extern", f"std={self.kit.at}/rlibs/std.rlib"]
+        for it in self.crates.uses[name]:
+            words += ["--extern", f"{it}={self.library(it) if it in self.crates.lines else f'{self.kit.at}/rlibs/{it}.rlib'}"]
+        words += ["-L", f"dependency={self.kit.at}/rlibs", "-L", f"dependency={self.at}", "--links", f"{name}="]
+        return words + ["--antt-project", f"{self.kit.at}/rattle/logic/antt-project.json", "--logic-built", f"{self.kit.at}/logic_built"]
+
+    def call(self, name, words, log):
+        words = [f"{self.kit.at}/bin/rattle", "build", *self.words(name), *words]
+        how = {"cwd": f"{TOP}/crates/{name}", "stdin": subprocess.DEVNULL, "stdout": log, "stderr": log}
+        run = subprocess.Popen(words, **how)
+        _, status, used = os.wait4(run.pid, 0)
+        run.returncode = os.waitstatus_to_exitcode(status)
+        self.used[name] = used.ru_utime + used.ru_stime
+        return run.returncode
+
+    def prove(self, name, jobs):
+        """Proves a library and keeps its statements."""
+        mark = f"{self.at}/{name}.proved"
+        shutil.rmtree(self.library(name), ignore_errors=True)
+        if os.path.lexists(mark):
+            os.remove(mark)
+        sum_before = self.sum_of(name)
+        with open(f"{self.at}/{name}.log", "w", encoding="utf-8") as log:
+            status = self.call(name, ["--statements", "--jobs", str(jobs), "-o", self.library(name)], log)
+        if status == 0:
+            with open(mark, "w", encoding="utf-8") as file:
+                file.write(sum_before)
+        return status
+
+    def fail(self, name):
+        with open(f"{self.at}/{name}.log", encoding="utf-8") as log:
+            sys.stderr.write(log.read())
+        say(f"{name} could not be proved; see above")
+        sys.exit(70)
 
 
 class Proofs:
-    def __init__(self, names, below, times, jobs):
-        everything = wanted_by(names, below)
-        # what is named is proved where it is built
-        self.wanted, self.last = everything - set(names), sum(times.get(it, 60) for it in names)
-        self.below, self.times, self.jobs = below, times, jobs
-        self.way = ways(everything, below, times)
-        self.done, self.failed, self.running = set(), {}, {}
-        self.change = threading.Condition()
-        self.started = time.time()
+    """The libraries that are still to be proved, in their order."""
+
+    def __init__(self, room, wanted, last):
+        self.room, self.crates, self.seconds = room, room.crates, room.kit.seconds
+        self.wanted, self.last = wanted, sum(self.needs(it) for it in last)
+        self.everything = [*wanted, *last]
+        self.done, self.failed, self.running = set(), None, {}
+        self.change, self.started = threading.Condition(), time.time()
+        self.jobs = len(os.sched_getaffinity(0))
+
+    def needs(self, name):
+        return self.seconds.get(name, UNKNOWN)
+
+    def way(self, name):
+        """The longest way from a crate to the end, in seconds."""
+        above = [it for it in self.everything if name in self.crates.below(it)]
+        return self.needs(name) + max((self.way(it) for it in above), default=0)
 
     def next(self):
-        """The crate that is proved next, or nothing where all is done or a proof failed. Waits while none is ready."""
+        """The crate that is proved next, and by how many processors; or nothing where all is done or a proof failed. Waits while none is ready."""
         with self.change:
             while True:
-                left = self.wanted - self.done - set(self.running)
+                left = [it for it in self.wanted if it not in self.done and it not in self.running]
                 if self.failed or not left:
                     return None
-                ready = [it for it in left if all(low in self.done for low in self.below[it])]
+                ready = [it for it in left if all(low in self.done for low in self.crates.below(it))]
                 if ready and (not self.running or free_memory() > NEED):
-                    name = max(ready, key=lambda it: (self.way[it], it))
+                    name = max(ready, key=lambda it: (self.way(it), it))
+                    idle = self.jobs - len(self.running)
                     self.running[name] = time.time()
-                    return name, self.processors_for(name)
+                    return name, max(1, idle // len(ready))
                 self.change.wait(5)
 
-    def processors_for(self, name):
-        """Those that nobody else has, for a crate that stands on no other."""
-        return 1 if self.below[name] else max(1, self.jobs - len(self.running) + 1)
-
-    def ended(self, name, log, status):
-        with self.change:
-            del self.running[name]
-            if status == 0:
-                self.done.add(name)
-            else:
-                self.failed[name] = log
-            self.change.notify_all()
-
-    def left(self):
-        """How long it takes still, in minutes: the longest way, or all work by the processors, at the pace so far."""
-        now = time.time()
-        so_far = {name: min(now - since, self.times.get(name, 60)) for name, since in self.running.items()}
-        left = self.wanted - self.done
-        work = sum(self.times.get(it, 60) for it in left) - sum(so_far.values())
-        way = max((self.way[it] - so_far.get(it, 0) for it in left), default=self.last)
-        return max(way, work / self.jobs + self.last) / 60
-
-    def work(self, at):
+    def work(self):
         while (chosen := self.next()) is not None:
             name, jobs = chosen
-            with open(f"{at}/{name}.log", "w", encoding="utf-8") as log:
-                verb = ["rt", "lib", "--jobs", str(jobs)]
-                run = subprocess.run(verb, cwd=f"{at}/crates/{name}", stdin=subprocess.DEVNULL, stdout=log, stderr=log, check=False)
-            self.ended(name, f"{at}/{name}.log", run.returncode)
-
-    def tell(self, ends):
-        while not ends.wait(EVERY):
+            status = 0 if self.room.has(name) else self.room.prove(name, jobs)
             with self.change:
-                names = ", ".join(sorted(self.running))
-                minutes = (time.time() - self.started) / 60
-                say(f"{len(self.done)} of {len(self.wanted)} crates proved after {minutes:.0f} min, about {self.left():.0f} min left; now {names}")
+                del self.running[name]
+                if status == 0:
+                    self.done.add(name)
+                else:
+                    self.failed = name
+                self.change.notify_all()
 
-    def run(self, room):
-        ends = threading.Event()
-        teller = threading.Thread(target=self.tell, args=(ends,), daemon=True)
-        teller.start()
-        copies = [Copy(f"{room}/{number}") for number in range(self.jobs)]
-        workers = [threading.Thread(target=self.work, args=(copy.at,)) for copy in copies]
-        for it in workers:
-            it.start()
-        for it in workers:
-            it.join()
-        ends.set()
-        for name, log in self.failed.items():
-            with open(log, encoding="utf-8") as file:
-                sys.stderr.write(file.read())
-            say(f"{name} could not be proved; see above")
+    def left(self):
+        """In minutes: the longest way, or all work by the processors, and what is proved where it is built."""
+        now = time.time()
+        so_far = {name: min(now - since, self.needs(name)) for name, since in self.running.items()}
+        left = [it for it in self.wanted if it not in self.done]
+        work = sum(self.needs(it) for it in left) - sum(so_far.values())
+        way = max((self.way(it) - so_far.get(it, 0) for it in left), default=self.last)
+        return max(way, work / self.jobs + self.last) / 60
 
+    def tell(self):
+        with self.change:
+            names = ", ".join(sorted(self.running))
+            minutes = (time.time() - self.started) / 60
+            say(f"{len(self.done)} of {len(self.wanted)} crates proved after {minutes:.0f} min, about {self.left():.0f} min left; now {names}")
 
-def verb_of(name, jobs, tests):
-    """One command proves and builds: a check before it would prove the crate twice."""
-    if tests:
-        return ["rt", "test"]
-    if os.path.isfile(f"{TOP}/crates/{name}/src/main.rt"):
-        return ["rt", "run", "--jobs", str(jobs), "--", "--help"]
-    return ["rt", "lib", "--jobs", str(jobs)]
-
-
-def build(names, jobs, tests, times):
-    """Proves and builds what was named in the repository itself, which takes what the copies have proved."""
-    for name in names:
-        verb = verb_of(name, jobs, tests)
-        started = time.time()
-        ends = threading.Event()
-
-        def tell(name=name, started=started, ends=ends):
-            whole = f" of about {times[name] / 60:.0f} min" if name in times else ""
-            while not ends.wait(EVERY):
-                say(f"{name}{', its tests,' if tests else ''} is proved and built, for {(time.time() - started) / 60:.1f}{whole}")
-
-        threading.Thread(target=tell, daemon=True).start()
-        run = subprocess.run(verb, cwd=f"{TOP}/crates/{name}", stdin=subprocess.DEVNULL, capture_output=True, text=True, check=False)
-        ends.set()
-        if run.returncode != 0:
-            sys.stderr.write(run.stdout + run.stderr)
-            say(f"{name} could not be built; see above")
-            sys.exit(70)
+    def run(self):
+        workers = [threading.Thread(target=self.work) for _ in range(self.jobs)]
+        with Spoken(self.tell):
+            for it in workers:
+                it.start()
+            for it in workers:
+                it.join()
+        if self.failed:
+            self.room.fail(self.failed)
 
 
-def main(names):
-    plan, tests = "--plan" in names, "--tests" in names
-    names = [it for it in names if it not in ("--plan", "--tests")]
-    below = crates()
-    if not names or any(it not in below for it in names):
-        print(__doc__, file=sys.stderr)
-        sys.exit(2)
-    proved_with, times = seconds()
-    processors, memory = len(os.sched_getaffinity(0)), free_memory()
-    jobs = max(1, min(processors, memory // NEED))
-    proofs = Proofs(names, below, times, jobs)
-    if plan:
-        for name in sorted(proofs.way, key=lambda it: -proofs.way[it]):
-            print(f"{proofs.way[name]:6} s from the end: {name}")
-        print(f"about {proofs.left():.0f} min by {jobs} at a time")
+class Spoken:
+    """A line every half minute while something goes on."""
+
+    def __init__(self, tell):
+        self.ends, self.tell = threading.Event(), tell
+
+    def __enter__(self):
+        threading.Thread(target=self.speak, daemon=True).start()
+
+    def speak(self):
+        while not self.ends.wait(EVERY):
+            self.tell()
+
+    def __exit__(self, *_):
+        self.ends.set()
+
+
+def build(room, name, given, jobs):
+    """Has the compiler prove the crate that was named and build it, in the crate's own folder."""
+    level = given.cpu or given.target
+    is_linked = room.crates.is_program(name) or given.tests
+    out = os.path.abspath(given.to) if given.to else f"{TOP}/crates/{name}/out{f'/{level}' if level else ''}"
+    made = f"{out}/{name}{'_tests' if given.tests else ''}" if is_linked else f"{out}/lib{name}.a"
+    flags = [f"--cpu={given.cpu}"] if given.cpu else ["--target", given.target] if given.target else []
+    flags += ["--test"] if given.tests else ["--crate-type", "staticlib"] if room.crates.is_static(name) else []
+    os.makedirs(out, exist_ok=True)
+    started, whole = time.time(), f" of about {room.kit.seconds.get(name, UNKNOWN) / 60:.0f}"
+    with Spoken(lambda: say(f"{name} is proved and built, for {(time.time() - started) / 60:.1f}{whole} min")):
+        with open(f"{room.at}/{name}.log", "w", encoding="utf-8") as log:
+            toolchain = ["--toolchain", given.toolchain or f"{room.kit.at}/toolchain"]
+            status = room.call(name, [*flags, *toolchain, "--backend", "llvm", "--jobs", str(jobs), "-o", f"{made}.o" if is_linked else made], log)
+            status = status or (link(room.kit, made, log) if is_linked else 0)
+    if status:
+        room.fail(name)
+
+
+def link(kit, program, log):
+    words = [f"{kit.at}/bin/rattle-link", "--target", "x86_64-unknown-linux-gnu", "--toolchain", f"{kit.at}/toolchain", "-o", program, f"{program}.o"]
+    words += [f"{kit.at}/c/libos_c.a", f"{kit.at}/c/liblibc_c.a"]
+    status = subprocess.run(words, stdin=subprocess.DEVNULL, stdout=log, stderr=log, check=False).returncode
+    os.remove(f"{program}.o")
+    return status
+
+
+def proofs_of(kit, crates, names):
+    """What is named is proved where it is built, and all below it before."""
+    return Proofs(Room(kit, crates), [it for it in crates.with_below(names) if it not in names], names)
+
+
+def words_given():
+    given = argparse.ArgumentParser(description=__doc__, formatter_class=argparse.RawDescriptionHelpFormatter)
+    given.add_argument("--tests", action="store_true")
+    given.add_argument("--plan", action="store_true")
+    given.add_argument("--times", action="store_true")
+    given.add_argument("--cpu")
+    given.add_argument("--target")
+    given.add_argument("--toolchain")
+    given.add_argument("--to")
+    given.add_argument("crate", nargs="+")
+    return given.parse_args()
+
+
+def main():
+    given, crates, kit = words_given(), Crates(), Kit()
+    unknown = [it for it in given.crate if it not in crates.lines]
+    if unknown:
+        sys.exit(f"prove.py: no such crate: {unknown[0]}")
+    proofs = proofs_of(kit, crates, given.crate)
+    room = proofs.room
+    if given.plan:
+        for name in sorted(proofs.everything, key=proofs.way, reverse=True):
+            print(f"{proofs.way(name):6} s from the end: {name}")
+        print(f"about {proofs.left():.0f} min by {proofs.jobs} at a time")
         return
-    toolchain(proved_with)
-    if jobs < processors:
-        say(f"{memory / GIB:.0f} GiB of memory are free and a proof takes up to 3: {jobs} at a time; with more memory free it is faster.")
-    if not kept_is_shared():
-        jobs = 1
-        say("the toolchain's folder belongs to another user, so one crate is proved at a time.")
-    proofs.jobs = jobs
-    say(f"{len(proofs.way)} crates are proved first, {jobs} at a time: about {proofs.left():.0f} min where nothing is proved yet.")
+    kit.look()
+    os.makedirs(room.at, exist_ok=True)
+    processors = proofs.jobs
+    proofs.jobs = max(1, min(processors, free_memory() // NEED))
+    if proofs.jobs < processors:
+        say(f"{free_memory() / GIB:.0f} GiB of memory are free and a proof takes up to 3: {proofs.jobs} at a time; with more it is faster.")
+    say(f"{len(proofs.everything)} crates are proved, {proofs.jobs} at a time: about {proofs.left():.0f} min where nothing is proved yet.")
     say("Where this is interrupted, the next start goes on from there.")
-    if jobs > 1:
-        cache = os.environ.get("XDG_CACHE_HOME") or os.path.expanduser("~/.cache")
-        room = f"{cache}/avcdec/{hashlib.sha256(TOP.encode()).hexdigest()[:16]}"
-        proofs.run(room)
-        if proofs.failed:
-            sys.exit(70)
-        build(names, jobs, tests, times)
-        shutil.rmtree(room, ignore_errors=True)
-    else:
-        build(names, 1, tests, times)
+    proofs.run()
+    for name in given.crate:
+        build(room, name, given, proofs.jobs)
+    if given.times:
+        sys.stdout.writelines(f"{name}: {seconds:.0f}\n" for name, seconds in room.used.items())
+    elapsed, worked = time.time() - proofs.started, sum(room.used.values())
+    say(f"proved and built after {elapsed / 60:.1f} min, {worked / 60:.0f} min of processors: {worked / elapsed:.1f} were busy on average.")
 
 
 if __name__ == "__main__":
-    main(sys.argv[1:])
+    main()
