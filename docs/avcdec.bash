@@ -20,12 +20,12 @@ _avcdec_options() {
     decode) echo '--early --format -f --verify --from --skip -s --limit -l --frametimes --progress --quiet -q --strict --explain --output -o --help -h' ;;
     cut) echo '--output -o --help -h' ;;
     compare) echo '--max-diff --explain --help -h' ;;
-    units | headers | pieces | info) echo '--json --help -h' ;;
+    units | headers | pieces | macroblocks | info) echo '--json --help -h' ;;
     esac
 }
 
 _avcdec() {
-    local commands='decode units headers pieces info cut compare help'
+    local commands='decode units headers pieces macroblocks info cut compare help'
     COMPREPLY=()
     if [ "$COMP_CWORD" -eq 1 ]; then
         _avcdec_words "$commands --help -h --version -V"
