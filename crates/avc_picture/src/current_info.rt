@@ -5,6 +5,7 @@ ghost use Rattle.avc_types.specs.Macroblock.{p_skip};
 ghost use Rattle.avc_types.specs.References.{result_map};
 ghost use Rattle.avc_neigh.specs.Around.{info_of};
 ghost use Rattle.avc_motion.specs.Motion.{AreOfOneMotion, HasMotion, has_one_motion};
+ghost use Rattle.avc_motion.specs.Motion.{still_blocks};
 ghost use Rattle.avc_picture.specs.MacroblockInfo.{HasRems, IsNeighbourInfo, still_info};
 
 use crate::info_for_neighbours::set_neighbour_info;
@@ -49,7 +50,8 @@ impl Model for CurrentInfo {
     ghost invariant = { λ c. c.is_still ≡ true → c.info ≡ still_info c.info.slice };
 }
 
-fn is_skipped(mb: &Mb) -> bool
+/// Whether a macroblock is skipped.
+pub(crate) fn is_skipped(mb: &Mb) -> bool
     ensures { result ≡ true → mb.now.syntax ≡ p_skip }
 {
     match &mb.syntax {
@@ -73,6 +75,13 @@ impl CurrentInfo {
         ensures { result.now ≡ self.now }
     {
         &self.info
+    }
+
+    /// Whether it is that of a skipped macroblock that stands still.
+    pub(crate) fn is_still(&self) -> bool
+        ensures { result ≡ true → self.now.motion ≡ still_blocks }
+    {
+        self.is_still
     }
 
     /// That of a skipped macroblock of this slice that stands still. Where it is that already

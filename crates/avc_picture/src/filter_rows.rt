@@ -1,6 +1,6 @@
 //! The deblocking filter one row late, and what it asks of the last rows of macroblocks (8.7).
 
-ghost use Rattle.std.specs.Prelude.{◌≡◌, ℕ, suc, ◌+◌, ◌-◌, ◌/◌, ◌^◌, ◌<◌, true, [], length, IfOk};
+ghost use Rattle.std.specs.Prelude.{◌≡◌, ℕ, suc, ◌+◌, ◌-◌, ◌/◌, ◌%◌, ◌^◌, ◌<◌, true, [], length, IfOk};
 ghost use Rattle.avc_types.specs.Pictures.{Coded};
 ghost use Rattle.avc_plane.specs.Frames.{planes_of, AreSized};
 ghost use Rattle.avc_deblock.specs.FilterInfo.{Names};
@@ -139,7 +139,7 @@ impl FilterRows {
     }
 
     /// Filters the row above that of the macroblock that comes next, where this is the last of its
-    /// row and is built.
+    /// row and is built. Inside a row nothing is done.
     pub(crate) fn filter_late<const PAD: usize>(
         &self,
         planes: &mut Planes<PAD>,
@@ -150,6 +150,7 @@ impl FilterRows {
         ensures lines { (c : Coded) (names : Names) → AreInfoOf c names chroma_qp_index_offset self.now
             → FiltersUpTo c (filtered_rows self.now.width (length self.now.info))
             (filtered_rows self.now.width (suc (length self.now.info))) (planes_of planes.old) (planes_of planes.new) }
+        ensures inside { 0 < suc (length self.now.info) % self.now.width → planes_of planes.new ≡ planes_of planes.old }
     {
         if self.column + 1 == self.width {
             self.filter_last_row(planes, chroma_qp_index_offset);

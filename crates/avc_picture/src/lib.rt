@@ -13,6 +13,7 @@ mod memory;
 mod reference_places;
 mod slice_context;
 mod slice_decoding;
+mod still_run;
 
 pub use decoder::PictureDecoder;
 pub use memory::PictureMemory;

@@ -19,11 +19,13 @@ ghost use Rattle.avc_picture.specs.FirstMbs.{HasSameSize, HasSets, HoldsFirst, I
 ghost use Rattle.avc_picture.specs.MacroblockInfo.{IsRead};
 ghost use Rattle.avc_picture.specs.Memory.{with_info, HasMemoryFor, LeavesAll};
 ghost use Rattle.avc_picture.specs.RowLate.{covering_address, row_late};
+ghost use Rattle.avc_picture.specs.StillRuns.{AreCopiedFrom};
 
 use crate::current_info::CurrentInfo;
 use crate::filter_rows::FilterRows;
 use crate::memory::{FactRows, PictureMemory};
 use crate::slice_context::SliceContext;
+use crate::still_run::StillRun;
 use avc_neigh::{NeighbourInfo, Neighbours, Row, TotalCoeffs};
 use avc_params::{Pps, Sps};
 use avc_picture_core::{Canvas, ReferencePicture, Sources};
@@ -154,19 +156,23 @@ impl<const PAD: usize> Macroblocks<PAD> {
     /// `RefMissing` where a block has no reference picture, `IntraUnavailable` where an intra
     /// prediction has not the samples that it needs: the first of these. After a fault nothing more
     /// is to be asked of the macroblocks. Anything may stand in `info`, which is where what its
-    /// neighbours are told is written.
+    /// neighbours are told is written. `run`
+    /// has macroblocks that were copied ahead.
     #[tactic(auto, using(crate::proofs::Slices::asked, crate::proofs::Slices::late_room, crate::proofs::Slices::row_below))]
     pub(crate) fn decode(
         &mut self,
         mb: &Mb,
         slice: &SliceContext<'_, PAD>,
         info: &mut CurrentInfo,
+        run: &mut StillRun,
     ) -> Result<(), Fault>
         requires room { self.old.next < self.old.canvas.width * self.old.canvas.height }
         requires mb { IsRead mb.now }
         requires references { AreUsable self.old.canvas.width self.old.canvas.height slice.now.references }
+        requires copied { AreCopiedFrom slice.now.references self.old.canvas.width self.old.next run.old.copied self.old.canvas.planes }
         ensures size { HasSameSize self.old self.new }
         ensures next { OnOk result (self.new.next ≡ suc self.old.next) }
+        ensures copied { OnOk result (AreCopiedFrom slice.now.references self.new.canvas.width self.new.next run.new.copied self.new.canvas.planes) }
         ensures decoded { (c : Coded) (names : Names) → HoldsFirst c names self.old
             → slice_get c.mbs self.old.next ≡ Some (record { slice = slice.now.number; mb = mb.now })
             → IsSlice c names slice.now → IsDecoded c names self.old.next result self.new }
@@ -178,10 +184,9 @@ impl<const PAD: usize> Macroblocks<PAD> {
             &sources.neighbours,
             self.canvas.constrained_intra_pred,
         )?;
-        let info = info.info();
         let place = self.filter_rows.place();
-        self.canvas
-            .build(&mut self.planes, place, mb, info, &sources)?;
+        run.build(&self.canvas, &mut self.planes, place, mb, info, &sources)?;
+        let info = info.info();
         self.filter_rows
             .filter_late(&mut self.planes, self.canvas.chroma_qp_index_offset);
         self.filter_rows.put(mb, &info.motion, slice);

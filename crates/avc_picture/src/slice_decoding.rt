@@ -22,12 +22,14 @@ ghost use Rattle.avc_picture.specs.DecoderState.{IsDataAnswer, IsDataOf, IsDecod
 ghost use Rattle.avc_picture.specs.DecoderState.{IsWellSomewhere, outcome_from};
 ghost use Rattle.avc_picture.specs.FirstMbs.{HasSameSize, HoldsFirst};
 ghost use Rattle.avc_picture.specs.Slices.{data_of, start_of};
+ghost use Rattle.avc_picture.specs.StillRuns.{AreCopiedFrom};
 
 use crate::current_info::CurrentInfo;
 use crate::header_checks::check_address;
 use crate::macroblocks::Macroblocks;
 use crate::reference_places::{Places, reference_places};
 use crate::slice_context::SliceContext;
+use crate::still_run::StillRun;
 use avc_bits::BitReader;
 use avc_mbsyntax::SliceData;
 use avc_params::{Pps, Sps};
@@ -87,7 +89,7 @@ fn next_macroblock<const PAD: usize>(
 
 /// Decodes the macroblocks of a slice, and counts in `read` those that are read, a faulty one
 /// included. Answers the first fault. Anything may stand in `mb`, which is where they are read, and
-/// in `info`, which is where the info of each is written.
+/// in `info`, which is where the info of each is written. `run` has those that were copied ahead.
 fn decode_data<const PAD: usize>(
     unread: &mut SliceData<'_>,
     context: &SliceContext<'_, PAD>,
@@ -95,9 +97,11 @@ fn decode_data<const PAD: usize>(
     read: &mut u32,
     mb: &mut Mb,
     info: &mut CurrentInfo,
+    run: &mut StillRun,
 ) -> Result<(), Fault>
     requires some { CanGoOn macroblocks.old unread.old context.now }
     requires usable { AreUsable macroblocks.old.canvas.width macroblocks.old.canvas.height context.now.references }
+    requires copied { AreCopiedFrom context.now.references macroblocks.old.canvas.width macroblocks.old.next run.old.copied macroblocks.old.canvas.planes }
     requires read { macroblocks.old.next ≡ read.old }
     requires within { read.old ≤ macroblocks.old.canvas.width * macroblocks.old.canvas.height }
     requires small { macroblocks.old.canvas.width * macroblocks.old.canvas.height ≤ max_macroblocks }
@@ -108,7 +112,7 @@ fn decode_data<const PAD: usize>(
 {
     'macroblocks: while next_macroblock(unread, macroblocks, context.number, mb)? {
         *read += 1;
-        macroblocks.decode(mb, context, info)?;
+        macroblocks.decode(mb, context, info, run)?;
     }
     Ok(())
 }
@@ -141,9 +145,10 @@ fn decode_macroblocks<const PAD: usize>(
 {
     let context = SliceContext::new(number, header, frames, places);
     let mut info = CurrentInfo::new();
+    let mut run = StillRun::new();
     *read += 1;
-    macroblocks.decode(mb, &context, &mut info)?;
-    decode_data(unread, &context, macroblocks, read, mb, &mut info)
+    macroblocks.decode(mb, &context, &mut info, &mut run)?;
+    decode_data(unread, &context, macroblocks, read, mb, &mut info, &mut run)
 }
 
 /// Decodes slice `number` of a picture, of which `read` macroblocks have been read. Answers the

@@ -1,2 +1,3 @@
 pub mod InterTiles
 mod LevelRows
+pub mod StillMacroblocks

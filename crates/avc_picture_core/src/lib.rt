@@ -15,8 +15,10 @@ mod places;
 mod residual;
 mod shape;
 mod sides;
+mod still;
 
 pub use canvas::{Canvas, Sources};
 pub use inter::ReferencePicture;
 pub use places::MbPlace;
 pub use sides::ReadableNeighbours;
+pub use still::{build_in_place, copy_run};

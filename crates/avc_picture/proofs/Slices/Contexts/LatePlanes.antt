@@ -5,7 +5,7 @@ unfoldable pub use Neighbourhoods.*
 -- ---- what holds of the three planes, by component
 
 module _ (w h : ℕ) where
-  sized_in : (s : Planes) → IsSized w h s → (k : ℕ) → HasSize (size_of k * w) (size_of k * h) (component s k)
+  pub sized_in : (s : Planes) → IsSized w h s → (k : ℕ) → HasSize (size_of k * w) (size_of k * h) (component s k)
   sized_in s sized zero = sized.luma
   sized_in s sized (suc zero) = sized.cb
   sized_in s sized (suc (suc k)) = sized.cr
@@ -17,19 +17,19 @@ module _ (w h : ℕ) where
   sized_with (suc zero) g s sized changed = record { luma = sized.luma; cb = changed; cr = sized.cr }
   sized_with (suc (suc k)) g s sized changed = record { luma = sized.luma; cb = sized.cb; cr = changed }
 
-  agree_in : (n : ℕ) (s t : Planes) → AgreeBefore w h n s t
+  pub agree_in : (n : ℕ) (s t : Planes) → AgreeBefore w h n s t
       → (k : ℕ) → Agree (size_of k * w) (size_of k * h) (λ x y. address_at (size_of k) w x y < n) (component s k) (component t k)
   agree_in n s t agree zero = agree.luma
   agree_in n s t agree (suc zero) = agree.cb
   agree_in n s t agree (suc (suc k)) = agree.cr
 
-some_size : (k : ℕ) → 0 < size_of k
+pub some_size : (k : ℕ) → 0 < size_of k
 some_size zero = omega arith
 some_size (suc k) = omega arith
 
 -- ---- building and filtering keep the sizes of planes: a plane
 
-with_block_sized : (w h : ℕ) (s : Plane) (left top width height : ℕ) (f : ℕ → ℕ → ℕ) → HasSize w h s → HasSize w h (with_block s left top width height f)
+pub with_block_sized : (w h : ℕ) (s : Plane) (left top width height : ℕ) (f : ℕ → ℕ → ℕ) → HasSize w h s → HasSize w h (with_block s left top width height f)
 with_block_sized w h s left top width height f size =
     let changed : ℕ → ℕ → ℕ = λ x y. if is_inside left top width height x y then f (x - left) (y - top) else sample s x y in
     record { columns = size.columns; rows = size.rows; all = length-plane_of s.width s.height changed ∙ ap (λ a. a * s.height) size.columns ∙ ap (λ b. w * b) size.rows }
@@ -284,7 +284,7 @@ module _ (offset : ℤ) (row : ℕ) (above info : List MbInfo) (w h : ℕ) (wide
   abbrev size : ℕ → ℕ
   size k = 16 / luma_per_sample k
 
-  same_below : (s : Planes) → IsSized w h s → (k : ℕ) → AgreeFrom (size k * row + size k) (component s k) (component (filter_by_info s) k)
+  pub same_below : (s : Planes) → IsSized w h s → (k : ℕ) → AgreeFrom (size k * row + size k) (component s k) (component (filter_by_info s) k)
   same_below s sized zero = agree_below (16 * row - 3) (16 * row + 16) s.luma (filter_by_info s).luma (changes s sized).luma (has_row s sized).full.luma
   same_below s sized (suc zero) = agree_below (8 * row - 1) (8 * row + 8) s.cb (filter_by_info s).cb (changes s sized).cb (has_row s sized).full.cb
   same_below s sized (suc (suc k)) = agree_below (8 * row - 1) (8 * row + 8) s.cr (filter_by_info s).cr (changes s sized).cr (has_row s sized).full.cr
@@ -474,15 +474,16 @@ module _ (c : Coded) (names : Names) (offset : ℤ) (f : FilterInfo) (of : AreIn
         cr = agree_then 8 f.width h row n (omega arith) next (omega arith) so_far.cr reads.cr a_changes.cr b_changes.cr;
       })
 
-first_built_sized : (c : Coded) (s : Planes) (n : ℕ) → IsSized c.width c.height s → IsSized c.width c.height (first_built c s n)
+pub first_built_sized : (c : Coded) (s : Planes) (n : ℕ) → IsSized c.width c.height s → IsSized c.width c.height (first_built c s n)
 first_built_sized c s n sized = built_on_sized c.width c.height c (modes_before c n) (motion_before c n) 0 s (take n c.mbs) sized
 
 -- ---- a sample
 
 module _ {c : Coded} {names : Names} {m : MbsState} (holds : HoldsFirst c names m) (kept : PartsAgree m) where
-  pub sample_late : (k x y : ℕ) → x < size_of k * m.canvas.width → y < size_of k * m.canvas.height → covering_address m.canvas.width k x y < m.next
-      → samples_of m.canvas.planes k x y ≡ samples_of (row_late c (empty_planes c.width c.height) m.next) k x y
-  sample_late k x y column row less =
+  -- of macroblocks that are decoded, whatever planes they were decoded in
+  pub late_anyhow : (s : Planes) → IsSized c.width c.height s → (k x y : ℕ) → x < size_of k * c.width → y < size_of k * c.height
+      → covering_address c.width k x y < m.next → samples_of (row_late c s m.next) k x y ≡ samples_of (row_late c (empty_planes c.width c.height) m.next) k x y
+  late_anyhow s sized k x y column row less =
       let n = m.next in
       let w = c.width in
       let h = c.height in
@@ -490,10 +491,10 @@ module _ {c : Coded} {names : Names} {m : MbsState} (holds : HoldsFirst c names 
       let within : n ≤ w * h = rw (holds.width, holds.height) at kept.within in
       let empty = empty_planes w h in
       let long : length (take n c.mbs) ≡ n = length-take-le n c.mbs holds.within in
-      let none = none_agree w h holds.begun empty holds.begun_sized (empty_sized w h) in
-      let built : AgreeBefore w h n (first_built c holds.begun n) (first_built c empty n) =
-      subst (λ v. AgreeBefore w h v (first_built c holds.begun n) (first_built c empty n)) (omega arith)
-      (built_agrees c wide (modes_before c n) (motion_before c n) 0 holds.begun empty (take n c.mbs) (omega arith) none) in
+      let none = none_agree w h s empty sized (empty_sized w h) in
+      let built : AgreeBefore w h n (first_built c s n) (first_built c empty n) =
+      subst (λ v. AgreeBefore w h v (first_built c s n) (first_built c empty n)) (omega arith)
+      (built_agrees c wide (modes_before c n) (motion_before c n) 0 s empty (take n c.mbs) (omega arith) none) in
       let told : FilterInfo = record { width = w; info = m.filter_info } in
       let of : AreInfoOf c names c.chroma_qp_index_offset told = record { width_is = refl; offset_is = refl; info_are = holds.filter } in
       let rows = filtered_rows w n in
@@ -501,9 +502,14 @@ module _ {c : Coded} {names : Names} {m : MbsState} (holds : HoldsFirst c names 
       let below : (row : ℕ) → row < rows → row * w + w ≤ n =
       λ row low. let next : (row + 1) * w ≤ (n / w) * w = mul-le-mul_right w (omega arith) in omega (arith, add-mul row 1 w, div-mul-le_self n w) in
       let late = rows_agree c names c.chroma_qp_index_offset told of h n (omega arith) rows (omega arith) below
-      (first_built c holds.begun n) (first_built c empty n) (first_built_sized c holds.begun n holds.begun_sized) (first_built_sized c empty n (empty_sized w h)) built in
+      (first_built c s n) (first_built c empty n) (first_built_sized c s n sized) (first_built_sized c empty n (empty_sized w h)) built in
+      (agree_in w h n (row_late c s n) (row_late c empty n) late k).samples x y column row less
+
+  pub sample_late : (k x y : ℕ) → x < size_of k * m.canvas.width → y < size_of k * m.canvas.height → covering_address m.canvas.width k x y < m.next
+      → samples_of m.canvas.planes k x y ≡ samples_of (row_late c (empty_planes c.width c.height) m.next) k x y
+  sample_late k x y column row less =
       ap (λ s. samples_of s k x y) holds.built
-      ∙ (agree_in w h n (row_late c holds.begun n) (row_late c empty n) late k).samples x y (rw holds.width at column) (rw holds.height at row) (rw holds.width at less)
+      ∙ late_anyhow holds.begun holds.begun_sized k x y (rw holds.width at column) (rw holds.height at row) (rw holds.width at less)
 
 -- ---- the plane of a component
 

@@ -1,5 +1,6 @@
 use Rattle.avc_picture.proofs.Slices.{◌≡◌, Err, arith, rules, usable-pictures, answers-further, ends-badly, from-here, same-area, usable-still}
 use Rattle.avc_picture.proofs.Slices.{faulty, goes-on-from, is-read, room}
+use Rattle.avc_picture.proofs.StillRuns.{none_copied}
 use Rattle.avc_picture.proofs.slice_decoding.decode_macroblocks.Goals as goal
 
 pub decode-requires : goal.decode-requires
@@ -11,7 +12,7 @@ decode-requires g c =
     let go = h.goes_on context knows in
     let usable =
     usable-pictures m.canvas.width m.canvas.height c.args.frames.now c.args.header.now c.requires.frames c.requires.weights c.args.places.now context.references knows.full knows.pictures in
-    (omega arith, (omega arith, (room go h.first, (is-read go h.first, usable))))
+    (omega arith, (omega arith, (room go h.first, (is-read go h.first, (usable, none_copied context.references m.canvas.width m.next c.new-run.result.copied m.canvas.planes c.new-run.ensures)))))
 
 pub returns-in_err-decode-clause-answer : goal.returns-in_err-decode-clause-answer
 returns-in_err-decode-clause-answer g c = λ coded names s d h.
@@ -34,7 +35,7 @@ decode_data-requires g c =
     let far = goes-on-from go h.first c.decode.new.self done.next (done.decoded w.coded w.names) in
     let usable = usable-still _ done.size
     (usable-pictures m.canvas.width m.canvas.height c.args.frames.now c.args.header.now c.requires.frames c.requires.weights c.args.places.now context.references knows.full knows.pictures) in
-    (omega arith, (omega arith, (record { coded = w.coded; names = w.names; start = w.start; goes_on = far.goes_on }, (usable, (omega (arith, done.next, c.requires.read), (omega (arith, inside, area, c.requires.read), omega (arith, area, c.requires.small)))))))
+    (omega arith, (omega arith, (record { coded = w.coded; names = w.names; start = w.start; goes_on = far.goes_on }, (usable, (done.copied, (omega (arith, done.next, c.requires.read), (omega (arith, inside, area, c.requires.read), omega (arith, area, c.requires.small))))))))
 
 pub returns-clause-answer : goal.returns-clause-answer
 returns-clause-answer g c = λ coded names s d h.

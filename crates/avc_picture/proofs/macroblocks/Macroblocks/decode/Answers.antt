@@ -2,6 +2,9 @@ use Rattle.avc_picture.proofs.Slices.{Err, suc, ◌≡◌, ◌∙◌, ◌<◌, �
 use Rattle.avc_picture.proofs.Slices.{FilterInfo, FiltersUpTo, filtered_rows, state_of, with_planes, kept_more, modes_above, modes_left, build_fault, decoded_more}
 use Rattle.avc_picture.proofs.Slices.{vector_fault}
 use Rattle.avc_picture_core.specs.Canvas.{address_of}
+use Rattle.avc_picture.proofs.Slices.{arith, AreUsable, in_range_of, row_below}
+use Rattle.avc_picture.specs.StillRuns.{AreCopiedFrom}
+use Rattle.avc_picture.proofs.StillRuns.{copied_here, copied_next, holds_again, kept_again}
 use Rattle.avc_picture.proofs.macroblocks.Macroblocks.decode.Goals as goal
 
 pub returns-in_err-set-clause-decoded : goal.returns-in_err-set-clause-decoded
@@ -14,11 +17,14 @@ pub returns-in_err-build-clause-decoded : goal.returns-in_err-build-clause-decod
 returns-in_err-build-clause-decoded g c = rw (← c.self.view_is) (λ coded names holds is slice.
     let f = c.in_err-build.field-0.0 in
     let e : c.from_residual-in_err-build.result ≡ Err f = search rules in
-    let told = rw (← c.info-info.ensures) at c.in_ok-set.ensures in
+    let told = c.in_ok-set.ensures in
     let w = c.self.invariant in
     let here = ap (λ v. address_of v c.place-place.result) (sym w.filter_width) ∙ c.place-place.ensures.address ∙ w.kept.filter_count in
-    rw e (build_fault holds c.self.invariant.kept slice is (c.sources-sources.ensures.neighbours ∙ c.around.ensures) c.info-info.result.now told.motion told.told
-    c.sources-sources.ensures.references f (with_planes c.self.inside.canvas (planes_of c.build.new.planes)) (rw here at c.in_err-build.ensures.built)))
+    let ahead = rw here at c.in_err-build.ensures.built in
+    let held = holds_again holds w.kept ahead.between ahead.earlier in
+    let agree = kept_again holds w.kept ahead.between ahead.earlier in
+    rw e (build_fault held agree slice is (c.sources-sources.ensures.neighbours ∙ c.around.ensures) _ told.motion told.told
+    c.sources-sources.ensures.references f (with_planes c.self.inside.canvas (planes_of c.build.new.planes)) ahead.built))
 
 pub invariant_of-self-2 : goal.invariant_of-self-2
 invariant_of-self-2 g c =
@@ -53,7 +59,66 @@ returns-clause-decoded g c = rw (← c.self.view_is) (λ coded names holds is sl
     record { width_is = sym width; offset_is = sym holds.offset ∙ sym same; info_are = holds.filter } in
     let filters : FiltersUpTo coded (filtered_rows coded.width i.next) (filtered_rows coded.width (suc i.next)) (planes_of c.build.new.planes) after =
     rw (width, w.kept.filter_count) at (c.filter_late.ensures.lines coded names of) in
-    let more = decoded_more holds w.kept slice is (c.sources-sources.ensures.neighbours ∙ c.around.ensures) c.info-info.result.now told.motion
+    let ahead = rw (← c.info-info.ensures, here) at c.in_ok-build.ensures.built in
+    let held = holds_again holds w.kept ahead.between ahead.earlier in
+    let agree = kept_again holds w.kept ahead.between ahead.earlier in
+    let more = decoded_more held agree slice is (c.sources-sources.ensures.neighbours ∙ c.around.ensures) c.info-info.result.now told.motion
     told.told c.sources-sources.ensures.references (with_planes i.canvas (planes_of c.build.new.planes))
-    c.in_ok-build.field-0 (rw here at c.in_ok-build.ensures.built) c.put.ensures.blocks adds.info adds.told room after filters in
+    c.in_ok-build.field-0 ahead.built c.put.ensures.blocks adds.info adds.told room after filters in
     (more.0, rw (adds.new_is, c.put-2.ensures, add-one) more.1))
+
+pub returns-clause-copied : goal.returns-clause-copied
+returns-clause-copied g c =
+    let i = c.self.inside in
+    let w = c.self.invariant in
+    let here = ap (λ v. address_of v c.place-place.result) (sym w.filter_width) ∙ c.place-place.ensures.address ∙ w.kept.filter_count in
+    copied_next c.args.slice.now.references i.canvas.width c.place-place.result.column c.place-place.result.row i.next c.build.new.self.copied
+    (planes_of c.build.new.planes) (planes_of c.filter_late.new.planes) here (rw (w.filter_width, w.kept.filter_count) at c.filter_late.ensures.inside)
+    (rw (c.sources-sources.ensures.references) at c.in_ok-build.ensures.copied)
+
+pub build-requires : goal.build-requires
+build-requires g c =
+    let i = c.self.inside in
+    let w = c.self.invariant in
+    let place = c.place-place.result in
+    let n_is = sym (c.sources-sources.ensures.neighbours ∙ c.around.ensures) in
+    let told = c.in_ok-set.ensures in
+    let here = ap (λ v. address_of v place) (sym w.filter_width) ∙ c.place-place.ensures.address ∙ w.kept.filter_count in
+    let room : i.next < i.canvas.width * i.canvas.height = rw (← c.self.view_is) at c.requires.room in
+    let narrow : place.column < i.canvas.width = rw w.filter_width at c.place-place.ensures.column in
+    let modes = told.told.in_range
+    (subst (λ (n : Around). HasModes n.a) n_is (modes_left i.row c.args.slice.now.number w.kept.modes))
+    (subst (λ (n : Around). HasModes n.b) n_is (modes_above i.row c.args.slice.now.number w.kept.modes)) in
+    let usable : AreUsable i.canvas.width i.canvas.height c.args.slice.now.references = rw (← c.self.view_is) at c.requires.references in
+    let copied : AreCopiedFrom c.args.slice.now.references i.canvas.width i.next c.args.run.now.copied (planes_of i.planes) = rw (← c.self.view_is) at c.requires.copied in
+    rw (c.sources-sources.ensures.references) (
+      omega arith,
+      (
+        omega arith,
+        (
+          narrow,
+          (
+            row_below i.canvas.width i.canvas.height place.column place.row i.next here room,
+            (
+              w.sized,
+              (
+                in_range_of c.requires.mb.num_ref_idx_active c.args.mb.now.syntax c.requires.mb.syntax,
+                (
+                  c.requires.mb.quantiser,
+                  (
+                    modes,
+                    (
+                      told.one,
+                      (
+                        usable,
+                        copied_here c.args.slice.now.references i.canvas.width place.column place.row i.next c.args.run.now.copied (planes_of i.planes) narrow here copied,
+                      ),
+                    ),
+                  ),
+                ),
+              ),
+            ),
+          ),
+        ),
+      ),
+    )

@@ -1,0 +1,174 @@
+-- Rectangles that are copied row by row, and skipped macroblocks whose samples are there already.
+use Rattle.avc_picture_core.proofs.InterTiles.{ℕ, pos, ◌≡◌, ◌+◌, ◌-◌, ◌*◌, ◌<◌, ◌≤◌, ◌∙◌, List, length, None, Ok, Option, refl, sym, ap, arith, ints, nat_tests, ◌/◌}
+use Rattle.avc_picture_core.proofs.InterTiles.{if◌then◌else◌, slice_index, subst, is_some, nat_abs, inter_luma, inter_chroma, Mb, p_skip, MbSyntax}
+use Rattle.avc_picture_core.proofs.InterTiles.{Plane, Planes, sample, sample-with_block, plane_of_same, is_inside, with_block, with_block_same, block_of_its_own, padded_planes_of}
+use Rattle.avc_picture_core.proofs.InterTiles.{part_unweighted, pictures_shown, all_as_first, all_predicted, whole_is, one_shape, usable_in, inter, planes_skip, canvas_built, Place, NeighbourInfo}
+use Rattle.avc_picture_core.proofs.InterTiles.{MacroblocksAround, chroma_qp}
+use Rattle.std.proofs.lemmas.List.{get_or-take, get_or-drop}
+use Rattle.std.proofs.Math.Nat.{add-mul, mul-le-mul_right}
+use Rattle.avc_plane.proofs.PlaneMaps.{stride_wide}
+use Rattle.avc_plane.specs.Padded.{IsSurrounded, stride_of}
+use Rattle.std.specs.Prelude.{take, drop, ◌-ℤ◌, ◌+ℤ◌, true}
+use Rattle.avc_types.specs.Arithmetic.{clip3}
+use Rattle.avc_motion.specs.Motion.{still_blocks, zero_vector}
+use Rattle.avc_plane.specs.Frames.{AreSized}
+use Rattle.avc_picture_core.specs.Built.{size_of}
+use Rattle.avc_picture_core.specs.Canvas.{CanvasState, IsBuilt, IsPlaceOn}
+use Rattle.avc_picture_core.specs.Inter.{CoverMacroblock, predicted_from, with_part, have_pictures, IsMacroblockShape}
+use Rattle.avc_picture_core.specs.declared.shape.Shape.TheVariants.{Whole}
+use Rattle.avc_picture_core.specs.Places.{IsAt}
+use Rattle.avc_picture_core.specs.References.{AreUsable}
+use Rattle.avc_picture_core.specs.Sides.{readable_near}
+use Rattle.avc_picture_core.specs.Still.{AreInPlace, AreSameIn, IsSameIn, with_rectangle_of}
+use Rattle.avc_picture_core.specs.declared.inter.ReferencePicture.{ReferencePicture}
+
+-- ---- a rectangle that is copied row by row
+
+-- the place of a sample among the padded rows, held inside the plane
+held_back : (pad n x : ℕ) → x < n → nat_abs (clip3 (pos 0) (pos n -ℤ pos 1) (pos (x + pad) -ℤ pos pad)) ≡ x
+held_back pad n x low = grind (arith, ints, nat_tests)
+
+module _ (pad : ℕ) (from : Plane) (rows : List ℕ) (all : IsSurrounded pad from rows) (left y width start stride : ℕ) (columns : left + width ≤ from.width) (row : y < from.height)
+    (is_first : start ≡ (y + pad) * stride + (left + pad)) (is_stride : stride ≡ stride_of pad from.width) where
+  wide : from.width + 2 * pad ≤ stride
+  wide = omega (arith, stride_wide pad from.width, is_stride)
+
+  -- a part of a row lies in the padded rows
+  pub line_fits : start + width ≤ length rows
+  line_fits =
+      let below : (y + pad + 1) * stride ≤ (from.height + 2 * pad) * stride = mul-le-mul_right stride (omega (arith, row)) in
+      let long : length rows ≡ (from.height + 2 * pad) * stride = all.long ∙ ap (λ n. (from.height + 2 * pad) * n) (sym is_stride) in
+      omega (arith, below, long, wide, columns, is_first, add-mul (y + pad) 1 stride)
+
+  -- and has the samples of the row
+  pub line_samples : (line : List ℕ) → line ≡ take (start + width - start) (drop start rows) → (x : ℕ) → x < width → slice_index line x ≡ sample from (left + x) y
+  line_samples line is x low =
+      rw is (
+      get_or-take (start + width - start) (drop start rows) x 0 (omega (arith, low))
+      ∙ get_or-drop start rows x 0
+      ∙ ap (slice_index rows) (omega (arith, is_first))
+      ∙ ap (λ n. slice_index rows ((y + pad) * n + (left + x + pad))) is_stride
+      ∙ all.near (left + x + pad) (y + pad) (omega (arith, wide, is_stride, low, columns)) (omega (arith, row))
+      ∙ rw (held_back pad from.width (left + x) (omega (arith, low, columns)), held_back pad from.height y row) refl
+      )
+
+-- no row
+pub no_row : (p from : Plane) (left top width : ℕ) → length p.samples ≡ p.width * p.height → p ≡ with_rectangle_of from left top width 0 p
+no_row p from left top width long = block_of_its_own p left top width 0 (λ x y. sample from (left + x) (top + y)) long (λ x y a b c d. absurd (omega (arith, b)))
+
+-- one row more
+module _ (p from : Plane) (left top width count : ℕ) where
+  abbrev so_far : Plane
+  so_far = with_rectangle_of from left top width count p
+
+  abbrev by_row : ℕ → ℕ → ℕ
+  by_row x y = if is_inside left (top + count) width 1 x y then sample from (left + (x - left)) (top + count + (y - (top + count))) else sample so_far x y
+
+  abbrev by_all : ℕ → ℕ → ℕ
+  by_all x y = if is_inside left top width (count + 1) x y then sample from (left + (x - left)) (top + (y - top)) else sample p x y
+
+  each_row : (x y : ℕ) → x < p.width → y < p.height → by_row x y ≡ by_all x y
+  each_row x y column row = grind (arith, nat_tests, sample-with_block)
+
+  first_line : (line : List ℕ) → ((x : ℕ) → x < width → slice_index line x ≡ sample from (left + x) (top + count))
+      → (x y : ℕ) → x < width → y < 1 → slice_index line (width * y + x) ≡ sample from (left + x) (top + count + y)
+  first_line line same x y low one =
+      let none : y ≡ 0 = omega (arith, one) in
+      rw none (ap (slice_index line) (omega arith) ∙ same x low ∙ ap (sample from (left + x)) (omega arith))
+
+  pub row_more : (line : List ℕ) → ((x : ℕ) → x < width → slice_index line x ≡ sample from (left + x) (top + count))
+      → with_block so_far left (top + count) width 1 (λ x y. slice_index line (width * y + x)) ≡ with_rectangle_of from left top width (count + 1) p
+  row_more line same =
+      with_block_same so_far left (top + count) width 1 (λ x y. slice_index line (width * y + x)) (λ x y. sample from (left + x) (top + count + y)) (first_line line same)
+      ∙ plane_of_same p.width p.height by_row by_all each_row
+
+-- ---- the prediction by a vector of 0 (8.4.2.2.1, 8.4.2.2.2)
+
+held : (n x : ℕ) → x < n → nat_abs (clip3 (pos 0) (pos n -ℤ pos 1) (pos x +ℤ pos 0)) ≡ x
+held n x low = grind (arith, ints, nat_tests)
+
+still_luma : (w h : ℕ) (f : ℕ → ℕ → ℕ) (x y : ℕ) → x < w → y < h → inter_luma w h f zero_vector x y ≡ f x y
+still_luma w h f x y column row = rw (held w x column, held h y row) refl
+
+whole_of : (a b c d : ℕ) → ((8 - 0) * (8 - 0) * a + 0 * (8 - 0) * b + (8 - 0) * 0 * c + 0 * 0 * d + 32) / 64 ≡ a
+whole_of a b c d = omega arith
+
+still_chroma : (w h : ℕ) (f : ℕ → ℕ → ℕ) (x y : ℕ) → x < w → y < h → inter_chroma w h f zero_vector x y ≡ f x y
+still_chroma w h f x y column row = whole_of _ _ _ _ ∙ rw (held w x column, held h y row) refl
+
+-- ---- a macroblock whose samples are there already
+
+module _ {PAD : ℕ} (picture : ReferencePicture PAD) (column row : ℕ) (s : Planes) (none : picture.weights ≡ None)
+    (same : AreSameIn column row 1 (padded_planes_of picture.planes.now) s) (room : CoverMacroblock column row (padded_planes_of picture.planes.now))
+    (l : length s.luma.samples ≡ s.luma.width * s.luma.height) (b : length s.cb.samples ≡ s.cb.width * s.cb.height)
+    (r : length s.cr.samples ≡ s.cr.width * s.cr.height) where
+  abbrev from_luma : ℕ → ℕ → ℕ
+  from_luma x y =
+      inter_luma picture.planes.now.luma.width picture.planes.now.luma.height (sample picture.planes.now.luma) zero_vector (16 * column + 0 + x) (16 * row + 0 + y)
+
+  abbrev from_chroma : Plane → ℕ → ℕ → ℕ
+  from_chroma t x y = inter_chroma t.width t.height (sample t) zero_vector (8 * column + 0 + x) (8 * row + 0 + y)
+
+  luma_same : (x y : ℕ) → x < 16 → y < 16 → from_luma x y ≡ sample s.luma (16 * column + 0 + x) (16 * row + 0 + y)
+  luma_same x y low high =
+      still_luma picture.planes.now.luma.width picture.planes.now.luma.height (sample picture.planes.now.luma) (16 * column + 0 + x) (16 * row + 0 + y)
+      (omega (arith, low, room.luma_columns)) (omega (arith, high, room.luma_rows))
+      ∙ sym (same.luma (16 * column + 0 + x) (16 * row + 0 + y) (omega arith) (omega (arith, low)) (omega arith) (omega (arith, high)))
+
+  chroma_same : (t u : Plane) → 8 * column + 8 ≤ t.width → 8 * row + 8 ≤ t.height → IsSameIn (8 * column) (8 * row) (8 * 1) 8 t u
+      → (x y : ℕ) → x < 8 → y < 8 → from_chroma t x y ≡ sample u (8 * column + 0 + x) (8 * row + 0 + y)
+  chroma_same t u columns rows here x y low high =
+      still_chroma t.width t.height (sample t) (8 * column + 0 + x) (8 * row + 0 + y) (omega (arith, low, columns)) (omega (arith, high, rows))
+      ∙ sym (here (8 * column + 0 + x) (8 * row + 0 + y) (omega arith) (omega (arith, low)) (omega arith) (omega (arith, high)))
+
+  pub predicted_in_place : s ≡ with_part column row 0 0 16 16 (λ k x y. predicted_from picture zero_vector k (size_of k * column + x) (size_of k * row + y)) s
+  predicted_in_place =
+      part_unweighted picture zero_vector column row 0 0 16 16 8 8 s s refl refl none
+      (block_of_its_own s.luma (16 * column + 0) (16 * row + 0) 16 16 from_luma l (λ x y low high _ _. luma_same x y low high))
+      (block_of_its_own s.cb (8 * column + 0) (8 * row + 0) 8 8 (from_chroma picture.planes.now.cb) b
+      (λ x y low high _ _. chroma_same picture.planes.now.cb s.cb room.cb_columns room.cb_rows same.cb x y low high))
+      (block_of_its_own s.cr (8 * column + 0) (8 * row + 0) 8 8 (from_chroma picture.planes.now.cr) r
+      (λ x y low high _ _. chroma_same picture.planes.now.cr s.cr room.cr_columns room.cr_rows same.cr x y low high))
+
+-- it is built
+module _ {PAD : ℕ} (canvas : CanvasState) (address : ℕ) (mb : Mb) (info : NeighbourInfo) (n : MacroblocksAround) (references : List (Option (ReferencePicture PAD)))
+    (column row : ℕ) (narrow : column < canvas.width) (low : row < canvas.height) (at : address ≡ row * canvas.width + column)
+    (sized : AreSized canvas.width canvas.height canvas.planes) (usable : AreUsable canvas.width canvas.height references)
+    (skipped : mb.syntax ≡ p_skip) (still : info.motion ≡ still_blocks) (there : AreInPlace references column row 1 canvas.planes) where
+  abbrev s : Planes
+  s = canvas.planes
+
+  abbrev picture : ReferencePicture PAD
+  picture = there.picture
+
+  module _ (l : length s.luma.samples ≡ s.luma.width * s.luma.height) (b : length s.cb.samples ≡ s.cb.width * s.cb.height)
+      (r : length s.cr.samples ≡ s.cr.width * s.cr.height)
+      (l' : (x y : ℕ) → x < s.luma.width → y < s.luma.height → sample s.luma x y ≤ 255)
+      (b' : (x y : ℕ) → x < s.cb.width → y < s.cb.height → sample s.cb x y ≤ 255)
+      (r' : (x y : ℕ) → x < s.cr.width → y < s.cr.height → sample s.cr x y ≤ 255) where
+    abbrev shape : IsMacroblockShape still_blocks Whole
+    shape = one_shape still_blocks refl
+
+    pictures : have_pictures references still_blocks ≡ true
+    pictures = sym (all_as_first references still_blocks refl shape) ∙ ap is_some there.named
+
+    room : CoverMacroblock column row (padded_planes_of picture.planes.now)
+    room = (usable_in canvas.width canvas.height column row references (inter 0 zero_vector) picture usable narrow low there.named).planes
+
+    room_here : CoverMacroblock column row s
+    room_here = grind arith
+
+    kept : s ≡ with_part column row 0 0 16 16 (λ k x y. predicted_from picture zero_vector k (size_of k * column + x) (size_of k * row + y)) s
+    kept = predicted_in_place picture column row s there.unweighted there.same room l b r
+
+    pub built_in_place : (p : Place) → IsPlaceOn canvas address mb info n references p → IsBuilt p (Ok tt) canvas canvas
+    built_in_place p on =
+        canvas_built canvas address (chroma_qp canvas.chroma_qp_index_offset mb.qp) mb info n (readable_near canvas.constrained_intra_pred n) references p on
+        column row narrow at refl (λ _. refl) (Ok tt) s
+        (λ place. planes_skip p column row mb.qp (chroma_qp canvas.chroma_qp_index_offset mb.qp) still_blocks s s
+        (subst (λ (t : MbSyntax). IsAt column row t mb.qp (chroma_qp canvas.chroma_qp_index_offset mb.qp) p) skipped place.at) (place.motion_is ∙ still) room_here (
+          pictures_shown p.coded p.slice references still_blocks place.references_are ∙ pictures,
+          all_predicted references canvas.width canvas.height column row still_blocks s s p.coded p.slice refl usable pictures
+              (whole_is references column row still_blocks picture zero_vector s s shape there.named refl kept)
+              place.width_is place.height_is place.references_are,
+        ) l' b' r')
