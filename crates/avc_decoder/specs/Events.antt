@@ -206,6 +206,11 @@ after_unit s u =
 abbrev pub state_after : State → Unit → Outcome → State
 state_after s u o = record { output = s.output; sets = s.sets ++ set_units (u ∷ []); phase = o.phase }
 
+-- the state after some units
+abbrev pub state_through : State → List Unit → State
+state_through s [] = s
+state_through s (u ∷ units) = state_through (state_after s u (after_unit s u)) units
+
 -- all held pictures, where decoding runs
 abbrev pub held_after : Output → Phase → List Event
 held_after output waiting = []

@@ -28,8 +28,7 @@ use Rattle.avc_decoder.specs.FirstFault.{OpenPicture, oldest}
 use Rattle.avc_decoder.specs.QueueState.{QueueState, after_queue_take, with_events}
 use Rattle.avc_decoder.specs.PictureFrames.{HasItsFrames, IsRefused, read_of_slice}
 use Rattle.avc_decoder.specs.Events.{Phase, waiting, running, State, first_state, Outcome, no_change, failed_at}
-use Rattle.avc_decoder.specs.Events.{closed_picture, after_unit, state_after, events, turns, at_end}
-use Rattle.avc_decoder.specs.Laws.{state_through}
+use Rattle.avc_decoder.specs.Events.{closed_picture, after_unit, state_after, state_through, events, turns, at_end}
 use Rattle.avc_decoder.specs.Machine.{Machine, IsCount, IsUpToUnit}
 use Rattle.avc_decoder.specs.SeenEvents.{Event}
 use Rattle.avc_decoder.specs.declared.parts.Fed.{Fed}

@@ -2,7 +2,7 @@
 
 ghost use Rattle.std.specs.Prelude.{◌≡◌, None, OnOk, Some};
 ghost use Rattle.avc_decoder.specs.Events.{failed_at, pictures};
-ghost use Rattle.avc_decoder.specs.SpareMemory.{LeavesCurrent};
+ghost use Rattle.avc_decoder.specs.SpareMemory.{KeepsClosed, LeavesCurrent, LeavesOpenPicture};
 ghost use Rattle.avc_decoder.specs.States.{closed_in, current_in, phase_of, HasOutcome, IsOpenIn};
 ghost use Rattle.avc_decoder.specs.States.{IsPhase, WaitsAfter};
 ghost use Rattle.avc_decoder.specs.declared.phase.Phase.TheVariants.{Running, Waiting};
@@ -19,8 +19,9 @@ use avc_types::{Fault, OutOfMemory, PictureError};
 /// refusal.
 pub fn close(stream: &mut Stream) -> Result<(), OutOfMemory>
     requires { IsPhase stream.old.sequence stream.old.phase }
-    ensures { OnOk result (HasOutcome stream.old
+    ensures state { OnOk result (HasOutcome stream.old
         (closed_in stream.old.sequence.output (phase_of stream.old.sequence stream.old.phase)) stream.new) }
+    ensures memory { OnOk result (KeepsClosed stream.old stream.new) }
 {
     // so that the room for one is not copied and cleared at each end of a picture
     if !stream.phase.is_open() {
@@ -37,8 +38,9 @@ pub fn close(stream: &mut Stream) -> Result<(), OutOfMemory>
 fn close_picture(stream: &mut Stream, current: CurrentPicture) -> Result<(), OutOfMemory>
     requires picture { IsOpenIn stream.old.sequence current }
     requires rest { stream.old.phase ≡ Running None }
-    ensures { OnOk result (HasOutcome stream.old
+    ensures state { OnOk result (HasOutcome stream.old
         (closed_in stream.old.sequence.output (phase_of stream.old.sequence (Running (Some current)))) stream.new) }
+    ensures memory { OnOk result (KeepsClosed stream.old stream.new) }
 {
     let last_unit = current.last_unit;
     let planes = match current.decoder.finish(&mut stream.memory) {
@@ -80,8 +82,9 @@ fn forget(phase: &mut Phase, memory: &mut PictureMemory<PADDING>)
 /// A fault of the open picture, or of a unit that is a faulty picture of its own: all held pictures
 /// go out, and then the refusal. The history is forgotten, and decoding waits.
 pub fn fail(stream: &mut Stream, unit: u64, fault: Fault) -> Result<(), OutOfMemory>
-    ensures { OnOk result (WaitsAfter stream.old
+    ensures state { OnOk result (WaitsAfter stream.old
         (failed_at stream.old.sequence.output (current_history stream.old.sequence) unit fault 0).events stream.new) }
+    ensures memory { OnOk result (LeavesOpenPicture stream.old stream.new) }
 {
     empty(stream)?;
     stream.queue.refuse(unit, fault)?;
@@ -91,8 +94,9 @@ pub fn fail(stream: &mut Stream, unit: u64, fault: Fault) -> Result<(), OutOfMem
 /// All held pictures go out. The history is forgotten, with the open picture, if there is one, and
 /// decoding waits.
 pub fn empty(stream: &mut Stream) -> Result<(), OutOfMemory>
-    ensures { OnOk result (WaitsAfter stream.old
+    ensures state { OnOk result (WaitsAfter stream.old
         (pictures (held_pictures stream.old.sequence.output (current_history stream.old.sequence))) stream.new) }
+    ensures memory { OnOk result (LeavesOpenPicture stream.old stream.new) }
 {
     forget(&mut stream.phase, &mut stream.memory);
     let out = stream.sequence.clear()?;

@@ -10,7 +10,7 @@ use Rattle.avc_slice.specs.declared.slice.Slice.{Slice}
 use Rattle.avc_units.specs.Grouping.{is_start, slice_in, tables}
 use Rattle.avc_decoder.specs.Output.{Output}
 use Rattle.avc_decoder.specs.Events.{events}
-use Rattle.avc_decoder.specs.Laws.{is_picture, unnumbered}
+use Rattle.avc_laws.specs.Laws.{is_picture, unnumbered}
 use Rattle.avc_tools.specs.Pieces.{pieces}
 
 -- the marking has no_output_of_prior_pics_flag 1

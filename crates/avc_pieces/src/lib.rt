@@ -4,7 +4,7 @@
 ghost use Rattle.avc_pieces.specs.Laws.{PiecesDecodeAlike};
 
 use avc_annexb::laws::{units_are_whole, units_are_within, written_units_stand_alone};
-use avc_decoder::laws::{events_keep_but_numbers, start_units_begin_anew};
+use avc_laws::{events_keep_but_numbers, start_units_begin_anew};
 use avc_units::laws::{sets_are_in_force_again, sets_in_force_are_units};
 
 /// Where a whole stream has no refusal, and no IDR picture but the first drops the pictures before

@@ -30,9 +30,9 @@ pub use Rattle.avc_bits.specs.Bits.{Bits, Read, ◌>>=◌, start}
 pub use Rattle.avc_bits.specs.Codes.{ue_to, ue}
 pub use Rattle.avc_decoder.specs.Events.{events, Outcome, Phase, State, after_next, after_unit, at_end, closed_outcome, closed_picture, closing_result}
 pub use Rattle.avc_decoder.specs.Events.{events_from, failed_at, followed_by, held_after, history_in, in_phase, is_running, is_waiting, no_change}
-pub use Rattle.avc_decoder.specs.Events.{open_facts_in, running, state_after, events_and_held, first_state}
+pub use Rattle.avc_decoder.specs.Events.{open_facts_in, running, state_after, state_through, events_and_held, first_state}
 pub use Rattle.avc_decoder.specs.FirstFault.{OpenPicture, history_of}
-pub use Rattle.avc_decoder.specs.Laws.{is_picture, state_through, EventsKeepButNumbers, LetsPriorPicturesOut, StartUnitsBeginAnew, renumbered_event, unnumbered}
+pub use Rattle.avc_laws.specs.Laws.{is_picture, EventsKeepButNumbers, LetsPriorPicturesOut, StartUnitsBeginAnew, renumbered_event, unnumbered}
 pub use Rattle.avc_decoder.specs.Output.{Output}
 pub use Rattle.avc_decoder.specs.Output.TheVariants.{Full}
 pub use Rattle.avc_decoder.specs.SeenEvents.{Event}

@@ -1,4 +1,4 @@
-use Rattle.avc_decoder.proofs.Resuming.{take_more, new_machine, run_more}
+use Rattle.avc_decoder.proofs.Events.{take_more, new_machine, run_more}
 use Rattle.avc_decoder.proofs.calls.run_calls.Goals as goal
 
 pub loop-call-preserved : goal.loop-call-preserved

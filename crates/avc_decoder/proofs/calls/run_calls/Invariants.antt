@@ -1,4 +1,4 @@
-use Rattle.avc_decoder.proofs.Resuming.{take, new_machine, Run}
+use Rattle.avc_decoder.proofs.Events.{take, new_machine, Run}
 use Rattle.avc_decoder.proofs.calls.run_calls.Given as goal
 
 abbrev pub invariant-loop-call : goal.invariant-loop-call

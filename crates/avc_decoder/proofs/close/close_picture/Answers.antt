@@ -1,11 +1,11 @@
-use Rattle.avc_decoder.proofs.Resuming.{is_some, ap, arith, padded_planes_of, subsampled_of_size, closes_done, closes_short, closes_unmarked, sized_as}
+use Rattle.avc_decoder.proofs.Events.{is_some, ap, arith, padded_planes_of, subsampled_of_size, closes_done, closes_short, closes_unmarked, sized_as}
 use Rattle.avc_decoder.proofs.close.close_picture.Goals as goal
 
 -- macroblocks are missing
-pub returns-in-Err-Fault : goal.returns-in-Err-Fault
-returns-in-Err-Fault c =
+pub returns-in-Err-Fault-clause-state : goal.returns-in-Err-Fault-clause-state
+returns-in-Err-Fault-clause-state c =
     closes_short c.args.stream.now c.fail.new.stream c.args.current c.requires.picture c.in-Err-Fault.field-0-is
-    c.in-Err-Fault.ensures.answer c.in_ok-fail-in-Err-Fault.ensures
+    c.in-Err-Fault.ensures.answer c.in_ok-fail-in-Err-Fault.ensures.state
 
 pub new-requires : goal.new-requires
 new-requires c = (omega arith, (omega arith, subsampled_of_size _ _ (padded_planes_of c.in-Ok.planes) c.in-Ok.ensures.sized))
@@ -17,15 +17,15 @@ close-requires c = record {
       (padded_planes_of c.in-Ok.planes) c.requires.picture c.in-Ok.ensures.sized);
 }
 
-pub returns-in_ok-show-in-Ok-close : goal.returns-in_ok-show-in-Ok-close
-returns-in_ok-show-in-Ok-close c =
+pub returns-in_ok-show-in-Ok-close-clause-state : goal.returns-in_ok-show-in-Ok-close-clause-state
+returns-in_ok-show-in-Ok-close-clause-state c =
     rw c.requires.rest
     (closes_done c.args.current c.in-Ok.planes c.in_ok-shared.shared c.in-Ok-close.out.items c.requires.picture c.in-Ok.ensures.answer
     c.in_ok-shared.ensures c.in-Ok-close.ensures.ok c.in_ok-show-in-Ok-close.ensures)
 
 -- it could not be marked
-pub returns-in_ok-fail-in-Err-Fault-close : goal.returns-in_ok-fail-in-Err-Fault-close
-returns-in_ok-fail-in-Err-Fault-close c =
+pub returns-in_ok-fail-in-Err-Fault-close-clause-state : goal.returns-in_ok-fail-in-Err-Fault-close-clause-state
+returns-in_ok-fail-in-Err-Fault-close-clause-state c =
     closes_unmarked c.args.stream.now c.fail-in-Err-Fault-close.new.stream c.close.new.self c.args.current c.in-Ok.planes
     c.in_ok-shared.shared c.requires.picture c.in-Ok.ensures.answer c.in_ok-shared.ensures c.in-Err-Fault-close.ensures.err
-    c.in-Err-Fault-close.field-0-is c.in_ok-fail-in-Err-Fault-close.ensures
+    c.in-Err-Fault-close.field-0-is c.in_ok-fail-in-Err-Fault-close.ensures.state

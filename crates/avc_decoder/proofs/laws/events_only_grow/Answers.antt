@@ -1,4 +1,4 @@
-use Rattle.avc_decoder.proofs.Resuming.{events_grow}
+use Rattle.avc_decoder.proofs.Events.{events_grow}
 use Rattle.avc_decoder.proofs.laws.events_only_grow.Goals as goal
 
 pub returns : goal.returns

@@ -1,4 +1,4 @@
-use Rattle.avc_decoder.proofs.Resuming.{are_whole}
+use Rattle.avc_decoder.proofs.WholePictures.{are_whole}
 use Rattle.avc_decoder.proofs.laws.pictures_are_whole.Goals as goal
 
 pub returns : goal.returns

@@ -1,4 +1,4 @@
-use Rattle.avc_decoder.proofs.Resuming.{no_more, one_more}
+use Rattle.avc_decoder.proofs.Events.{no_more, one_more}
 use Rattle.avc_decoder.proofs.parts.handle_units.Goals as goal
 
 pub loop-unit-preserved : goal.loop-unit-preserved

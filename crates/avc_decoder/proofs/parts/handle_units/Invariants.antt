@@ -1,4 +1,4 @@
-use Rattle.avc_decoder.proofs.Resuming.{units_waiting, IsStream, stream_state, Left}
+use Rattle.avc_decoder.proofs.Events.{units_waiting, IsStream, stream_state, Left}
 use Rattle.avc_decoder.proofs.parts.handle_units.Given as goal
 
 abbrev pub invariant-loop-unit : goal.invariant-loop-unit

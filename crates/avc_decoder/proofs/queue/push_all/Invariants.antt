@@ -1,4 +1,4 @@
-use Rattle.avc_decoder.proofs.Resuming.{◌≡◌, ◌++◌, length, pictures}
+use Rattle.avc_decoder.proofs.Events.{◌≡◌, ◌++◌, length, pictures}
 use Rattle.avc_decoder.proofs.queue.push_all.Given as goal
 
 abbrev pub invariant-loop-picture : goal.invariant-loop-picture

@@ -1,4 +1,4 @@
-use Rattle.avc_decoder.proofs.Resuming.{refl, ◌∙◌, answered_faulty, answered_well}
+use Rattle.avc_decoder.proofs.Events.{refl, ◌∙◌, answered_faulty, answered_well}
 use Rattle.avc_decoder.proofs.slices.decode_slice.Goals as goal
 
 pub returns-in-Ok : goal.returns-in-Ok
@@ -15,7 +15,7 @@ returns-in_ok-fail-in-Err c =
     let t = c.args.stream.now in
     let t' = c.fail.new.stream in
     let a = c.answer_if_open-answered in
-    let w = c.in_ok-fail-in-Err.ensures in (
+    let w = c.in_ok-fail-in-Err.ensures.state in (
       answered_faulty t.sequence t'.sequence t.queue t'.queue c.args.slice.now a.result t.phase a.new.phase t'.phase
           t.read t'.read c.in-Err.fault c.requires.can c.requires.well a.ensures c.in-Err.is w.0
           (w.1 ∙ c.count_more-stream.ensures),

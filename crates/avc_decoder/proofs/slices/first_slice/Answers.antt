@@ -1,5 +1,5 @@
-use Rattle.avc_decoder.proofs.Resuming.{arith, rules, subst, sym, ◌∙◌, sets_after, base_in, failed_at, IsOpened, current_history, Stops, phase_of}
-use Rattle.avc_decoder.proofs.Resuming.{base_here, named_first, none_open, frames_fit, first_slice_more, first_unopened, open_picture_start}
+use Rattle.avc_decoder.proofs.Events.{arith, rules, subst, sym, ◌∙◌, sets_after, base_in, failed_at, IsOpened, current_history, Stops, phase_of}
+use Rattle.avc_decoder.proofs.Events.{base_here, named_first, none_open, frames_fit, first_slice_more, first_unopened, open_picture_start}
 use Rattle.avc_decoder.proofs.slices.first_slice.Goals as goal
 
 pub begin-requires : goal.begin-requires
@@ -39,7 +39,7 @@ returns-in_ok-fail-in-Err-Fault c =
     let t = c.args.stream.now in
     let t' = c.fail-in-Err-Fault.new.stream in
     let sets = c.sets_of-sets in
-    let w = c.in_ok-fail-in-Err-Fault.ensures in
+    let w = c.in_ok-fail-in-Err-Fault.ensures.state in
     let stops : Stops c.open.new.self.output t.queue
     (failed_at c.open.new.self.output (current_history c.open.new.self) c.args.slice.now.unit c.in-Err-Fault.fault
     0).events t'.sequence t'.phase t'.queue = search rules in

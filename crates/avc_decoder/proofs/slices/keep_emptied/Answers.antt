@@ -1,4 +1,4 @@
-use Rattle.avc_decoder.proofs.Resuming.{◌∙◌, refl}
+use Rattle.avc_decoder.proofs.Events.{◌∙◌, refl}
 use Rattle.avc_decoder.proofs.SpareMemory.{none_added, one_added}
 use Rattle.avc_decoder.proofs.slices.keep_emptied.Goals as goal
 

@@ -1,4 +1,4 @@
-use Rattle.avc_decoder.proofs.Resuming.{◌≡◌}
+use Rattle.avc_decoder.proofs.Events.{◌≡◌}
 use Rattle.avc_decoder.specs.SpareMemory.{AddsClosed}
 use Rattle.avc_decoder.proofs.slices.keep_emptied.Given as goal
 

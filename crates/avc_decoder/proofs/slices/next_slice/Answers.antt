@@ -1,4 +1,4 @@
-use Rattle.avc_decoder.proofs.Resuming.{sets_after, can_have, named_further, next_slice_comes}
+use Rattle.avc_decoder.proofs.Events.{sets_after, can_have, named_further, next_slice_comes}
 use Rattle.avc_decoder.proofs.slices.next_slice.Goals as goal
 
 pub decode_slice-requires-clause-can : goal.decode_slice-requires-clause-can

@@ -1,4 +1,4 @@
-use Rattle.avc_decoder.proofs.Resuming.{◌≡◌, None, Some, Option, ap, sym, ◌∙◌, sets_after, sps_in_force, Pps, Sps, some_is, within_named}
+use Rattle.avc_decoder.proofs.Events.{◌≡◌, None, Some, Option, ap, sym, ◌∙◌, sets_after, sps_in_force, Pps, Sps, some_is, within_named}
 use Rattle.avc_decoder.proofs.slices.sets_of.Goals as goal
 
 pub unreachable-requires-in_default-sps : goal.unreachable-requires-in_default-sps

@@ -1,4 +1,4 @@
-use Rattle.avc_decoder.proofs.Resuming.{subst, sets_after, Slice, after_first_slice, base_in, sets_named, ComesTo, phase_of}
+use Rattle.avc_decoder.proofs.Events.{subst, sets_after, Slice, after_first_slice, base_in, sets_named, ComesTo, phase_of}
 use Rattle.avc_decoder.proofs.stream.next.Goals as goal
 
 pub returns-in_ok-first_slice-in-Begins : goal.returns-in_ok-first_slice-in-Begins

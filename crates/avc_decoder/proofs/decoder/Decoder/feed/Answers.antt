@@ -1,5 +1,5 @@
-use Rattle.avc_decoder.proofs.Resuming.{◌≡◌, ◌++◌, Err, List, ℕ, true, length, ap, refl, rules, subst, sym, ◌∙◌, is_err, Machine, IsFeedAnswer}
-use Rattle.avc_decoder.proofs.Resuming.{NoMemory, FeedsIn, kept_fed, kept_refused, machine_of, ok_so, refused_to, some_bytes}
+use Rattle.avc_decoder.proofs.Events.{◌≡◌, ◌++◌, Err, List, ℕ, true, length, ap, refl, rules, subst, sym, ◌∙◌, is_err, Machine, IsFeedAnswer}
+use Rattle.avc_decoder.proofs.Events.{NoMemory, FeedsIn, kept_fed, kept_refused, machine_of, ok_so, refused_to, some_bytes}
 use Rattle.avc_decoder.specs.Machine.{after_feed}
 use Rattle.avc_decoder.proofs.decoder.Decoder.feed.Goals as goal
 

@@ -1,7 +1,7 @@
-use Rattle.avc_decoder.proofs.Resuming.{◌≡◌, ◌++◌, Err, List, ℕ, true, length, ap, refl, rules, subst, sym, ◌∙◌, is_err, Machine, IsFeedAnswer}
-use Rattle.avc_decoder.proofs.Resuming.{NoMemory, FeedsUnitIn, Result, kept_fed_unit, kept_refused, machine_of, ok_so, refused_to, some_bytes}
+use Rattle.avc_decoder.proofs.Events.{◌≡◌, ◌++◌, Err, List, ℕ, true, length, ap, refl, rules, subst, sym, ◌∙◌, is_err, Machine, IsFeedAnswer}
+use Rattle.avc_decoder.proofs.Events.{NoMemory, FeedsUnitIn, Result, kept_fed_unit, kept_refused, machine_of, ok_so, refused_to, some_bytes}
 use Rattle.avc_decoder.specs.Machine.{after_feed}
-use Rattle.avc_decoder.proofs.Resuming.{DecodeError}
+use Rattle.avc_decoder.proofs.Events.{DecodeError}
 use Rattle.avc_decoder.proofs.decoder.Decoder.feed_unit.Goals as goal
 
 pub invariant_of-self : goal.invariant_of-self

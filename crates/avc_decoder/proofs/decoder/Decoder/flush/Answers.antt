@@ -1,4 +1,4 @@
-use Rattle.avc_decoder.proofs.Resuming.{[], true, append-nil, subst, sym, EndsIn, kept_flushed, kept_refused, ok_so}
+use Rattle.avc_decoder.proofs.Events.{[], true, append-nil, subst, sym, EndsIn, kept_flushed, kept_refused, ok_so}
 use Rattle.avc_decoder.proofs.decoder.Decoder.flush.Goals as goal
 
 pub invariant_of-self : goal.invariant_of-self

@@ -1,4 +1,4 @@
-use Rattle.avc_decoder.proofs.Resuming.{◌∙◌, ap, QueueState, all_passed, one_passed}
+use Rattle.avc_decoder.proofs.Events.{◌∙◌, ap, QueueState, all_passed, one_passed}
 use Rattle.avc_decoder.proofs.outgoing.Outgoing.put_all.Goals as goal
 
 pub loop-event-preserved : goal.loop-event-preserved

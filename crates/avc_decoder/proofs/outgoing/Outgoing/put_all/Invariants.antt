@@ -1,4 +1,4 @@
-use Rattle.avc_decoder.proofs.Resuming.{◌≡◌, ◌-◌, length, IsBehind}
+use Rattle.avc_decoder.proofs.Events.{◌≡◌, ◌-◌, length, IsBehind}
 use Rattle.avc_decoder.proofs.outgoing.Outgoing.put_all.Given as goal
 
 abbrev pub invariant-loop-event : goal.invariant-loop-event

@@ -1,4 +1,4 @@
-use Rattle.avc_decoder.proofs.Resuming.{first_seen, seen_event}
+use Rattle.avc_decoder.proofs.Events.{first_seen, seen_event}
 use Rattle.avc_decoder.proofs.outgoing.Outgoing.take.Goals as goal
 
 pub returns-clause-event : goal.returns-clause-event

@@ -1,4 +1,4 @@
-use Rattle.avc_decoder.proofs.Resuming.{arith, take_rest, length-drop, none_fed, works_on, fed_more}
+use Rattle.avc_decoder.proofs.Events.{arith, take_rest, length-drop, none_fed, works_on, fed_more}
 use Rattle.avc_decoder.proofs.parts.Parts.feed.Goals as goal
 
 pub loop-place-init : goal.loop-place-init

@@ -1,4 +1,4 @@
-use Rattle.avc_decoder.proofs.Resuming.{◌++◌, ◌≤◌, ◌-◌, false, length, take, HaveDecoded}
+use Rattle.avc_decoder.proofs.Events.{◌++◌, ◌≤◌, ◌-◌, false, length, take, HaveDecoded}
 use Rattle.avc_decoder.proofs.parts.Parts.feed.Given as goal
 
 -- the bytes before this place were decoded

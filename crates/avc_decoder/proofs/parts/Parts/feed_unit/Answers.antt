@@ -1,4 +1,4 @@
-use Rattle.avc_decoder.proofs.Resuming.{behind_units, fed_on}
+use Rattle.avc_decoder.proofs.Events.{behind_units, fed_on}
 use Rattle.avc_decoder.proofs.parts.Parts.feed_unit.Goals as goal
 
 pub put_all-requires : goal.put_all-requires

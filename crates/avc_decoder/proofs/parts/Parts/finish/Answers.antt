@@ -1,4 +1,4 @@
-use Rattle.avc_decoder.proofs.Resuming.{behind_end, ended_on}
+use Rattle.avc_decoder.proofs.Events.{behind_end, ended_on}
 use Rattle.avc_decoder.proofs.parts.Parts.finish.Goals as goal
 
 pub put_all-requires : goal.put_all-requires

@@ -1,4 +1,4 @@
-use Rattle.avc_decoder.proofs.Resuming.{ap, not, sym, ◌&&◌, ◌∙◌, closes_and_goes_on, closes_silently, fits_before, fits_closed, stays, works_before}
+use Rattle.avc_decoder.proofs.Events.{ap, not, sym, ◌&&◌, ◌∙◌, closes_and_goes_on, closes_silently, fits_before, fits_closed, stays, works_before}
 use Rattle.avc_decoder.proofs.stream.Stream.unit.Goals as goal
 
 -- the open picture stays open, or there is none
@@ -22,19 +22,19 @@ pub returns-then-is_waiting-step-clause-state : goal.returns-then-is_waiting-ste
 returns-then-is_waiting-step-clause-state c =
     let w = c.in_ok-step.step in
     closes_silently c.args.self.now c.close.new.stream c.requires.stands c.in_ok-step.ensures
-    (ap (λ b. w.closes && b) (sym c.is_open.ensures) ∙ c.if-not-step-is_open.false) c.in_ok-close.ensures
+    (ap (λ b. w.closes && b) (sym c.is_open.ensures) ∙ c.if-not-step-is_open.false) c.in_ok-close.ensures.state
     (ap (λ b. b && not w.even_after_fault) (sym c.is_waiting.ensures) ∙ c.if-is_waiting-step.true)
 
 -- and then comes what the unit does next
 pub next-requires-2-clause-fits : goal.next-requires-2-clause-fits
 next-requires-2-clause-fits c =
     fits_closed (record c.args.self.now { table = c.step_in.new.table }) c.close.new.stream c.in_ok-step.step.next
-    c.in_ok-close.ensures c.in_ok-step.ensures.under
+    c.in_ok-close.ensures.state c.in_ok-step.ensures.under
 
 pub returns-clause-state : goal.returns-clause-state
 returns-clause-state c =
     let w = c.in_ok-step.step in
     closes_and_goes_on c.args.self.now c.close.new.stream c.next-2.new.stream c.requires.stands c.in_ok-step.ensures
-    (ap (λ b. w.closes && b) (sym c.is_open.ensures) ∙ c.if-not-step-is_open.false) c.in_ok-close.ensures
+    (ap (λ b. w.closes && b) (sym c.is_open.ensures) ∙ c.if-not-step-is_open.false) c.in_ok-close.ensures.state
     (ap (λ b. b && not w.even_after_fault) (sym c.is_waiting.ensures) ∙ c.if-is_waiting-step.false)
     c.in_ok-next-2.ensures

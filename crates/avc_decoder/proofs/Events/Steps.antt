@@ -1,146 +1,9 @@
--- The step of a unit: what it does to the phase, and what has gone out of the history.
+-- The step of a unit: what it brings, and what it does to the phase.
 pub mod OpenPictures
 unfoldable pub use OpenPictures.*
 use Rattle.avc_types.specs.Results.{◌>>=◌}
 use Rattle.avc_units.specs.Grouping.{pps as pps_kind, slice as slice_kind, sps as sps_kind, list_of}
 use Rattle.avc_decoder.specs.Events.{running as running_phase}
-
--- ---- what has gone out of a history as it grows, and that each of its pictures could come: what comes of a history
-
--- one history has come of another
-pub record Follows (h full : History) : Type 0 where
-  pub more : History
-  pub is : full ≡ more ++ h
-
--- ---- what has gone out
-
--- the pictures that a history has handed out
-abbrev pub gone : Output → History → List Decoded
-gone output h = pictures_at h (buffer_of output h).out
-
--- all its pictures, in the order in which they go out in the end
-abbrev pub all_of : Output → History → List Decoded
-all_of output h = pictures_at h (output_order output h)
-
-shown_in_turn : (h : History) (first others : List ℕ) → pictures_at h (first ++ others) ≡ pictures_at h first ++ pictures_at h others
-shown_in_turn h first others = flat_map-append (λ index. entry_pictures (entry_at h index)) first others
-
-pub gone_and_held : (output : Output) (h : History) → gone output h ++ held_pictures output h ≡ all_of output h
-gone_and_held output h = sym (shown_in_turn h (buffer_of output h).out (all_held output h))
-
--- the decoding indices of what has gone out
-gone_below : (output : Output) (h : History) → All (λ p. p < length h) (buffer_of output h).out
-gone_below output h =
-    let out = (buffer_of output h).out in
-    subst (All (λ p. p < length h)) (take-append_seam out (all_held output h)) (All-take (λ p. p < length h) (length out) (out ++ all_held output h) (all_indices_below output h))
-
--- with one entry more
-gone_more : (output : Output) (e : Entry) (h : History) → gone output h ++ output_pictures output h (e ∷ h) ≡ gone output (e ∷ h)
-gone_more output e h =
-    let out = (buffer_of output h).out in
-    ap (λ l. l ++ output_pictures output h (e ∷ h)) (sym (pictures_stay e h out (gone_below output h)))
-    ∙ sym (shown_in_turn (e ∷ h) out (new_output output h (e ∷ h)))
-    ∙ ap (pictures_at (e ∷ h)) (sym (out_only_grows output (length (arrivals h)) (arrival e h) (buffer_of output h)))
-
--- The new history has put out what the old one has, and then more.
-record Grown (output : Output) (old new : History) : Type 0 where
-  extends : Extends output old new
-  in_turn : gone output old ++ output_pictures output old new ≡ gone output new
-
-grown : (output : Output) (h more : History) → Grown output h (more ++ h)
-grown output h [] = record {
-  extends = extends_itself output h;
-  in_turn = ap (λ l. gone output h ++ l) (sym (nothing_goes_out output h)) ∙ append-nil (gone output h);
-}
-grown output h (e ∷ more) =
-    let so_far = grown output h more in
-    let mid = more ++ h in
-    record {
-      extends = extends_more output e h mid so_far.extends;
-      in_turn =
-          ap (λ l. gone output h ++ l) (output_more output e h mid so_far.extends)
-          ∙ sym (append_assoc (gone output h) (output_pictures output h mid) (output_pictures output mid (e ∷ mid)))
-          ∙ ap (λ l. l ++ output_pictures output mid (e ∷ mid)) so_far.in_turn
-          ∙ gone_more output e mid;
-    }
-
-pub gone_later : (output : Output) (old new : History) → Follows old new
-    → gone output old ++ output_pictures output old new ≡ gone output new
-gone_later output old new f =
-    subst (λ l. gone output old ++ output_pictures output old l ≡ gone output l) (sym f.is) (grown output old f.more).in_turn
-
--- ---- each picture could come, and has its size
-
--- a closed picture has the size of its parameter set
-abbrev pub Good : Entry → Type 0
-Good (decoded_picture sps h info planes) = IsSps sps × IsSized (width_in_mbs sps) (height_in_mbs sps) planes
-Good (missing_frame sps frame_num) = Prim.Unit {0}
-
-abbrev pub AllGood : History → Type 0
-AllGood [] = Prim.Unit {0}
-AllGood (e ∷ h) = Good e × AllGood h
-
--- by these laws pictures have their sizes
-abbrev pub Sizes : Type 0
-Sizes = PicturesAreSized × SpsInForceKeepsLimits
-
--- Each picture of the history could come and has its size, and each entry was marked.
-pub record IsSound (h : History) : Type 0 where
-  pub each : EachCanCome h
-  pub marked : is_ok (marks_of h) ≡ true
-  pub good : Sizes → AllGood h
-
-pub none_sound : IsSound []
-none_sound = record { each = tt; marked = refl; good = λ _. tt }
-
--- a picture that is one of an IDR picture has the marking of one
-abbrev pub HasItsMarking : Header → Type 0
-HasItsMarking h = is_idr h ≡ true → has_idr_marking h ≡ true
-
--- The open picture stands on such a history.
-pub record IsSoundOpen (o : OpenPicture) : Type 0 where
-  pub before : IsSound o.before
-  pub idr : HasItsMarking (first_header o)
-  pub limits : Sizes → IsSps o.sps
-
--- It has come of such a history by missing numbers, or is that.
-pub record Grows (h full : History) : Type 0 where
-  pub follows : Follows h full
-  pub sound : IsSound full
-
--- with missing numbers taken in
-missing_grows : (sps : Sps) (numbers : List ℕ) (h mid full : History) → Grows h mid → with_missing sps numbers mid ≡ Ok full → Grows h full
-missing_grows sps [] h mid full g e = subst (Grows h) (ok_same mid full e) g
-missing_grows sps (n ∷ numbers) h mid full g e = by_marks (marks_of next) refl (missing_grows sps numbers h next full) e
-  where
-    next : History
-    next = missing_frame sps n ∷ mid
-
-    by_marks : (r : Result Marks Fault) → marks_of next ≡ r → (Grows h next → with_missing sps numbers next ≡ Ok full → Grows h full)
-        → (r >>= λ m. with_missing sps numbers next) ≡ Ok full → Grows h full
-    by_marks (Ok m) is others e' =
-        others (record {
-          follows = record { more = missing_frame sps n ∷ g.follows.more; is = ap (λ l. missing_frame sps n ∷ l) g.follows.is };
-          sound = record { each = g.sound.each; marked = ap is_ok is; good = λ l. (tt, g.sound.good l) };
-        }) e'
-    by_marks (Err f) is others e' = cc
-
--- the history on which the open picture stands
-pub base_grows : (o : OpenPicture) → IsSound o.before → Grows o.before (history_of o)
-base_grows o s = by_address (first_header o).first_mb_in_slice (history_at_opening_of o) opening_grows
-  where
-    here : Grows o.before o.before
-    here = record { follows = record { more = []; is = refl }; sound = s }
-
-    opening_grows : (h : History) → history_at_opening_of o ≡ Ok h → Grows o.before h
-    opening_grows h e =
-        let opened = opened_by o.sps (first_header o) o.before h e in
-        missing_grows o.sps opened.numbers o.before o.before h here opened.missing
-
-    by_address : (address : ℕ) (opened : Result History Fault) → ((h : History) → opened ≡ Ok h → Grows o.before h)
-        → Grows o.before (history_by address opened o.before)
-    by_address zero (Ok h) grows = grows h refl
-    by_address _ opened grows = here
 
 -- ---- a picture that is closed
 
@@ -151,7 +14,7 @@ opens zero (Ok h) unit before others e = refl
 opens _ opened unit before others e = cc
 
 -- the open picture has no fault, and closing gives this history
-has_closed : (o : OpenPicture) (full : History) → closing_result o ≡ Ok full
+pub has_closed : (o : OpenPicture) (full : History) → closing_result o ≡ Ok full
     → (history_at_opening_of o ≡ Ok (history_of o)) × (closed_history o (history_of o) ≡ Ok full)
 has_closed o full e = by_fault (first_fault o true) refl (closed_history o (history_of o)) refl e
   where
@@ -172,46 +35,6 @@ closing_is sps hd unit planes h full e = by_marks (with_picture sps hd unit plan
         → (full ≡ x) × (is_ok (marks_of full) ≡ true)
     by_marks x (Ok m) is e' = let same = sym (ok_same x full e') in (same, ap (λ l. is_ok (marks_of l)) same ∙ ap is_ok is)
     by_marks x (Err f) is e' = cc
-
--- What closing leaves: a history that has come of the one before, or of none with an IDR picture.
-pub record IsSoundlyClosed (o : OpenPicture) (full : History) : Type 0 where
-  pub sound : IsSound full
-  pub follows : Follows (earlier_in_sequence (first_header o) (history_of o)) full
-
-pub closed_sound : (o : OpenPicture) (full : History) → IsSoundOpen o → closing_result o ≡ Ok full → IsSoundlyClosed o full
-closed_sound o full s e =
-    let c = has_closed o full e in
-    let closing = closing_is o.sps hd (first_slice o).unit (picture_planes o base) base full c.1 in
-    let known = info_of o.sps hd (first_slice o).unit (earlier_in_sequence hd base) in
-    record {
-      sound = record {
-        each = subst EachCanCome (sym closing.0) (can_come c.0 (is_idr hd) refl);
-        marked = closing.1;
-        good = λ l.
-            let before = either AllGood (is_idr hd) [] base (λ _. tt) (λ _. (base_grows o s.before).sound.good l) in
-            subst AllGood (sym closing.0) ((s.limits l, l.0 (start_on o base) (slices_of o)), before);
-      };
-      follows = record { more = decoded_picture o.sps hd known (picture_planes o base) ∷ []; is = closing.0 };
-    }
-  where
-    hd : Header
-    hd = first_header o
-
-    base : History
-    base = history_of o
-
-    can_come : history_at_opening_of o ≡ Ok base → (b : Bool) → is_idr hd ≡ b
-        → let earlier = elim b as (λ _. History) [ true ↦ [] | false ↦ base ] in CanCome o.sps hd earlier × EachCanCome earlier
-    can_come opened true is = (record { idr = s.idr; first = λ _. refl; same = λ other. absurd (false≢true (sym other ∙ is)) }, tt)
-    can_come opened false is =
-        let set = ap (λ set. is_same_sps set o.sps) (set_at_opening o.sps hd o.before base opened) in (
-          record {
-            idr = s.idr;
-            first = λ idr. absurd (false≢true (sym is ∙ idr));
-            same = λ other. set ∙ (opened_by o.sps hd o.before base opened).same other;
-          },
-          ((base_grows o s.before).sound).each,
-        )
 
 -- ---- what the grouper's steps bring, and when they keep the parameter sets: what comes next
 
@@ -269,29 +92,6 @@ brings_step sets running open' u w =
     (λ _. either (Brings (slice_in sets u) open') running _ _ (λ _. brings_running sets open' u (kind u))
     (λ e. rw (w e) (brings_waiting sets u (kind u))))
 
--- ---- a picture that begins
-
--- A picture begins while none is open, and one that is an IDR picture has the marking of one.
-abbrev pub Allows : Next → (is_open : Bool) → Type 0
-Allows (Begins s) true = ⊥
-Allows (Begins s) false = HasItsMarking s.header
-Allows _ is_open = Prim.Unit {0}
-
--- The same, once the open picture is closed where the step says so.
-abbrev pub Fits : Option OpenPictureFacts → (closes : Bool) → Next → Type 0
-Fits None closes n = Allows n false
-Fits (Some facts) closes n = Allows n (not closes)
-
-pub rules_in : (sets : Sets) (u : Piece) (s : Slice) → slice_in sets u ≡ Ok s → KeepsIdrRules s.header
-rules_in sets u s e = (slice_of_unit sets u s e).2.rules
-
-pub fits : (sets : Sets) (u : Piece) (o : Option OpenPictureFacts) (closes : Bool) (n : Next) → BringsNext (slice_in sets u) o closes n → Fits o closes n
-fits sets u (Some facts) false (Begins s) b = cc b.0
-fits sets u None closes (Begins s) b = (rules_in sets u s b.1).marking
-fits sets u (Some facts) true (Begins s) b = (rules_in sets u s b.1).marking
-fits sets u None closes _ b = tt
-fits sets u (Some facts) closes _ b = tt
-
 -- ---- the parameter sets
 
 abbrev at_kind : Sets → Option OpenPictureFacts → Piece → (running : Bool) → Kind → Step
@@ -333,10 +133,6 @@ same_some g h _ _ e = refl
 -- it is one of an IDR picture where the slice before it is
 pub same_kind : (g h : Header) → begins g h ≡ false → is_idr g ≡ is_idr h
 same_kind g h e = same_some g h g.idr_pic_id h.idr_pic_id e
-
--- One that continues an IDR picture is one of an IDR picture.
-pub idr_continues : (g h : Header) → is_idr g ≡ true → begins g h ≡ false → is_idr h ≡ true
-idr_continues g h i e = sym (same_kind g h e) ∙ i
 
 -- ---- what the phase knows of the open picture
 

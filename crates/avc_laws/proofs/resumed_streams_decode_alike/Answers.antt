@@ -1,5 +1,5 @@
-use Rattle.avc_decoder.proofs.Resuming.{starts_anew}
-use Rattle.avc_decoder.proofs.laws.resumed_streams_decode_alike.Goals as goal
+use Rattle.avc_laws.proofs.Resuming.{starts_anew}
+use Rattle.avc_laws.proofs.resumed_streams_decode_alike.Goals as goal
 
 pub returns : goal.returns
 returns c =

@@ -6,9 +6,9 @@ use Rattle.avc_decoder.specs.Events.{running}
 use Rattle.avc_types.specs.Results.{◌>>=◌}
 use Rattle.avc_units.specs.Grouping.{slice, sps as sps_kind, pps as pps_kind}
 use Rattle.avc_types.specs.declared.fault.Fault.TheVariants as faults
-pub use Rattle.avc_decoder.proofs.RenumberedHistories.{either-same}
-use Rattle.avc_decoder.proofs.RenumberedHistories.{renumbered_decoded, renumbered_history, renumbered_opening, stored_frames-same, closing-same}
-use Rattle.avc_decoder.proofs.RenumberedHistories.{opening-same, output_pictures-same, held_pictures-same, output_at_closing-same}
+pub use Rattle.avc_laws.proofs.RenumberedHistories.{either-same}
+use Rattle.avc_laws.proofs.RenumberedHistories.{renumbered_decoded, renumbered_history, renumbered_opening, stored_frames-same, closing-same}
+use Rattle.avc_laws.proofs.RenumberedHistories.{opening-same, output_pictures-same, held_pictures-same, output_at_closing-same}
 
 -- ---- units with other numbers: slices, pictures, histories and events are the same but for these: what names a unit, with that unit's other
 -- number

@@ -166,6 +166,12 @@ sets-like _ _ e = cc e
 
 -- ---- places
 
+-- what stands in front stays
+get-front : {A : Type 0} (xs ys : List A) (k : ℕ) (x : A) → slice_get xs k ≡ Some x → slice_get (xs ++ ys) k ≡ Some x
+get-front [] ys k x e = cc
+get-front (y ∷ xs) ys zero x e = e
+get-front (y ∷ xs) ys (suc k) x e = get-front xs ys k x e
+
 -- what the first n of a list say, and what the others say
 cut-map : {A B : Type 0} (say : A → B) (n : ℕ) (xs : List A) (front back : List B) → length front ≡ n → map say xs ≡ front ++ back
     → (map say (take n xs) ≡ front) × (map say (drop n xs) ≡ back)

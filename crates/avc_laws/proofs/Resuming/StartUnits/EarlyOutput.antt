@@ -1,9 +1,7 @@
--- What goes out in each mode of output: the same pictures, each of them whole.
-pub mod Events
-unfoldable pub use Events.*
+-- What goes out in each mode of output: the same pictures.
+pub mod Steps
+unfoldable pub use Steps.*
 use Rattle.avc_decoder.specs.Events.{running}
-
--- ---- what the steps of decoding hand out, in each mode of output: the coded video sequences that end with them, and what has gone out then
 
 -- ---- pictures and refusals among events
 
@@ -32,66 +30,6 @@ pub refusals_in-append : (a b : List Event) → refusals_in (a ++ b) ≡ refusal
 refusals_in-append [] b = refl
 refusals_in-append (Picture p ∷ a) b = refusals_in-append a b
 refusals_in-append (Refused unit f ∷ a) b = ap (λ l. (unit, f) ∷ l) (refusals_in-append a b)
-
--- ---- each picture that is handed out is whole
-
-abbrev WholeEvent : Event → Type 0
-WholeEvent (Picture p) = IsWhole p
-WholeEvent (Refused unit f) = Prim.Unit {0}
-
-abbrev AllWhole : List Event → Type 0
-AllWhole [] = Prim.Unit {0}
-AllWhole (e ∷ es) = WholeEvent e × AllWhole es
-
-whole-append : (a b : List Event) → AllWhole a → AllWhole b → AllWhole (a ++ b)
-whole-append [] b w v = v
-whole-append (e ∷ a) b w v = (w.0, whole-append a b w.1 v)
-
-half : (n : ℕ) → 16 * n / 2 ≡ 8 * n
-half n = omega arith
-
-crop_fits : (width height : ℕ) (c : Option Cropping) → IfSome c (IsCropping width height)
-    → ((crop_of c).left + (crop_of c).right ≤ width) × ((crop_of c).top + (crop_of c).bottom ≤ height)
-crop_fits width height None w = (omega arith, omega arith)
-crop_fits width height (Some c) w = (omega (arith, w.columns), omega (arith, w.rows))
-
-picture_whole : (sps : Sps) (info : PictureInfo) (planes : Planes) → IsSps sps → IsSized (width_in_mbs sps) (height_in_mbs sps) planes
-    → IsWhole (picture_of sps info planes)
-picture_whole sps info planes is s =
-    let size = ap₂ (λ m n. m * n) (sym s.luma.columns) (sym s.luma.rows) in
-    let halves = ap₂ (λ m n. m * n) (sym (ap (λ m. m / 2) s.luma.columns ∙ half (width_in_mbs sps))) (sym (ap (λ m. m / 2) s.luma.rows ∙ half (height_in_mbs sps))) in
-    let fits = crop_fits (16 * width_in_mbs sps) (16 * height_in_mbs sps) sps.frame_cropping is.crop in
-    record {
-      luma = s.luma.all ∙ size;
-      cb = s.cb.all ∙ halves;
-      cr = s.cr.all ∙ halves;
-      columns = subst (λ m. (crop_of sps.frame_cropping).left + (crop_of sps.frame_cropping).right ≤ m) (sym s.luma.columns) fits.0;
-      rows = subst (λ m. (crop_of sps.frame_cropping).top + (crop_of sps.frame_cropping).bottom ≤ m) (sym s.luma.rows) fits.1;
-    }
-
-abbrev GoodAt : Option Entry → Type 0
-GoodAt (Some e) = Good e
-GoodAt None = Prim.Unit {0}
-
-good_get : (h : History) (n : ℕ) → AllGood h → GoodAt (slice_get h n)
-good_get [] n g = tt
-good_get (e ∷ h) zero g = g.0
-good_get (e ∷ h) (suc n) g = good_get h n g.1
-
-good_at : (h : History) (index : ℕ) → AllGood h → GoodAt (entry_at h index)
-good_at h index g = by_difference (length h - index)
-  where
-    by_difference : (d : ℕ) → GoodAt (elim d [ zero ↦ None | suc n ↦ slice_get h n ])
-    by_difference zero = tt
-    by_difference (suc n) = good_get h n g
-
-shown_whole : (e : Option Entry) (more : List Decoded) → GoodAt e → AllWhole (pictures more) → AllWhole (pictures (entry_pictures e ++ more))
-shown_whole (Some (decoded_picture sps h info planes)) more g w = (picture_whole sps info planes g.0 g.1, w)
-shown_whole _ more g w = w
-
-pictures_whole : (h : History) (indices : List ℕ) → AllGood h → AllWhole (pictures (pictures_at h indices))
-pictures_whole h [] g = tt
-pictures_whole h (index ∷ indices) g = shown_whole (entry_at h index) (pictures_at h indices) (good_at h index g) (pictures_whole h indices g)
 
 -- ---- a step of decoding, in each mode
 
@@ -132,7 +70,7 @@ stopped_sound p q s =
 
 -- From this phase these sequences end with a step with these outcomes, one in each mode. The phase and the refusals are the same
 -- in each mode. What had gone out of the phase's history, and then what goes out with the step, is what the sequences hand out that
--- end, and then what has gone out of the history that decoding goes on with. Each picture that goes out is whole.
+-- end, and then what has gone out of the history that decoding goes on with.
 pub record Goes (p : Phase) (hs : List EndedSequence) (x : Output → Outcome) : Type 0 where
   pub same_phase : (output : Output) → (x output).phase ≡ (x Full).phase
   pub same_refusals : (output : Output) → refusals_in (x output).events ≡ refusals_in (x Full).events
@@ -140,7 +78,6 @@ pub record Goes (p : Phase) (hs : List EndedSequence) (x : Output → Outcome) :
       gone output (history_in p) ++ pictures_in (x output).events ≡ all_in output hs ++ gone output (history_in (x Full).phase)
   pub each_sound : All IsSoundSequence hs
   pub sound : Sound (x Full).phase
-  pub whole : Sizes → (output : Output) → AllWhole (x output).events
 
 -- a step with which only this phase's sequence ends, if it stops decoding
 abbrev pub Turns : (p : Phase) → (Output → Outcome) → Type 0
@@ -171,7 +108,6 @@ followed p q hs hs' x y is g k = record {
       ∙ ap (λ l. l ++ end) (sym (flat_map-append (λ s. shown_by output s.history s.dropped) hs hs'));
   each_sound = All-append IsSoundSequence hs hs' g.each_sound k.each_sound;
   sound = k.sound;
-  whole = λ l output. whole-append (x output).events (y output).events (g.whole l output) (k.whole l output);
 }
 
 -- ---- what a step may be
@@ -179,16 +115,16 @@ followed p q hs hs' x y is g k = record {
 -- these events, which bring the same refusals in each mode, and then this phase
 pub turning : (p q : Phase) (events : Output → List Event) (read : ℕ) → ((output : Output) → refusals_in (events output) ≡ refusals_in (events Full))
     → ((output : Output) → gone output (history_in p) ++ pictures_in (events output) ≡ all_in output (stopped p q) ++ gone output (history_in q))
-    → Sound p → Sound q → (Sizes → (output : Output) → AllWhole (events output)) → Turns p (λ output. record { events = events output; phase = q; read = read })
-turning p q events read refusals out s t whole =
-    record { same_phase = λ output. refl; same_refusals = refusals; hands_out = out; each_sound = stopped_sound p q s; sound = t; whole = whole }
+    → Sound p → Sound q → Turns p (λ output. record { events = events output; phase = q; read = read })
+turning p q events read refusals out s t =
+    record { same_phase = λ output. refl; same_refusals = refusals; hands_out = out; each_sound = stopped_sound p q s; sound = t }
 
 -- nothing goes out, and the history stays
 pub still : (p q : Phase) → stopped p q ≡ [] → history_in q ≡ history_in p → Sound p → Sound q → Turns p (λ output. no_change q)
 still p q none same s t =
     turning p q (λ _. []) 0 (λ _. refl)
     (λ output. append-nil (gone output (history_in p)) ∙ ap (gone output) (sym same)
-    ∙ ap (λ hs. all_in output hs ++ gone output (history_in q)) (sym none)) s t (λ _ _. tt)
+    ∙ ap (λ hs. all_in output hs ++ gone output (history_in q)) (sym none)) s t
 
 not_stopped_on : (p : Phase) (h : History) (o : Option OpenPicture) → stopped p (running h o) ≡ []
 not_stopped_on waiting h o = refl
@@ -200,7 +136,7 @@ turns_not p s = still p p refl refl s s
 
 turns_refused : (p : Phase) (unit : ℕ) (f : Fault) → Sound p
     → Turns p (λ output. record { events = Refused unit f ∷ []; phase = p; read = 0 })
-turns_refused p unit f s = turning p p (λ _. Refused unit f ∷ []) 0 (λ _. refl) (turns_not p s).hands_out s s (λ _ _. (tt, tt))
+turns_refused p unit f s = turning p p (λ _. Refused unit f ∷ []) 0 (λ _. refl) (turns_not p s).hands_out s s
 
 -- all that is held goes out, and then these events
 pub held_go_out : (p : Phase) (es : List Event) → pictures_in es ≡ [] → (output : Output)
@@ -229,8 +165,6 @@ failed p unit f read s =
     (λ output. refusals_after (held_pictures output (history_in p)) (Refused unit f ∷ [])
     ∙ sym (refusals_after (held_pictures Full (history_in p)) (Refused unit f ∷ [])))
     (held_go_out p (Refused unit f ∷ []) refl) s tt
-    (λ l output. whole-append (pictures (held_pictures output (history_in p))) (Refused unit f ∷ [])
-    (pictures_whole (history_in p) (all_held output (history_in p)) ((sound_in p s).good l)) (tt, tt))
 
 -- pictures go out, and decoding goes on
 shown : (p : Phase) (h : History) (o : Option OpenPicture) (read : ℕ) → Sound p → Sound (running h o)
@@ -247,7 +181,6 @@ shown p h o read s t f =
     (λ output. no_refusals (output_pictures output old new) ∙ sym (no_refusals (output_pictures Full old new)))
     (λ output. ap (λ l. gone output old ++ l) (pictures_alone (output_pictures output old new)) ∙ gone_later output old new f
     ∙ ap (λ hs. all_in output hs ++ gone output new) (sym (not_stopped_on p h o))) s t
-    (λ l output. pictures_whole new (new_output output old new) ((sound_in (running h o) t).good l))
 
 one_slice : (p : Phase) (already : ℕ) (o : OpenPicture) → Sound p → IsSoundOpen o → Follows (history_in p) (history_of o)
     → Turns p (λ output. with_slice output (history_in p) already o)
@@ -257,29 +190,14 @@ one_slice p already o s t f = by_fault (first_fault o false)
     by_fault (Some found) = failed p found.0 found.1 (read_of o - already) s
     by_fault None = shown p o.before (Some o) (read_of o - already) s t f
 
-abbrev GoodNamed : Option (Pps × Sps) → Type 0
-GoodNamed None = Prim.Unit {0}
-GoodNamed (Some named) = IsSps named.1
-
-good_named : SpsInForceKeepsLimits → (units : List SetUnit) (hd : Header) → GoodNamed (sets_named (sets_after units) hd)
-good_named keeps units hd = by_pps ((sets_after units).pps hd.pic_parameter_set_id)
-  where
-    by_sps : (pps : Pps) (s : Option Sps) → ((sps : Sps) → s ≡ Some sps → IsSps sps) → GoodNamed (both (Some pps) s)
-    by_sps pps (Some sps) good = good sps refl
-    by_sps pps None good = tt
-
-    by_pps : (p : Option Pps) → GoodNamed (elim p [ None ↦ None | Some pps ↦ both (Some pps) ((sets_after units).sps pps.seq_parameter_set_id) ])
-    by_pps None = tt
-    by_pps (Some pps) = by_sps pps ((sets_after units).sps pps.seq_parameter_set_id) (λ sps same. (keeps units pps.seq_parameter_set_id sps same).within)
-
-first_of_picture : (p : Phase) (named : Option (Pps × Sps)) (s : Slice) → Sound p → HasItsMarking s.header → (Sizes → GoodNamed named)
+first_of_picture : (p : Phase) (named : Option (Pps × Sps)) (s : Slice) → Sound p → HasItsMarking s.header
     → Turns p (λ output. after_first_slice output named (history_in p) s)
-first_of_picture p None s sound marking good =
+first_of_picture p None s sound marking =
     still p (running (history_in p) None) (not_stopped_on p (history_in p) None) refl sound (sound_in p sound)
-first_of_picture p (Some named) s sound marking good =
+first_of_picture p (Some named) s sound marking =
     let o : OpenPicture = record { before = history_in p; sps = named.1; pps = named.0; last = s; earlier = [] } in
     let before = sound_in p sound in
-    one_slice p 0 o sound (record { before = before; idr = marking; limits = good }) (base_grows o before).follows
+    one_slice p 0 o sound (record { before = before; idr = marking }) (base_grows o before).follows
 
 -- ---- the steps
 
@@ -295,12 +213,11 @@ next_turns units unit p (Refusal f) s a = turns_refused p unit f s
 next_turns units unit p (FaultOfOpen f) s a = failed p unit f 0 s
 next_turns units unit p (FaultOfOwn f) s a = failed p unit f 0 s
 next_turns units unit (running h (Some o)) (Begins t) s a = absurd a
-next_turns units unit waiting (Begins t) s a = first_of_picture waiting (sets_named (sets_after units) t.header) t s a (λ l. good_named l.1 units t.header)
-next_turns units unit (running h None) (Begins t) s a =
-    first_of_picture (running h None) (sets_named (sets_after units) t.header) t s a (λ l. good_named l.1 units t.header)
+next_turns units unit waiting (Begins t) s a = first_of_picture waiting (sets_named (sets_after units) t.header) t s a
+next_turns units unit (running h None) (Begins t) s a = first_of_picture (running h None) (sets_named (sets_after units) t.header) t s a
 next_turns units unit (running h (Some o)) (Continues t) s a =
     one_slice (running h (Some o)) (read_of o) (record o { last = t; earlier = o.last ∷ o.earlier }) s
-    (record { before = s.before; idr = s.idr; limits = s.limits }) (record { more = []; is = refl })
+    (record { before = s.before; idr = s.idr }) (record { more = []; is = refl })
 next_turns units unit p (Continues t) s a = turns_not p s
 
 -- where the open picture is closed
@@ -317,14 +234,6 @@ closed_goes h o (Ok full) s closed = record {
   each_sound =
       either (All IsSoundSequence) (is_idr hd) _ [] (λ _. ended_sound base _ (base_grows o s.before).sound) (λ _. All-nil IsSoundSequence);
   sound = (closed full refl).sound;
-  whole = λ l output.
-      let Whole : List Decoded → Type 0 = λ out. AllWhole (pictures out) in
-      let held = pictures_whole base (all_held output base) ((base_grows o s.before).sound.good l) in
-      let dropped = if_either Whole (no_output_of_prior_pics hd.marking) [] (held_pictures output base) tt held in
-      let first = either Whole (is_idr hd) (if no_output_of_prior_pics hd.marking then [] else held_pictures output base) [] (λ _. dropped) (λ _. tt) in
-      let indices = new_output output (earlier_in_sequence hd base) full in
-      subst AllWhole (sym (map-append (λ p. Picture p) _ (pictures_at full indices)))
-      (whole-append _ _ first (pictures_whole full indices ((closed full refl).sound.good l)));
 }
   where
     hd : Header
@@ -426,7 +335,7 @@ held_goes (running h None) none s =
     turning (running h None) waiting (λ output. pictures (held_pictures output h)) 0
     (λ output. no_refusals (held_pictures output h) ∙ sym (no_refusals (held_pictures Full h)))
     (λ output. ap (λ es. gone output h ++ pictures_in es) (sym (append-nil (pictures (held_pictures output h))))
-    ∙ held_go_out (running h None) [] refl output) s tt (λ l output. pictures_whole h (all_held output h) (s.good l))
+    ∙ held_go_out (running h None) [] refl output) s tt
 held_goes (running h (Some o)) none s = cc none
 
 end_by : (h : History) (o : OpenPicture) (r : Result History (ℕ × Fault)) → IsSoundOpen o
@@ -464,7 +373,6 @@ one_unit_more units p us hs hs' x g e =
       hands_out = λ output. rw (g.same_phase output) (k.hands_out output);
       each_sound = k.each_sound;
       sound = tt;
-      whole = λ l output. rw (g.same_phase output) (k.whole l output);
     }
 
 -- the units' events, and those of the end
@@ -506,21 +414,3 @@ early_output keeps max bytes kept within =
           ∙ sym (all.hands_out Full);
       refusals = all.same_refusals Early;
     }
-
-one_whole : (es : List Event) (k : ℕ) (p : Decoded) → AllWhole es → slice_get es k ≡ Some (Picture p) → IsWhole p
-one_whole [] k p w e = cc
-one_whole (x ∷ es) zero p w e = subst WholeEvent (let same : x ≡ Picture p = cc in same) w.0
-one_whole (x ∷ es) (suc k) p w e = one_whole es k p w.1 e
-
-pub are_whole : PicturesAreSized → SpsInForceKeepsLimits → PicturesAreWhole
-are_whole sized keeps output max bytes ended k p = by_end ended
-  where
-    at_end_whole : (bs : List ℕ) → AllWhole (events output max bs true)
-    at_end_whole bs = (all_end (units max bs true) [] waiting tt).whole (sized, keeps) output
-
-    by_end : (ended : Bool) → slice_get (events output max bytes ended) k ≡ Some (Picture p) → IsWhole p
-    by_end true e = one_whole (events output max bytes true) k p (at_end_whole bytes) e
-    by_end false e =
-        let more = events_grow units_stay_first output max bytes [] true in
-        one_whole (events output max (bytes ++ []) true) k p (at_end_whole (bytes ++ []))
-        (ap (λ es. slice_get es k) more.1 ∙ get-front (events output max bytes false) more.0 k (Picture p) e)

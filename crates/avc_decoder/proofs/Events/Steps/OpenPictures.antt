@@ -1,115 +1,15 @@
--- A slice header that was read, and an open picture: its first fault, one slice more, and what closing it comes to.
+-- An open picture: its first fault, one slice more, and what closing it comes to.
 pub mod Common
 unfoldable pub use Common.*
-use Rattle.avc_bits.proofs.Reading.{Gives, bind-ok, gives-give, gives-then, value}
 use Rattle.avc_decoder.specs.Events.{running}
 use Rattle.avc_decoder.specs.PictureFrames.{IsRefused}
-use Rattle.avc_slice.proofs.ReadUnder.{header-read}
-use Rattle.avc_slice.specs.Reading.{position_here}
 use Rattle.avc_types.specs.declared.fault.Fault.TheVariants as faults
 
--- ---- what is known of a slice header that can be read, and of the unit that it stands in
-
--- first_mb_in_slice stands first
-first_read : (nal_ref_idc : ℕ) (idr : Bool) (b next : Bits) (g : Front) → front nal_ref_idc idr b ≡ Ok (g, next)
-    → (rest : Bits) × (ue b ≡ Ok (g.first_mb_in_slice, rest))
-first_read nal_ref_idc idr b next g e =
-    let first = bind-ok ue _ b next g e in
-    let number = bind-ok (ue_to 9) _ first.1 next g first.3 in
-    let kind = bind-ok (found (slice_type_of number.0) faults.SliceType) _ number.1 next g number.3 in
-    let checked = bind-ok (check (not (idr && (nal_ref_idc == 0 || is_p_type kind.0))) faults.BadIdr) _ kind.1 next g kind.3 in
-    let id = bind-ok (ue_to 255) _ checked.1 next g checked.3 in
-    (first.1, first.2 ∙ ap (λ r. Ok ((value g r).first_mb_in_slice, first.1)) id.3)
-
--- what stands behind the front keeps it
-address_stays : (nal_ref_idc : ℕ) (idr : Bool) (g : Front) (pps : Pps) (sps : Sps)
-    → Gives (λ h. h.first_mb_in_slice ≡ g.first_mb_in_slice) (back nal_ref_idc idr g pps sps)
-address_stays nal_ref_idc idr g pps sps =
-    let Q = λ (h : Header). h.first_mb_in_slice ≡ g.first_mb_in_slice in
-    gives-then Q (check (nat_lt g.first_mb_in_slice (size_in_mbs sps)) _) _ (λ _.
-    gives-then Q (numbers idr pps sps) _ (λ of_picture.
-    gives-then Q (list_part (is_p_type g.slice_type) pps sps) _ (λ list.
-    gives-then Q (where_set (not (nal_ref_idc == 0)) (marking idr)) _ (λ marked.
-    gives-then Q (filtering pps) _ (λ filtered.
-    gives-then Q position_here _ (λ position. gives-give Q _ refl))))))
-
--- What can be read has its parameter sets, and its first_mb_in_slice stands first.
-pub record IsRead (header : ℕ) (sets : Sets) (rbsp : List ℕ) (h : Header) : Type 0 where
-  pub named : is_some (sets_named sets h) ≡ true
-  pub address : reads_zero (ue (start rbsp)) ≡ true → h.first_mb_in_slice ≡ 0
-  pub of_idr : (header % 32 == 5) ≡ true → is_idr h ≡ true
-  pub rules : KeepsIdrRules h
-
-value_is : (x : Result (Header × Bits) Fault) (h : Header) → value_or_fault x ≡ Ok h → (next : Bits) × (x ≡ Ok (h, next))
-value_is (Ok r) h e = (r.1, ap (λ g. Ok (g, r.1)) (ok_same r.0 h e))
-value_is (Err f) h e = cc
+-- ---- the sets that a header names
 
 pub named_is : (sets : Sets) (h : Header) (pps : Pps) (sps : Sps) → sets.pps h.pic_parameter_set_id ≡ Some pps
     → sets.sps pps.seq_parameter_set_id ≡ Some sps → sets_named sets h ≡ Some (pps, sps)
 named_is sets h pps sps e f = cc
-
-pub is_read : (header : ℕ) (sets : Sets) (rbsp : List ℕ) (h : Header) → header_in_rbsp header sets rbsp ≡ Ok h
-    → IsRead header sets rbsp h
-is_read header sets rbsp h e =
-    let nal_ref_idc = header / 32 % 4 in
-    let idr = header % 32 == 5 in
-    let all = value_is (header_of header sets (start rbsp)) h e in
-    let g = bind-ok (front nal_ref_idc idr) _ (start rbsp) all.0 h all.1 in
-    let pps = bind-ok (found (sets.pps g.0.pic_parameter_set_id) faults.NoParameterSet) _ g.1 all.0 h g.3 in
-    let sps = bind-ok (found (sets.sps pps.0.seq_parameter_set_id) faults.NoParameterSet) _ pps.1 all.0 h pps.3 in
-    let first = first_read nal_ref_idc idr (start rbsp) g.1 g.0 g.2 in
-    let read = header-read header sets rbsp h e in
-    let within = read.kept.within in
-    record {
-      named = ap is_some (named_is sets h read.kept.pps read.kept.sps read.kept.pps_is read.kept.sps_is);
-      address = λ zero_read.
-          address_stays nal_ref_idc idr g.0 pps.0 sps.0 sps.1 all.0 h sps.3
-          ∙ eqb-true g.0.first_mb_in_slice 0 (sym (ap reads_zero first.1) ∙ zero_read);
-      of_idr = λ of_idr. read.idr_is ∙ of_idr;
-      rules = record { intra = within.intra; reference = within.reference; marking = within.marking };
-    }
-
--- ---- the slice of a unit
-
-some_read : {A B : Type 0} (o : Option A) (f : Fault) (read : A → Result B Fault) (s : B)
-    → ◌≡◌ {A = Result B Fault} (elim o [ None ↦ Err f | Some a ↦ read a ]) (Ok s) → (a : A) × (o ≡ Some a) × (read a ≡ Ok s)
-some_read None f read s e = cc
-some_read (Some a) f read s e = (a, refl, e)
-
-header_read : (u : Piece) (bytes : List ℕ) (h : Result Header Fault) (s : Slice) → with_header u bytes h ≡ Ok s → h ≡ Ok s.header
-header_read u bytes (Ok h) s e = ap (λ (t : Slice). Ok t.header) (ok_same _ s e)
-header_read u bytes (Err f) s e = cc
-
--- its header stands in the unit's RBSP
-pub slice_of_unit : (sets : Sets) (u : Piece) (s : Slice) → slice_in sets u ≡ Ok s
-    → (rbsp : List ℕ) × (rbsp_of u ≡ Some rbsp) × IsRead u.header sets rbsp s.header
-slice_of_unit sets u s e =
-    let some = some_read (rbsp_of u) faults.NalTooLong (λ bytes. with_header u bytes (header_in_rbsp u.header sets bytes)) s e in
-    (some.0, some.1, is_read u.header sets some.0 s.header (header_read u some.0 (header_in_rbsp u.header sets some.0) s some.2))
-
--- ---- a unit to start with
-
-pub record Starts (u : Piece) : Type 0 where
-  pub allowed : forbidden_zero_bit u.header ≡ false
-  pub of_idr : nal_unit_type u.header ≡ 5
-  pub reads : (rbsp : List ℕ) → rbsp_of u ≡ Some rbsp → reads_zero (ue (start rbsp)) ≡ true
-
-pub starts : (u : Piece) → is_start u ≡ true → Starts u
-starts u e =
-    let zero_in : Option (List ℕ) → Bool = λ o. elim o [ None ↦ false | Some bytes ↦ reads_zero (ue (start bytes)) ] in
-    let allowed = not (forbidden_zero_bit u.header) in
-    let both_so = first_so (allowed && nal_unit_type u.header == 5) (zero_in (rbsp_of u)) e in
-    record {
-      allowed = not-true (forbidden_zero_bit u.header) (first_so allowed (nal_unit_type u.header == 5) both_so);
-      of_idr = eqb-true (nal_unit_type u.header) 5 (second_so allowed (nal_unit_type u.header == 5) both_so);
-      reads = λ rbsp there. sym (ap zero_in there) ∙ second_so (allowed && nal_unit_type u.header == 5) (zero_in (rbsp_of u)) e;
-    }
-
--- ---- slices of one picture
-
--- One whose first_mb_in_slice is 0 begins a picture.
-pub begins_at_zero : (g h : Header) → h.first_mb_in_slice ≡ 0 → begins g h ≡ true
-begins_at_zero g h e = ap (λ n. begins g (record h { first_mb_in_slice = n })) e
 
 -- ---- the cases of what an open picture gives: each a function of what it is by
 
@@ -129,10 +29,6 @@ if_either P false x y p q = q
 abbrev pub history_by : ℕ → Result History Fault → (before : History) → History
 history_by address opened before = elim address [ suc _ ↦ before | zero ↦ elim opened [ Err f ↦ before | Ok history ↦ history ] ]
 
--- how many macroblocks have been read
-abbrev pub count_by : ℕ → Result History Fault → (History → ℕ) → ℕ
-count_by address opened counted = elim address [ suc _ ↦ 0 | zero ↦ elim opened [ Err f ↦ 0 | Ok history ↦ counted history ] ]
-
 -- its first fault
 abbrev pub fault_by : ℕ → (unit : ℕ) → Result History Fault → (History → Option (ℕ × Fault)) → Option (ℕ × Fault)
 fault_by address unit opened later = elim address [
@@ -142,35 +38,11 @@ fault_by address unit opened later = elim address [
 
 -- ---- at closing
 
-abbrev marked : (unit : ℕ) → Result History Fault → Option (ℕ × Fault)
-marked unit (Ok h) = None
-marked unit (Err f) = Some (unit, f)
-
--- macroblocks are missing, or marking is refused
-abbrev pub by_full : (full : Bool) → (unit : ℕ) → Result History Fault → Option (ℕ × Fault)
-by_full full unit closed = elim full [ false ↦ Some (unit, faults.MissingMacroblocks) | true ↦ marked unit closed ]
-
--- the same of the picture on this history
-abbrev pub found_at_closing : OpenPicture → History → Option (ℕ × Fault)
-found_at_closing o h = by_full (is_full (start_on o h) (progress_on o h)) (o.last).unit (closed_history o h)
-
--- that of the slices comes first
-abbrev pub then_closing : Option (ℕ × Fault) → (closing : Bool) → Option (ℕ × Fault) → Option (ℕ × Fault)
-then_closing f closing closed = elim f [ Some found ↦ Some found | None ↦ elim closing [ true ↦ closed | false ↦ None ] ]
-
 -- what closing gives, where no fault was found before
 abbrev pub unless_found : Option (ℕ × Fault) → Result History (ℕ × Fault) → Result History (ℕ × Fault)
 unless_found f closed = elim f [ Some found ↦ Err found | None ↦ closed ]
 
 -- ---- what a unit does
-
--- the last header, and whether the picture is full
-abbrev pub facts_by : Header → (full : Bool) → OpenPictureFacts
-facts_by last full = record { last = last; full = full }
-
--- by these events, this phase and so many macroblocks read
-abbrev pub outcome_of : List Event → Phase → (read : ℕ) → Outcome
-outcome_of es p read = record { events = es; phase = p; read = read }
 
 -- by the first fault with the slice
 abbrev pub slice_outcome : Output → Option (ℕ × Fault) → History → OpenPicture → (now : History) → (read : ℕ) → Outcome
@@ -182,10 +54,6 @@ slice_outcome output f before o now read = elim f [
 -- by whether a fault at closing leaves the unit without effect
 abbrev pub unless_silent : Bool → (closed next : Outcome) → Outcome
 unless_silent silent closed next = elim silent [ true ↦ closed | false ↦ followed_by closed next ]
-
--- by whether the unit closes the picture
-abbrev pub chosen : Bool → (closed other : Outcome) → Outcome
-chosen closes closed other = elim closes [ true ↦ closed | false ↦ other ]
 
 -- ---- when an open picture's first fault is which
 

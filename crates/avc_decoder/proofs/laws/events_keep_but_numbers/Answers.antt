@@ -1,5 +1,0 @@
-use Rattle.avc_decoder.proofs.Resuming.{events_keep}
-use Rattle.avc_decoder.proofs.laws.events_keep_but_numbers.Goals as goal
-
-pub returns : goal.returns
-returns c = events_keep c.sets_come_alike.ensures

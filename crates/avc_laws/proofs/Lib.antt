@@ -1,0 +1,4 @@
+pub mod Calls
+pub mod RenumberedHistories
+pub mod Resuming
+pub mod Streams

@@ -1,0 +1,3 @@
+pub mod Laws
+pub mod Headline
+pub mod EarlyOutput
