@@ -72,7 +72,8 @@ enum {
     AVCDEC_NO_PICTURE = 5,    /* the event that was taken last is no picture */
     AVCDEC_NO_ROOM = 6,       /* the memory given is too small, or its rows are */
     AVCDEC_NO_PLANE = 7,      /* no plane has this number */
-    AVCDEC_NO_FAULT = 8       /* no fault has this number */
+    AVCDEC_NO_FAULT = 8,      /* no fault has this number */
+    AVCDEC_NO_VALUE = 9       /* no value is known to come no more */
 };
 
 /* What an event is. */
@@ -108,6 +109,7 @@ static inline const char *avcdec_status_name(avcdec_status status) {
     case AVCDEC_NO_ROOM: return "too little room";
     case AVCDEC_NO_PLANE: return "no such plane";
     case AVCDEC_NO_FAULT: return "no such fault";
+    case AVCDEC_NO_VALUE: return "no such value";
     default: return "no such status";
     }
 }
@@ -138,8 +140,7 @@ avcdec_status avcdec_feed_unit(avcdec_decoder *decoder, const uint8_t *bytes, si
  * the value of its unit, a picture that of its first slice's, in whichever order pictures come: mark before each packet is given. A unit
  * begins with its first byte behind a start code, and one that is under way keeps the value that it has.
  * The newest 1,024 marks are kept, of marks at one unit the last; a picture waits behind 16 others at most. avcdec_reset forgets them.
- * Not every value comes back. Once an IDR picture has come (avcdec_picture_info), no picture of a unit before its own comes any more;
- * nor does any behind the last event after avcdec_flush.
+ * Not every value comes back: avcdec_take_dropped tells which do not.
  * OK; OUT_OF_MEMORY (where an earlier call found none; nothing changes); CLOSED. Asks for no memory. */
 avcdec_status avcdec_mark(avcdec_decoder *decoder, uint64_t value);
 
@@ -158,6 +159,13 @@ avcdec_status avcdec_reset(avcdec_decoder *decoder);
  * OK (*event is set; its kind is AVCDEC_NOTHING where there is none yet); OUT_OF_MEMORY (its kind is AVCDEC_NOTHING);
  * CLOSED (*event is not touched). */
 avcdec_status avcdec_take(avcdec_decoder *decoder, avcdec_event *event);
+
+/* Tells the oldest value that no event has had and none will have: its mark was made before that of the newest IDR picture that was taken,
+ * and behind an IDR picture no event of an earlier unit comes (C.4.4). So a packet that brought parameter sets alone is told, a second
+ * slice's, and one that was passed over while decoding waits for an IDR picture. The value goes: call until there is none. Behind the
+ * last event after avcdec_flush none of the others comes either, and they are not told.
+ * OK (*value is set); NO_VALUE; CLOSED. But for OK, *value is not touched. Asks for no memory. */
+avcdec_status avcdec_take_dropped(avcdec_decoder *decoder, uint64_t *value);
 
 /* What is known of a picture beside its samples. A flag is 0 or 1. What the stream's VUI parameters (E.2.1) do not give has the value
  * that the standard infers. */

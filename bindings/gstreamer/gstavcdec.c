@@ -29,6 +29,9 @@ GST_DEBUG_CATEGORY_STATIC(avcdec_debug);
 /* nal_unit_type of parameter sets (Table 7-1). */
 enum { NAL_SPS = 7, NAL_PPS = 8 };
 
+/* The number of Tables E-3 to E-5 by which a stream leaves its colours open. */
+enum { UNSPECIFIED = 2 };
+
 /* What became of the access unit that was fed last. */
 typedef struct {
     guint64 first_unit, end_unit; /* its units */
@@ -52,6 +55,7 @@ struct _GstAvcdec {
     GQueue waiting;      /* system frame numbers of access units that were decoded and not handed out, in decoding order */
     guint latency;       /* the most frames that waited, in frames */
     avcdec_event shown;  /* size and cropping of the output caps */
+    avcdec_info told;    /* and what else they were made from */
 };
 
 G_DEFINE_TYPE(GstAvcdec, gst_avcdec, GST_TYPE_VIDEO_DECODER)
@@ -155,19 +159,76 @@ static gboolean gst_avcdec_set_format(GstVideoDecoder *decoder, GstVideoCodecSta
     return TRUE;
 }
 
-/* Output caps for a picture of another size or cropping than the one before. */
+/* Whether the caps of two pictures are of the same size and cropping. */
+static gboolean is_same_size(const avcdec_event *one, const avcdec_event *other) {
+    return one->width == other->width && one->height == other->height && one->crop_left == other->crop_left &&
+           one->crop_right == other->crop_right && one->crop_top == other->crop_top && one->crop_bottom == other->crop_bottom;
+}
+
+/* Whether their streams say the same of showing them. */
+static gboolean is_shown_alike(const avcdec_info *one, const avcdec_info *other) {
+    return one->sar_width == other->sar_width && one->sar_height == other->sar_height &&
+           one->video_full_range_flag == other->video_full_range_flag && one->colour_primaries == other->colour_primaries &&
+           one->transfer_characteristics == other->transfer_characteristics &&
+           one->matrix_coefficients == other->matrix_coefficients &&
+           one->chroma_sample_loc_type == other->chroma_sample_loc_type && one->num_units_in_tick == other->num_units_in_tick &&
+           one->time_scale == other->time_scale;
+}
+
+/* The range, matrix, transfer and primaries that the stream gives; what it leaves open stays. */
+static void set_colorimetry(GstVideoColorimetry *colorimetry, const avcdec_info *info) {
+    if (info->video_full_range_flag)
+        colorimetry->range = GST_VIDEO_COLOR_RANGE_0_255;
+    if (info->matrix_coefficients != UNSPECIFIED)
+        colorimetry->matrix = gst_video_color_matrix_from_iso(info->matrix_coefficients);
+    if (info->transfer_characteristics != UNSPECIFIED)
+        colorimetry->transfer = gst_video_transfer_function_from_iso(info->transfer_characteristics);
+    if (info->colour_primaries != UNSPECIFIED)
+        colorimetry->primaries = gst_video_color_primaries_from_iso(info->colour_primaries);
+}
+
+/* Where chroma samples lie (figure E-1): GStreamer has names for the first three places. */
+static void set_chroma_site(GstVideoInfo *video, const avcdec_info *info) {
+    static const GstVideoChromaSite sites[] = {GST_VIDEO_CHROMA_SITE_MPEG2, GST_VIDEO_CHROMA_SITE_JPEG, GST_VIDEO_CHROMA_SITE_COSITED};
+    if (info->chroma_sample_loc_type < G_N_ELEMENTS(sites))
+        GST_VIDEO_INFO_CHROMA_SITE(video) = sites[info->chroma_sample_loc_type];
+}
+
+/* What the stream's VUI says of showing a picture, where the input caps do not. */
+static void set_usability(GstVideoInfo *video, const GstCaps *input, const avcdec_info *info) {
+    const GstStructure *said = gst_caps_get_structure(input, 0);
+    if (!gst_structure_has_field(said, "pixel-aspect-ratio") && info->sar_width > 0 && info->sar_width <= G_MAXINT16 &&
+        info->sar_height > 0 && info->sar_height <= G_MAXINT16) {
+        GST_VIDEO_INFO_PAR_N(video) = (gint)info->sar_width;
+        GST_VIDEO_INFO_PAR_D(video) = (gint)info->sar_height;
+    }
+    if (!gst_structure_has_field(said, "colorimetry"))
+        set_colorimetry(&GST_VIDEO_INFO_COLORIMETRY(video), info);
+    if (!gst_structure_has_field(said, "chroma-site"))
+        set_chroma_site(video, info);
+    if (!gst_structure_has_field(said, "framerate") && info->time_scale > 0 && info->time_scale <= G_MAXINT32 &&
+        info->num_units_in_tick > 0 && info->num_units_in_tick <= G_MAXINT32 / 2) {
+        GST_VIDEO_INFO_FPS_N(video) = (gint)info->time_scale;
+        GST_VIDEO_INFO_FPS_D(video) = (gint)info->num_units_in_tick * 2;
+    }
+}
+
+/* Output caps for a picture that differs in them from the one before. */
 static gboolean negotiate(GstAvcdec *self, const avcdec_event *picture) {
-    if (picture->width == self->shown.width && picture->height == self->shown.height &&
-        picture->crop_left == self->shown.crop_left && picture->crop_right == self->shown.crop_right &&
-        picture->crop_top == self->shown.crop_top && picture->crop_bottom == self->shown.crop_bottom)
+    avcdec_info info;
+    if (avcdec_picture_info(&self->decoder, &info) != AVCDEC_OK)
+        return FALSE;
+    if (is_same_size(picture, &self->shown) && is_shown_alike(&info, &self->told))
         return TRUE;
     GstVideoDecoder *decoder = GST_VIDEO_DECODER(self);
     GstVideoCodecState *output = gst_video_decoder_set_output_state(
         decoder, GST_VIDEO_FORMAT_I420, avcdec_shown_width(picture), avcdec_shown_height(picture), self->input_state);
     if (output == NULL)
         return FALSE;
+    set_usability(&output->info, self->input_state->caps, &info);
     gst_video_codec_state_unref(output);
     self->shown = *picture;
+    self->told = info;
     return gst_video_decoder_negotiate(decoder);
 }
 

@@ -132,6 +132,8 @@ export class Decoder {
     decode(bytes: Uint8Array, options?: DecodeOptions): Generator<DecodedEvent, void, undefined>;
     /** Gives a value to the units that begin with the bytes given from here on; each event has that of its unit. */
     mark(value: bigint): void;
+    /** The oldest value that no event has had and none will have; it goes. */
+    takeDropped(): bigint | undefined;
     /** Gives bytes at once; events wait until they are taken. */
     feed(bytes: Uint8Array, options?: FeedOptions): void;
     /** Ends the stream: all pictures that are held can be taken. */

@@ -8,9 +8,9 @@
 //
 // The contract is that of include/avcdec.h. One call at a time: the memory of a module belongs to one thread, a page's or a worker's.
 
-const OK = 0, OUT_OF_MEMORY = 1, ENDED = 2;
+const OK = 0, OUT_OF_MEMORY = 1, ENDED = 2, NO_VALUE = 9;
 const NOTHING = 0, PICTURE = 1;
-const EVENT_SIZE = 48, DECODER_SIZE = 16, ROWS_SIZE = 32, INFO_SIZE = 64, USED_SIZE = 8, NAME_SIZE = 32, PIECE = 65536;
+const EVENT_SIZE = 48, DECODER_SIZE = 16, ROWS_SIZE = 32, INFO_SIZE = 64, USED_SIZE = 8, VALUE_SIZE = 8, NAME_SIZE = 32, PIECE = 65536;
 const END_OF_ACCESS_UNIT = Uint8Array.of(0, 0, 1, 9, 0xf0, 0, 0, 1);
 
 /** A call that did not do its work. `status` is a number of avcdec_status. */
@@ -336,6 +336,16 @@ export class Decoder {
     mark(value) {
         if (BigInt.asUintN(64, value) !== value) throw new RangeError('avcdec: a value from 0n to 2n ** 64n - 1n is wanted');
         check(this.#library.calls.avcdec_mark(this.#open.self, value));
+    }
+
+    /** The oldest value that no event has had and none will have: see avcdec_take_dropped in include/avcdec.h. It goes; undefined where there
+     * is none. */
+    takeDropped() {
+        const { library, self, rows } = this.#open;
+        const status = library.calls.avcdec_take_dropped(self, library.address(rows));
+        if (status === NO_VALUE) return undefined;
+        check(status);
+        return library.view(rows, VALUE_SIZE).getBigUint64(0, true);
     }
 
     /** Gives bytes, all at once. Their pictures wait, each in memory of its own, until they are taken: give at most 65,536 bytes or one access

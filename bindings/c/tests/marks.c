@@ -1,8 +1,9 @@
 /* marks IN PACKET..: gives each packet of a stream its place in it as value, and tells of each event the value: of a picture with a star
  * where it is an IDR picture, of a refusal in brackets. The packets begin at the places that are given, the last one is the rest.
  * marks SEED IN: marks at random places. Of each event the value must be that of the newest mark made before its unit, by the units
- * that this program counts itself, and the unit of a picture must be one whose slice begins at macroblock 0. Tells how many events there
- * were. Status: 0, else the line of the check that failed. */
+ * that this program counts itself, and the unit of a picture must be one whose slice begins at macroblock 0. What avcdec_take_dropped tells
+ * must be the oldest value before the newest IDR picture's that no event had, and no event may have it later. Tells how many events and
+ * such values there were. Status: 0, else the line of the check that failed. */
 #include <avcdec.h>
 #include <stdio.h>
 #include <stdlib.h>
@@ -95,16 +96,61 @@ static void decode_packets(int count, char **places) {
 static size_t first_units[MOST], begins[1 << 20], marks;
 static uint64_t values[MOST];
 
-/* That of the newest mark at the unit or before it, of those that are kept. */
-static uint64_t value_of(uint64_t unit) {
+/* Of which of them an event is awaited, and which were told as dropped; how many those are; and the mark of the newest IDR picture. */
+static bool awaited[MOST], told[MOST];
+static size_t dropped, idr_mark;
+
+/* Whether it is the last of the marks at its unit. */
+static bool is_last_of_unit(size_t mark) {
+    return mark + 1 == marks || first_units[mark + 1] != first_units[mark];
+}
+
+/* The newest mark at the unit or before it, of those that are kept; MOST where there is none. */
+static size_t mark_of(uint64_t unit) {
     size_t kept = 0;
     for (size_t at = marks; at > 0 && kept < MOST_KEPT; at--) {
-        bool is_last_of_unit = at == marks || first_units[at - 1] != first_units[at];
-        kept += is_last_of_unit;
-        if (is_last_of_unit && first_units[at - 1] <= unit)
-            return values[at - 1];
+        kept += is_last_of_unit(at - 1);
+        if (is_last_of_unit(at - 1) && first_units[at - 1] <= unit)
+            return at - 1;
     }
-    return 0;
+    return MOST;
+}
+
+/* The oldest mark of which an event is awaited; MOST where there is none. */
+static size_t oldest_awaited(void) {
+    for (size_t at = 0; at < marks; at++)
+        if (awaited[at])
+            return at;
+    return MOST;
+}
+
+/* From a new mark on an event of it is awaited, and of the one at its unit and of the oldest of too many no more. */
+static void await_mark(size_t mark) {
+    size_t count = 0;
+    for (size_t at = 0; at < mark; at++) {
+        if (first_units[at] == first_units[mark])
+            awaited[at] = false;
+        count += awaited[at];
+    }
+    if (count == MOST_KEPT)
+        awaited[oldest_awaited()] = false;
+    awaited[mark] = true;
+}
+
+static void compare_dropped(avcdec_decoder *decoder) {
+    for (;;) {
+        uint64_t value = GAP;
+        size_t oldest = oldest_awaited();
+        avcdec_status status = avcdec_take_dropped(decoder, &value);
+        if (oldest == MOST || first_units[oldest] >= first_units[idr_mark]) {
+            CHECK(status == AVCDEC_NO_VALUE && value == GAP);
+            return;
+        }
+        CHECK(status == AVCDEC_OK && value == values[oldest]);
+        awaited[oldest] = false;
+        told[oldest] = true;
+        dropped++;
+    }
 }
 
 static size_t compare_events(avcdec_decoder *decoder) {
@@ -116,7 +162,14 @@ static size_t compare_events(avcdec_decoder *decoder) {
         if (event.kind == AVCDEC_NOTHING)
             return events;
         compare_info(decoder, &event, &info);
-        CHECK(event.value == value_of(event.unit));
+        size_t mark = mark_of(event.unit);
+        CHECK(event.value == (mark == MOST ? 0 : values[mark]));
+        if (mark != MOST) {
+            CHECK(!told[mark]);
+            awaited[mark] = false;
+            if (event.kind == AVCDEC_PICTURE && info.is_idr)
+                idr_mark = mark;
+        }
         if (event.kind == AVCDEC_PICTURE) {
             const uint8_t *unit = stream + begins[event.unit];
             CHECK((unit[0] & 31) == (info.is_idr ? 5 : 1) && unit[1] >= 128);
@@ -133,6 +186,7 @@ static void make_mark(avcdec_decoder *decoder, size_t at) {
     values[marks] = (uint64_t)rand() << 40 | (uint64_t)at << 8 | (uint64_t)rand() % 256;
     CHECK(avcdec_mark(decoder, values[marks]) == AVCDEC_OK);
     marks++;
+    await_mark(marks - 1);
 }
 
 static size_t decode_marked(avcdec_decoder *decoder) {
@@ -149,18 +203,25 @@ static size_t decode_marked(avcdec_decoder *decoder) {
         at += used;
         if (rand() % 4 != 0)
             events += compare_events(decoder);
+        if (rand() % 2 != 0)
+            compare_dropped(decoder);
     }
     CHECK(avcdec_flush(decoder) == AVCDEC_OK);
     make_mark(decoder, length);
-    return events + compare_events(decoder);
+    events += compare_events(decoder);
+    compare_dropped(decoder);
+    return events;
 }
 
 static void decode_at_random(unsigned seed) {
     avcdec_decoder decoder = AVCDEC_DECODER_CLOSED;
     avcdec_info info = {0};
+    uint64_t value = 1;
+    CHECK(avcdec_take_dropped(&decoder, &value) == AVCDEC_CLOSED && value == 1);
     CHECK(avcdec_mark(&decoder, 1) == AVCDEC_CLOSED && avcdec_picture_info(&decoder, &info) == AVCDEC_CLOSED && info.unit == 0);
     CHECK(avcdec_open(&decoder, false) == AVCDEC_OK);
     CHECK(avcdec_picture_info(&decoder, &info) == AVCDEC_NO_PICTURE);
+    CHECK(avcdec_take_dropped(&decoder, &value) == AVCDEC_NO_VALUE && value == 1);
     CHECK(length / 3 < sizeof begins / sizeof *begins);
     units_in(length, begins);
     srand(seed);
@@ -168,9 +229,13 @@ static void decode_at_random(unsigned seed) {
     /* a reset forgets marks, and units are counted anew */
     CHECK(avcdec_reset(&decoder) == AVCDEC_OK && avcdec_picture_info(&decoder, &info) == AVCDEC_NO_PICTURE);
     marks = 0;
+    idr_mark = 0;
+    memset(awaited, 0, sizeof awaited);
+    memset(told, 0, sizeof told);
+    CHECK(avcdec_take_dropped(&decoder, &value) == AVCDEC_NO_VALUE);
     CHECK(decode_marked(&decoder) == events);
     avcdec_close(&decoder);
-    printf("%lu\n", (unsigned long)events);
+    printf("%lu %lu\n", (unsigned long)events, (unsigned long)dropped);
 }
 
 int main(int count, char **words) {

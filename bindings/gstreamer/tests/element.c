@@ -258,6 +258,10 @@ static const guint8 skipped[] = {0, 0, 0, 1, 0x41, 0x9A, 0x22, 0xA0};
 static const char sink_caps[] =
     "video/x-h264,stream-format=byte-stream,alignment=au,profile=constrained-baseline,width=16,height=16,framerate=25/1,pixel-aspect-ratio=4/3";
 
+/* The first picture with VUI parameters (E.1.1): aspect_ratio_idc 14 (4:3), full range, the colours of BT.709, 60 ticks a second. */
+static const guint8 usable[] = {0, 0, 0, 1, 0x67, 0x42, 0xC0, 0x0A, 0xDA, 0x73, 0x0E, 0x6E, 2, 2, 2, 0x80, 0, 0, 3, 0, 0x80, 0,
+                                0, 0x1E, 2, 0, 0, 0, 1, 0x68, 0xCE, 0x38, 0x80, 0, 0, 0, 1, 0x65, 0x88, 0x84, 0x93, 0xC0};
+
 static GstBuffer *buffer_of(const guint8 *bytes, gsize length, guint number) {
     GstBuffer *buffer = gst_buffer_new_memdup(bytes, length);
     GST_BUFFER_PTS(buffer) = number * GST_SECOND / 25;
@@ -302,6 +306,25 @@ static void caps(void) {
     holds("other profiles are not negotiated", !gst_pad_query_accept_caps(sink, high));
     gst_object_unref(sink);
     gst_caps_unref(high);
+    gst_harness_teardown(h);
+}
+
+/* What the input caps do not say is that of the stream's VUI parameters. */
+static void usability(void) {
+    GstHarness *h = gst_harness_new("avcdec");
+    gst_harness_set_src_caps_str(h, "video/x-h264,stream-format=byte-stream,alignment=au,profile=constrained-baseline");
+    gst_harness_push(h, buffer_of(usable, sizeof usable, 0));
+    gst_harness_push_event(h, gst_event_new_eos());
+    GstCaps *caps = gst_pad_get_current_caps(h->sinkpad);
+    GstVideoInfo info;
+    gboolean made = caps != NULL && gst_video_info_from_caps(&info, caps);
+    holds("the stream's aspect ratio", made && info.par_n == 4 && info.par_d == 3);
+    holds("the stream's frame rate", made && info.fps_n == 30 && info.fps_d == 1);
+    holds("the stream's range", made && info.colorimetry.range == GST_VIDEO_COLOR_RANGE_0_255);
+    holds("the stream's colours", made && info.colorimetry.matrix == GST_VIDEO_COLOR_MATRIX_BT709 &&
+                                      info.colorimetry.primaries == GST_VIDEO_COLOR_PRIMARIES_BT709);
+    if (caps != NULL)
+        gst_caps_unref(caps);
     gst_harness_teardown(h);
 }
 
@@ -381,7 +404,7 @@ int main(int count, char **words) {
     gst_init(&count, &words);
     const char *what = count > 1 ? words[1] : "";
     if (strcmp(what, "caps") == 0)
-        caps();
+        caps(), usability();
     else if (strcmp(what, "times") == 0)
         times();
     else if (strcmp(what, "flush") == 0)

@@ -10,6 +10,8 @@
 A picture has memory of its own, one copy of what is shown. With `lend=True` it is not copied: its planes are views of the rows in the
 decoder's memory, until the next event. Then they are released, and `Picture.copy` keeps one.
 
+`compare` and `macroblocks` are for test benches, and run the program `avcdec`.
+
 It stands on the shared library libavcdec: the file that AVCDEC_LIBRARY names, else the one that `pip install` has put beside this file,
 else where the system finds it. It needs nothing else; where numpy is installed, a Plane gives an array.
 """
@@ -24,17 +26,21 @@ import sys
 from dataclasses import dataclass
 from typing import TYPE_CHECKING, Any, BinaryIO, Iterable, Iterator, NamedTuple, Optional, Tuple, Union
 
+from .bench import Comparison, compare, macroblocks
+
 if TYPE_CHECKING:
     import numpy
     import numpy.typing
 
 __all__ = [
-    "Closed", "Decoder", "Ended", "Error", "Event", "OutOfMemory", "Picture", "PictureInfo", "Plane", "Refusal", "decode", "version",
+    "Closed", "Comparison", "Decoder", "Ended", "Error", "Event", "OutOfMemory", "Picture", "PictureInfo", "Plane", "Refusal", "compare",
+    "decode", "macroblocks", "version",
 ]
 
 __version__ = "0.2.0"
 
 _PICTURE, _REFUSED = 1, 2
+_NO_VALUE = 9
 _NAME_SIZE = 32
 # the most bytes that `decode` reads at a time
 _PIECE = 65_536
@@ -111,6 +117,7 @@ def _load() -> ctypes.CDLL:
         ("avcdec_flush", status, [handle]),
         ("avcdec_reset", status, [handle]),
         ("avcdec_take", status, [handle, ctypes.POINTER(_Event)]),
+        ("avcdec_take_dropped", status, [handle, ctypes.POINTER(ctypes.c_uint64)]),
         ("avcdec_picture_info", status, [handle, ctypes.POINTER(_Info)]),
         ("avcdec_lend_plane", status, [handle, ctypes.c_uint32, ctypes.POINTER(_Rows)]),
         ("avcdec_copy_i420", status, [handle, ctypes.c_void_p, ctypes.c_size_t]),
@@ -367,6 +374,17 @@ class Decoder:
         if not 0 <= value < 1 << 64:
             raise OverflowError(f"{value} is no value from 0 to 2**64 - 1")
         _tell(_library.avcdec_mark(self._handle, value))
+
+    def take_dropped(self) -> Optional[int]:
+        """The oldest value that no event has had and none will have: its mark was made before that of the newest IDR picture that was taken.
+        It goes, so that the next call tells the next one. Behind the last event after `flush` none of the others comes either, and they are
+        not told."""
+        value = ctypes.c_uint64()
+        status = _library.avcdec_take_dropped(self._handle, value)
+        if status == _NO_VALUE:
+            return None
+        _tell(status)
+        return value.value
 
     def end_access_unit(self) -> None:
         """Says that the bytes so far end with a whole access unit: its picture is decoded now. It adds 1 to the count of units."""

@@ -223,6 +223,24 @@ class Calls(unittest.TestCase):
                 told += [(event.value, *event.copy().info[:4]) for event in decoder.events(lend)]
             self.assertEqual(told, wanted)
 
+    def test_a_value_that_never_comes_is_told_behind_the_next_idr_picture(self) -> None:
+        data = (VECTORS / "cases" / "order_type_0_twice.264").read_bytes()
+        # the parameter sets are a packet of their own
+        places = [0, 18, 26, 34, 42]
+        with avcdec.Decoder() as decoder:
+            for begin, end in zip(places, places[1:] + [len(data)]):
+                decoder.mark(begin)
+                decoder.feed(data[begin:end])
+            decoder.flush()
+            self.assertIsNone(decoder.take_dropped())
+            first = decoder.take()
+            self.assertEqual(first and first.value, 18)
+            self.assertEqual([decoder.take_dropped(), decoder.take_dropped()], [0, None])
+            self.assertEqual([event.value for event in decoder.events()], [34, 26, 42, 42, 42])
+            self.assertEqual([decoder.take_dropped()], [None])
+        with self.assertRaises(avcdec.Closed):
+            decoder.take_dropped()
+
     def test_a_refusal_has_the_value_of_its_unit(self) -> None:
         with avcdec.Decoder() as decoder:
             decoder.feed(bytes.fromhex("000001E7"))

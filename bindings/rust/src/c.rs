@@ -98,6 +98,7 @@ extern "C" {
     pub fn avcdec_flush(decoder: *mut Decoder) -> u32;
     pub fn avcdec_reset(decoder: *mut Decoder) -> u32;
     pub fn avcdec_take(decoder: *mut Decoder, event: *mut Event) -> u32;
+    pub fn avcdec_take_dropped(decoder: *mut Decoder, value: *mut u64) -> u32;
     pub fn avcdec_picture_info(decoder: *mut Decoder, info: *mut Info) -> u32;
     pub fn avcdec_lend_plane(decoder: *mut Decoder, plane: u32, rows: *mut Rows) -> u32;
     pub fn avcdec_turns(decoder: *mut Decoder) -> u64;

@@ -194,6 +194,15 @@ impl Decoder {
         told(unsafe { c::avcdec_mark(&mut self.handle, value) })
     }
 
+    /// The oldest value that no event has had and none will have: its mark was made before that of the newest IDR picture that was taken.
+    /// It goes, so that the next call tells the next one. Behind the last event after [`Decoder::flush`] none of the others comes either,
+    /// and they are not told.
+    pub fn take_dropped(&mut self) -> Option<u64> {
+        let mut value = 0;
+        let status = unsafe { c::avcdec_take_dropped(&mut self.handle, &mut value) };
+        (status == c::OK).then_some(value)
+    }
+
     /// Feeds bytes unit by unit and hands on each event as it comes. After an error of `each` the bytes of the unit before are fed, and
     /// none behind it.
     pub fn decode<E: From<Error>>(

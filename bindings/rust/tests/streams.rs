@@ -308,6 +308,24 @@ fn values_come_back_with_their_pictures() {
 }
 
 #[test]
+fn a_value_that_never_comes_is_told_behind_the_next_idr_picture() {
+    let bytes = fs::read(cases().join("order_type_0_twice.264")).unwrap();
+    let mut decoder = Decoder::new(Output::Full).unwrap();
+    // the parameter sets are a packet of their own
+    for (value, packet) in packets(&bytes, &[0, 18, 26, 34, 42]) {
+        decoder.mark(value).unwrap();
+        decoder.feed(packet).unwrap();
+    }
+    decoder.flush().unwrap();
+    assert_eq!(decoder.take_dropped(), None);
+    assert_eq!(decoder.take().unwrap().map(|event| event.value()), Some(18));
+    assert_eq!(decoder.take_dropped(), Some(0));
+    assert_eq!(decoder.take_dropped(), None);
+    decoder.take_all(|_event| Ok::<(), Error>(())).unwrap();
+    assert_eq!(decoder.take_dropped(), None);
+}
+
+#[test]
 fn a_refusal_has_the_value_of_its_unit() {
     let mut decoder = Decoder::new(Output::Full).unwrap();
     decoder.feed(&[0, 0, 1, 0xE7]).unwrap();

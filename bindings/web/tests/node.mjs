@@ -141,6 +141,18 @@ async function calls() {
         same(got, told);
         decoder.close();
     });
+    await test('a value that never comes is told behind the next IDR picture', () => {
+        const decoder = new Decoder(library);
+        // the parameter sets are a packet of their own
+        for (const [from, to] of [[0, 18], [18, 26], [26, 42]]) {
+            decoder.mark(BigInt(from + 1));
+            decoder.feed(reordered.subarray(from, to));
+        }
+        decoder.flush();
+        const before = decoder.takeDropped(), { value } = decoder.take();
+        same([before, value, decoder.takeDropped(), decoder.takeDropped()].map(String), ['undefined', '19', '1', 'undefined']);
+        decoder.close();
+    });
     await test('values come back from a worker', async () => {
         const decoder = new WorkerDecoder({ module }), got = [];
         for (const [at, from] of places.entries()) got.push(...(await decoder.decode(reordered.slice(from, places[at + 1]), { value: BigInt(from) })).map(tell));

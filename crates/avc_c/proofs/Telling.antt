@@ -2,8 +2,7 @@
 use Rattle.avc_c.proofs.Common.{◌≡◌, ℕ, sym, ◌∙◌, List, [], ◌∷◌, ◌++◌, Option, Some, refl, ap, subst, max_unit, OpenDecoder}
 use Rattle.std.proofs.Common.{inl, inr}
 use Rattle.std.specs.Prelude.{◌⊎◌, Bool, true, false, take, None, Result, Ok, Err}
-use Rattle.avc_annexb.specs.Units.{units_begun}
-use Rattle.avc_decoder.specs.Machine.{after_feed, after_flush, new_machine, IsFeedAnswer, IsFeedUnitAnswer, IsTakeAnswer, Machine, Run}
+use Rattle.avc_decoder.specs.Machine.{after_feed, after_flush, IsFeedAnswer, IsFeedUnitAnswer, IsTakeAnswer, Machine, Run}
 use Rattle.avc_decoder.specs.declared.error.DecodeError.{DecodeError}
 use Rattle.avc_decoder.specs.declared.error.DecodeError.TheVariants.{OutOfMemory, Ended}
 use Rattle.avc_decoder.specs.declared.calls.Call.{Call}
@@ -12,10 +11,10 @@ use Rattle.avc_decoder.specs.declared.calls.Reply.{Reply}
 use Rattle.avc_decoder.specs.declared.calls.Reply.TheVariants as replies
 use Rattle.avc_decoder.specs.SeenEvents.{Event}
 use Rattle.avc_c.specs.EventRecords.{call_status, picture_of, unit_status, used_by}
-use Rattle.avc_c.specs.Exports.{after_mark}
-use Rattle.avc_c.specs.Marks.{with_mark}
+use Rattle.avc_c.specs.Awaited.{awaited_behind}
+use Rattle.avc_c.specs.Exports.{after_mark, mark_behind, marked, new_decoder}
 use Rattle.avc_c.specs.Statuses.{number_of}
-use Rattle.avc_c.specs.CallsOfC.{CallOfC, feeds, feeds_unit, given_by, takes, flushes, resets, makes_mark, opens, looks, Told, AreAnswered, Between, after_bytes, Tells}
+use Rattle.avc_c.specs.CallsOfC.{CallOfC, feeds, feeds_unit, given_by, takes, takes_dropped, flushes, resets, makes_mark, opens, looks, Told, AreAnswered, Between, after_bytes, Tells}
 use Rattle.avc_c.specs.declared.status.Status.TheVariants as statuses
 
 -- a feed of one unit is a feed of the bytes that it gave
@@ -31,7 +30,7 @@ abbrev AreItsBytes : List ℕ → Machine → Type 0
 AreItsBytes bytes m = m.failed ≡ false → bytes ≡ m.bytes
 
 abbrev between : OpenDecoder → List ℕ → Between
-between d bytes = record { picture = d.picture; marks = d.marks; bytes = bytes }
+between d bytes = record { picture = d.picture; marks = d.marks; awaited = d.awaited; bytes = bytes }
 
 after_refusal : (old after m : Machine) (failed : Bool) → old.failed ≡ failed → m ≡ elim failed [ true ↦ old | false ↦ record after { failed = true } ] → m.failed ≡ true
 after_refusal old after m true is e = ap (λ (x : Machine). x.failed) e ∙ is
@@ -63,19 +62,19 @@ taken_bytes old bytes (Err Ended) m its h going = absurd h
 -- a mark is made, or memory was refused
 abbrev Marks : (value : ℕ) → OpenDecoder → List ℕ → Told → OpenDecoder → Type 0
 Marks value d bytes told next =
-    ((told.status ≡ number_of statuses.Ok) × (next ≡ record d { marks = with_mark (record { unit = units_begun max_unit bytes; value = value }) d.marks }))
+    ((told.status ≡ number_of statuses.Ok) × (next ≡ marked (mark_behind bytes value) d))
     ⊎ ((told.status ≡ number_of statuses.OutOfMemory) × (next ≡ d))
 
 marks_by : (value : ℕ) (d : OpenDecoder) (bytes : List ℕ) (told : Told) (failed : Bool) → (d.decoder).failed ≡ failed → AreItsBytes bytes d.decoder
     → told.status ≡ number_of (elim failed [ true ↦ statuses.OutOfMemory | false ↦ statuses.Ok ])
-    → Marks value d bytes told (elim failed [ true ↦ d | false ↦ record d { marks = with_mark (record { unit = units_begun max_unit (d.decoder).bytes; value = value }) d.marks } ])
+    → Marks value d bytes told (elim failed [ true ↦ d | false ↦ marked (mark_behind (d.decoder).bytes value) d ])
 marks_by value d bytes told true is its status = inr (status, refl)
 marks_by value d bytes told false is its status =
-    inl (status, ap (λ (b : List ℕ). record d { marks = with_mark (record { unit = units_begun max_unit b; value = value }) d.marks }) (sym (its is)))
+    inl (status, ap (λ (b : List ℕ). marked (mark_behind b value) d) (sym (its is)))
 
 -- the decoder stays
 marked_bytes : (value : ℕ) (d : OpenDecoder) (bytes : List ℕ) (failed : Bool) → (d.decoder).failed ≡ failed → AreItsBytes bytes d.decoder
-    → AreItsBytes bytes (elim failed as (λ _. OpenDecoder) [ true ↦ d | false ↦ record d { marks = with_mark (record { unit = units_begun max_unit (d.decoder).bytes; value = value }) d.marks } ]).decoder
+    → AreItsBytes bytes (elim failed as (λ _. OpenDecoder) [ true ↦ d | false ↦ marked (mark_behind (d.decoder).bytes value) d ]).decoder
 marked_bytes value d bytes true is its = its
 marked_bytes value d bytes false is its = its
 
@@ -100,7 +99,7 @@ goes_on then d last calls told is rest = subst (λ b. AreAnswered b calls told (
 marked_run : (value : ℕ) (d next : OpenDecoder) (bytes : List ℕ) (calls : List CallOfC) (t : Told) (ts : List Told) (last : OpenDecoder)
     → Marks value d bytes t next → IsARun next bytes calls ts last → IsARun d bytes (makes_mark value ∷ calls) (t ∷ ts) last
 marked_run value d next bytes calls t ts last (inl m) r =
-    let s : IsARun (record d { marks = with_mark (record { unit = units_begun max_unit bytes; value = value }) d.marks }) bytes calls ts last = subst (λ (n : OpenDecoder). IsARun n bytes calls ts last) m.1 r in
+    let s : IsARun (marked (mark_behind bytes value) d) bytes calls ts last = subst (λ (n : OpenDecoder). IsARun n bytes calls ts last) m.1 r in
     (s.0, s.1, s.2, inl (m.0, s.3))
 marked_run value d next bytes calls t ts last (inr m) r =
     let s : IsARun d bytes calls ts last = subst (λ (n : OpenDecoder). IsARun n bytes calls ts last) m.1 r in
@@ -108,7 +107,7 @@ marked_run value d next bytes calls t ts last (inr m) r =
 
 pub run_of : (d : OpenDecoder) (bytes : List ℕ) (calls : List CallOfC) (told : List Told) (last : OpenDecoder) → AreItsBytes bytes d.decoder
     → AreAnswered (Some d) calls told (Some last) → IsARun d bytes calls told last
-run_of d bytes [] [] last its h = let is = same_decoder last d h in ([], [], ap (λ x. x.decoder) is, (ap (λ x. x.picture) is, ap (λ x. x.marks) is))
+run_of d bytes [] [] last its h = let is = same_decoder last d h in ([], [], ap (λ x. x.decoder) is, (ap (λ x. x.picture) is, ap (λ x. x.marks) is, ap (λ x. x.awaited) is))
 run_of d bytes [] (t ∷ ts) last its h = absurd h
 run_of d bytes (call ∷ calls) [] last its h = absurd h
 run_of d bytes (feeds piece ∷ calls) (t ∷ ts) last its h =
@@ -122,15 +121,19 @@ run_of d bytes (feeds_unit piece ∷ calls) (t ∷ ts) last its h =
     let r = run_of next (after_bytes one.0 given (between d bytes)).bytes calls ts last (fed_bytes d bytes given one.0 fed.1 its one.1) (goes_on h.1 next last calls ts fed.5 h.3) in
     (Feed given ∷ r.0, replies.Fed one.0 ∷ r.1, (fed.1, one.1, r.2), (refl, one.2, fed_tells one.0 given d bytes fed.1 calls ts r.0 r.1 last r.3))
 run_of d bytes (takes ∷ calls) (t ∷ ts) last its h =
-    let taken = h.2 in let next : OpenDecoder = record d { decoder = taken.1; picture = picture_of taken.0 } in
+    let taken = h.2 in let next : OpenDecoder = record d { decoder = taken.1; picture = picture_of taken.0; awaited = awaited_behind d.marks taken.0 d.awaited } in
     let r = run_of next bytes calls ts last (taken_bytes d.decoder bytes taken.0 taken.1 its taken.2) (goes_on h.1 next last calls ts taken.5 h.3) in
     (Take ∷ r.0, replies.Taken taken.0 ∷ r.1, (taken.1, taken.2, r.2), (taken.3, taken.4, r.3))
+run_of d bytes (takes_dropped ∷ calls) (t ∷ ts) last its h =
+    let told = h.2 in let next : OpenDecoder = record d { awaited = told.0 } in
+    let r = run_of next bytes calls ts last its (goes_on h.1 next last calls ts told.2 h.3) in
+    (r.0, r.1, r.2, ((h.0).value, told.0, told.1, r.3))
 run_of d bytes (flushes ∷ calls) (t ∷ ts) last its h =
     let fed = h.2 in let next : OpenDecoder = record d { decoder = fed.1 } in
     let r = run_of next bytes calls ts last (flushed_bytes d.decoder bytes fed.0 fed.1 its fed.2) (goes_on h.1 next last calls ts fed.4 h.3) in
     (Flush ∷ r.0, replies.Flushed fed.0 ∷ r.1, (fed.1, fed.2, r.2), (fed.3, r.3))
 run_of d bytes (resets ∷ calls) (t ∷ ts) last its h =
-    let next : OpenDecoder = record { decoder = new_machine (d.decoder).output; picture = None; marks = [] } in
+    let next : OpenDecoder = new_decoder (d.decoder).output in
     let r = run_of next [] calls ts last (λ going. refl) (goes_on h.1 next last calls ts h.2.1 h.3) in
     (Reset ∷ r.0, replies.Reset ∷ r.1, (next.decoder, refl, r.2), (h.2.0, r.3))
 run_of d bytes (makes_mark value ∷ calls) (t ∷ ts) last its h =

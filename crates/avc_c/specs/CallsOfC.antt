@@ -1,6 +1,5 @@
 -- What C's calls of one decoder, from open to close, tell of the stream.
 use Rattle.std.specs.Prelude.{◌≡◌, ◌⊎◌, ℕ, Bool, List, [], ◌∷◌, ◌++◌, take, Option, Some, None, Result, Ok, Err}
-use Rattle.avc_annexb.specs.Units.{units_begun}
 use Rattle.avc_types.specs.declared.picture.Picture.{Picture}
 use Rattle.avc_decoder.specs.Machine.{after_feed, after_flush, new_machine, Run}
 use Rattle.avc_decoder.specs.declared.calls.Call.{Call}
@@ -8,8 +7,10 @@ use Rattle.avc_decoder.specs.declared.calls.Call.TheVariants.{Feed, Take, Flush,
 use Rattle.avc_decoder.specs.declared.calls.Reply.{Reply}
 use Rattle.avc_decoder.specs.declared.calls.Reply.TheVariants as replies
 use Rattle.avc_decoder.specs.declared.error.DecodeError.{DecodeError}
+use Rattle.avc_decoder.specs.SeenEvents.{Event}
+use Rattle.avc_c.specs.Awaited.{awaited_behind, none_awaited, with_awaited, AwaitedMarks, IsDroppedTold}
 use Rattle.avc_c.specs.EventRecords.{call_status, picture_of, record_of, take_status}
-use Rattle.avc_c.specs.Exports.{max_unit, opened, output_of, IsFed, IsMarkMade, IsOpened, IsReset, IsTaken, IsUnitFed}
+use Rattle.avc_c.specs.Exports.{mark_behind, max_unit, opened, output_of, IsDroppedTaken, IsFed, IsMarkMade, IsOpened, IsReset, IsTaken, IsUnitFed}
 use Rattle.avc_c.specs.Marks.{with_mark}
 use Rattle.avc_c.specs.Statuses.{number_of}
 use Rattle.avc_c.specs.declared.address.OpenDecoder.{OpenDecoder}
@@ -23,23 +24,27 @@ pub data CallOfC : Type 0 where
   feeds : List ℕ → CallOfC
   feeds_unit : List ℕ → CallOfC
   takes : CallOfC
+  takes_dropped : CallOfC
   flushes : CallOfC
   resets : CallOfC
   makes_mark : ℕ → CallOfC
   opens : Bool → CallOfC
   looks : CallOfC
 
--- what C is told: a status and, by a feed of one unit, how many bytes were taken; by take, an event
+-- what C is told: a status and, by a feed of one unit, how many bytes were taken; by take, an event;
+-- and a value that never comes
 pub record Told : Type 0 where
   pub status : ℕ
   pub used : ℕ
   pub event : EventRecord
+  pub value : ℕ
 
--- From `old`, the call may be answered so and leave `new`. The memory of an event held `before`.
-abbrev pub IsAnswered : Option OpenDecoder → CallOfC → (before : EventRecord) → Told → Option OpenDecoder → Type 0
+-- From `old`, the call may be answered so and leave `new`. The memory of what is told held `before`.
+abbrev pub IsAnswered : Option OpenDecoder → CallOfC → (before : Told) → Told → Option OpenDecoder → Type 0
 IsAnswered old (feeds piece) before told new = IsFed (after_feed piece) old told.status new
 IsAnswered old (feeds_unit bytes) before told new = IsUnitFed bytes old told.status told.used new
-IsAnswered old takes before told new = IsTaken old before told.status told.event new
+IsAnswered old takes before told new = IsTaken old before.event told.status told.event new
+IsAnswered old takes_dropped before told new = IsDroppedTaken old before.value told.status told.value new
 IsAnswered old flushes before told new = IsFed after_flush old told.status new
 IsAnswered old resets before told new = IsReset old told.status new
 IsAnswered old (makes_mark value) before told new = IsMarkMade value old told.status new
@@ -50,7 +55,7 @@ IsAnswered old looks before told new = new ≡ old
 abbrev pub AreAnswered : Option OpenDecoder → List CallOfC → List Told → Option OpenDecoder → Type 0
 AreAnswered old [] [] new = new ≡ old
 AreAnswered old (call ∷ calls) (told ∷ all_told) new =
-    (before : EventRecord) × (between : Option OpenDecoder) × IsAnswered old call before told between × AreAnswered between calls all_told new
+    (before : Told) × (between : Option OpenDecoder) × IsAnswered old call before told between × AreAnswered between calls all_told new
 AreAnswered old [] (told ∷ all_told) new = ⊥
 AreAnswered old (call ∷ calls) [] new = ⊥
 
@@ -59,16 +64,17 @@ abbrev pub given_by : Result (Unit {0}) DecodeError → (used : ℕ) → List �
 given_by (Ok done) used bytes = take used bytes
 given_by (Err error) used bytes = bytes
 
--- what is there between two calls of C: the picture that was taken last, the marks, and the bytes
--- given since the last reset
+-- what is there between two calls of C: the picture that was taken last, the marks and those whose
+-- values are awaited, and the bytes given since the last reset
 pub record Between : Type 0 where
   pub picture : Option Picture
   pub marks : List Mark
+  pub awaited : AwaitedMarks
   pub bytes : List ℕ
 
 -- nothing yet, or behind a reset
 abbrev pub at_start : Between
-at_start = record { picture = None; marks = []; bytes = [] }
+at_start = record { picture = None; marks = []; awaited = none_awaited; bytes = [] }
 
 -- with the bytes of a feed that was carried out
 abbrev pub after_bytes : Result (Unit {0}) DecodeError → List ℕ → Between → Between
@@ -77,20 +83,26 @@ after_bytes (Err error) piece b = b
 
 -- with a mark at the unit that will begin next
 abbrev pub marked_at_bytes : (value : ℕ) → Between → Between
-marked_at_bytes value b = record b { marks = with_mark (record { unit = units_begun max_unit b.bytes; value = value }) b.marks }
+marked_at_bytes value b = let mark = mark_behind b.bytes value in record b { marks = with_mark mark b.marks; awaited = with_awaited mark b.awaited }
+
+-- behind an answer of take
+abbrev pub after_take : Result (Option Event) DecodeError → Between → Between
+after_take answer b = record b { picture = picture_of answer; awaited = awaited_behind b.marks answer b.awaited }
 
 -- What C was told of these calls is what the machine replies to its own calls `made`: each of C's
 -- feeds, take, flush and reset is one of the machine's, a feed of one unit being a feed of the
--- bytes that it took. An event has the value of the marks that were made, and the picture becomes
--- that of the last take.
+-- bytes that it took. An event has the value of the marks that were made, a value never comes by what
+-- was taken, and the picture becomes that of the last take.
 abbrev pub Tells : Between → List CallOfC → List Told → (made : List Call) → List Reply → (last : OpenDecoder) → Type 0
-Tells b [] [] [] [] last = (last.picture ≡ b.picture) × (last.marks ≡ b.marks)
+Tells b [] [] [] [] last = (last.picture ≡ b.picture) × (last.marks ≡ b.marks) × (last.awaited ≡ b.awaited)
 Tells b (feeds piece ∷ calls) (told ∷ all_told) (Feed bytes ∷ made) (replies.Fed answer ∷ replies) last =
     (bytes ≡ piece) × (told.status ≡ number_of (call_status answer)) × Tells (after_bytes answer bytes b) calls all_told made replies last
 Tells b (feeds_unit piece ∷ calls) (told ∷ all_told) (Feed bytes ∷ made) (replies.Fed answer ∷ replies) last =
     (bytes ≡ given_by answer told.used piece) × (told.status ≡ number_of (call_status answer)) × Tells (after_bytes answer bytes b) calls all_told made replies last
 Tells b (takes ∷ calls) (told ∷ all_told) (Take ∷ made) (replies.Taken answer ∷ replies) last =
-    (told.status ≡ number_of (take_status answer)) × (told.event ≡ record_of b.marks answer) × Tells (record b { picture = picture_of answer }) calls all_told made replies last
+    (told.status ≡ number_of (take_status answer)) × (told.event ≡ record_of b.marks answer) × Tells (after_take answer b) calls all_told made replies last
+Tells b (takes_dropped ∷ calls) (told ∷ all_told) made replies last =
+    (old : ℕ) × (left : AwaitedMarks) × IsDroppedTold b.awaited old told.status told.value left × Tells (record b { awaited = left }) calls all_told made replies last
 Tells b (flushes ∷ calls) (told ∷ all_told) (Flush ∷ made) (replies.Flushed answer ∷ replies) last =
     (told.status ≡ number_of (call_status answer)) × Tells b calls all_told made replies last
 Tells b (resets ∷ calls) (told ∷ all_told) (Reset ∷ made) (replies.Reset ∷ replies) last =

@@ -6,6 +6,7 @@ use Rattle.avc_dpb.specs.declared.output.Output.TheVariants.{Early, Full}
 use Rattle.avc_decoder.specs.Machine.{Machine, new_machine, IsCount, IsFeedAnswer, IsFeedUnitAnswer, IsTakeAnswer}
 use Rattle.avc_decoder.specs.declared.error.DecodeError.{DecodeError}
 use Rattle.avc_decoder.specs.SeenEvents.{Event}
+use Rattle.avc_c.specs.Awaited.{awaited_behind, none_awaited, with_awaited, AwaitedMarks, IsDroppedTold}
 use Rattle.avc_c.specs.Copies.{IsI420Copied, IsPlaneCopied}
 use Rattle.avc_c.specs.EventRecords.{call_status, picture_of, record_of, take_status, unit_status, used_by}
 use Rattle.avc_c.specs.InfoRecords.{IsInfoTold}
@@ -15,6 +16,7 @@ use Rattle.avc_c.specs.Statuses.{number_of}
 use Rattle.avc_c.specs.declared.address.OpenDecoder.{OpenDecoder}
 use Rattle.avc_c.specs.declared.event.EventRecord.{EventRecord}
 use Rattle.avc_c.specs.declared.info.InfoRecord.{InfoRecord}
+use Rattle.avc_c.specs.declared.marks.Mark.{Mark}
 use Rattle.avc_c.specs.declared.rows.LentRows.{LentRows}
 use Rattle.avc_c.specs.declared.status.Status.{Status}
 use Rattle.avc_c.specs.declared.status.Status.TheVariants.{Ok, OutOfMemory, Closed, IsOpen}
@@ -28,9 +30,13 @@ abbrev pub output_of : (early : Bool) → Output
 output_of true = Early
 output_of false = Full
 
--- a decoder as it is opened: of no bytes, with no picture and no mark
+-- a decoder of no bytes, with no picture and no mark
+abbrev pub new_decoder : Output → OpenDecoder
+new_decoder output = record { decoder = new_machine output; picture = None; marks = []; awaited = none_awaited }
+
+-- as it is opened
 abbrev pub opened : (early : Bool) → OpenDecoder
-opened early = record { decoder = new_machine (output_of early); picture = None; marks = [] }
+opened early = new_decoder (output_of early)
 
 -- a decoder is opened, or there was no memory; an open one stays as it is
 abbrev pub IsOpened : (early : Bool) → Option OpenDecoder → (status : ℕ) → Option OpenDecoder → Type 0
@@ -55,30 +61,41 @@ IsUnitFed bytes (Some d) status used new =
 -- a new stream begins, with no picture and no mark
 abbrev pub IsReset : Option OpenDecoder → (status : ℕ) → Option OpenDecoder → Type 0
 IsReset None status new = (status ≡ number_of Closed) × (new ≡ None)
-IsReset (Some d) status new = (status ≡ number_of Ok) × (new ≡ Some (record { decoder = new_machine (d.decoder).output; picture = None; marks = [] }))
+IsReset (Some d) status new = (status ≡ number_of Ok) × (new ≡ Some (new_decoder (d.decoder).output))
 
--- the next event is told, with the value of its unit, and its picture kept
+-- the next event is told, with the value of its unit, which is awaited no more, and its picture kept
 abbrev pub IsTaken : Option OpenDecoder → (before : EventRecord) → (status : ℕ) → (event : EventRecord) → Option OpenDecoder → Type 0
 IsTaken None before status event new = (status ≡ number_of Closed) × (event ≡ before) × (new ≡ None)
 IsTaken (Some d) before status event new =
     (answer : Result (Option Event) DecodeError) × (m : Machine) × IsTakeAnswer max_unit d.decoder answer m × (status ≡ number_of (take_status answer))
-    × (event ≡ record_of d.marks answer) × (new ≡ Some (record d { decoder = m; picture = picture_of answer }))
+    × (event ≡ record_of d.marks answer) × (new ≡ Some (record d { decoder = m; picture = picture_of answer; awaited = awaited_behind d.marks answer d.awaited }))
 
 -- the status of a mark: after want of memory none is made
 abbrev pub mark_status : OpenDecoder → Status
 mark_status d = elim (d.decoder).failed [ true ↦ OutOfMemory | false ↦ Ok ]
 
+-- a mark at the unit that will begin next behind these bytes
+abbrev pub mark_behind : List ℕ → (value : ℕ) → Mark
+mark_behind bytes value = record { unit = units_begun max_unit bytes; value = value }
+
+-- with this mark, whose value is awaited
+abbrev pub marked : Mark → OpenDecoder → OpenDecoder
+marked mark d = record d { marks = with_mark mark d.marks; awaited = with_awaited mark d.awaited }
+
 -- with a mark at the unit that will begin next
 abbrev pub after_mark : (value : ℕ) → OpenDecoder → OpenDecoder
-after_mark value d = elim (d.decoder).failed [
-  | true ↦ d
-  | false ↦ record d { marks = with_mark (record { unit = units_begun max_unit (d.decoder).bytes; value = value }) d.marks }
-]
+after_mark value d = elim (d.decoder).failed [ true ↦ d | false ↦ marked (mark_behind (d.decoder).bytes value) d ]
 
 -- a value is given to the units that begin from here on
 abbrev pub IsMarkMade : (value : ℕ) → Option OpenDecoder → (status : ℕ) → Option OpenDecoder → Type 0
 IsMarkMade value None status new = (status ≡ number_of Closed) × (new ≡ None)
 IsMarkMade value (Some d) status new = (status ≡ number_of (mark_status d)) × (new ≡ Some (after_mark value d))
+
+-- the oldest value that never comes is told
+abbrev pub IsDroppedTaken : Option OpenDecoder → (old : ℕ) → (status : ℕ) → (value : ℕ) → Option OpenDecoder → Type 0
+IsDroppedTaken None old status value new = (status ≡ number_of Closed) × (value ≡ old) × (new ≡ None)
+IsDroppedTaken (Some d) old status value new =
+    (left : AwaitedMarks) × IsDroppedTold d.awaited old status value left × (new ≡ Some (record d { awaited = left }))
 
 -- what is known of the picture that was taken last is told
 abbrev pub IsInfoToldOut : Option OpenDecoder → (old : InfoRecord) → (status : ℕ) → (new : InfoRecord) → Type 0

@@ -1,3 +1,4 @@
+pub mod Awaited
 pub mod CallsOfC
 pub mod Copies
 pub mod EventRecords

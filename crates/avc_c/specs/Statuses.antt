@@ -1,7 +1,7 @@
 -- The numbers of the statuses.
 use Rattle.std.specs.Prelude.{ℕ}
 use Rattle.avc_c.specs.declared.status.Status.{Status}
-use Rattle.avc_c.specs.declared.status.Status.TheVariants.{Ok, OutOfMemory, Ended, Closed, IsOpen, NoPicture, NoRoom, NoPlane, NoFault}
+use Rattle.avc_c.specs.declared.status.Status.TheVariants.{Ok, OutOfMemory, Ended, Closed, IsOpen, NoPicture, NoRoom, NoPlane, NoFault, NoValue}
 
 -- the number by which C tells them apart
 abbrev pub number_of : Status → ℕ
@@ -14,3 +14,4 @@ number_of NoPicture = 5
 number_of NoRoom = 6
 number_of NoPlane = 7
 number_of NoFault = 8
+number_of NoValue = 9

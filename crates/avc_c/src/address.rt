@@ -3,23 +3,27 @@
 ghost use Rattle.std.specs.Prelude.{◌≡◌, Option, Some, None};
 ghost use Rattle.avc_c.specs.declared.address.OpenDecoder.{OpenDecoder};
 ghost use Rattle.avc_c.specs.OpenDecoders.{IsOpen};
+ghost use Rattle.avc_c.specs.Awaited.{awaited_behind};
 ghost use Rattle.avc_c.specs.Exports.{after_mark, mark_status};
 
+use crate::awaited::Awaited;
 use crate::marks::{Mark, Marks};
 use crate::picture::LastPicture;
 use crate::raw_box::RawBox;
 use crate::status::Status;
-use avc_decoder::Decoder;
+use avc_decoder::{DecodeError, Decoder, Event};
 use avc_plane::SharedPicture;
 use std::alloc::Global;
 use std::marker::Model;
 
-/// A decoder, the picture that was taken last, and the marks of its stream.
+/// A decoder, the picture that was taken last, the marks of its stream, and those whose values are
+/// awaited.
 #[derive(Drop)]
 pub struct OpenDecoder {
     pub decoder: Decoder<134_217_728, SharedPicture>,
     pub picture: LastPicture,
     pub marks: Marks,
+    pub awaited: Awaited,
 }
 
 impl OpenDecoder {
@@ -30,11 +34,20 @@ impl OpenDecoder {
     {
         match self.decoder.units_begun() {
             Ok(unit) => {
-                self.marks.add(Mark { unit, value });
+                let mark = Mark { unit, value };
+                self.marks.add(mark);
+                self.awaited.add(mark);
                 Status::Ok
             }
             Err(refusal) => Status::from(refusal),
         }
+    }
+
+    /// An answer of `take` is told, with the value of its event.
+    pub(crate) fn note(&mut self, answer: &Result<Option<Event<SharedPicture>>, DecodeError>)
+        ensures { self.new ≡ record self.old { awaited = awaited_behind self.old.marks answer.now self.old.awaited } }
+    {
+        self.awaited.note(answer, &self.marks);
     }
 }
 

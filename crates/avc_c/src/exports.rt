@@ -1,13 +1,14 @@
 //! The functions that libavcdec exports.
 
-ghost use Rattle.std.specs.Prelude.{◌≡◌, [], Some, None, IfOk};
-ghost use Rattle.avc_decoder.specs.Machine.{after_feed, after_flush, new_machine};
+ghost use Rattle.std.specs.Prelude.{◌≡◌, Some, None, IfOk};
+ghost use Rattle.avc_decoder.specs.Machine.{after_feed, after_flush};
 ghost use Rattle.avc_c.specs.Exports.{IsOpened, IsFed, IsUnitFed, IsReset, IsTaken};
 ghost use Rattle.avc_c.specs.Exports.{IsI420CopiedOut, IsPlaneCopiedOut, IsPlaneLentOut, IsCounted};
-ghost use Rattle.avc_c.specs.Exports.{IsInfoToldOut, IsMarkMade};
+ghost use Rattle.avc_c.specs.Exports.{new_decoder, IsDroppedTaken, IsInfoToldOut, IsMarkMade};
 ghost use Rattle.avc_c.specs.FaultNames.{IsNamed};
 
 use crate::address::OpenDecoder;
+use crate::awaited::Awaited;
 use crate::event::EventRecord;
 use crate::fault::copy_name;
 use crate::handle::DecoderHandle;
@@ -23,12 +24,13 @@ use std::alloc::Global;
 
 /// A decoder of no bytes, and with no picture.
 fn new_decoder(alloc: Global, output: Output) -> Result<Box<OpenDecoder>, OutOfMemory>
-    ensures { IfOk result (λ open_decoder. open_decoder.value ≡ record { decoder = new_machine output; picture = None; marks = [] }) }
+    ensures { IfOk result (λ open_decoder. open_decoder.value ≡ new_decoder output) }
 {
     let open = OpenDecoder {
         decoder: Decoder::sharing(alloc, output),
         picture: LastPicture::none(),
         marks: Marks::none(),
+        awaited: Awaited::none(),
     };
     let open = Box::new(alloc, open)?;
     Ok(open)
@@ -139,6 +141,7 @@ pub extern "C" fn avcdec_reset(alloc: Global, decoder: &mut DecoderHandle) -> u3
     open.decoder.reset();
     open.picture = LastPicture::none();
     open.marks = Marks::none();
+    open.awaited = Awaited::none();
     decoder.insert(open);
     Status::Ok.number()
 }
@@ -160,7 +163,27 @@ pub extern "C" fn avcdec_take(
     let answer = open.decoder.take();
     let status = Status::of_take(&answer);
     *event = EventRecord::of(&answer, &open.marks);
+    open.note(&answer);
     open.picture = LastPicture::of(answer);
+    decoder.insert(open);
+    status.number()
+}
+
+/// Tells the oldest value that no event will have: its mark stands before that of an IDR picture
+/// that was taken, and no event of its units was. It goes.
+#[unsafe(no_mangle)]
+pub extern "C" fn avcdec_take_dropped(
+    alloc: Global,
+    decoder: &mut DecoderHandle,
+    value: &mut u64,
+) -> u32
+    ensures { IsDroppedTaken decoder.old.address.decoder value.old result value.new decoder.new.address.decoder }
+{
+    if !decoder.is_open {
+        return Status::Closed.number();
+    }
+    let mut open = decoder.remove(alloc);
+    let status = open.awaited.tell_dropped(value);
     decoder.insert(open);
     status.number()
 }

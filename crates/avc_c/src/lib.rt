@@ -2,6 +2,7 @@
 #![tactic(auto)]
 
 mod address;
+mod awaited;
 mod event;
 mod exports;
 mod fault;
@@ -15,11 +16,13 @@ mod rows;
 mod status;
 
 pub use address::{DecoderAddress, OpenDecoder};
+pub use awaited::Awaited;
 pub use event::EventRecord;
 pub use exports::{
     avcdec_close, avcdec_copy_i420, avcdec_copy_plane, avcdec_fault_name, avcdec_feed,
     avcdec_feed_unit, avcdec_flush, avcdec_lend_plane, avcdec_mark, avcdec_open,
-    avcdec_picture_info, avcdec_reset, avcdec_take, avcdec_turns, avcdec_version,
+    avcdec_picture_info, avcdec_reset, avcdec_take, avcdec_take_dropped, avcdec_turns,
+    avcdec_version,
 };
 pub use handle::DecoderHandle;
 pub use info::InfoRecord;

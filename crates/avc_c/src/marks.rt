@@ -1,7 +1,7 @@
 //! The caller's own values of units, as times of packets.
 
 ghost use Rattle.std.specs.Prelude.{◌≡◌, []};
-ghost use Rattle.avc_c.specs.Marks.{value_of, with_mark, without_newest_of};
+ghost use Rattle.avc_c.specs.Marks.{mark_of, value_of, with_mark, without_newest_of};
 
 use arrayvec::ArrayVec;
 use std::marker::Model;
@@ -14,7 +14,7 @@ pub struct Mark {
     pub value: u64,
 }
 
-const MOST: usize = 1_024;
+pub(crate) const MOST: usize = 1_024;
 
 /// The marks of a stream, as many of the newest as there is room for. The newest is the first.
 #[derive(Drop)]
@@ -61,15 +61,25 @@ impl Marks {
         }
     }
 
+    /// The newest mark at a unit or before it.
+    pub(crate) fn mark_of(&self, unit: u64) -> Option<Mark>
+        ensures { result ≡ mark_of self.now unit }
+    {
+        for mark in self.marks.as_slice() {
+            if mark.unit <= unit {
+                return Some(*mark);
+            }
+        }
+        None
+    }
+
     /// The value of a unit; 0 where no mark was made before it.
     pub(crate) fn value_of(&self, unit: u64) -> u64
         ensures { result ≡ value_of self.now unit }
     {
-        for mark in self.marks.as_slice() {
-            if mark.unit <= unit {
-                return mark.value;
-            }
+        match self.mark_of(unit) {
+            Some(mark) => mark.value,
+            None => 0,
         }
-        0
     }
 }

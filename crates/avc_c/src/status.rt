@@ -26,6 +26,8 @@ pub enum Status {
     NoPlane = 7,
     /// No fault has this number.
     NoFault = 8,
+    /// There is no value that never comes.
+    NoValue = 9,
 }
 
 impl Status {
