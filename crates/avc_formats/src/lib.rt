@@ -1,4 +1,4 @@
-//! How pictures are written: as I420, some of them, their checksums, also one by one, and as YUV4MPEG2.
+//! How pictures are written: as I420, some of them, their checksums, also one by one, as YUV4MPEG2 and as PNG.
 #![tactic(auto)]
 
 mod first_set;
@@ -8,6 +8,7 @@ mod front;
 mod headed;
 mod md5_line;
 mod md5_writer;
+mod png;
 mod presentation;
 mod ratio;
 mod selected;
@@ -18,6 +19,7 @@ pub use front::{Front, read_front};
 pub use headed::{Headed, HeadedFormat};
 pub use md5_line::write_digest;
 pub use md5_writer::Md5Writer;
+pub use png::Png;
 pub use presentation::{ChromaSite, Presentation};
 pub use ratio::{Ratio, lowest_terms};
 pub use selected::Selected;

@@ -1,0 +1,3 @@
+mod Examples
+pub mod Register
+pub mod Sums

@@ -1,0 +1,5 @@
+pub mod Checksums
+pub mod Colour
+pub mod Chunks
+pub mod Deflate
+pub mod Image
