@@ -170,6 +170,33 @@ row() {
     judge "$name" $? "$status"
 }
 
+# NAME STATUS WORD.. -- PLANTED..: the same with a line on how near each picture is that is compared. They come by standard input, each the
+# luma, Cb and Cr that the psnr filter of ffmpeg says of the picture, and are written before the verdict.
+near_row() {
+    name=$1
+    awk '{ print "picture " NR - 1 " psnr Y " $1 " U " $2 " V " $3 }' >"$work/lines"
+    near_status=$2
+    shift 2
+    words=--psnr
+    while [ "$1" != -- ]; do
+        words="$words $1"
+        shift
+    done
+    shift
+    # shellcheck disable=SC2086
+    python3 "$work/plant.py" "$work/ours" "$work/other" "$work/verdict" $shape "$@" || { echo "failed: $name"; failed=$((failed + 1)); return; }
+    [ "$near_status" = 0 ] && : >"$work/verdict"
+    cat "$work/lines" "$work/verdict" >"$work/wanted"
+    # shellcheck disable=SC2086
+    "$program" compare $words "$work/other" "$stream" >"$work/written" 2>"$work/told"
+    judge "$name" $? "$near_status"
+}
+
+# COUNT: so many pictures that are the same
+same() {
+    awk -v count="$1" 'BEGIN { for (n = 0; n < count; n++) print "inf inf inf" }'
+}
+
 # ten pictures of 150x90 of 160x96
 about pub_o_crop_150x90 160 96 0 10 0 6 2 32768
 row 'the same' 0 -- more 0
@@ -190,6 +217,23 @@ row 'a byte more' 1 -- more 1
 row 'samples that are at most one apart' 0 --max-diff 1 -- change 3 luma 77 41 1
 row 'at most four apart' 1 --max-diff 4 -- change 3 luma 77 41 5
 row 'at most five apart' 0 --max-diff 5 -- change 3 luma 77 41 5
+# the end of a line among the first bytes of samples
+{ head -c 3 "$work/ours"; printf '\n'; tail -c +5 "$work/ours"; } >"$work/low"
+row 'a luma sample of 10 among the first ten' 1 -- against "$work/low" 0
+
+# how near they are
+same 10 >"$work/near"
+near_row 'the same, and how near' 0 -- more 0 <"$work/near"
+{ same 3; echo 75.45 inf inf; } >"$work/near"
+near_row 'how near to one luma sample' 1 -- change 3 luma 77 41 5 <"$work/near"
+{ same 3; echo 75.45 inf inf; same 6; } >"$work/near"
+near_row 'how near, and none differs' 0 --max-diff 5 -- change 3 luma 77 41 5 <"$work/near"
+{ same 4; echo 12.35 16.11 12.66; } >"$work/near"
+near_row 'how near where two are exchanged' 1 -- exchange 4 6 <"$work/near"
+{ same 4; echo 12.35 16.11 12.66; same 1; echo 12.35 16.11 12.66; same 3; } >"$work/near"
+near_row 'how near all are' 0 --max-diff 255 -- exchange 4 6 <"$work/near"
+same 9 >"$work/near"
+near_row 'how near, and the last left out' 1 -- without 9 <"$work/near"
 
 # one of the two by standard input
 : >"$work/wanted"
@@ -222,6 +266,17 @@ for words in 'W150 H90' 'W150 H90 F25:1 Ip A1:1 C420jpeg' 'F25:1 C420mpeg2 H90 W
     "$program" compare - "$stream" <"$work/other" >"$work/written" 2>"$work/told"
     judge "by standard input: $words" $? 0
 done
+# a size that is not that of the pictures: no sample is compared
+for words in 'W90 H150' 'W152 H90 C420jpeg' 'F25:1 H89 W150'; do
+    as_y4m "$words"
+    set -- $(printf '%s\n' $words | sed -n 's/^W//p') $(printf '%s\n' $words | sed -n 's/^H//p')
+    echo "the other's pictures have $1x$2 samples, and ours 150x90" >"$work/wanted"
+    "$program" compare "$work/other" "$stream" >"$work/written" 2>"$work/told"
+    judge "another size: $words" $? 1
+    "$program" compare --max-diff 255 - "$stream" <"$work/other" >"$work/written" 2>"$work/told"
+    judge "another size by standard input: $words" $? 1
+done
+as_y4m 'W150 H90 C420paldv XYSCSS=C444'
 truncate -s -7 "$work/other"
 echo 'the other has fewer pictures: it ends before picture 9 is whole' >"$work/wanted"
 "$program" compare "$work/other" "$stream" >"$work/written" 2>"$work/told"
@@ -237,6 +292,9 @@ done
 printf 'YUV4MPEG2 W150 H90\nFROM\n' >"$work/other"
 "$program" compare "$work/other" "$stream" >"$work/written" 2>"$work/told"
 judge 'YUV4MPEG2 without the line of a picture' $? 3
+printf 'YUV4MPEG2 W150 H90\nFRA' >"$work/other"
+"$program" compare "$work/other" "$stream" >"$work/written" 2>"$work/told"
+judge 'YUV4MPEG2 that ends in the line of a picture' $? 3
 : >"$work/wanted_told"
 
 # what cannot be read, and nothing
@@ -278,6 +336,18 @@ refusing=$here/cases/held_before_refusal
 cp "$refusing.refused" "$work/wanted_told"
 "$program" compare "$work/around" "$refusing.264" >"$work/written" 2>"$work/told"
 judge 'the same, and a refusal' $? 1
+# what refusals mean stands behind them, and then how many pictures are the same
+refusing=$here/cases/gap_and_resumed
+"$program" decode "$refusing.264" >"$work/around" 2>"$work/told"
+cat >"$work/wanted_told" <<'END'
+refused unit 3: 32 FrameNumGap
+unit 3: 32 FrameNumGap: a gap in frame_num where gaps are not allowed (7.4.3)
+refused unit 5: 3 OutOfRange
+unit 5: 3 OutOfRange: a value is outside the range that its semantics give (7.4)
+2 pictures, 2 refusals
+END
+"$program" compare --explain "$work/around" "$refusing.264" >"$work/written" 2>"$work/told"
+judge 'compare --explain' $? 1
 
 if command -v ffmpeg >/dev/null; then
     # the deblocking filter left out: the first picture has another sample
@@ -285,6 +355,30 @@ if command -v ffmpeg >/dev/null; then
     : >"$work/wanted_told"
     row 'without the filter' 1 -- against "$work/unfiltered" 0
     row 'without the filter, at most three apart' 1 --max-diff 3 -- against "$work/unfiltered" 3
+    echo 49.92 51.05 51.29 >"$work/near"
+    near_row 'how near without the filter' 1 -- against "$work/unfiltered" 0 <"$work/near"
+    near_row 'how near all are without the filter' 0 --max-diff 255 -- against "$work/unfiltered" 255 <<'END'
+49.92 51.05 51.29
+48.66 50.55 49.84
+47.77 49.87 49.60
+46.65 49.22 48.83
+45.76 48.65 48.48
+45.06 47.63 48.01
+44.69 47.37 47.93
+43.88 47.14 47.58
+43.46 46.99 47.41
+42.62 46.83 47.32
+41.98 46.38 47.27
+41.67 46.30 47.31
+41.92 45.91 47.13
+41.65 45.47 47.10
+41.46 45.32 46.65
+41.55 45.30 46.47
+41.41 45.03 46.00
+41.26 44.88 45.94
+41.19 44.79 45.76
+40.91 44.34 45.01
+END
 fi
 
 echo "$passed passed, $failed failed"

@@ -45,43 +45,94 @@ picture_same most p here long same =
 pub nothing_same : (most : ℕ) (unit : ℕ) (f : Fault) → IsSame most (Refused unit f ∷ []) []
 nothing_same most unit f = record { all = refl; same = λ k inside. absurd (omega (arith, inside)) }
 
+-- ---- lines on pictures
+
+-- one behind another
+lines_then : (how : Comparison) (r : Report) (a b : List Event) (x y s t : List ℕ) → AreLines how r a x s → AreLines how (report_with r a) b y t → AreLines how r (a ++ b) (x ++ y) (s ++ t)
+lines_then how r [] b x y s t first second = subst (λ z. AreLines how r b (z ++ y) (s ++ t)) (sym first.0) (subst (λ z. AreLines how r b y (z ++ t)) (sym first.1) second)
+lines_then how r (Picture p ∷ a) b x y s t first second = (
+  first.0 ++ y,
+  first.1 ++ t,
+  record {
+    here = first.2.here;
+    line = first.2.line;
+    bytes = ap (λ z. z ++ y) first.2.bytes ∙ append_assoc first.2.here first.0 y;
+    texts = ap (λ z. z ++ t) first.2.texts ∙ append_assoc first.2.line first.1 t;
+    long = first.2.long;
+    is = first.2.is;
+    fits = first.2.fits;
+  },
+  lines_then how (report_with r (Picture p ∷ [])) a b first.0 y first.1 t first.3 second,
+)
+lines_then how r (Refused unit f ∷ a) b x y s t first second = lines_then how (report_with r (Refused unit f ∷ [])) a b x y s t first second
+
+-- that on one picture
+pub picture_line : (how : Comparison) (r : Report) (p : Decoded) (here line : List ℕ) → length here ≡ length (i420 p) → other_size how.size p ≡ None → IsLine how.has_psnr r.pictures p here line → AreLines how r (Picture p ∷ []) here line
+picture_line how r p here line long fits is =
+    ([], [], record { here = here; line = line; bytes = sym (append-nil here); texts = sym (append-nil line); long = long; is = is; fits = fits }, (refl, refl))
+
+lines_more : (how : Comparison) (r : Report) (done : List Event) (event : Event) (theirs here text line : List ℕ) → r ≡ report_of done → AreLines how no_report done theirs text
+    → AreLines how r (event ∷ []) here line → AreLines how no_report (done ++ event ∷ []) (theirs ++ here) (text ++ line)
+lines_more how r done event theirs here text line reported before more =
+    lines_then how no_report done (event ∷ []) theirs here text line before (subst (λ (q : Report). AreLines how q (event ∷ []) here line) (reported ∙ sym (report_more [] done)) more)
+
+-- nothing was written more
+no_more : (held h h' : Option (List ℕ)) (text : List ℕ) → Appends held h text → Appends h h' [] → Appends held h' text
+no_more held h h' text before none = subst (Appends held h') (append-nil text) (Appends-trans held h h' text [] before none)
+
 -- ---- the loop
 
-pub begins : (most : ℕ) (output : Output) (unread other : Option (List ℕ)) (m : Machine) (a : Waiting) (r : Report) → m ≡ new_machine output → a ≡ nothing_read → r ≡ no_report
-    → IsComparing most 0 output unread unread other other m a r
-begins most output unread other m a r new nothing none =
-    subst (λ (n : Machine). IsComparing most 0 output unread unread other other n a r) (sym new) (subst (λ (b : Waiting). IsComparing most 0 output unread unread other other (new_machine output) b r) (sym nothing) (record {
+pub begins : (how : Comparison) (unread other held : Option (List ℕ)) (m : Machine) (a : Waiting) (r : Report) → m ≡ new_machine how.output → a ≡ nothing_read → r ≡ no_report
+    → IsComparing how 0 unread unread other other held held m a r
+begins how unread other held m a r new nothing none =
+    subst (λ (n : Machine). IsComparing how 0 unread unread other other held held n a r) (sym new) (subst (λ (b : Waiting). IsComparing how 0 unread unread other other held held (new_machine how.output) b r) (sym nothing) (record {
       done = [];
       theirs = [];
-      reading = record { mode = refl; consumed = Consumes-nil unread; ended = refl; at_end = λ over. cc; rest = events_defined (new_machine output); parts = refl; taken = refl };
+      text = [];
+      reading = record { mode = refl; consumed = Consumes-nil unread; ended = refl; at_end = λ over. cc; rest = events_defined (new_machine how.output); parts = refl; taken = refl };
       consumed = Consumes-nil other;
-      alike = record { same = record { all = refl; same = λ k inside. absurd (omega (arith, inside)) }; reported = none };
+      written = Appends-nil held;
+      alike = record { same = record { all = refl; same = λ k inside. absurd (omega (arith, inside)) }; reported = none; lines = (refl, refl) };
       many = omega arith;
     }))
 
-pub one_more : (most count : ℕ) (output : Output) (unread l l' other o o' : Option (List ℕ)) (m m' : Machine) (a a' : Waiting) (r r' : Report) (event : Event)
-    → TakesNext l l' m m' a a' (Some event) → ComparesEvent most event o o' r r' (Ok None) → IsComparing most count output unread l other o m a r
-    → IsComparing most (count + 1) output unread l' other o' m' a' r'
-one_more most count output unread l l' other o o' m m' a a' r r' event next compared i = record {
+pub one_more : (how : Comparison) (count : ℕ) (unread l l' other o o' held h h' : Option (List ℕ)) (m m' : Machine) (a a' : Waiting) (r r' : Report) (event : Event)
+    → TakesNext l l' m m' a a' (Some event) → ComparesEvent how event o o' h h' r r' (Ok None) → IsComparing how count unread l other o held h m a r
+    → IsComparing how (count + 1) unread l' other o' held h' m' a' r'
+one_more how count unread l l' other o o' held h h' m m' a a' r r' event next compared i = record {
   done = i.done ++ event ∷ [];
   theirs = i.theirs ++ compared.0;
-  reading = next.on output unread i.done i.reading;
-  consumed = Consumes-trans other o o' i.theirs compared.0 i.consumed compared.1;
+  text = i.text ++ compared.1;
+  reading = next.on how.output unread i.done i.reading;
+  consumed = Consumes-trans other o o' i.theirs compared.0 i.consumed compared.2;
+  written = Appends-trans held h h' i.text compared.1 i.written compared.3;
   alike = record {
-    same = same_then most i.done (event ∷ []) i.theirs compared.0 i.alike.same compared.2;
-    reported = compared.3 ∙ ap (λ q. report_with q (event ∷ [])) i.alike.reported ∙ report_more i.done (event ∷ []);
+    same = same_then how.most i.done (event ∷ []) i.theirs compared.0 i.alike.same compared.4;
+    reported = compared.6 ∙ ap (λ q. report_with q (event ∷ [])) i.alike.reported ∙ report_more i.done (event ∷ []);
+    lines = lines_more how r i.done event i.theirs compared.0 i.text compared.1 i.alike.reported i.alike.lines compared.5;
   };
   many = omega (arith, i.many, length-append i.done (event ∷ []));
 }
 
--- why it was broken off at an event
-pub stopped : (fault : CompareFault) (bytes : List ℕ) (front rest : List Event) → StopsAt fault → BreaksOffFor fault bytes front rest
-stopped (Ours Memory) bytes front rest why = tt
-stopped (Ours Read) bytes front rest why = absurd why
-stopped (Ours Endless) bytes front rest why = absurd why
-stopped (Ours Write) bytes front rest why = absurd why
-stopped (Ours Size) bytes front rest why = absurd why
-stopped Theirs bytes front rest why = tt
+-- why it was broken off at an event, and what was written of its line
+pub stopped : (fault : CompareFault) (how : Comparison) (number : ℕ) (event : Event) (here : List ℕ) (h h' : Option (List ℕ)) (bytes : List ℕ) (front rest : List Event)
+    → StopsAt fault how number event here h h' → BreaksOffFor fault bytes front rest
+stopped (Ours Memory) how number event here h h' bytes front rest why = tt
+stopped (Ours Write) how number event here h h' bytes front rest why = tt
+stopped (Ours Read) how number event here h h' bytes front rest why = absurd why
+stopped (Ours Endless) how number event here h h' bytes front rest why = absurd why
+stopped (Ours Size) how number event here h h' bytes front rest why = absurd why
+stopped Theirs how number event here h h' bytes front rest why = tt
+
+stopped_part : (fault : CompareFault) (how : Comparison) (number : ℕ) (event : Event) (here : List ℕ) (h h' : Option (List ℕ)) (rest : List Event)
+    → StopsAt fault how number event here h h' → WritesPart fault how.has_psnr number (event ∷ rest) here h h'
+stopped_part (Ours Memory) how number event here h h' rest why = why
+stopped_part (Ours Write) how number (Picture p) here h h' rest why = why
+stopped_part (Ours Write) how number (Refused unit f) here h h' rest why = absurd why
+stopped_part (Ours Read) how number event here h h' rest why = absurd why
+stopped_part (Ours Endless) how number event here h h' rest why = absurd why
+stopped_part (Ours Size) how number event here h h' rest why = absurd why
+stopped_part Theirs how number event here h h' rest why = why
 
 -- ---- how it ends
 
@@ -93,90 +144,134 @@ up_to grow output unread l l' m m' a a' done event next i =
     let left = left_over grow output unread l' m' a' (done ++ event ∷ []) (next.on output unread done i) in
     (m'.bytes ++ a'.bytes, m'.ended, left.0, left.1, left.2 ∙ append_assoc done (event ∷ []) left.0)
 
-pub found : EventsOnlyGrow → (most count : ℕ) (output : Output) (unread l l' other o o' : Option (List ℕ)) (m m' : Machine) (a a' : Waiting) (r r' : Report) (event : Event) (verdict : Verdict)
-    → TakesNext l l' m m' a a' (Some event) → ComparesEvent most event o o' r r' (Ok (Some verdict)) → IsComparing most count output unread l other o m a r
-    → Compares most output unread l' other o' r' (Ok verdict)
-found grow most count output unread l l' other o o' m m' a a' r r' event verdict next compared i =
-    subst (λ q. Compares most output unread l' other o' q (Ok verdict)) (sym compared.3) (by event verdict next compared.2)
+pub found : EventsOnlyGrow → (how : Comparison) (count : ℕ) (unread l l' other o o' held h h' : Option (List ℕ)) (m m' : Machine) (a a' : Waiting) (r r' : Report) (event : Event) (verdict : Verdict)
+    → TakesNext l l' m m' a a' (Some event) → ComparesEvent how event o o' h h' r r' (Ok (Some verdict)) → IsComparing how count unread l other o held h m a r
+    → Compares how unread l' other o' held h' r' (Ok verdict)
+found grow how count unread l l' other o o' held h h' m m' a a' r r' event verdict next compared i =
+    subst (λ q. Compares how unread l' other o' held h' q (Ok verdict)) (sym compared.3) (by event verdict next compared.2)
   where
     all_theirs : Consumes other o' (i.theirs ++ compared.0)
     all_theirs = Consumes-trans other o o' i.theirs compared.0 i.consumed compared.1
 
-    by : (e : Event) (v : Verdict) → TakesNext l l' m m' a a' (Some e) → EndsAtEvent most r.pictures e compared.0 o' v → Compares most output unread l' other o' r (Ok v)
+    by : (e : Event) (v : Verdict) → TakesNext l l' m m' a a' (Some e) → EndsAtEvent how r.pictures e compared.0 o' h h' v → Compares how unread l' other o' held h' r (Ok v)
     by (Picture p) (Fewer n) next' ends =
-        let at = up_to grow output unread l l' m m' a a' i.done (Picture p) next' i.reading in (
+        let at = up_to grow how.output unread l l' m m' a a' i.done (Picture p) next' i.reading in (
           at.0,
           i.theirs ++ compared.0,
+          i.text,
           at.1,
           true,
           at.3,
           record { consumed = all_theirs; whole = λ over. ends.1 },
-          (p, compared.0, record { front = i.done; rest = at.2; before = i.theirs; parts = at.4; bytes = refl; alike = i.alike }, refl, ends.0, ends.2),
+          no_more held h h' i.text i.written ends.3,
+          (p, compared.0, record { front = i.done; rest = at.2; before = i.theirs; parts = at.4; bytes = refl; alike = i.alike }, refl, ends.0, ends.2, ends.4),
         )
-    by (Picture p) (Differs d) next' ends =
-        let at = up_to grow output unread l l' m m' a a' i.done (Picture p) next' i.reading in (
+    by (Picture p) (OtherSize sizes) next' ends =
+        let at = up_to grow how.output unread l l' m m' a a' i.done (Picture p) next' i.reading in (
           at.0,
           i.theirs ++ compared.0,
+          i.text,
           at.1,
           false,
           at.3,
           record { consumed = all_theirs; whole = λ over. cc },
-          (p, compared.0, record { front = i.done; rest = at.2; before = i.theirs; parts = at.4; bytes = refl; alike = i.alike }, ends.0, ends.1, ends.2),
+          no_more held h h' i.text i.written ends.2,
+          (
+            p,
+            record { front = i.done; rest = at.2; before = i.theirs; parts = at.4; bytes = ap (λ b. i.theirs ++ b) ends.0; alike = i.alike },
+            ends.1,
+          ),
+        )
+    by (Picture p) (Differs d) next' ends =
+        let at = up_to grow how.output unread l l' m m' a a' i.done (Picture p) next' i.reading in (
+          at.0,
+          i.theirs ++ compared.0,
+          i.text ++ ends.0,
+          at.1,
+          false,
+          at.3,
+          record { consumed = all_theirs; whole = λ over. cc },
+          Appends-trans held h h' i.text ends.0 i.written ends.5,
+          (
+            p,
+            compared.0,
+            i.text,
+            ends.0,
+            record { front = i.done; rest = at.2; before = i.theirs; parts = at.4; bytes = refl; alike = i.alike },
+            ends.1,
+            ends.2,
+            ends.3,
+            ends.4,
+            refl,
+            ends.6,
+          ),
         )
     by (Picture p) Same next' ends = absurd ends
     by (Picture p) (More n) next' ends = absurd ends
     by (Refused unit f) v next' ends = absurd ends
 
 -- behind all events
-pub at_end : (most count number : ℕ) (output : Output) (unread l l' other o o' : Option (List ℕ)) (m m' : Machine) (a a' : Waiting) (r : Report) (result : Result Verdict CompareFault)
-    → number ≡ r.pictures → TakesNext l l' m m' a a' None → EndsAll number o o' result → IsComparing most count output unread l other o m a r
-    → Compares most output unread l' other o' r result
-at_end most count number output unread l l' other o o' m m' a a' r result counted next ended i = by result ended
+pub at_end : (how : Comparison) (count number : ℕ) (unread l l' other o o' held h : Option (List ℕ)) (m m' : Machine) (a a' : Waiting) (r : Report) (result : Result Verdict CompareFault)
+    → number ≡ r.pictures → TakesNext l l' m m' a a' None → EndsAll number o o' result → IsComparing how count unread l other o held h m a r
+    → Compares how unread l' other o' held h r result
+at_end how count number unread l l' other o o' held h m m' a a' r result counted next ended i = by result ended
   where
-    last : HasRead unread l' m'.bytes true × (events output max_unit m'.bytes true ≡ i.done)
-    last = next.on output unread i.done i.reading
+    last : HasRead unread l' m'.bytes true × (events how.output max_unit m'.bytes true ≡ i.done)
+    last = next.on how.output unread i.done i.reading
 
-    alike : IsAlike most (events output max_unit m'.bytes true) i.theirs r
-    alike = subst (λ es. IsAlike most es i.theirs r) (sym last.1) i.alike
+    alike : IsAlike how (events how.output max_unit m'.bytes true) i.theirs r i.text
+    alike = subst (λ es. IsAlike how es i.theirs r i.text) (sym last.1) i.alike
 
-    by : (res : Result Verdict CompareFault) → EndsAll number o o' res → Compares most output unread l' other o' r res
+    broken : (here : List ℕ) → Consumes o o' here → Compares how unread l' other o' held h r (Err Theirs)
+    broken here more = (
+      m'.bytes,
+      i.theirs ++ here,
+      true,
+      last.0,
+      Consumes-trans other o o' i.theirs here i.consumed more,
+      record {
+        front = i.done;
+        rest = [];
+        before = i.theirs;
+        here = here;
+        text = i.text;
+        wrote = h;
+        parts = last.1 ∙ sym (append-nil i.done);
+        bytes_are = refl;
+        alike = i.alike;
+        why = tt;
+        lines = i.written;
+        part = Appends-nil h;
+      },
+    )
+
+    by : (res : Result Verdict CompareFault) → EndsAll number o o' res → Compares how unread l' other o' held h r res
     by (Ok Same) ends = (
       m'.bytes,
       i.theirs,
+      i.text,
       true,
       true,
       last.0,
       record { consumed = subst (Consumes other o') (append-nil i.theirs) (Consumes-trans other o o' i.theirs [] i.consumed ends.0); whole = λ over. ends.1 },
+      i.written,
       (refl, refl, alike),
     )
     by (Ok (More n)) ends = (
       m'.bytes,
       i.theirs ++ ends.0 ∷ [],
+      i.text,
       true,
       false,
       last.0,
       record { consumed = Consumes-trans other o o' i.theirs (ends.0 ∷ []) i.consumed ends.1; whole = λ over. cc },
+      i.written,
       (i.theirs, ends.0, refl, refl, alike, ends.2 ∙ counted),
     )
     by (Ok (Fewer n)) ends = absurd ends
     by (Ok (Differs d)) ends = absurd ends
-    by (Err fault) ends = (
-      m'.bytes,
-      i.theirs ++ ends.0,
-      true,
-      last.0,
-      Consumes-trans other o o' i.theirs ends.0 i.consumed ends.1,
-      record {
-        front = i.done;
-        rest = [];
-        before = i.theirs;
-        here = ends.0;
-        parts = last.1 ∙ sym (append-nil i.done);
-        bytes_are = refl;
-        alike = i.alike;
-        why = stopped fault m'.bytes i.done [] ends.2;
-      },
-    )
+    by (Ok (OtherSize sizes)) ends = absurd ends
+    by (Err fault) ends = subst (λ f. Compares how unread l' other o' held h r (Err f)) (sym ends.2) (broken ends.0 ends.1)
 
 -- ---- faults
 
@@ -190,12 +285,19 @@ reading_stopped Size bytes front rest why = absurd why
 pub err_is : {A E : Type 0} (r : Result A E) (f : E) → IsErrAnd r (λ e. e ≡ f) → r ≡ Err f
 err_is r f is = grind arith
 
+no_part : (fault : RunFault) (told : Bool) (number : ℕ) (bytes here : List ℕ) (rest front : List Event) (h : Option (List ℕ)) → StopsFor fault bytes front → WritesPart (Ours fault) told number rest here h h
+no_part Read told number bytes here rest front h why = Appends-nil h
+no_part Endless told number bytes here rest front h why = Appends-nil h
+no_part Memory told number bytes here rest front h why = Appends-nil h
+no_part Write told number bytes here rest front h why = absurd why
+no_part Size told number bytes here rest front h why = absurd why
+
 -- in reading
-pub not_taken : (most count : ℕ) (output : Output) (unread l l' other o : Option (List ℕ)) (m : Machine) (a : Waiting) (r : Report) (fault : RunFault) (result : Result Verdict CompareFault)
-    → IsErrAnd result (λ e. e ≡ Ours fault) → BreaksReading l l' m a fault → IsComparing most count output unread l other o m a r → Compares most output unread l' other o r result
-not_taken most count output unread l l' other o m a r fault result is broken i =
-    let off = broken.on output unread i.done i.reading in
-    subst (Compares most output unread l' other o r) (sym (err_is result (Ours fault) is)) (
+pub not_taken : (how : Comparison) (count : ℕ) (unread l l' other o held h : Option (List ℕ)) (m : Machine) (a : Waiting) (r : Report) (fault : RunFault) (result : Result Verdict CompareFault)
+    → IsErrAnd result (λ e. e ≡ Ours fault) → BreaksReading l l' m a fault → IsComparing how count unread l other o held h m a r → Compares how unread l' other o held h r result
+not_taken how count unread l l' other o held h m a r fault result is broken i =
+    let off = broken.on how.output unread i.done i.reading in
+    subst (Compares how unread l' other o held h r) (sym (err_is result (Ours fault) is)) (
       off.bytes,
       i.theirs,
       off.all,
@@ -206,20 +308,24 @@ not_taken most count output unread l l' other o m a r fault result is broken i =
         rest = off.rest;
         before = i.theirs;
         here = [];
+        text = i.text;
+        wrote = h;
         parts = off.parts;
         bytes_are = sym (append-nil i.theirs);
         alike = i.alike;
         why = reading_stopped fault off.bytes i.done off.rest off.why;
+        lines = i.written;
+        part = no_part fault how.has_psnr r.pictures off.bytes [] off.rest off.rest h off.why;
       },
     )
 
 -- at an event
-pub not_compared : EventsOnlyGrow → (most count : ℕ) (output : Output) (unread l l' other o o' : Option (List ℕ)) (m m' : Machine) (a a' : Waiting) (r r' : Report) (event : Event) (fault : CompareFault)
-    (result : Result Verdict CompareFault) → IsErrAnd result (λ e. e ≡ fault) → TakesNext l l' m m' a a' (Some event) → ComparesEvent most event o o' r r' (Err fault)
-    → IsComparing most count output unread l other o m a r → Compares most output unread l' other o' r' result
-not_compared grow most count output unread l l' other o o' m m' a a' r r' event fault result is next compared i =
-    let at = up_to grow output unread l l' m m' a a' i.done event next i.reading in
-    subst (λ q. Compares most output unread l' other o' q result) (sym compared.3) (subst (Compares most output unread l' other o' r) (sym (err_is result fault is)) (
+pub not_compared : EventsOnlyGrow → (how : Comparison) (count : ℕ) (unread l l' other o o' held h h' : Option (List ℕ)) (m m' : Machine) (a a' : Waiting) (r r' : Report) (event : Event) (fault : CompareFault)
+    (result : Result Verdict CompareFault) → IsErrAnd result (λ e. e ≡ fault) → TakesNext l l' m m' a a' (Some event) → ComparesEvent how event o o' h h' r r' (Err fault)
+    → IsComparing how count unread l other o held h m a r → Compares how unread l' other o' held h' r' result
+not_compared grow how count unread l l' other o o' held h h' m m' a a' r r' event fault result is next compared i =
+    let at = up_to grow how.output unread l l' m m' a a' i.done event next i.reading in
+    subst (λ q. Compares how unread l' other o' held h' q result) (sym compared.3) (subst (Compares how unread l' other o' held h' r) (sym (err_is result fault is)) (
       at.0,
       i.theirs ++ compared.0,
       at.1,
@@ -230,18 +336,22 @@ not_compared grow most count output unread l l' other o o' m m' a a' r r' event 
         rest = event ∷ at.2;
         before = i.theirs;
         here = compared.0;
+        text = i.text;
+        wrote = h;
         parts = at.4;
         bytes_are = refl;
         alike = i.alike;
-        why = stopped fault at.0 i.done (event ∷ at.2) compared.2;
+        why = stopped fault how r.pictures event compared.0 h h' at.0 i.done (event ∷ at.2) compared.2;
+        lines = i.written;
+        part = stopped_part fault how r.pictures event compared.0 h h' at.2 compared.2;
       },
     ))
 
 -- after so many events
-pub too_many : EventsOnlyGrow → (most count : ℕ) (output : Output) (unread l other o : Option (List ℕ)) (m : Machine) (a : Waiting) (r : Report) → 2 ^ 32 ≤ count
-    → IsComparing most count output unread l other o m a r → Compares most output unread l other o r (Err (Ours Endless))
-too_many grow most count output unread l other o m a r all i =
-    let left = left_over grow output unread l m a i.done i.reading in
+pub too_many : EventsOnlyGrow → (how : Comparison) (count : ℕ) (unread l other o held h : Option (List ℕ)) (m : Machine) (a : Waiting) (r : Report) → 2 ^ 32 ≤ count
+    → IsComparing how count unread l other o held h m a r → Compares how unread l other o held h r (Err (Ours Endless))
+too_many grow how count unread l other o held h m a r all i =
+    let left = left_over grow how.output unread l m a i.done i.reading in
     let many : 2 ^ 32 ≤ length (m.bytes ++ a.bytes) + length i.done = omega (arith, all, i.many) in (
       m.bytes ++ a.bytes,
       i.theirs,
@@ -253,26 +363,43 @@ too_many grow most count output unread l other o m a r all i =
         rest = left.0;
         before = i.theirs;
         here = [];
+        text = i.text;
+        wrote = h;
         parts = left.2;
         bytes_are = sym (append-nil i.theirs);
         alike = i.alike;
         why = many;
+        lines = i.written;
+        part = Appends-nil h;
       },
     )
 
 -- before anything was read
-pub none_read : (most : ℕ) (output : Output) (unread other : Option (List ℕ)) (r : Report) (fault : RunFault) (result : Result Verdict CompareFault) → IsErrAnd result (λ e. e ≡ Ours fault) → fault ≡ Memory
-    → r ≡ no_report → Compares most output unread unread other other r result
+pub none_read : (how : Comparison) (unread other held : Option (List ℕ)) (r : Report) (fault : RunFault) (result : Result Verdict CompareFault) → IsErrAnd result (λ e. e ≡ Ours fault) → fault ≡ Memory
+    → r ≡ no_report → Compares how unread unread other other held held r result
 unfolding begins
-none_read most output unread other r fault result is memory none =
-    let i = begins most output unread other (new_machine output) nothing_read r refl refl none in
-    subst (Compares most output unread unread other other r) (sym (err_is result (Ours fault) is ∙ ap (λ f. Err (Ours f)) memory)) (
+none_read how unread other held r fault result is memory none =
+    let i = begins how unread other held (new_machine how.output) nothing_read r refl refl none in
+    subst (Compares how unread unread other other held held r) (sym (err_is result (Ours fault) is ∙ ap (λ f. Err (Ours f)) memory)) (
       [],
       [],
       false,
       record { consumed = Consumes-nil unread; whole = λ over. cc },
       Consumes-nil other,
-      record { front = []; rest = events output max_unit [] false; before = []; here = []; parts = refl; bytes_are = refl; alike = i.alike; why = tt },
+      record {
+        front = [];
+        rest = events how.output max_unit [] false;
+        before = [];
+        here = [];
+        text = [];
+        wrote = held;
+        parts = refl;
+        bytes_are = refl;
+        alike = i.alike;
+        why = tt;
+        lines = Appends-nil held;
+        part = Appends-nil held;
+      },
     )
 
 -- ---- one picture
@@ -290,21 +417,86 @@ i420_count p =
     length-append (luma ++ cb) cr ∙ ap (λ n. n + length cr) (length-append luma cb) ∙ ap (λ n. n + length cb + length cr) luma_is ∙ ap (λ n. shown_samples (shape_of p) Luma + n + length cr) cb_is
     ∙ ap (λ n. shown_samples (shape_of p) Luma + shown_samples (shape_of p) Cb + n) cr_is
 
+-- the line on the samples that were compared is that on the picture
+line_of : (told : Bool) (number : ℕ) (p : Decoded) (picture : ComparedPicture) (ours theirs bytes line : List ℕ) → picture ≡ compared_picture number p → ours ≡ i420 p → theirs ≡ bytes
+    → IsLineOf told picture ours theirs line → IsLine told number p bytes line
+line_of told number p picture ours theirs bytes line compared whole read is =
+    by told (subst (λ s. IsLineOf told s (i420 p) bytes line) compared (subst (λ o. IsLineOf told picture o bytes line) whole (subst (λ t. IsLineOf told picture ours t line) read is)))
+  where
+    by : (b : Bool) → IsLineOf b (compared_picture number p) (i420 p) bytes line → IsLine b number p bytes line
+    by true is' = is'
+    by false is' = is'
+
 -- the samples that were compared are the picture's and those that were read
-pub judged : (most number count : ℕ) (p : Decoded) (old new : Option (List ℕ)) (picture : ComparedPicture) (ours theirs bytes : List ℕ) (found : Option Verdict) → picture ≡ compared_picture number p → ours ≡ i420 p → theirs ≡ bytes
-    → Consumes old new (take count bytes) → length bytes ≤ count → length bytes ≡ length (i420 p) → FindsIn most picture ours theirs found → ComparesPicture most number p old new (Ok found)
-judged most number count p old new picture ours theirs bytes found compared whole read consumed all long finds =
-    by found (subst (λ s. FindsIn most s (i420 p) bytes found) compared (subst (λ o. FindsIn most picture o bytes found) whole (subst (λ t. FindsIn most picture ours t found) read finds)))
+pub judged : (how : Comparison) (number count : ℕ) (p : Decoded) (old new held holds : Option (List ℕ)) (picture : ComparedPicture) (ours theirs bytes : List ℕ) (found : Option Verdict)
+    → picture ≡ compared_picture number p → ours ≡ i420 p → theirs ≡ bytes → Consumes old new (take count bytes) → length bytes ≤ count → length bytes ≡ length (i420 p)
+    → other_size how.size p ≡ None → FindsIn how.most picture ours theirs found → TellsLine how.has_psnr picture ours theirs held holds (Ok tt) → ComparesPicture how number p old new held holds (Ok found)
+judged how number count p old new held holds picture ours theirs bytes found compared whole read consumed all long fits finds told =
+    by found (subst (λ s. FindsIn how.most s (i420 p) bytes found) compared (subst (λ o. FindsIn how.most picture o bytes found) whole (subst (λ t. FindsIn how.most picture ours t found) read finds)))
   where
     here : Consumes old new bytes
     here = subst (Consumes old new) (take_all count bytes all) consumed
 
-    by : (f : Option Verdict) → FindsIn most (compared_picture number p) (i420 p) bytes f → ComparesPicture most number p old new (Ok f)
-    by None same = (bytes, here, long, same)
-    by (Some (Differs d)) is = (bytes, here, (long, is.0, is.1))
-    by (Some Same) is = absurd is
-    by (Some (Fewer n)) is = absurd is
-    by (Some (More n)) is = absurd is
+    is : IsLine how.has_psnr number p bytes told.0
+    is = line_of how.has_psnr number p picture ours theirs bytes told.0 compared whole read told.1
+
+    by : (f : Option Verdict) → FindsIn how.most (compared_picture number p) (i420 p) bytes f → ComparesPicture how number p old new held holds (Ok f)
+    by None same = (bytes, told.0, here, long, same, is, told.2, fits)
+    by (Some (Differs d)) found' = (bytes, here, (told.0, long, found'.0, found'.1, is, told.2, fits))
+    by (Some Same) found' = absurd found'
+    by (Some (Fewer n)) found' = absurd found'
+    by (Some (More n)) found' = absurd found'
+    by (Some (OtherSize sizes)) found' = absurd found'
+
+-- ---- one event
+
+pub picture_ended : (how : Comparison) (number : ℕ) (event : Event) (p : Decoded) (o o' h h' : Option (List ℕ)) (before now : Report) (verdict : Verdict) → event ≡ Picture p → number ≡ before.pictures
+    → now ≡ before → ComparesPicture how number p o o' h h' (Ok (Some verdict)) → ComparesEvent how event o o' h h' before now (Ok (Some verdict))
+picture_ended how number event p o o' h h' before now verdict is counted same compared =
+    subst (λ e. ComparesEvent how e o o' h h' before now (Ok (Some verdict))) (sym is)
+    (compared.0, compared.1, subst (λ n. EndsAt how n p compared.0 o' h h' verdict) counted compared.2, same)
+
+pub picture_passed : (how : Comparison) (number : ℕ) (event : Event) (p : Decoded) (o o' h h' : Option (List ℕ)) (before now : Report) → event ≡ Picture p → number ≡ before.pictures
+    → now ≡ report_with before (Picture p ∷ []) → ComparesPicture how number p o o' h h' (Ok None) → ComparesEvent how event o o' h h' before now (Ok None)
+picture_passed how number event p o o' h h' before now is counted more compared =
+    subst (λ e. ComparesEvent how e o o' h h' before now (Ok None)) (sym is) (
+      compared.0,
+      compared.1,
+      compared.2,
+      compared.6,
+      picture_same how.most p compared.0 compared.3 compared.4,
+      picture_line how before p compared.0 compared.1 compared.3 compared.7 (subst (λ n. IsLine how.has_psnr n p compared.0 compared.1) counted compared.5),
+      more,
+    )
+
+pub refused_passed : (how : Comparison) (event : Event) (unit : ℕ) (f : Fault) (o h : Option (List ℕ)) (before now : Report) → event ≡ Refused unit f
+    → now ≡ report_with before (Refused unit f ∷ []) → ComparesEvent how event o o h h before now (Ok None)
+refused_passed how event unit f o h before now is more =
+    subst (λ e. ComparesEvent how e o o h h before now (Ok None)) (sym is) ([], [], Consumes-nil o, Appends-nil h, nothing_same how.most unit f, (refl, refl), more)
+
+-- a line that could not be written
+pub untold : (how : Comparison) (number count : ℕ) (p : Decoded) (old new held holds : Option (List ℕ)) (picture : ComparedPicture) (ours theirs bytes : List ℕ) (fault : RunFault)
+    (result : Result (Option Verdict) CompareFault) → IsErrAnd result (λ e. e ≡ Ours fault) → picture ≡ compared_picture number p → ours ≡ i420 p → theirs ≡ bytes → Consumes old new (take count bytes)
+    → length bytes ≤ count → TellsLine how.has_psnr picture ours theirs held holds (Err fault) → ComparesPicture how number p old new held holds result
+untold how number count p old new held holds picture ours theirs bytes fault result is compared whole read consumed all told =
+    subst (ComparesPicture how number p old new held holds) (sym (err_is result (Ours fault) is)) (bytes, subst (Consumes old new) (take_all count bytes all) consumed, by fault told)
+  where
+    by : (f : RunFault) → TellsLine how.has_psnr picture ours theirs held holds (Err f) → StopsAt (Ours f) how number (Picture p) bytes held holds
+    by Write told' = record { line = told'.0; is = line_of how.has_psnr number p picture ours theirs bytes told'.0 compared whole read told'.1; first = told'.2 }
+    by Memory told' = told'
+    by Read told' = absurd told'
+    by Endless told' = absurd told'
+    by Size told' = absurd told'
+
+-- a line that was to be written
+pub told_line : (told : Bool) (picture : ComparedPicture) (ours theirs line : List ℕ) (psnr : Psnr) (held holds : Option (List ℕ)) (r : Result (Unit {0}) RunFault) → told ≡ true
+    → IsPsnr picture.shape ours theirs psnr → line ≡ psnr_line picture.number psnr → OnOk r (Appends held holds line) → IfErr r (λ fault. (fault ≡ Write) × WritesFirst held holds line)
+    → TellsLine told picture ours theirs held holds r
+told_line told picture ours theirs line psnr held holds r on is text ok err = subst (λ b. TellsLine b picture ours theirs held holds r) (sym on) (by r ok err)
+  where
+    by : (res : Result (Unit {0}) RunFault) → OnOk res (Appends held holds line) → IfErr res (λ fault. (fault ≡ Write) × WritesFirst held holds line) → TellsLine true picture ours theirs held holds res
+    by (Ok done) ok' err' = (line, (psnr, is, text), ok')
+    by (Err fault) ok' err' = subst (λ f. TellsLine true picture ours theirs held holds (Err f)) (sym err'.0) (line, (psnr, is, text), err'.1)
 
 -- ---- bytes that are read into a part
 

@@ -5,7 +5,6 @@ use Rattle.std.specs.Borrow.{Bor}
 use Rattle.std.specs.Io.KnownBytes.{Appends}
 use Rattle.avc_difference.specs.Places.{macroblocks}
 use Rattle.avc_difference.specs.Text.{difference_text, newline}
-use Rattle.avc_decoder.specs.Output.{Output}
 use Rattle.avc_console.specs.Program.{TellsRun}
 use Rattle.avc_console.specs.declared.console.Names.{Names}
 use Rattle.avc_console.specs.declared.exit.Ending.{Ending}
@@ -15,11 +14,13 @@ use Rattle.avc_console.specs.declared.report.Report.{Report}
 use Rattle.avc_formats.specs.Formats.{StopsPicture}
 use Rattle.avc_console.specs.Status.{other_status}
 use Rattle.avc_compare.specs.Comparing.{Compares}
+use Rattle.avc_compare.specs.declared.comparison.Comparison.{Comparison}
 use Rattle.avc_compare.specs.declared.verdict.ComparedPicture.{ComparedPicture}
 use Rattle.avc_compare.specs.declared.verdict.CompareFault.{CompareFault}
 use Rattle.avc_compare.specs.declared.verdict.CompareFault.TheVariants.{Ours, Theirs}
+use Rattle.avc_compare.specs.declared.verdict.Sizes.{Sizes}
 use Rattle.avc_compare.specs.declared.verdict.Verdict.{Verdict}
-use Rattle.avc_compare.specs.declared.verdict.Verdict.TheVariants.{Differs, Fewer, More, Same}
+use Rattle.avc_compare.specs.declared.verdict.Verdict.TheVariants.{Differs, Fewer, More, OtherSize, Same}
 
 -- that the other ends before the picture of this number is whole
 abbrev pub fewer_line : (number : ℕ) → List ℕ
@@ -35,12 +36,19 @@ info_line p =
     codes "picture " ++ decimal p.number ++ codes " has frame_num " ++ decimal p.info.frame_num ++ codes ", PicOrderCnt " ++ signed_decimal p.info.pic_order_cnt
     ++ codes " and its first slice in unit " ++ decimal p.info.unit ++ newline
 
+-- the size of the other's pictures, and ours
+abbrev pub sizes_line : Sizes → List ℕ
+sizes_line s =
+    codes "the other's pictures have " ++ decimal s.theirs.width ++ codes "x" ++ decimal s.theirs.height ++ codes " samples, and ours "
+    ++ decimal s.ours.width ++ codes "x" ++ decimal s.ours.height ++ newline
+
 -- what is written of a comparison
 abbrev pub verdict_text : Verdict → List ℕ
 verdict_text Same = []
 verdict_text (Differs d) = info_line d.picture ++ difference_text d.picture.number d.picture.shape d.difference
 verdict_text (Fewer number) = fewer_line number
 verdict_text (More number) = more_line number
+verdict_text (OtherSize sizes) = sizes_line sizes
 
 -- A difference has a mark for each macroblock of its picture.
 abbrev pub HasMarks : Verdict → Type 0
@@ -82,9 +90,11 @@ TellsVerdict names other explained report (Ok verdict) held holds before now end
 TellsVerdict names other explained report (Err fault) held holds before now ending =
     Appends held holds [] × TellsRun (fault_names names other fault) explained report (Err (run_fault fault)) before now ending
 
--- `compare` was such a comparison, which came to this report.
-pub record EndsComparing (names : Names) (other_name : Option (Bor (List ℕ))) (explained : Bool) (most : ℕ) (output : Output) (unread left other rest held holds before now : Option (List ℕ)) (ending : Ending) : Type 0 where
+-- `compare` was such a comparison, which came to this report. Its lines come before what is written
+-- of the verdict.
+pub record EndsComparing (names : Names) (other_name : Option (Bor (List ℕ))) (explained : Bool) (how : Comparison) (unread left other rest held holds before now : Option (List ℕ)) (ending : Ending) : Type 0 where
   pub report : Report
   pub run : Result Verdict CompareFault
-  pub compares : Compares most output unread left other rest report run
-  pub tells : TellsVerdict names other_name explained report run held holds before now ending
+  pub wrote : Option (List ℕ)
+  pub compares : Compares how unread left other rest held wrote report run
+  pub tells : TellsVerdict names other_name explained report run wrote holds before now ending

@@ -1,18 +1,16 @@
 //! A stream beside the other's pictures.
 
-ghost use Rattle.std.specs.Prelude.{◌≡◌, length};
+ghost use Rattle.std.specs.Prelude.{◌≡◌};
 ghost use Rattle.avc_types.specs.Whole.{IsWhole};
 ghost use Rattle.avc_console.specs.Reporting.{no_report, TellsOn};
-ghost use Rattle.avc_decoder.specs.Machine.{new_machine};
 ghost use Rattle.avc_events.specs.EventReports.{IfPicture};
 ghost use Rattle.avc_compare.specs.Comparing.{Compares};
-ghost use Rattle.avc_compare.specs.Kept.{nothing_read};
 ghost use Rattle.avc_compare.specs.Running.{ComparesEvent, EndsAll};
 
 use crate::ahead::Ahead;
 use crate::picture::{compare_picture, read_other};
 use crate::stream::next_of;
-use crate::verdict::{CompareFault, Verdict};
+use crate::verdict::{CompareFault, PictureSize, Verdict};
 use avc_console::{MAX_UNIT, Reporter, RunFault};
 use avc_decoder::laws::events_only_grow;
 use avc_decoder::{Decoder, Event, Output};
@@ -28,64 +26,42 @@ pub struct Comparison {
 
     /// Samples that are at most so far apart are the same.
     pub most: u8,
+
+    /// Whether a line is written on how near each picture is that is compared.
+    pub has_psnr: bool,
+
+    /// The size of the other's pictures, where their file says it.
+    pub size: Option<PictureSize>,
 }
 
 /// The most events of one comparison.
 const EVENTS: u64 = 4_294_967_296;
 
 /// Compares the pictures of a byte stream (Annex B) with another decoder's, which are I420, one
-/// behind another, and ends at the first that differs. Each refusal is reported as it comes.
-/// Neither is read further than that needs, and of each one picture is held at a time.
-pub fn run_comparison<T: Reporter, E: Write, R: Read, O: Read>(
+/// behind another, and ends at the first that differs. Each refusal is reported as it comes, and the
+/// line on a picture is written once it was compared, if that is wanted. Neither is read further than
+/// that needs, and of each one picture is held at a time.
+pub fn run_comparison<T: Reporter, E: Write, R: Read, O: Read, W: Write>(
     alloc: Global,
     how: Comparison,
     report: &mut T,
     errors: &mut E,
     reader: &mut R,
     other: &mut O,
+    writer: &mut W,
 ) -> Result<Verdict, CompareFault>
     requires { (T.reported report.old).report ≡ no_report }
-    ensures compares { Compares how.most how.output (R.remaining reader.old) (R.remaining reader.new) (O.remaining other.old) (O.remaining other.new)
-        (T.reported report.new).report result }
-    ensures told { TellsOn (T.reported report.old) (T.reported report.new) (E.contents errors.old) (E.contents errors.new) }
-{
-    let mut decoder = Decoder::<MAX_UNIT, SharedPicture>::sharing(alloc, how.output);
-    let mut ahead = Ahead::new(alloc)?;
-    compare_all(
-        alloc,
-        how.most,
-        &mut decoder,
-        &mut ahead,
-        report,
-        errors,
-        reader,
-        other,
-    )
-}
-
-// Compares the pictures of a stream by a new decoder.
-fn compare_all<T: Reporter, E: Write, R: Read, O: Read>(
-    alloc: Global,
-    most: u8,
-    decoder: &mut Decoder<MAX_UNIT, SharedPicture>,
-    ahead: &mut Ahead,
-    report: &mut T,
-    errors: &mut E,
-    reader: &mut R,
-    other: &mut O,
-) -> Result<Verdict, CompareFault>
-    requires new { decoder.old ≡ new_machine decoder.old.output }
-    requires nothing { ahead.old ≡ nothing_read }
-    requires none { (T.reported report.old).report ≡ no_report }
-    ensures compares { Compares most decoder.old.output (R.remaining reader.old) (R.remaining reader.new) (O.remaining other.old) (O.remaining other.new)
-        (T.reported report.new).report result }
+    ensures compares { Compares how (R.remaining reader.old) (R.remaining reader.new) (O.remaining other.old) (O.remaining other.new)
+        (W.contents writer.old) (W.contents writer.new) (T.reported report.new).report result }
     ensures told { TellsOn (T.reported report.old) (T.reported report.new) (E.contents errors.old) (E.contents errors.new) }
 {
     events_only_grow();
+    let mut decoder = Decoder::<MAX_UNIT, SharedPicture>::sharing(alloc, how.output);
+    let mut ahead = Ahead::new(alloc)?;
     'events: for _event in 0..EVENTS {
-        match next_of(decoder, ahead, reader)? {
+        match next_of(&mut decoder, &mut ahead, reader)? {
             Some(event) => {
-                let ended = compare_event(alloc, most, event, report, errors, other)?;
+                let ended = compare_event(alloc, how, event, report, errors, other, writer)?;
                 if let Some(verdict) = ended {
                     return Ok(verdict);
                 }
@@ -97,25 +73,30 @@ fn compare_all<T: Reporter, E: Write, R: Read, O: Read>(
 }
 
 // Compares a picture, or reports a refusal. Answers None where the comparison goes on.
-fn compare_event<T: Reporter, E: Write, O: Read>(
+fn compare_event<T: Reporter, E: Write, O: Read, W: Write>(
     alloc: Global,
-    most: u8,
+    how: Comparison,
     event: Event<SharedPicture>,
     report: &mut T,
     errors: &mut E,
     other: &mut O,
+    writer: &mut W,
 ) -> Result<Option<Verdict>, CompareFault>
     requires { IfPicture event IsWhole }
-    ensures compares { ComparesEvent most event (O.remaining other.old) (O.remaining other.new) (T.reported report.old).report (T.reported report.new).report result }
+    ensures compares { ComparesEvent how event (O.remaining other.old) (O.remaining other.new) (W.contents writer.old) (W.contents writer.new)
+        (T.reported report.old).report (T.reported report.new).report result }
     ensures told { TellsOn (T.reported report.old) (T.reported report.new) (E.contents errors.old) (E.contents errors.new) }
 {
     match event {
         Event::Picture(picture) => {
-            let ended = compare_picture(alloc, most, report.counts().pictures, &picture, other)?;
-            if ended.is_none() {
-                report.count_picture();
+            let number = report.counts().pictures;
+            match compare_picture(alloc, how, number, &picture, other, writer)? {
+                Some(verdict) => Ok(Some(verdict)),
+                None => {
+                    report.count_picture();
+                    Ok(None)
+                }
             }
-            Ok(ended)
         }
         Event::Refused { unit, fault } => {
             report.refuse(unit, fault, errors)?;

@@ -12,4 +12,4 @@ mod verdict;
 pub use comparison::{Comparison, run_comparison};
 pub use program::compare;
 pub use text::add_verdict;
-pub use verdict::{CompareFault, ComparedPicture, Differing, Verdict};
+pub use verdict::{CompareFault, ComparedPicture, Differing, PictureSize, Sizes, Verdict};

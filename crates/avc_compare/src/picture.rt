@@ -6,30 +6,35 @@ ghost use Rattle.avc_types.specs.Whole.{IsWhole};
 ghost use Rattle.avc_yuv.specs.I420.{i420};
 ghost use Rattle.avc_difference.specs.Places.{sample_count};
 ghost use Rattle.avc_console.specs.declared.fault.RunFault.TheVariants as faults;
-ghost use Rattle.avc_compare.specs.Comparing.{compared_picture};
-ghost use Rattle.avc_compare.specs.Running.{ComparesPicture, FindsIn};
+ghost use Rattle.avc_compare.specs.Comparing.{compared_picture, other_size, size_of};
+ghost use Rattle.avc_compare.specs.Running.{ComparesPicture, FindsIn, TellsLine};
 ghost use Rattle.avc_compare.specs.declared.verdict.CompareFault.TheVariants as ends;
 
-use crate::verdict::{CompareFault, ComparedPicture, Differing, Verdict};
-use avc_console::{RunFault, read_once};
-use avc_difference::{Shape, find_difference};
+use crate::comparison::Comparison;
+use crate::verdict::{CompareFault, ComparedPicture, Differing, PictureSize, Sizes, Verdict};
+use avc_console::{RunFault, read_once, write_text};
+use avc_difference::{Shape, add_psnr, find_difference, measure};
 use avc_plane::{PictureRows, SharedPicture};
 use avc_yuv::{copy_i420, i420_len};
 use std::alloc::Global;
-use std::io::Read;
+use std::io::{Read, Write};
 
 /// Compares a picture with the other's next bytes, as many as it has as I420. Answers None where it
-/// is the same, and else how the comparison ends.
-pub(crate) fn compare_picture<O: Read>(
+/// is the same, and else how the comparison ends. Writes the line on it, if that is wanted.
+pub(crate) fn compare_picture<O: Read, W: Write>(
     alloc: Global,
-    most: u8,
+    how: Comparison,
     number: u64,
     picture: &SharedPicture,
     other: &mut O,
+    writer: &mut W,
 ) -> Result<Option<Verdict>, CompareFault>
     requires { IsWhole picture.now }
-    ensures { ComparesPicture most number picture.now (O.remaining other.old) (O.remaining other.new) result }
+    ensures { ComparesPicture how number picture.now (O.remaining other.old) (O.remaining other.new) (W.contents writer.old) (W.contents writer.new) result }
 {
+    if let Some(sizes) = other_size(how.size, picture) {
+        return Ok(Some(Verdict::OtherSize(sizes)));
+    }
     let ours = i420_of(alloc, picture)?;
     let mut theirs = zeros(alloc, ours.len())?;
     let count = read_other(&mut theirs, other)?;
@@ -37,7 +42,57 @@ pub(crate) fn compare_picture<O: Read>(
         return Ok(Some(Verdict::Fewer(number)));
     }
     let compared = compared_picture(number, picture);
-    Ok(judge(alloc, most, compared, &ours, &theirs)?)
+    let found = judge(alloc, how.most, compared, &ours, &theirs)?;
+    tell_line(alloc, how.has_psnr, compared, &ours, &theirs, writer)?;
+    Ok(found)
+}
+
+// Writes the line on these samples, if such lines are told.
+fn tell_line<W: Write>(
+    alloc: Global,
+    is_told: bool,
+    picture: ComparedPicture,
+    ours: &[u8],
+    theirs: &[u8],
+    writer: &mut W,
+) -> Result<(), RunFault>
+    requires same { length theirs.now ≡ length ours.now }
+    requires whole { length ours.now ≡ sample_count picture.shape }
+    ensures { TellsLine is_told picture ours.now theirs.now (W.contents writer.old) (W.contents writer.new) result }
+{
+    if !is_told {
+        return Ok(());
+    }
+    let psnr = measure(alloc, picture.shape, ours, theirs)?;
+    let mut text = String::new(alloc);
+    add_psnr(&mut text, picture.number, psnr)?;
+    write_text(&text, writer)
+}
+
+// The size of the other's pictures and that of this one, where they are not the same.
+fn other_size(size: Option<PictureSize>, picture: &SharedPicture) -> Option<Sizes>
+    ensures { result ≡ other_size size picture.now }
+{
+    let ours = size_of(picture);
+    match size {
+        Some(theirs) if theirs.width != ours.width || theirs.height != ours.height => {
+            Some(Sizes { ours, theirs })
+        }
+        Some(_) | None => None,
+    }
+}
+
+// The size of what is shown of a picture.
+fn size_of(picture: &SharedPicture) -> PictureSize
+    ensures { result ≡ size_of picture.now }
+{
+    let crop = picture.crop();
+    let columns = u64::from(crop.left) + u64::from(crop.right);
+    let rows = u64::from(crop.top) + u64::from(crop.bottom);
+    PictureSize {
+        width: u64::from(picture.width()).saturating_sub(columns),
+        height: u64::from(picture.height()).saturating_sub(rows),
+    }
 }
 
 // What is shown of a picture, as I420.

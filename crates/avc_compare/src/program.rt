@@ -17,9 +17,9 @@ use std::alloc::Global;
 use std::io::{Read, Write};
 
 /// The command `compare`: compares the pictures of a byte stream (Annex B) with another decoder's,
-/// as I420, from a file of this name, and writes where they differ first, or nothing. It tells on
-/// the console of each refusal when it comes, and of the fault that ended the run. The status is 1
-/// where something differs.
+/// as I420, from a file of this name, and writes where they differ first, or nothing; before that,
+/// if it is wanted, a line on how near each picture is. It tells on the console of each refusal when
+/// it comes, and of the fault that ended the run. The status is 1 where something differs.
 pub fn compare<R: Read, O: Read, W: Write, E: Write, V: Watch>(
     alloc: Global,
     how: Comparison,
@@ -29,12 +29,20 @@ pub fn compare<R: Read, O: Read, W: Write, E: Write, V: Watch>(
     writer: &mut W,
     console: &mut Console<'_, E, V>,
 ) -> Ending
-    ensures { EndsComparing console.old.names other_name.entry console.old.is_explained how.most how.output (R.remaining reader.old) (R.remaining reader.new)
+    ensures { EndsComparing console.old.names other_name.entry console.old.is_explained how (R.remaining reader.old) (R.remaining reader.new)
         (O.remaining other.old) (O.remaining other.new) (W.contents writer.old) (W.contents writer.new)
         (E.contents console.old.errors) (E.contents console.new.errors) result }
 {
     let mut tally = Tally::new(console.is_explained);
-    let run = run_comparison(alloc, how, &mut tally, &mut console.errors, reader, other);
+    let run = run_comparison(
+        alloc,
+        how,
+        &mut tally,
+        &mut console.errors,
+        reader,
+        other,
+        writer,
+    );
     match run {
         Ok(verdict) => {
             let written = write_verdict(alloc, &verdict, writer);
@@ -104,7 +112,7 @@ fn is_same(verdict: &Verdict) -> bool
 {
     match verdict {
         Verdict::Same => true,
-        Verdict::Differs(_) | Verdict::Fewer(_) | Verdict::More(_) => false,
+        Verdict::Differs(_) | Verdict::Fewer(_) | Verdict::More(_) | Verdict::OtherSize(_) => false,
     }
 }
 

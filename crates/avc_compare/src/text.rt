@@ -1,9 +1,10 @@
 //! What is told of a comparison.
 
 ghost use Rattle.std.specs.Prelude.{◌≡◌, ◌++◌, OnOk, string_bytes};
-ghost use Rattle.avc_compare.specs.Told.{fewer_line, info_line, more_line, verdict_text, HasMarks};
+ghost use Rattle.avc_compare.specs.Told.{fewer_line, info_line, more_line, sizes_line};
+ghost use Rattle.avc_compare.specs.Told.{verdict_text, HasMarks};
 
-use crate::verdict::{ComparedPicture, Verdict};
+use crate::verdict::{ComparedPicture, Sizes, Verdict};
 use avc_difference::add_difference;
 use avc_types::OutOfMemory;
 
@@ -21,6 +22,7 @@ pub fn add_verdict(text: &mut String, verdict: &Verdict) -> Result<(), OutOfMemo
         }
         Verdict::Fewer(number) => add_fewer(text, *number),
         Verdict::More(number) => add_more(text, *number),
+        Verdict::OtherSize(sizes) => add_sizes(text, *sizes),
     }
 }
 
@@ -52,6 +54,18 @@ fn add_more(text: &mut String, number: u64) -> Result<(), OutOfMemory>
     writeln!(
         text,
         "the other has more pictures: it goes on behind all {number}"
+    )?;
+    Ok(())
+}
+
+fn add_sizes(text: &mut String, sizes: Sizes) -> Result<(), OutOfMemory>
+    ensures { OnOk result (string_bytes text.new ≡ string_bytes text.old ++ sizes_line sizes) }
+{
+    let Sizes { ours, theirs } = sizes;
+    writeln!(
+        text,
+        "the other's pictures have {}x{} samples, and ours {}x{}",
+        theirs.width, theirs.height, ours.width, ours.height
     )?;
     Ok(())
 }

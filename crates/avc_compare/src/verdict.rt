@@ -23,6 +23,23 @@ pub enum Verdict {
 
     /// All of so many pictures are the same, and the other has more bytes.
     More(u64),
+
+    /// The other's pictures have another size than the next one, and those before it are the same.
+    OtherSize(Sizes),
+}
+
+/// How many columns and rows of luma samples are shown of a picture.
+#[derive(Clone, Copy, Debug, PartialEq, Eq)]
+pub struct PictureSize {
+    pub width: u64,
+    pub height: u64,
+}
+
+/// Two sizes that are not the same.
+#[derive(Clone, Copy, Debug, PartialEq, Eq)]
+pub struct Sizes {
+    pub ours: PictureSize,
+    pub theirs: PictureSize,
 }
 
 /// Which picture is compared.

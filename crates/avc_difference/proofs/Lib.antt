@@ -1,3 +1,5 @@
 pub mod Counting
+pub mod Decibels
 pub mod Lines
+pub mod Naturals
 pub mod Windows

@@ -48,6 +48,9 @@ joined_five all old one two three four five a b c d e p q r s t is =
 pub nine_parts : (a b c d e f g h i : List ℕ) → a ++ b ++ c ++ d ++ e ++ f ++ g ++ h ++ i ≡ a ++ (b ++ (c ++ (d ++ (e ++ (f ++ (g ++ (h ++ i)))))))
 nine_parts a b c d e f g h i = simp append_assoc
 
+pub seven_parts : (a n b y u v l : List ℕ) → ((((((a ++ n) ++ b) ++ y) ++ u) ++ v) ++ l) ≡ (a ++ (n ++ b)) ++ (y ++ (u ++ (v ++ l)))
+seven_parts a n b y u v l = simp append_assoc
+
 -- ---- a worked example: a map of macroblocks
 
 abbrev nothing : Mark

@@ -1,4 +1,6 @@
 pub mod Places
 pub mod Differences
+pub mod Psnr
+pub mod Naturals
 pub mod Text
 pub mod Laws

@@ -1,5 +1,5 @@
 -- What is told of a comparison.
-use Rattle.std.specs.Prelude.{ℕ, ◌+◌, ◌*◌, Bool, true, false, List, [], ◌∷◌, ◌++◌, slice_range, codes}
+use Rattle.std.specs.Prelude.{ℕ, ◌+◌, ◌*◌, ◌/◌, ◌%◌, Bool, true, false, List, [], ◌∷◌, ◌++◌, Option, Some, None, slice_range, codes}
 use Rattle.std.specs.Fmt.{decimal}
 use Rattle.std.specs.List.{flat_map, range_with_len}
 use Rattle.avc_plane.specs.declared.component.Component.{Component}
@@ -9,6 +9,7 @@ use Rattle.avc_difference.specs.declared.difference.Difference.{Difference}
 use Rattle.avc_difference.specs.declared.marks.Mark.{Mark}
 use Rattle.avc_difference.specs.declared.place.Place.{Place}
 use Rattle.avc_difference.specs.declared.place.Shape.{Shape}
+use Rattle.avc_difference.specs.declared.psnr.Psnr.{Psnr}
 
 -- the end of a line
 abbrev pub newline : List ℕ
@@ -66,3 +67,13 @@ map_lines columns rows marks = flat_map (λ row. row_line (slice_range marks (ro
 abbrev pub difference_text : (number : ℕ) → Shape → Difference → List ℕ
 difference_text number s d =
     counts_line number d (macroblocks s) ++ first_line d ++ map_lines (macroblock_columns s) (macroblock_rows s) d.marks.items
+
+-- a ratio in decibels with two decimals, or that there is none
+abbrev pub decibels : Option ℕ → List ℕ
+decibels (Some hundredths) = decimal (hundredths / 100) ++ codes "." ++ decimal (hundredths / 10 % 10) ++ decimal (hundredths % 10)
+decibels None = codes "inf"
+
+-- how near the picture of a number is to the other
+abbrev pub psnr_line : (number : ℕ) → Psnr → List ℕ
+psnr_line number p =
+    codes "picture " ++ decimal number ++ codes " psnr" ++ (codes " Y " ++ decibels p.luma) ++ (codes " U " ++ decibels p.cb) ++ (codes " V " ++ decibels p.cr) ++ newline

@@ -4,10 +4,13 @@
 mod difference;
 pub mod laws;
 mod marks;
+mod natural;
 mod place;
+mod psnr;
 mod text;
 
 pub use difference::{Difference, find_difference};
 pub use marks::Mark;
 pub use place::{Place, Shape, macroblocks};
-pub use text::add_difference;
+pub use psnr::{Psnr, measure};
+pub use text::{add_difference, add_psnr};

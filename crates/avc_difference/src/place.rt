@@ -37,8 +37,8 @@ pub struct Place {
     pub address: usize,
 }
 
-// How many samples of a component are shown.
-fn shown_samples(shape: Shape, component: Component) -> usize
+/// How many samples of a component are shown.
+pub(crate) fn shown_samples(shape: Shape, component: Component) -> usize
     ensures is { result ≡ shown_samples shape component }
 {
     shown_rows(shape, component) * shown_columns(shape, component)

@@ -1,14 +1,16 @@
 //! What is told of a comparison.
 
-ghost use Rattle.std.specs.Prelude.{◌≡◌, ◌*◌, ◌++◌, ◌/◌, length, OnOk, string_bytes};
+ghost use Rattle.std.specs.Prelude.{◌≡◌, ◌*◌, ◌++◌, ◌/◌, length, OnOk, Some, string_bytes};
 ghost use Rattle.avc_difference.specs.Places.{macroblocks};
-ghost use Rattle.avc_difference.specs.Text.{component_name, counts_line, difference_text};
-ghost use Rattle.avc_difference.specs.Text.{first_line, letter};
-ghost use Rattle.avc_difference.specs.Text.{macroblock_words, map_lines, row_line, sample_words};
+ghost use Rattle.avc_difference.specs.Text.{component_name, counts_line, decibels};
+ghost use Rattle.avc_difference.specs.Text.{difference_text, first_line, letter};
+ghost use Rattle.avc_difference.specs.Text.{macroblock_words, map_lines, psnr_line, row_line};
+ghost use Rattle.avc_difference.specs.Text.{sample_words};
 
 use crate::difference::Difference;
 use crate::marks::Mark;
 use crate::place::{Place, Shape, macroblock_columns, macroblock_rows, macroblocks};
+use crate::psnr::Psnr;
 use avc_plane::Component;
 use avc_types::OutOfMemory;
 
@@ -132,4 +134,40 @@ fn letter(mark: Mark) -> &'static str
         (false, true) => "C",
         (false, false) => ".",
     }
+}
+
+/// Adds a line on how near the picture of this number is to the other, in decibels.
+pub fn add_psnr(text: &mut String, number: u64, psnr: Psnr) -> Result<(), OutOfMemory>
+    ensures { OnOk result (string_bytes text.new ≡ string_bytes text.old ++ psnr_line number psnr) }
+{
+    write!(text, "picture {number} psnr")?;
+    add_ratio(text, " Y ", psnr.luma)?;
+    add_ratio(text, " U ", psnr.cb)?;
+    add_ratio(text, " V ", psnr.cr)?;
+    text.push_str("\n")?;
+    Ok(())
+}
+
+fn add_ratio(text: &mut String, name: &str, ratio: Option<u32>) -> Result<(), OutOfMemory>
+    ensures { OnOk result (string_bytes text.new ≡ string_bytes text.old ++ (name.now ++ decibels ratio)) }
+{
+    text.push_str(name)?;
+    match ratio {
+        Some(hundredths) => add_decibels(text, hundredths),
+        None => {
+            text.push_str("inf")?;
+            Ok(())
+        }
+    }
+}
+
+// Hundredths of a decibel, with two decimals.
+fn add_decibels(text: &mut String, hundredths: u32) -> Result<(), OutOfMemory>
+    ensures { OnOk result (string_bytes text.new ≡ string_bytes text.old ++ decibels (Some hundredths)) }
+{
+    let whole = hundredths / 100;
+    let tenths = hundredths / 10 % 10;
+    let rest = hundredths % 10;
+    write!(text, "{whole}.{tenths}{rest}")?;
+    Ok(())
 }

@@ -5,7 +5,7 @@ pub use borrow.Rule.Slice.PartMut.{put_mid, post_of}
 pub use Rattle.std.proofs.Math.Seq.{take-append_seam}
 pub use lib.Seq.{drop-drop, take-add, take-append-le}
 pub use Rattle.std.proofs.BufReadLemmas.{drop-take_min}
-pub use Rattle.std.proofs.KnownBytes.{Appends-nil, Consumes-nil, Consumes-trans, Consumes-kept, Keeps-refl}
+pub use Rattle.std.proofs.KnownBytes.{Appends-nil, Appends-trans, Consumes-nil, Consumes-trans, Consumes-kept, Keeps-refl}
 pub use Rattle.std.proofs.lemmas.Bool.{cases_lt}
 pub use Rattle.std.proofs.lemmas.Grind.{common_steps, flat_map-append}
 pub use Rattle.std.proofs.lemmas.List.{length-take, take-append-drop}
@@ -15,7 +15,7 @@ pub use Rattle.std.specs.Prelude.{◌≡◌, ℕ, zero, suc, ◌+◌, ◌-◌, �
 pub use Rattle.std.specs.Prelude.{Result, Ok, Err, refl, IsErrAnd, IfErr, IfOk, OnErr, OnOk, slice_get, slice_index, slice_range, min}
 pub use Rattle.avc_annexb.specs.Units.{saturated}
 pub use Rattle.avc_console.proofs.Texts.Telling.{by_fault}
-pub use Rattle.avc_console.specs.Reading.{max_unit, HasRead}
+pub use Rattle.avc_console.specs.Reading.{max_unit, HasRead, WritesFirst}
 pub use Rattle.avc_console.specs.Reporting.{no_report, TellsOn}
 pub use Rattle.avc_console.specs.declared.fault.RunFault.{RunFault}
 pub use Rattle.avc_console.specs.declared.fault.RunFault.TheVariants.{Memory, Write, Read, Endless, Size}
@@ -29,6 +29,9 @@ pub use Rattle.avc_decoder.specs.declared.event.Event.TheVariants.{Picture, Refu
 pub use Rattle.avc_difference.specs.Differences.{differs, differs_at, AreSame, IsDifference}
 pub use Rattle.avc_difference.specs.declared.place.Shape.{Shape}
 pub use Rattle.avc_difference.specs.Places.{sample_count, shape_of, shown_samples}
+pub use Rattle.avc_difference.specs.Psnr.{IsPsnr}
+pub use Rattle.avc_difference.specs.Text.{psnr_line}
+pub use Rattle.avc_difference.specs.declared.psnr.Psnr.{Psnr}
 pub use Rattle.avc_plane.specs.declared.component.Component.TheVariants.{Luma, Cb, Cr}
 pub use Rattle.avc_formats.specs.Formats.{StopsPicture}
 pub use Rattle.avc_events.proofs.EventReports.{is_none, report_more, run_told, stays_told, told_then}
@@ -38,15 +41,16 @@ pub use Rattle.avc_types.specs.declared.fault.Fault.{Fault}
 pub use Rattle.avc_types.specs.declared.picture.Picture.{Picture as Decoded}
 pub use Rattle.avc_yuv.proofs.Windows.{length-window}
 pub use Rattle.avc_yuv.specs.I420.{chroma_window, i420, luma_window, shown_height, shown_width, window}
-pub use Rattle.avc_compare.specs.Comparing.{BreaksOffFor, Compares, Finds, IsAlike, IsBrokenOff, IsReached, IsSame}
+pub use Rattle.avc_compare.specs.Comparing.{AreLines, BreaksOffFor, Compares, Finds, IsAlike, IsBeside, IsBrokenOff, IsLine, IsReached, IsSame, WritesPart}
 pub use Rattle.avc_compare.specs.Kept.{nothing_read, Waiting}
 pub use Rattle.avc_compare.specs.Reading.{BreaksReading, Fills, IsNext, IsReading, IsReadOff, IsWholeIfAny, ReadsOn, StopsFor, TakesNext}
-pub use Rattle.avc_compare.specs.Comparing.{compared_picture}
+pub use Rattle.avc_compare.specs.Comparing.{compared_picture, other_size}
+pub use Rattle.avc_compare.specs.declared.comparison.Comparison.{Comparison}
 pub use Rattle.avc_compare.specs.declared.verdict.ComparedPicture.{ComparedPicture}
-pub use Rattle.avc_compare.specs.Running.{ComparesEvent, ComparesPicture, EndsAll, EndsAt, EndsAtEvent, FindsIn, IsComparing, StopsAt}
+pub use Rattle.avc_compare.specs.Running.{ComparesEvent, ComparesPicture, EndsAll, EndsAt, EndsAtEvent, FindsIn, IsComparing, IsLineOf, StopsAt, TellsLine}
 pub use Rattle.avc_compare.specs.Told.{fault_names, run_fault, verdict_text, WritesText}
 pub use Rattle.avc_console.specs.Reporting.{report_in}
 pub use Rattle.avc_compare.specs.declared.verdict.CompareFault.{CompareFault}
 pub use Rattle.avc_compare.specs.declared.verdict.CompareFault.TheVariants.{Ours, Theirs}
 pub use Rattle.avc_compare.specs.declared.verdict.Verdict.{Verdict}
-pub use Rattle.avc_compare.specs.declared.verdict.Verdict.TheVariants.{Differs, Fewer, More, Same}
+pub use Rattle.avc_compare.specs.declared.verdict.Verdict.TheVariants.{Differs, Fewer, More, OtherSize, Same}

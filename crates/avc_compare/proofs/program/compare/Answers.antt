@@ -5,6 +5,7 @@ pub returns-in-Ok : goal.returns-in-Ok
 returns-in-Ok g c = record {
   report = report_in c.run_comparison-run.new.report;
   run = Ok c.in-Ok.verdict;
+  wrote = g.W.Write.contents c.run_comparison-run.new.writer;
   compares = c.in-Ok.ensures.compares;
   tells = (
     c.write_verdict-written.result,
@@ -21,8 +22,9 @@ pub returns-in-Err : goal.returns-in-Err
 returns-in-Err g c = record {
   report = report_in c.run_comparison-run.new.report;
   run = Err c.in-Err.fault;
-  compares = subst (λ r. Compares c.args.how.most c.args.how.output (g.R.Read.remaining c.args.reader.now) (g.R.Read.remaining c.run_comparison-run.new.reader) (g.O.Read.remaining c.args.other.now)
-      (g.O.Read.remaining c.run_comparison-run.new.other) (report_in c.run_comparison-run.new.report) r) c.in-Err.is c.run_comparison-run.ensures.compares;
+  wrote = g.W.Write.contents c.run_comparison-run.new.writer;
+  compares = subst (λ r. Compares c.args.how (g.R.Read.remaining c.args.reader.now) (g.R.Read.remaining c.run_comparison-run.new.reader) (g.O.Read.remaining c.args.other.now)
+      (g.O.Read.remaining c.run_comparison-run.new.other) (g.W.Write.contents c.args.writer.now) (g.W.Write.contents c.run_comparison-run.new.writer) (report_in c.run_comparison-run.new.report) r) c.in-Err.is c.run_comparison-run.ensures.compares;
   tells = (
     Appends-nil _,
     run_told (fault_names c.args.console.now.names c.args.other_name c.in-Err.fault) c.args.console.now.is_explained c.new-tally.result c.run_comparison-run.new.report (Err (run_fault c.in-Err.fault))

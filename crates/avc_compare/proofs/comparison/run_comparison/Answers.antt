@@ -1,21 +1,21 @@
-use Rattle.avc_compare.proofs.Comparisons.{arith, subst, Ok, ComparesEvent, TakesNext, at_end, begins, found, is_none, not_compared, not_taken, one_more, stays_told, told_then, too_many}
-use Rattle.avc_compare.proofs.comparison.compare_all.Goals as goal
+use Rattle.avc_compare.proofs.Comparisons.{arith, subst, Ok, ComparesEvent, TakesNext, at_end, begins, found, is_none, not_compared, none_read, not_taken, one_more, stays_told, told_then, too_many}
+use Rattle.avc_compare.proofs.comparison.run_comparison.Goals as goal
 
 pub events-init : goal.events-init
 events-init g c = record {
-  comparing = begins c.args.most c.args.decoder.now.output _ _ c.args.decoder.now c.args.ahead.now (g.T.Reporter.reported c.args.report.now).report c.requires.new c.requires.nothing c.requires.none;
+  comparing = begins c.args.how _ _ _ c.sharing-decoder.result c.in_ok-ahead.ahead (g.T.Reporter.reported c.args.report.now).report c.sharing-decoder.ensures c.in_ok-ahead.ensures.ok c.requires;
   told = stays_told (g.T.Reporter.reported c.args.report.now) _;
 }
 
 pub returns-in_err-event-clause-compares : goal.returns-in_err-event-clause-compares
 returns-in_err-event-clause-compares g c =
-    not_taken c.args.most c.events._event c.args.decoder.now.output _ _ _ _ _ c.events.decoder c.events.ahead (g.T.Reporter.reported c.events.report).report c.in_err-event.field-0.0
-    c.from_residual.result c.from_residual.ensures.1 c.in_err-event.ensures.err c.events.invariant.comparing
+    not_taken c.args.how c.events._event _ _ _ _ _ _ _ c.events.decoder c.events.ahead (g.T.Reporter.reported c.events.report).report c.in_err-event.field-0.0
+    c.from_residual-in_err-event.result c.from_residual-in_err-event.ensures.1 c.in_err-event.ensures.err c.events.invariant.comparing
 
 pub returns-in_err-ended-in-Some-clause-compares :
     goal.returns-in_err-ended-in-Some-clause-compares
 returns-in_err-ended-in-Some-clause-compares g c =
-    not_compared c.events_only_grow.ensures c.args.most c.events._event c.args.decoder.now.output _ _ _ _ _ _ c.events.decoder c.next_of.new.decoder c.events.ahead c.next_of.new.ahead
+    not_compared c.events_only_grow.ensures c.args.how c.events._event _ _ _ _ _ _ _ _ _ c.events.decoder c.next_of.new.decoder c.events.ahead c.next_of.new.ahead
     (g.T.Reporter.reported c.events.report).report (g.T.Reporter.reported c.compare_event.new.report).report c.in-Some.event c.in_err-ended-in-Some.field-0.0
     c.from_residual-in_err-ended-in-Some.result c.from_residual-in_err-ended-in-Some.ensures.1
     (subst (λ e. TakesNext (g.R.Read.remaining c.events.reader) (g.R.Read.remaining c.next_of.new.reader) c.events.decoder c.next_of.new.decoder c.events.ahead c.next_of.new.ahead e) c.in-Some.is c.in_ok-event.ensures.ok) c.in_err-ended-in-Some.ensures.compares c.events.invariant.comparing
@@ -26,10 +26,10 @@ returns-in_err-ended-in-Some-clause-told g c =
 
 pub returns-in-Some-ended-clause-compares : goal.returns-in-Some-ended-clause-compares
 returns-in-Some-ended-clause-compares g c =
-    found c.events_only_grow.ensures c.args.most c.events._event c.args.decoder.now.output _ _ _ _ _ _ c.events.decoder c.next_of.new.decoder c.events.ahead c.next_of.new.ahead
+    found c.events_only_grow.ensures c.args.how c.events._event _ _ _ _ _ _ _ _ _ c.events.decoder c.next_of.new.decoder c.events.ahead c.next_of.new.ahead
     (g.T.Reporter.reported c.events.report).report (g.T.Reporter.reported c.compare_event.new.report).report c.in-Some.event c.in-Some-ended.verdict
     (subst (λ e. TakesNext (g.R.Read.remaining c.events.reader) (g.R.Read.remaining c.next_of.new.reader) c.events.decoder c.next_of.new.decoder c.events.ahead c.next_of.new.ahead e) c.in-Some.is c.in_ok-event.ensures.ok)
-    (subst (λ e. ComparesEvent c.args.most c.in-Some.event (g.O.Read.remaining c.events.other) (g.O.Read.remaining c.compare_event.new.other) (g.T.Reporter.reported c.events.report).report (g.T.Reporter.reported c.compare_event.new.report).report (Ok e)) c.in-Some-ended.is
+    (subst (λ e. ComparesEvent c.args.how c.in-Some.event (g.O.Read.remaining c.events.other) (g.O.Read.remaining c.compare_event.new.other) (g.W.Write.contents c.events.writer) (g.W.Write.contents c.compare_event.new.writer) (g.T.Reporter.reported c.events.report).report (g.T.Reporter.reported c.compare_event.new.report).report (Ok e)) c.in-Some-ended.is
     c.in_ok-ended-in-Some.ensures.compares) c.events.invariant.comparing
 
 pub returns-in-Some-ended-clause-told : goal.returns-in-Some-ended-clause-told
@@ -38,7 +38,7 @@ returns-in-Some-ended-clause-told g c =
 
 pub returns-in-None-clause-compares : goal.returns-in-None-clause-compares
 returns-in-None-clause-compares g c =
-    at_end c.args.most c.events._event c.counts.result.pictures c.args.decoder.now.output _ _ _ _ _ _ c.events.decoder c.next_of.new.decoder c.events.ahead c.next_of.new.ahead
+    at_end c.args.how c.events._event c.counts.result.pictures _ _ _ _ _ _ _ _ c.events.decoder c.next_of.new.decoder c.events.ahead c.next_of.new.ahead
     (g.T.Reporter.reported c.events.report).report c.end.result c.counts.ensures.pictures
     (subst (λ e. TakesNext (g.R.Read.remaining c.events.reader) (g.R.Read.remaining c.next_of.new.reader) c.events.decoder c.next_of.new.decoder c.events.ahead c.next_of.new.ahead e) c.in-None.is c.in_ok-event.ensures.ok) c.end.ensures c.events.invariant.comparing
 
@@ -46,15 +46,19 @@ pub events-preserved : goal.events-preserved
 events-preserved g c =
     let none = is_none c.in_ok-ended-in-Some.ended c.in_default.not-Some in
     record {
-      comparing = one_more c.args.most c.events._event c.args.decoder.now.output _ _ _ _ _ _ c.events.decoder c.next_of.new.decoder c.events.ahead c.next_of.new.ahead
+      comparing = one_more c.args.how c.events._event _ _ _ _ _ _ _ _ _ c.events.decoder c.next_of.new.decoder c.events.ahead c.next_of.new.ahead
           (g.T.Reporter.reported c.events.report).report (g.T.Reporter.reported c.compare_event.new.report).report c.in-Some.event
           (subst (λ e. TakesNext (g.R.Read.remaining c.events.reader) (g.R.Read.remaining c.next_of.new.reader) c.events.decoder c.next_of.new.decoder c.events.ahead c.next_of.new.ahead e) c.in-Some.is c.in_ok-event.ensures.ok)
-          (subst (λ e. ComparesEvent c.args.most c.in-Some.event (g.O.Read.remaining c.events.other) (g.O.Read.remaining c.compare_event.new.other) (g.T.Reporter.reported c.events.report).report (g.T.Reporter.reported c.compare_event.new.report).report (Ok e)) none
+          (subst (λ e. ComparesEvent c.args.how c.in-Some.event (g.O.Read.remaining c.events.other) (g.O.Read.remaining c.compare_event.new.other) (g.W.Write.contents c.events.writer) (g.W.Write.contents c.compare_event.new.writer) (g.T.Reporter.reported c.events.report).report (g.T.Reporter.reported c.compare_event.new.report).report (Ok e)) none
           c.in_ok-ended-in-Some.ensures.compares) c.events.invariant.comparing;
       told = told_then _ (g.T.Reporter.reported c.events.report) (g.T.Reporter.reported c.compare_event.new.report) _ _ _ c.events.invariant.told c.compare_event.ensures.told;
     }
 
 pub returns-clause-compares : goal.returns-clause-compares
 returns-clause-compares g c =
-    too_many c.events_only_grow.ensures c.args.most c.events._event c.args.decoder.now.output _ _ _ _ c.events.decoder c.events.ahead (g.T.Reporter.reported c.events.report).report
+    too_many c.events_only_grow.ensures c.args.how c.events._event _ _ _ _ _ _ c.events.decoder c.events.ahead (g.T.Reporter.reported c.events.report).report
     (omega (arith, c.events-test.false)) c.events.invariant.comparing
+
+pub returns-in_err-ahead-clause-compares : goal.returns-in_err-ahead-clause-compares
+returns-in_err-ahead-clause-compares g c =
+    none_read c.args.how _ _ _ (g.T.Reporter.reported c.args.report.now).report c.in_err-ahead.field-0.0 c.from_residual.result c.from_residual.ensures.1 c.in_err-ahead.ensures.err c.requires
