@@ -1,2 +1,4 @@
 pub mod Floats
+pub mod ToLast
+pub mod Members
 pub mod Read

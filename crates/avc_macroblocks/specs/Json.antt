@@ -1,19 +1,28 @@
 -- The JSON of macroblocks: an object in one line (RFC 8259) for each. The members stand in the order of their names.
-use Rattle.std.specs.Prelude.{ℕ, ℤ, List, [], ◌∷◌, map, Option, codes}
-use Rattle.serde_json.specs.Data.{Data, array, member, no_members, null, number, object, string}
+use Rattle.std.specs.Prelude.{ℤ, Bool, if◌then◌else◌, List, [], ◌∷◌, map, codes}
+use Rattle.serde_json.specs.Data.{Data, Members, array, member, put, no_members, null, number, object, string}
 use Rattle.serde_json.specs.Find.{of_integer}
 use Rattle.serde_json.specs.View.{items_of}
 use Rattle.avc_types.specs.declared.fault.Fault.{Fault}
 use Rattle.avc_types.specs.declared.macroblock.Mvd.{Mvd}
+use Rattle.avc_types.specs.declared.vector.Mv.{Mv}
 use Rattle.avc_types.specs.declared.macroblock.PMbType.{PMbType}
-use Rattle.avc_types.specs.declared.macroblock.PMbType.TheVariants.{P16x16, P16x8, P8x16, P8x8, P8x8Ref0}
+use Rattle.avc_types.specs.declared.macroblock.PMbType.TheVariants.{P8x8, P8x8Ref0}
 use Rattle.avc_types.specs.declared.macroblock.SubMbType.{SubMbType}
 use Rattle.avc_types.specs.Faults.{number_of, name_of}
 use Rattle.avc_types.specs.Macroblock.{total_coeff, Residual, MbSyntax, p_skip, i_pcm, i_nxn, i_16x16, p_inter, Mb}
-use Rattle.avc_info.specs.Json.{count, count_if_given}
-use Rattle.avc_info.specs.ListingJson.{line_of_data, refused_data}
+use Rattle.avc_neigh.specs.declared.neighbour_info.Motion.{Motion}
+use Rattle.avc_neigh.specs.declared.neighbour_info.Motion.TheVariants.{Absent as absent, Intra as intra, Inter as inter}
+use Rattle.avc_neigh.specs.declared.neighbour_info.NearMode.{NearMode}
+use Rattle.avc_neigh.specs.declared.neighbour_info.NearMode.TheVariants.{Absent as no_mode, Inter as inter_mode, Mode as mode_is}
 use Rattle.avc_macroblocks.specs.Forms.{Form}
+use Rattle.avc_macroblocks.specs.JsonLines.{count, count_if_given, line_of_data, refused_data}
+use Rattle.avc_macroblocks.specs.Levels.{up_to_last}
+use Rattle.avc_macroblocks.specs.Vectors.{vectors_of}
 use Rattle.avc_macroblocks.specs.Lines.{pattern_of, sub_name, type_name}
+use Rattle.avc_macroblocks.specs.declared.block_facts.BlockFacts.{BlockFacts}
+use Rattle.avc_macroblocks.specs.declared.block_facts.BlockFacts.TheVariants.{TotalCoeff, CoeffLevel}
+use Rattle.avc_macroblocks.specs.declared.derived.Derived.{Derived}
 use Rattle.avc_macroblocks.specs.declared.place.MacroblockPlace.{MacroblockPlace}
 
 -- ---- elements, which are null or empty where a macroblock has them not
@@ -48,6 +57,31 @@ abbrev pub mvd_data : MbSyntax → Data
 mvd_data (p_inter mb_type ref_idx mvd r) = array (items_of (map difference_data mvd))
 mvd_data _ = array (items_of [])
 
+-- Intra4x4PredMode of a block (8.3.1.1)
+abbrev pub derived_mode_data : NearMode → Data
+derived_mode_data (mode_is m) = count m
+derived_mode_data no_mode = null
+derived_mode_data inter_mode = null
+
+-- of each block of a macroblock that has some
+abbrev pub derived_modes_data : MbSyntax → (modes : List NearMode) → Data
+derived_modes_data (i_nxn coded chroma_mode r) modes = array (items_of (map derived_mode_data modes))
+derived_modes_data _ modes = array (items_of [])
+
+-- a vector: its horizontal and its vertical component
+abbrev pub vector_data : Mv → Data
+vector_data v = array (items_of (number (of_integer v.x) ∷ number (of_integer v.y) ∷ []))
+
+-- mv_l0 of a part (8.4.1)
+abbrev pub motion_data : Motion → Data
+motion_data absent = null
+motion_data intra = null
+motion_data (inter r v) = vector_data v
+
+-- of each part
+abbrev pub vectors_data : List Motion → Data
+vectors_data vectors = array (items_of (map motion_data vectors))
+
 -- ref_idx_l0 of each partition
 abbrev pub ref_idx_data : MbSyntax → Data
 ref_idx_data (p_inter mb_type ref_idx mvd r) = array (items_of (map count ref_idx))
@@ -68,51 +102,63 @@ abbrev pub subs_data : MbSyntax → Data
 subs_data (p_inter mb_type ref_idx mvd r) = array (items_of (map sub_data (subs_of mb_type)))
 subs_data _ = array (items_of [])
 
--- total_coeff of a block (9.2.1)
-abbrev pub count_data : List ℤ → Data
-count_data levels = count (total_coeff levels)
+-- a level
+abbrev pub level_data : ℤ → Data
+level_data level = number (of_integer level)
+
+-- total_coeff of a block (9.2.1), or coeffLevel up to the last that is not 0 (7.3.5.3.2)
+abbrev pub block_data : BlockFacts → List ℤ → Data
+block_data TotalCoeff levels = count (total_coeff levels)
+block_data CoeffLevel levels = array (items_of (map level_data (up_to_last levels)))
 
 -- of the blocks of a component
-abbrev pub counts_data : List (List ℤ) → Data
-counts_data blocks = array (items_of (map count_data blocks))
+abbrev pub blocks_data : BlockFacts → List (List ℤ) → Data
+blocks_data facts blocks = array (items_of (map (block_data facts) blocks))
 
 -- of all blocks, where that of the DC levels of luma is this
-abbrev pub total_coeff_data : (luma_dc : Data) → Residual → Data
-total_coeff_data luma_dc r =
-    object (member (codes "cb") (counts_data r.cb_ac)
-    (member (codes "cb_dc") (count_data r.cb_dc)
-    (member (codes "cr") (counts_data r.cr_ac)
-    (member (codes "cr_dc") (count_data r.cr_dc)
-    (member (codes "luma") (counts_data r.luma)
+abbrev pub all_blocks_data : BlockFacts → (luma_dc : Data) → Residual → Data
+all_blocks_data facts luma_dc r =
+    object (member (codes "cb") (blocks_data facts r.cb_ac)
+    (member (codes "cb_dc") (block_data facts r.cb_dc)
+    (member (codes "cr") (blocks_data facts r.cr_ac)
+    (member (codes "cr_dc") (block_data facts r.cr_dc)
+    (member (codes "luma") (blocks_data facts r.luma)
     (member (codes "luma_dc") luma_dc no_members))))))
 
 -- of a macroblock that has some
-abbrev pub residual_data : MbSyntax → Data
-residual_data p_skip = null
-residual_data (i_pcm luma cb cr) = null
-residual_data (i_nxn modes chroma_mode r) = total_coeff_data null r
-residual_data (i_16x16 mode chroma_mode r) = total_coeff_data (count_data r.luma_dc) r
-residual_data (p_inter mb_type ref_idx mvd r) = total_coeff_data null r
+abbrev pub residual_data : BlockFacts → MbSyntax → Data
+residual_data facts p_skip = null
+residual_data facts (i_pcm luma cb cr) = null
+residual_data facts (i_nxn modes chroma_mode r) = all_blocks_data facts null r
+residual_data facts (i_16x16 mode chroma_mode r) = all_blocks_data facts (block_data facts r.luma_dc) r
+residual_data facts (p_inter mb_type ref_idx mvd r) = all_blocks_data facts null r
 
 -- ---- lines
 
+-- with the levels of all blocks, where they are asked for
+abbrev pub with_coefficients : (has_coefficients : Bool) → MbSyntax → Members → Members
+with_coefficients has_coefficients syntax members =
+    if has_coefficients then put (codes "coeffLevel") (residual_data CoeffLevel syntax) members else members
+
 -- a macroblock at this place: mbAddr is its address, slice the number of its slice in its picture,
 -- QPY is QP_Y
-abbrev pub macroblock_data : MacroblockPlace → Mb → Data
-macroblock_data place mb =
-    object (member (codes "QPY") (count mb.qp)
+abbrev pub macroblock_data : (has_coefficients : Bool) → MacroblockPlace → Mb → Derived → Data
+macroblock_data has_coefficients place mb d =
+    object (with_coefficients has_coefficients mb.syntax (member (codes "Intra4x4PredMode") (derived_modes_data mb.syntax d.modes)
+    (member (codes "QPY") (count mb.qp)
     (member (codes "coded_block_pattern") (pattern_data mb.syntax)
     (member (codes "intra_chroma_pred_mode") (chroma_mode_data mb.syntax)
     (member (codes "kind") (string (codes "macroblock"))
     (member (codes "mbAddr") (count place.address)
     (member (codes "mb_type") (string (type_name mb.syntax))
+    (member (codes "mv_l0") (vectors_data (vectors_of mb.syntax d.motion))
     (member (codes "mvd_l0") (mvd_data mb.syntax)
     (member (codes "ref_idx_l0") (ref_idx_data mb.syntax)
     (member (codes "rem_intra4x4_pred_mode") (modes_data mb.syntax)
     (member (codes "slice") (count place.slice)
     (member (codes "sub_mb_type") (subs_data mb.syntax)
-    (member (codes "total_coeff") (residual_data mb.syntax)
-    (member (codes "unit") (count place.unit) no_members)))))))))))))
+    (member (codes "total_coeff") (residual_data TotalCoeff mb.syntax)
+    (member (codes "unit") (count place.unit) no_members))))))))))))))))
 
 -- a fault in a slice, at the macroblock that comes then
 abbrev pub fault_data : MacroblockPlace → Fault → Data
@@ -125,9 +171,9 @@ fault_data place f =
     (member (codes "unit") (count place.unit) no_members))))))
 
 -- the form for programs; a refusal as `headers` tells it
-abbrev pub for_programs : Form
-for_programs = record {
-  of_macroblock = λ place mb. line_of_data (macroblock_data place mb);
+abbrev pub for_programs : (has_coefficients : Bool) → Form
+for_programs has_coefficients = record {
+  of_macroblock = λ place mb d. line_of_data (macroblock_data has_coefficients place mb d);
   of_fault = λ place f. line_of_data (fault_data place f);
   of_refusal = λ unit f. line_of_data (refused_data unit f);
 }

@@ -1,17 +1,27 @@
 -- The line of a macroblock for people.
-use Rattle.std.specs.Prelude.{ℕ, ◌+◌, ◌*◌, ℤ, List, [], ◌++◌, Option, Some, None, codes}
+use Rattle.std.specs.Prelude.{ℕ, ◌+◌, ◌*◌, ℤ, Bool, if◌then◌else◌, List, [], ◌∷◌, ◌++◌, Option, Some, None, codes}
 use Rattle.std.specs.Fmt.{decimal, signed_decimal}
 use Rattle.std.specs.List.{flat_map}
 use Rattle.avc_types.specs.declared.fault.Fault.{Fault}
 use Rattle.avc_types.specs.declared.macroblock.Mvd.{Mvd}
+use Rattle.avc_types.specs.declared.vector.Mv.{Mv}
 use Rattle.avc_types.specs.declared.macroblock.PMbType.{PMbType}
 use Rattle.avc_types.specs.declared.macroblock.PMbType.TheVariants.{P16x16, P16x8, P8x16, P8x8, P8x8Ref0}
 use Rattle.avc_types.specs.declared.macroblock.SubMbType.{SubMbType}
 use Rattle.avc_types.specs.declared.macroblock.SubMbType.TheVariants.{Sub8x8, Sub8x4, Sub4x8, Sub4x4}
 use Rattle.avc_types.specs.Faults.{number_of, name_of}
 use Rattle.avc_types.specs.Macroblock.{total_coeff, Residual, MbSyntax, p_skip, i_pcm, i_nxn, i_16x16, p_inter, Mb}
+use Rattle.avc_neigh.specs.declared.neighbour_info.Motion.{Motion}
+use Rattle.avc_neigh.specs.declared.neighbour_info.Motion.TheVariants.{Absent as absent, Intra as intra, Inter as inter}
+use Rattle.avc_neigh.specs.declared.neighbour_info.NearMode.{NearMode}
+use Rattle.avc_neigh.specs.declared.neighbour_info.NearMode.TheVariants.{Absent as no_mode, Inter as inter_mode, Mode as mode_is}
 use Rattle.avc_tools.specs.Lines.{and_number, newline, refused_text}
 use Rattle.avc_macroblocks.specs.Forms.{Form}
+use Rattle.avc_macroblocks.specs.Levels.{up_to_last}
+use Rattle.avc_macroblocks.specs.Vectors.{vectors_of}
+use Rattle.avc_macroblocks.specs.declared.block_facts.BlockFacts.{BlockFacts}
+use Rattle.avc_macroblocks.specs.declared.block_facts.BlockFacts.TheVariants.{TotalCoeff, CoeffLevel}
+use Rattle.avc_macroblocks.specs.declared.derived.Derived.{Derived}
 use Rattle.avc_macroblocks.specs.declared.place.MacroblockPlace.{MacroblockPlace}
 
 -- ---- mb_type
@@ -55,6 +65,16 @@ and_mode (Some rem) = and_number rem
 abbrev pub modes_text : List (Option ℕ) → List ℕ
 modes_text modes = codes " modes" ++ flat_map and_mode modes
 
+-- Intra4x4PredMode of a block (8.3.1.1)
+abbrev pub and_derived_mode : NearMode → List ℕ
+and_derived_mode (mode_is m) = and_number m
+and_derived_mode no_mode = codes " -"
+and_derived_mode inter_mode = codes " -"
+
+-- of each of the sixteen blocks
+abbrev pub derived_modes_text : List NearMode → List ℕ
+derived_modes_text modes = codes " intra4x4" ++ flat_map and_derived_mode modes
+
 -- intra_chroma_pred_mode
 abbrev pub chroma_text : ℕ → List ℕ
 chroma_text chroma_mode = codes " chroma" ++ and_number chroma_mode
@@ -83,6 +103,20 @@ and_mvd m = codes " " ++ signed_decimal m.x ++ codes "," ++ signed_decimal m.y
 abbrev pub mvd_text : List Mvd → List ℕ
 mvd_text mvd = codes " mvd" ++ flat_map and_mvd mvd
 
+-- a vector: its horizontal and its vertical component
+abbrev pub and_vector : Mv → List ℕ
+and_vector v = codes " " ++ signed_decimal v.x ++ codes "," ++ signed_decimal v.y
+
+-- mv_l0 of a part (8.4.1), or a hyphen where there is none
+abbrev pub and_motion : Motion → List ℕ
+and_motion absent = codes " -"
+and_motion intra = codes " -"
+and_motion (inter r v) = and_vector v
+
+-- of each part
+abbrev pub vectors_text : List Motion → List ℕ
+vectors_text vectors = codes " mv" ++ flat_map and_motion vectors
+
 -- ---- residual
 
 -- coded_block_pattern (7.4.5)
@@ -93,38 +127,63 @@ pattern_of r = r.luma_pattern + 16 * r.chroma_pattern
 abbrev pub pattern_text : Residual → List ℕ
 pattern_text r = codes " cbp" ++ and_number (pattern_of r)
 
--- total_coeff of a block (9.2.1)
-abbrev pub and_count : List ℤ → List ℕ
-and_count levels = and_number (total_coeff levels)
+-- a level behind others
+abbrev pub level_behind : ℤ → List ℕ
+level_behind level = codes "," ++ signed_decimal level
+
+-- levels with commas between them, or a hyphen where there is none
+abbrev pub levels_text : List ℤ → List ℕ
+levels_text [] = codes " -"
+levels_text (level ∷ levels) = codes " " ++ signed_decimal level ++ flat_map level_behind levels
+
+-- total_coeff of a block (9.2.1), or coeffLevel up to the last that is not 0 (7.3.5.3.2)
+abbrev pub and_block : BlockFacts → List ℤ → List ℕ
+and_block TotalCoeff levels = and_number (total_coeff levels)
+and_block CoeffLevel levels = levels_text (up_to_last levels)
 
 -- of the luma blocks, of those of Cb and of those of Cr
-abbrev pub counts_text : Residual → List ℕ
-counts_text r =
-    codes " luma" ++ flat_map and_count r.luma
-    ++ codes " cb" ++ flat_map and_count r.cb_ac
-    ++ codes " cr" ++ flat_map and_count r.cr_ac
+abbrev pub blocks_text : BlockFacts → Residual → List ℕ
+blocks_text facts r =
+    codes " luma" ++ flat_map (and_block facts) r.luma
+    ++ codes " cb" ++ flat_map (and_block facts) r.cb_ac
+    ++ codes " cr" ++ flat_map (and_block facts) r.cr_ac
 
 -- of the DC levels of Cb and of Cr
-abbrev pub chroma_dc_text : Residual → List ℕ
-chroma_dc_text r = codes " cbdc" ++ and_count r.cb_dc ++ codes " crdc" ++ and_count r.cr_dc
+abbrev pub chroma_dc_text : BlockFacts → Residual → List ℕ
+chroma_dc_text facts r = codes " cbdc" ++ and_block facts r.cb_dc ++ codes " crdc" ++ and_block facts r.cr_dc
+
+-- of the levels of Intra16x16DCLevel
+abbrev pub luma_dc_text : BlockFacts → List ℤ → List ℕ
+luma_dc_text facts levels = codes " dc" ++ and_block facts levels
 
 -- what is told of a residual
 abbrev pub residual_text : Residual → List ℕ
-residual_text r = pattern_text r ++ counts_text r ++ chroma_dc_text r
-
--- of the levels of Intra16x16DCLevel
-abbrev pub luma_dc_text : List ℤ → List ℕ
-luma_dc_text levels = codes " dc" ++ and_count levels
+residual_text r = pattern_text r ++ blocks_text TotalCoeff r ++ chroma_dc_text TotalCoeff r
 
 -- ---- a macroblock
 
 -- what is told beside mb_type and QP_Y
-abbrev pub elements_text : MbSyntax → List ℕ
-elements_text p_skip = []
-elements_text (i_pcm luma cb cr) = []
-elements_text (i_nxn modes chroma_mode r) = modes_text modes ++ chroma_text chroma_mode ++ residual_text r
-elements_text (i_16x16 mode chroma_mode r) = chroma_text chroma_mode ++ luma_dc_text r.luma_dc ++ residual_text r
-elements_text (p_inter mb_type ref_idx mvd r) = subs_text mb_type ++ ref_idx_text ref_idx ++ mvd_text mvd ++ residual_text r
+abbrev pub elements_text : MbSyntax → (modes : List NearMode) → (vectors : List Motion) → List ℕ
+elements_text p_skip derived vectors = vectors_text vectors
+elements_text (i_pcm luma cb cr) derived vectors = []
+elements_text (i_nxn modes chroma_mode r) derived vectors =
+    modes_text modes ++ derived_modes_text derived ++ chroma_text chroma_mode ++ residual_text r
+elements_text (i_16x16 mode chroma_mode r) derived vectors = chroma_text chroma_mode ++ luma_dc_text TotalCoeff r.luma_dc ++ residual_text r
+elements_text (p_inter mb_type ref_idx mvd r) derived vectors =
+    subs_text mb_type ++ ref_idx_text ref_idx ++ mvd_text mvd ++ vectors_text vectors ++ residual_text r
+
+-- the levels of all blocks
+abbrev pub coefficients_text : MbSyntax → List ℕ
+coefficients_text p_skip = []
+coefficients_text (i_pcm luma cb cr) = []
+coefficients_text (i_nxn modes chroma_mode r) = codes " levels" ++ blocks_text CoeffLevel r ++ chroma_dc_text CoeffLevel r
+coefficients_text (i_16x16 mode chroma_mode r) =
+    codes " levels" ++ luma_dc_text CoeffLevel r.luma_dc ++ blocks_text CoeffLevel r ++ chroma_dc_text CoeffLevel r
+coefficients_text (p_inter mb_type ref_idx mvd r) = codes " levels" ++ blocks_text CoeffLevel r ++ chroma_dc_text CoeffLevel r
+
+-- where they are asked for
+abbrev pub coefficients_if : (has_coefficients : Bool) → MbSyntax → List ℕ
+coefficients_if has_coefficients syntax = if has_coefficients then coefficients_text syntax else []
 
 -- the unit, the number of the slice in its picture, and the address
 abbrev pub place_text : MacroblockPlace → List ℕ
@@ -139,8 +198,11 @@ abbrev pub quantiser_text : ℕ → List ℕ
 quantiser_text qp = codes " qp" ++ and_number qp
 
 -- a macroblock at this place
-abbrev pub macroblock_line : MacroblockPlace → Mb → List ℕ
-macroblock_line place mb = place_text place ++ type_text mb.syntax ++ quantiser_text mb.qp ++ elements_text mb.syntax ++ newline
+abbrev pub macroblock_line : (has_coefficients : Bool) → MacroblockPlace → Mb → Derived → List ℕ
+macroblock_line has_coefficients place mb d =
+    place_text place ++ type_text mb.syntax ++ quantiser_text mb.qp
+    ++ elements_text mb.syntax d.modes (vectors_of mb.syntax d.motion)
+    ++ coefficients_if has_coefficients mb.syntax ++ newline
 
 -- the unit, and the number of the slice in its picture
 abbrev pub slice_text : MacroblockPlace → List ℕ
@@ -163,5 +225,5 @@ abbrev pub refusal_line : (unit : ℕ) → Fault → List ℕ
 refusal_line unit f = decimal unit ++ refused_text f ++ newline
 
 -- the form for people
-abbrev pub for_people : Form
-for_people = record { of_macroblock = macroblock_line; of_fault = fault_line; of_refusal = refusal_line }
+abbrev pub for_people : (has_coefficients : Bool) → Form
+for_people has_coefficients = record { of_macroblock = macroblock_line has_coefficients; of_fault = fault_line; of_refusal = refusal_line }

@@ -1,5 +1,5 @@
 -- What units bring to whoever reads macroblocks, and the lines that tell it.
-use Rattle.std.specs.Prelude.{ℕ, ◌+◌, Bool, true, false, List, [], ◌∷◌, ◌++◌, length, Option, Some, None, Result, Ok, Err}
+use Rattle.std.specs.Prelude.{ℕ, ◌+◌, nat_lt, Bool, true, false, List, [], ◌∷◌, ◌++◌, length, Option, Some, None, Result, Ok, Err, if◌then◌else◌}
 use Rattle.avc_types.specs.declared.fault.Fault.{Fault}
 use Rattle.avc_types.specs.declared.fault.Fault.TheVariants as faults
 use Rattle.avc_types.specs.Macroblock.{Mb}
@@ -10,8 +10,12 @@ use Rattle.avc_params.specs.declared.set_unit.SetUnit.{SetUnit}
 use Rattle.avc_slice.specs.declared.slice.Slice.{Slice}
 use Rattle.avc_mbsyntax.specs.SliceData.{SliceMbs}
 use Rattle.avc_units.specs.Grouping.{Kind, slice, partition, sps, pps, boundary, other, kind, set_units, slice_in}
+use Rattle.avc_tools.specs.Streams.{StreamSoFar}
+use Rattle.avc_macroblocks.specs.Asked.{Asked, asked_by, is_listed}
 use Rattle.avc_macroblocks.specs.Forms.{Form}
-use Rattle.avc_macroblocks.specs.Pictures.{OpenPicture, macroblocks_of, picture_of, sets_named, with_macroblocks}
+use Rattle.avc_macroblocks.specs.Pictures.{OpenPicture, derived_in, macroblocks_of, picture_of, sets_named, with_macroblocks}
+use Rattle.avc_macroblocks.specs.declared.derived.Derived.{Derived}
+use Rattle.avc_macroblocks.specs.declared.listing.MacroblockListing.{MacroblockListing}
 use Rattle.avc_macroblocks.specs.declared.place.MacroblockPlace.{MacroblockPlace}
 
 -- ---- what a unit brings
@@ -21,8 +25,9 @@ pub data Brought : Type 0 where
   nothing : Brought
   -- it should bring a slice, and is refused
   refused : Fault → Brought
-  -- the macroblocks of a slice of this picture, and the fault that came then
-  macroblocks : OpenPicture → SliceMbs → Brought
+  -- the macroblocks of a slice of this picture and the fault that came then, and what follows for the
+  -- macroblocks from their neighbours
+  macroblocks : OpenPicture → SliceMbs → List Derived → Brought
 
 -- a slice that was read under these sets, among which are those that it names
 abbrev pub brought_under : Sets → Option OpenPicture → Slice → Brought
@@ -31,7 +36,7 @@ brought_under sets open_picture s =
       | None ↦ nothing
       | Some named ↦
           let p = picture_of open_picture named.1 s.header in
-          macroblocks p (macroblocks_of p named.0 s)
+          macroblocks p (macroblocks_of p named.0 s) (derived_in p named.0 s)
     ]
 
 -- the slice in a unit, or why its header can't be read
@@ -58,7 +63,7 @@ brought sets open_picture u =
 abbrev pub picture_after : Option OpenPicture → Brought → Option OpenPicture
 picture_after open_picture nothing = open_picture
 picture_after open_picture (refused f) = open_picture
-picture_after open_picture (macroblocks p ms) = Some (with_macroblocks p ms.mbs)
+picture_after open_picture (macroblocks p ms derived) = Some (with_macroblocks p ms.mbs derived)
 
 -- ---- the lines of a unit
 
@@ -67,9 +72,10 @@ abbrev pub behind : MacroblockPlace → ℕ → MacroblockPlace
 behind place count = record { unit = place.unit; slice = place.slice; address = place.address + count }
 
 -- a line for each macroblock, from this place on
-abbrev pub mb_lines : Form → MacroblockPlace → List Mb → List ℕ
-mb_lines form place [] = []
-mb_lines form place (mb ∷ mbs) = form.of_macroblock place mb ++ mb_lines form (behind place 1) mbs
+abbrev pub mb_lines : Form → MacroblockPlace → List Mb → List Derived → List ℕ
+mb_lines form place [] derived = []
+mb_lines form place (mb ∷ mbs) [] = []
+mb_lines form place (mb ∷ mbs) (d ∷ derived) = form.of_macroblock place mb d ++ mb_lines form (behind place 1) mbs derived
 
 -- the line of a fault, if there is one
 abbrev pub line_of_fault : Form → MacroblockPlace → Option Fault → List ℕ
@@ -77,18 +83,23 @@ line_of_fault form place None = []
 line_of_fault form place (Some f) = form.of_fault place f
 
 -- a slice's macroblocks, from this place on, and the fault that came then
-abbrev pub slice_lines : Form → MacroblockPlace → SliceMbs → List ℕ
-slice_lines form place ms = mb_lines form place ms.mbs ++ line_of_fault form (behind place (length ms.mbs)) ms.fault
+abbrev pub slice_lines : Form → MacroblockPlace → SliceMbs → List Derived → List ℕ
+slice_lines form place ms derived = mb_lines form place ms.mbs derived ++ line_of_fault form (behind place (length ms.mbs)) ms.fault
 
 -- where the first macroblock of this unit's slice stands in its picture
 abbrev pub first_place : (unit : ℕ) → OpenPicture → MacroblockPlace
 first_place unit p = record { unit = unit; slice = p.slices; address = length p.mbs }
 
+-- a unit that is refused, which is of no picture
+abbrev pub refusal_lines : Asked → (unit : ℕ) → Fault → List ℕ
+refusal_lines a unit f = elim a.picture [ None ↦ a.form.of_refusal unit f | Some number ↦ [] ]
+
 -- a unit that brings this
-abbrev pub unit_lines : Form → (unit : ℕ) → Brought → List ℕ
-unit_lines form unit nothing = []
-unit_lines form unit (refused f) = form.of_refusal unit f
-unit_lines form unit (macroblocks p ms) = slice_lines form (first_place unit p) ms
+abbrev pub unit_lines : Asked → (unit : ℕ) → Brought → List ℕ
+unit_lines a unit nothing = []
+unit_lines a unit (refused f) = refusal_lines a unit f
+unit_lines a unit (macroblocks p ms derived) =
+    if is_listed a.picture p.number then slice_lines a.form (first_place unit p) ms derived else []
 
 -- ---- the lines of a stream
 
@@ -98,12 +109,35 @@ picture_behind sets p [] = p
 picture_behind sets p (u ∷ us) = picture_behind (sets ++ set_units (u ∷ [])) (picture_after p (brought (sets_after sets) p u)) us
 
 -- the lines of these units, likewise
-abbrev pub lines_under : Form → List SetUnit → Option OpenPicture → List Unit → List ℕ
-lines_under form sets p [] = []
-lines_under form sets p (u ∷ us) =
-    unit_lines form u.index (brought (sets_after sets) p u)
-    ++ lines_under form (sets ++ set_units (u ∷ [])) (picture_after p (brought (sets_after sets) p u)) us
+abbrev pub lines_under : Asked → List SetUnit → Option OpenPicture → List Unit → List ℕ
+lines_under a sets p [] = []
+lines_under a sets p (u ∷ us) =
+    unit_lines a u.index (brought (sets_after sets) p u)
+    ++ lines_under a (sets ++ set_units (u ∷ [])) (picture_after p (brought (sets_after sets) p u)) us
 
 -- those of the units whose end has been seen
-abbrev pub macroblock_lines_so_far : Form → List ℕ → (ended : Bool) → List ℕ
-macroblock_lines_so_far form bytes ended = lines_under form [] None (units (length bytes) bytes ended)
+abbrev pub lines_so_far : Asked → List ℕ → (ended : Bool) → List ℕ
+lines_so_far a bytes ended = lines_under a [] None (units (length bytes) bytes ended)
+
+-- what a listing writes of these bytes, where they are all or not
+abbrev pub macroblock_lines_so_far : MacroblockListing → List ℕ → (ended : Bool) → List ℕ
+macroblock_lines_so_far l = lines_so_far (asked_by l)
+
+-- What came of a stream, of which the macroblocks of this picture are listed, or of all.
+pub record ListedSoFar : Type 0 where
+  pub picture : Option ℕ
+  pub stream : StreamSoFar
+
+-- how many pictures have begun, where this one is open
+abbrev pub pictures_begun : Option OpenPicture → ℕ
+pictures_begun None = 0
+pictures_begun (Some p) = p.number + 1
+
+-- a picture of this number has begun
+abbrev pub has_begun : (number : ℕ) → List ℕ → (ended : Bool) → Bool
+has_begun number bytes ended = nat_lt number (pictures_begun (picture_behind [] None (units (length bytes) bytes ended)))
+
+-- the picture that is asked for has begun, if one is
+abbrev pub has_picture : (picture : Option ℕ) → List ℕ → (ended : Bool) → Bool
+has_picture None bytes ended = true
+has_picture (Some number) bytes ended = has_begun number bytes ended

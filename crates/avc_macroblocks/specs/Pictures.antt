@@ -14,9 +14,13 @@ use Rattle.avc_slice.specs.Header.{is_p, slice_qp}
 use Rattle.avc_slice.specs.declared.header.Header.{Header}
 use Rattle.avc_slice.specs.declared.slice.Slice.{Slice}
 use Rattle.avc_mbsyntax.specs.SliceData.{SliceMbs, SliceStart, slice_data, stopped}
+use Rattle.avc_macroblocks.specs.Derived.{all_derived}
+use Rattle.avc_macroblocks.specs.declared.derived.Derived.{Derived}
 
 -- A picture whose slices come (7.4.1.2.4).
 pub record OpenPicture : Type 0 where
+  -- its number among the stream's pictures, from 0
+  pub number : ℕ
   -- the header of its last slice
   pub last : Header
   -- in macroblocks, by the sequence parameter set of its first slice
@@ -24,17 +28,18 @@ pub record OpenPicture : Type 0 where
   pub size : ℕ
   -- how many of its slices so far have macroblocks
   pub slices : ℕ
-  -- its macroblocks so far
+  -- its macroblocks so far, and what follows for them from their neighbours
   pub mbs : List PicMb
+  pub known : List Derived
 
 -- at its first slice, which has this header
-abbrev pub new_picture : Sps → Header → OpenPicture
-new_picture sps h = record { last = h; width = width_in_mbs sps; size = size_in_mbs sps; slices = 0; mbs = [] }
+abbrev pub new_picture : (number : ℕ) → Sps → Header → OpenPicture
+new_picture number sps h = record { number = number; last = h; width = width_in_mbs sps; size = size_in_mbs sps; slices = 0; mbs = []; known = [] }
 
 -- the picture of a slice with this header: a new one where it begins one (7.4.1.2.4)
 abbrev pub picture_of : Option OpenPicture → Sps → Header → OpenPicture
-picture_of None sps h = new_picture sps h
-picture_of (Some p) sps h = if begins p.last h then new_picture sps h else record p { last = h }
+picture_of None sps h = new_picture 0 sps h
+picture_of (Some p) sps h = if begins p.last h then new_picture (p.number + 1) sps h else record p { last = h }
 
 -- the sets that a slice header names (7.4.1.2.1)
 abbrev pub sets_named : Sets → Header → Option (Pps × Sps)
@@ -68,14 +73,19 @@ where_next expected first ms =
 abbrev pub macroblocks_of : OpenPicture → Pps → Slice → SliceMbs
 macroblocks_of p pps s = where_next (length p.mbs) (s.header).first_mb_in_slice (data_of p pps s)
 
+-- what follows for them from their neighbours
+abbrev pub derived_in : OpenPicture → Pps → Slice → List Derived
+derived_in p pps s = all_derived pps.constrained_intra_pred_flag (start_of p pps s.header) p.mbs p.known (macroblocks_of p pps s).mbs
+
 -- one slice more, where it has macroblocks
 abbrev pub one_more : (slices : ℕ) → List Mb → ℕ
 one_more slices [] = slices
 one_more slices (mb ∷ mbs) = slices + 1
 
 -- the picture with the macroblocks of one slice more
-abbrev pub with_macroblocks : OpenPicture → List Mb → OpenPicture
-with_macroblocks p mbs = record p {
+abbrev pub with_macroblocks : OpenPicture → List Mb → List Derived → OpenPicture
+with_macroblocks p mbs derived = record p {
   slices = one_more p.slices mbs;
   mbs = p.mbs ++ map (λ mb. record { slice = p.slices; mb = mb }) mbs;
+  known = p.known ++ derived;
 }

@@ -1,5 +1,5 @@
 -- What the functions of this crate say of one another.
-use Rattle.std.specs.Prelude.{◌≡◌, ℕ, ◌<◌, ◌≤◌, nat_lt, if◌then◌else◌, List, [], ◌++◌, length, map, Option, Some, None}
+use Rattle.std.specs.Prelude.{◌≡◌, ℕ, ◌-◌, ◌<◌, ◌≤◌, ◌==◌, nat_lt, Bool, true, false, if◌then◌else◌, List, [], ◌++◌, length, map, Option, Some, None}
 use Rattle.avc_types.specs.declared.fault.Fault.{Fault}
 use Rattle.avc_types.specs.declared.fault.Fault.TheVariants as faults
 use Rattle.avc_types.specs.Pictures.{PicMb}
@@ -18,30 +18,38 @@ use Rattle.avc_mbsyntax.specs.SliceData.{SliceMbs, SliceStart, placed}
 use Rattle.avc_mbsyntax.specs.declared.slice_data.SliceData.{SliceData}
 use Rattle.avc_units.specs.Grouping.{set_units}
 use Rattle.avc_tools.specs.Streams.{IsDrained}
+use Rattle.avc_macroblocks.specs.Asked.{Asked, is_listed}
+use Rattle.avc_macroblocks.specs.Derived.{all_derived}
 use Rattle.avc_macroblocks.specs.Forms.{Form}
-use Rattle.avc_macroblocks.specs.Listing.{Brought, first_place, lines_under, picture_after, picture_behind, slice_lines, unit_lines}
-use Rattle.avc_macroblocks.specs.Pictures.{OpenPicture, data_of, macroblocks_of, start_of, with_macroblocks}
+use Rattle.avc_macroblocks.specs.Listing.{Brought, first_place, lines_under, macroblocks, picture_after, picture_behind, slice_lines, unit_lines}
+use Rattle.avc_macroblocks.specs.Pictures.{OpenPicture, data_of, derived_in, macroblocks_of, start_of, with_macroblocks}
+use Rattle.avc_macroblocks.specs.declared.choice.Choice.{Choice}
+use Rattle.avc_macroblocks.specs.declared.choice.Choice.TheVariants.{Each, Later, Past}
+use Rattle.avc_macroblocks.specs.declared.derived.Derived.{Derived}
 use Rattle.avc_macroblocks.specs.declared.picture.Picture.{Picture}
 use Rattle.avc_macroblocks.specs.declared.place.MacroblockPlace.{MacroblockPlace}
 
--- The info says of each macroblock its slice and total_coeff of its blocks.
-pub record Tells (mbs : List PicMb) (info : List NeighbourInfo) : Type 0 where
+-- The info says of each macroblock its slice and total_coeff of its blocks, and what follows for it.
+pub record Tells (mbs : List PicMb) (known : List Derived) (info : List NeighbourInfo) : Type 0 where
   pub slices : map (λ m. m.slice) mbs ≡ map (λ f. f.slice) info
   pub total_coeffs : map (λ m. total_coeffs_of m.mb.syntax) mbs ≡ map (λ f. f.total_coeffs) info
+  pub modes : map (λ d. d.modes) known ≡ map (λ f. f.modes) info
+  pub motion : map (λ d. d.motion) known ≡ map (λ f. f.motion) info
 
--- The row stands behind these macroblocks, where a slice with this start and number goes on.
-pub record IsBehind (s : SliceStart) (before : List PicMb) (slice : ℕ) (row : PictureInfo) : Type 0 where
+-- The row stands behind these macroblocks, of which this is known, where a slice with this start
+-- and number goes on.
+pub record IsBehind (s : SliceStart) (before : List PicMb) (known : List Derived) (slice : ℕ) (row : PictureInfo) : Type 0 where
   pub wide : 0 < row.width
   pub width : s.width ≡ row.width
   pub slice_is : s.slice ≡ slice
-  pub tells : Tells before row.info
+  pub tells : Tells before known row.info
 
 -- These macroblocks were read, and the fault that came then, so many in all: the row stands behind
 -- them, and their lines are added.
-pub record AreRead (form : Form) (place : MacroblockPlace) (s : SliceStart) (before : List PicMb) (ms : SliceMbs) (count : ℕ) (row : PictureInfo) (old new : List ℕ) : Type 0 where
+pub record AreRead (form : Form) (place : MacroblockPlace) (constrained_intra_pred : Bool) (s : SliceStart) (before : List PicMb) (known : List Derived) (ms : SliceMbs) (count : ℕ) (row : PictureInfo) (old new : List ℕ) : Type 0 where
   pub counted : length ms.mbs ≡ count
-  pub stands : IsBehind s (before ++ map (placed s) ms.mbs) place.slice row
-  pub added : new ≡ old ++ slice_lines form place ms
+  pub stands : IsBehind s (before ++ map (placed s) ms.mbs) (known ++ all_derived constrained_intra_pred s before known ms.mbs) place.slice row
+  pub added : new ≡ old ++ slice_lines form place ms (all_derived constrained_intra_pred s before known ms.mbs)
 
 -- What is kept of an open picture.
 pub record IsPicture (p : OpenPicture) (c : Picture) : Type 0 where
@@ -53,35 +61,74 @@ pub record IsPicture (p : OpenPicture) (c : Picture) : Type 0 where
   pub few : p.slices ≤ length p.mbs
   pub next : c.next ≡ length p.mbs
   pub within : length p.mbs ≤ p.size
-  pub tells : Tells p.mbs c.row.info
+  pub tells : Tells p.mbs p.known c.row.info
+
+-- from the first picture on, where the one of this number is asked for, or all are
+abbrev pub first_choice : (picture : Option ℕ) → Choice
+first_choice None = Each
+first_choice (Some asked) = Later asked
+
+-- from the next picture on
+abbrev pub choice_after : Choice → Choice
+choice_after Each = Each
+choice_after (Later later) = if later == 0 then Past else Later (later - 1)
+choice_after Past = Past
+
+-- the first picture of the choice is listed
+abbrev pub is_chosen : Choice → Bool
+is_chosen Each = true
+is_chosen (Later later) = later == 0
+is_chosen Past = false
+
+-- the picture that is asked for is the first one, or came before
+abbrev pub has_come : Choice → Bool
+has_come Each = true
+has_come (Later later) = later == 0
+has_come Past = true
+
+-- from the picture of this number on
+abbrev pub choice_at : (picture : Option ℕ) → (number : ℕ) → Choice
+choice_at None number = Each
+choice_at (Some asked) number = if nat_lt asked number then Past else Later (asked - number)
+
+-- What is kept of an open picture where this one is asked for, or all are: of one that is not
+-- listed the macroblocks are not read.
+pub record IsFollowed (picture : Option ℕ) (p : OpenPicture) (c : Picture) : Type 0 where
+  pub last_is : c.last ≡ picture_fields p.last
+  pub choice_is : c.choice ≡ choice_at picture p.number
+  pub listed : is_listed picture p.number ≡ true → IsPicture p c
 
 -- of that which is open, if one is
-abbrev pub IsOpen : Option OpenPicture → Option Picture → Type 0
-IsOpen None None = Prim.Unit {0}
-IsOpen (Some p) (Some c) = IsPicture p c
-IsOpen None (Some c) = ⊥
-IsOpen (Some p) None = ⊥
+abbrev pub IsOpen : (picture : Option ℕ) → Option OpenPicture → Option Picture → Type 0
+IsOpen picture None None = Prim.Unit {0}
+IsOpen picture (Some p) (Some c) = IsFollowed picture p c
+IsOpen picture None (Some c) = ⊥
+IsOpen picture (Some p) None = ⊥
+
+-- what is asked for in this form
+abbrev pub asked_in : Form → (picture : Option ℕ) → Asked
+asked_in form picture = record { form = form; picture = picture }
 
 -- Behind a unit that brings this, where that picture was open before.
-pub record IsTold (form : Form) (unit : ℕ) (open_picture : Option OpenPicture) (b : Brought) (kept : Option Picture) (old new : List ℕ) : Type 0 where
-  pub stands : IsOpen (picture_after open_picture b) kept
-  pub added : new ≡ old ++ unit_lines form unit b
+pub record IsTold (a : Asked) (unit : ℕ) (open_picture : Option OpenPicture) (b : Brought) (kept : Option Picture) (old new : List ℕ) : Type 0 where
+  pub stands : IsOpen a.picture (picture_after open_picture b) kept
+  pub added : new ≡ old ++ unit_lines a unit b
 
 -- Behind these units, where those sets came before them.
-pub record AreTold (form : Form) (sets : List SetUnit) (open_picture : Option OpenPicture) (us : List Unit) (kept : Option Picture) (old new : List ℕ) : Type 0 where
-  pub stands : IsOpen (picture_behind sets open_picture us) kept
-  pub added : new ≡ old ++ lines_under form sets open_picture us
+pub record AreTold (a : Asked) (sets : List SetUnit) (open_picture : Option OpenPicture) (us : List Unit) (kept : Option Picture) (old new : List ℕ) : Type 0 where
+  pub stands : IsOpen a.picture (picture_behind sets open_picture us) kept
+  pub added : new ≡ old ++ lines_under a sets open_picture us
 
 -- the same, whatever was open
-abbrev pub AreToldFrom : Form → (sets : List SetUnit) → (kept now : Option Picture) → (us : List Unit) → (old new : List ℕ) → Type 0
-AreToldFrom form sets kept now us old new =
-    (open_picture : Option OpenPicture) → IsOpen open_picture kept → AreTold form sets open_picture us now old new
+abbrev pub AreToldFrom : Asked → (sets : List SetUnit) → (kept now : Option Picture) → (us : List Unit) → (old new : List ℕ) → Type 0
+AreToldFrom a sets kept now us old new =
+    (open_picture : Option OpenPicture) → IsOpen a.picture open_picture kept → AreTold a sets open_picture us now old new
 
 -- All units whose end has been seen were taken.
-pub record AreListed (max : ℕ) (s : SplitterState) (sets : List SetUnit) (kept : Option Picture) : Type 0 where
+pub record AreListed (picture : Option ℕ) (max : ℕ) (s : SplitterState) (sets : List SetUnit) (kept : Option Picture) : Type 0 where
   pub drained : IsDrained max s
   pub sets_are : sets ≡ set_units (units max s.bytes s.ended)
-  pub stands : IsOpen (picture_behind [] None (units max s.bytes s.ended)) kept
+  pub stands : IsOpen picture (picture_behind [] None (units max s.bytes s.ended)) kept
 
 -- a slice that begins with this address is refused (7.4.3)
 abbrev pub address_fault : (next first : ℕ) → Option Fault
@@ -96,7 +143,12 @@ IsDataIn p pps s d =
     let start = start_of p pps s.header in
     Follows start p.mbs d × (rest_of start p.mbs d ≡ data_of p pps s)
 
--- The picture behind a slice of it, and its lines.
+-- The picture of a slice of it behind the slice, and its lines.
+pub record IsSliceListed (a : Asked) (p : OpenPicture) (pps : Pps) (s : Slice) (c : Picture) (old new : List ℕ) : Type 0 where
+  pub stands : IsFollowed a.picture (with_macroblocks p (macroblocks_of p pps s).mbs (derived_in p pps s)) c
+  pub added : new ≡ old ++ unit_lines a s.unit (macroblocks p (macroblocks_of p pps s) (derived_in p pps s))
+
+-- the same of a picture whose macroblocks are listed
 pub record IsSliceTold (form : Form) (p : OpenPicture) (pps : Pps) (s : Slice) (c : Picture) (old new : List ℕ) : Type 0 where
-  pub stands : IsPicture (with_macroblocks p (macroblocks_of p pps s).mbs) c
-  pub added : new ≡ old ++ slice_lines form (first_place s.unit p) (macroblocks_of p pps s)
+  pub stands : IsPicture (with_macroblocks p (macroblocks_of p pps s).mbs (derived_in p pps s)) c
+  pub added : new ≡ old ++ slice_lines form (first_place s.unit p) (macroblocks_of p pps s) (derived_in p pps s)

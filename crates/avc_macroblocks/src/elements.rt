@@ -4,28 +4,38 @@ ghost use Rattle.std.specs.Prelude.{◌≡◌, ◌≤◌, ◌+◌, ◌*◌, ◌+
 ghost use Rattle.std.specs.Prelude.{take};
 ghost use Rattle.std.specs.List.{flat_map};
 ghost use Rattle.avc_types.specs.Macroblock.{parts_of, partitions};
-ghost use Rattle.avc_types.specs.MacroblockFields.{residual_of};
+ghost use Rattle.avc_types.specs.MacroblockFields.{residual_of, syntax_of};
 ghost use Rattle.avc_tools.specs.Lines.{and_number};
-ghost use Rattle.avc_macroblocks.specs.Lines.{and_count, and_mode, and_mvd, and_sub};
-ghost use Rattle.avc_macroblocks.specs.Lines.{chroma_dc_text, chroma_text, counts_text};
+ghost use Rattle.avc_macroblocks.specs.Lines.{and_block, and_derived_mode, and_mode, and_motion};
+ghost use Rattle.avc_macroblocks.specs.Lines.{and_mvd, and_sub, and_vector};
+ghost use Rattle.avc_macroblocks.specs.Lines.{blocks_text, chroma_dc_text, chroma_text};
+ghost use Rattle.avc_macroblocks.specs.Lines.{coefficients_text, derived_modes_text, level_behind};
+ghost use Rattle.avc_macroblocks.specs.Lines.{levels_text, vectors_text};
 ghost use Rattle.avc_macroblocks.specs.Lines.{luma_dc_text, modes_text, mvd_text, pattern_text};
 ghost use Rattle.avc_macroblocks.specs.Lines.{pattern_of, ref_idx_text, residual_text, subs_text};
+ghost use Rattle.avc_macroblocks.specs.declared.block_facts.BlockFacts.TheVariants.{TotalCoeff};
+ghost use Rattle.avc_macroblocks.specs.declared.block_facts.BlockFacts.TheVariants.{CoeffLevel};
 
+use crate::block_facts::BlockFacts;
+use crate::levels::count_to_last;
 use crate::names::sub_name;
 use avc_mbsyntax::{part_count, partitions};
-use avc_types::{BlockLevels, Levels, Mvd, OutOfMemory, PMbType, SubMbType};
+use avc_neigh::{Motion, NearMode};
+use avc_types::{BlockLevels, Levels, Mv, Mvd, OutOfMemory, PMbType, SubMbType, Syntax};
 
 /// Adds the elements of an I_NxN macroblock.
 pub(crate) fn add_nxn(
     text: &mut String,
     modes: &[Option<u8>; 16],
+    derived_modes: &[NearMode],
     chroma_mode: u8,
     levels: &BlockLevels<16>,
 ) -> Result<(), OutOfMemory>
     ensures { OnOk result (string_bytes text.new ≡ string_bytes text.old
-        ++ modes_text modes.now ++ chroma_text chroma_mode ++ residual_text (residual_of [] levels.now)) }
+        ++ modes_text modes.now ++ derived_modes_text derived_modes.now ++ chroma_text chroma_mode ++ residual_text (residual_of [] levels.now)) }
 {
     add_modes(text, modes)?;
+    add_derived_modes(text, derived_modes)?;
     add_chroma(text, chroma_mode)?;
     add_residual(text, levels)?;
     Ok(())
@@ -39,10 +49,10 @@ pub(crate) fn add_16x16(
     levels: &BlockLevels<15>,
 ) -> Result<(), OutOfMemory>
     ensures { OnOk result (string_bytes text.new ≡ string_bytes text.old
-        ++ chroma_text chroma_mode ++ luma_dc_text luma_dc.now ++ residual_text (residual_of [] levels.now)) }
+        ++ chroma_text chroma_mode ++ luma_dc_text TotalCoeff luma_dc.now ++ residual_text (residual_of [] levels.now)) }
 {
     add_chroma(text, chroma_mode)?;
-    add_luma_dc(text, luma_dc)?;
+    add_luma_dc(text, BlockFacts::TotalCoeff, luma_dc)?;
     add_residual(text, levels)?;
     Ok(())
 }
@@ -53,15 +63,18 @@ pub(crate) fn add_inter(
     mb_type: &PMbType,
     ref_idx: &[u8; 4],
     mvd: &[Mvd; 16],
+    vectors: &[Motion],
     levels: &BlockLevels<16>,
 ) -> Result<(), OutOfMemory>
     ensures { OnOk result (string_bytes text.new ≡ string_bytes text.old
         ++ subs_text mb_type.now ++ ref_idx_text (take (partitions mb_type.now) ref_idx.now)
-        ++ mvd_text (take (length (parts_of mb_type.now)) mvd.now) ++ residual_text (residual_of [] levels.now)) }
+        ++ mvd_text (take (length (parts_of mb_type.now)) mvd.now) ++ vectors_text vectors.now
+        ++ residual_text (residual_of [] levels.now)) }
 {
     add_subs(text, mb_type)?;
     add_ref_idx(text, &ref_idx[..partitions(mb_type)])?;
     add_mvd(text, &mvd[..part_count(mb_type)])?;
+    add_vectors(text, vectors)?;
     add_residual(text, levels)?;
     Ok(())
 }
@@ -91,6 +104,32 @@ fn add_modes(text: &mut String, modes: &[Option<u8>]) -> Result<(), OutOfMemory>
     text.push_str(" modes")?;
     for mode in modes {
         add_mode(text, mode)?;
+    }
+    Ok(())
+}
+
+fn add_derived_mode(text: &mut String, mode: NearMode) -> Result<(), OutOfMemory>
+    ensures { OnOk result (string_bytes text.new ≡ string_bytes text.old ++ and_derived_mode mode) }
+{
+    match mode {
+        NearMode::Mode(mode) => add_number(text, mode),
+        NearMode::Absent | NearMode::Inter => add_hyphen(text),
+    }
+}
+
+fn add_hyphen(text: &mut String) -> Result<(), OutOfMemory>
+    ensures { OnOk result (string_bytes text.new ≡ string_bytes text.old ++ codes " -") }
+{
+    text.push_str(" -")?;
+    Ok(())
+}
+
+fn add_derived_modes(text: &mut String, modes: &[NearMode]) -> Result<(), OutOfMemory>
+    ensures { OnOk result (string_bytes text.new ≡ string_bytes text.old ++ derived_modes_text modes.now) }
+{
+    text.push_str(" intra4x4")?;
+    for mode in modes {
+        add_derived_mode(text, *mode)?;
     }
     Ok(())
 }
@@ -159,6 +198,35 @@ fn add_difference(text: &mut String, mvd: Mvd) -> Result<(), OutOfMemory>
     Ok(())
 }
 
+/// Adds mv_l0 of each part.
+pub(crate) fn add_vectors(text: &mut String, vectors: &[Motion]) -> Result<(), OutOfMemory>
+    ensures { OnOk result (string_bytes text.new ≡ string_bytes text.old ++ vectors_text vectors.now) }
+{
+    text.push_str(" mv")?;
+    for motion in vectors {
+        add_motion(text, *motion)?;
+    }
+    Ok(())
+}
+
+fn add_motion(text: &mut String, motion: Motion) -> Result<(), OutOfMemory>
+    ensures { OnOk result (string_bytes text.new ≡ string_bytes text.old ++ and_motion motion) }
+{
+    match motion {
+        Motion::Inter { mv, .. } => add_vector(text, mv),
+        Motion::Absent | Motion::Intra => add_hyphen(text),
+    }
+}
+
+fn add_vector(text: &mut String, mv: Mv) -> Result<(), OutOfMemory>
+    ensures { OnOk result (string_bytes text.new ≡ string_bytes text.old ++ and_vector mv) }
+{
+    let right = mv.x;
+    let down = mv.y;
+    write!(text, " {right},{down}")?;
+    Ok(())
+}
+
 fn add_residual<const MAXN: usize>(
     text: &mut String,
     levels: &BlockLevels<MAXN>,
@@ -166,8 +234,49 @@ fn add_residual<const MAXN: usize>(
     ensures { OnOk result (string_bytes text.new ≡ string_bytes text.old ++ residual_text (residual_of [] levels.now)) }
 {
     add_pattern(text, levels)?;
-    add_counts(text, levels)?;
-    add_chroma_dc(text, levels)?;
+    add_blocks(text, BlockFacts::TotalCoeff, levels)?;
+    add_chroma_dc(text, BlockFacts::TotalCoeff, levels)?;
+    Ok(())
+}
+
+/// Adds the levels of all blocks of a macroblock.
+pub(crate) fn add_coefficients(text: &mut String, syntax: &Syntax) -> Result<(), OutOfMemory>
+    ensures { OnOk result (string_bytes text.new ≡ string_bytes text.old ++ coefficients_text (syntax_of syntax.now)) }
+{
+    match syntax {
+        Syntax::PSkip | Syntax::IPcm { .. } => Ok(()),
+        Syntax::INxN { levels, .. } => add_all_levels(text, levels),
+        Syntax::I16x16 {
+            luma_dc,
+            levels,
+            ..
+        } => add_levels_of_16x16(text, luma_dc, levels),
+        Syntax::PInter { levels, .. } => add_all_levels(text, levels),
+    }
+}
+
+fn add_all_levels(text: &mut String, levels: &BlockLevels<16>) -> Result<(), OutOfMemory>
+    ensures { OnOk result (string_bytes text.new ≡ string_bytes text.old
+        ++ codes " levels" ++ blocks_text CoeffLevel (residual_of [] levels.now) ++ chroma_dc_text CoeffLevel (residual_of [] levels.now)) }
+{
+    text.push_str(" levels")?;
+    add_blocks(text, BlockFacts::CoeffLevel, levels)?;
+    add_chroma_dc(text, BlockFacts::CoeffLevel, levels)?;
+    Ok(())
+}
+
+fn add_levels_of_16x16(
+    text: &mut String,
+    luma_dc: &Levels<16>,
+    levels: &BlockLevels<15>,
+) -> Result<(), OutOfMemory>
+    ensures { OnOk result (string_bytes text.new ≡ string_bytes text.old ++ codes " levels" ++ luma_dc_text CoeffLevel luma_dc.now
+        ++ blocks_text CoeffLevel (residual_of [] levels.now) ++ chroma_dc_text CoeffLevel (residual_of [] levels.now)) }
+{
+    text.push_str(" levels")?;
+    add_luma_dc(text, BlockFacts::CoeffLevel, luma_dc)?;
+    add_blocks(text, BlockFacts::CoeffLevel, levels)?;
+    add_chroma_dc(text, BlockFacts::CoeffLevel, levels)?;
     Ok(())
 }
 
@@ -189,56 +298,102 @@ fn add_pattern<const MAXN: usize>(
     Ok(())
 }
 
-fn add_counts<const MAXN: usize>(
+fn add_blocks<const MAXN: usize>(
     text: &mut String,
+    facts: BlockFacts,
     levels: &BlockLevels<MAXN>,
 ) -> Result<(), OutOfMemory>
-    ensures { OnOk result (string_bytes text.new ≡ string_bytes text.old ++ counts_text (residual_of [] levels.now)) }
+    ensures { OnOk result (string_bytes text.new ≡ string_bytes text.old ++ blocks_text facts (residual_of [] levels.now)) }
 {
     text.push_str(" luma")?;
-    add_block_counts(text, &levels.luma)?;
+    add_each(text, facts, &levels.luma)?;
     text.push_str(" cb")?;
-    add_block_counts(text, &levels.cb_ac)?;
+    add_each(text, facts, &levels.cb_ac)?;
     text.push_str(" cr")?;
-    add_block_counts(text, &levels.cr_ac)?;
+    add_each(text, facts, &levels.cr_ac)?;
     Ok(())
 }
 
-fn add_block_counts<const MAXN: usize>(
+fn add_each<const MAXN: usize>(
     text: &mut String,
+    facts: BlockFacts,
     blocks: &[Levels<MAXN>],
 ) -> Result<(), OutOfMemory>
-    ensures { OnOk result (string_bytes text.new ≡ string_bytes text.old ++ flat_map and_count blocks.now) }
+    ensures { OnOk result (string_bytes text.new ≡ string_bytes text.old ++ flat_map (and_block facts) blocks.now) }
 {
     for levels in blocks {
-        add_count(text, levels)?;
+        add_block(text, facts, levels)?;
     }
     Ok(())
 }
 
-fn add_count<const MAXN: usize>(text: &mut String, levels: &Levels<MAXN>) -> Result<(), OutOfMemory>
-    ensures { OnOk result (string_bytes text.new ≡ string_bytes text.old ++ and_count levels.now) }
+fn add_block<const MAXN: usize>(
+    text: &mut String,
+    facts: BlockFacts,
+    levels: &Levels<MAXN>,
+) -> Result<(), OutOfMemory>
+    ensures { OnOk result (string_bytes text.new ≡ string_bytes text.old ++ and_block facts levels.now) }
 {
-    add_number(text, levels.total_coeff())
+    match facts {
+        BlockFacts::TotalCoeff => add_number(text, levels.total_coeff()),
+        BlockFacts::CoeffLevel => {
+            let all = *levels.as_array();
+            add_levels(text, &all[..count_to_last(all)])
+        }
+    }
 }
 
-fn add_luma_dc(text: &mut String, luma_dc: &Levels<16>) -> Result<(), OutOfMemory>
-    ensures { OnOk result (string_bytes text.new ≡ string_bytes text.old ++ luma_dc_text luma_dc.now) }
+fn add_levels(text: &mut String, levels: &[i16]) -> Result<(), OutOfMemory>
+    ensures { OnOk result (string_bytes text.new ≡ string_bytes text.old ++ levels_text levels.now) }
+{
+    if levels.is_empty() {
+        text.push_str(" -")?;
+        return Ok(());
+    }
+    let first = levels[0];
+    write!(text, " {first}")?;
+    add_levels_behind(text, &levels[1..])?;
+    Ok(())
+}
+
+fn add_levels_behind(text: &mut String, levels: &[i16]) -> Result<(), OutOfMemory>
+    ensures { OnOk result (string_bytes text.new ≡ string_bytes text.old ++ flat_map level_behind levels.now) }
+{
+    for level in levels {
+        add_level_behind(text, *level)?;
+    }
+    Ok(())
+}
+
+fn add_level_behind(text: &mut String, level: i16) -> Result<(), OutOfMemory>
+    ensures { OnOk result (string_bytes text.new ≡ string_bytes text.old ++ level_behind level) }
+{
+    write!(text, ",{level}")?;
+    Ok(())
+}
+
+fn add_luma_dc(
+    text: &mut String,
+    facts: BlockFacts,
+    luma_dc: &Levels<16>,
+) -> Result<(), OutOfMemory>
+    ensures { OnOk result (string_bytes text.new ≡ string_bytes text.old ++ luma_dc_text facts luma_dc.now) }
 {
     text.push_str(" dc")?;
-    add_count(text, luma_dc)?;
+    add_block(text, facts, luma_dc)?;
     Ok(())
 }
 
 fn add_chroma_dc<const MAXN: usize>(
     text: &mut String,
+    facts: BlockFacts,
     levels: &BlockLevels<MAXN>,
 ) -> Result<(), OutOfMemory>
-    ensures { OnOk result (string_bytes text.new ≡ string_bytes text.old ++ chroma_dc_text (residual_of [] levels.now)) }
+    ensures { OnOk result (string_bytes text.new ≡ string_bytes text.old ++ chroma_dc_text facts (residual_of [] levels.now)) }
 {
     text.push_str(" cbdc")?;
-    add_count(text, &levels.cb_dc)?;
+    add_block(text, facts, &levels.cb_dc)?;
     text.push_str(" crdc")?;
-    add_count(text, &levels.cr_dc)?;
+    add_block(text, facts, &levels.cr_dc)?;
     Ok(())
 }

@@ -4,9 +4,9 @@ ghost use Rattle.std.specs.Prelude.{◌≡◌, ◌++◌, OnOk, string_bytes};
 ghost use Rattle.avc_macroblocks.specs.Forms.{Form};
 ghost use Rattle.avc_macroblocks.specs.Lines.{for_people};
 
+use crate::derived::Derived;
 use crate::lines::{add_fault_line, add_macroblock_line, add_refusal_line};
 use crate::place::MacroblockPlace;
-use avc_tools::ForPeople;
 use avc_types::{Fault, Mb, OutOfMemory};
 use std::alloc::Global;
 
@@ -15,15 +15,16 @@ pub trait MacroblockForm {
     /// What its lines are.
     ghost form: { Form };
 
-    /// Adds the line of a macroblock at this place.
+    /// Adds the line of a macroblock at this place, for which this follows from its neighbours.
     fn add_macroblock(
         &self,
         alloc: Global,
         text: &mut String,
         place: MacroblockPlace,
         mb: &Mb,
+        derived: &Derived,
     ) -> Result<(), OutOfMemory>
-        ensures { OnOk result (string_bytes text.new ≡ string_bytes text.old ++ form.of_macroblock place mb.now) };
+        ensures { OnOk result (string_bytes text.new ≡ string_bytes text.old ++ form.of_macroblock place mb.now derived.now) };
 
     /// Adds the line of a fault in a slice, at the place where its next macroblock would stand.
     fn add_fault(
@@ -46,17 +47,27 @@ pub trait MacroblockForm {
         ensures { OnOk result (string_bytes text.new ≡ string_bytes text.old ++ form.of_refusal unit fault) };
 }
 
-impl MacroblockForm for ForPeople {
-    ghost form = { for_people };
+/// Words and numbers in decimal, with spaces between them; where COEFFICIENTS, with the levels of
+/// each block.
+#[derive(Clone, Copy, Debug)]
+pub struct ForPeople<const COEFFICIENTS: bool>;
+
+/// Objects of JSON (RFC 8259); where COEFFICIENTS, with the levels of each block.
+#[derive(Clone, Copy, Debug)]
+pub struct ForPrograms<const COEFFICIENTS: bool>;
+
+impl<const COEFFICIENTS: bool> MacroblockForm for ForPeople<COEFFICIENTS> {
+    ghost form = { for_people COEFFICIENTS };
 
     fn add_macroblock(
         &self,
-        _alloc: Global,
+        alloc: Global,
         text: &mut String,
         place: MacroblockPlace,
         mb: &Mb,
+        derived: &Derived,
     ) -> Result<(), OutOfMemory> {
-        add_macroblock_line(text, place, mb)
+        add_macroblock_line(alloc, text, COEFFICIENTS, place, mb, derived)
     }
 
     fn add_fault(

@@ -2,26 +2,30 @@
 
 ghost use Rattle.std.specs.Prelude.{◌≡◌, ◌++◌, false, IfOk, OnOk, string_bytes};
 ghost use Rattle.serde_json.specs.Data.{string};
-ghost use Rattle.serde_json.specs.View.{view};
+ghost use Rattle.serde_json.specs.View.{members_view, view};
 ghost use Rattle.serde_json.specs.Written.{has_float};
 ghost use Rattle.avc_types.specs.MacroblockFields.{syntax_of};
-ghost use Rattle.avc_info.specs.ListingJson.{line_of_data, refused_data};
 ghost use Rattle.avc_macroblocks.specs.Json.{chroma_mode_data, fault_data, for_programs};
-ghost use Rattle.avc_macroblocks.specs.Json.{macroblock_data, pattern_data};
+ghost use Rattle.avc_macroblocks.specs.Json.{macroblock_data, pattern_data, with_coefficients};
+ghost use Rattle.avc_macroblocks.specs.JsonLines.{line_of_data, refused_data};
 ghost use Rattle.avc_macroblocks.specs.Lines.{type_name};
 
+use crate::block_facts::BlockFacts;
+use crate::derived::Derived;
 use crate::elements::pattern_of;
-use crate::form::MacroblockForm;
-use crate::json_lists::{modes_value, mvd_value, ref_idx_value, residual_value, subs_value};
+use crate::form::{ForPrograms, MacroblockForm};
+use crate::json_lists::{
+    derived_modes_value, modes_value, mvd_value, ref_idx_value, residual_value, subs_value,
+    vectors_value,
+};
 use crate::lines::add_type_name;
 use crate::place::MacroblockPlace;
-use avc_info::ForPrograms;
 use avc_types::{Fault, Mb, OutOfMemory, Syntax};
 use serde_json::{Map, Value, json, put};
 use std::alloc::Global;
 
-impl MacroblockForm for ForPrograms {
-    ghost form = { for_programs };
+impl<const COEFFICIENTS: bool> MacroblockForm for ForPrograms<COEFFICIENTS> {
+    ghost form = { for_programs COEFFICIENTS };
 
     fn add_macroblock(
         &self,
@@ -29,8 +33,9 @@ impl MacroblockForm for ForPrograms {
         text: &mut String,
         place: MacroblockPlace,
         mb: &Mb,
+        derived: &Derived,
     ) -> Result<(), OutOfMemory> {
-        add_macroblock_object(alloc, text, place, mb)
+        add_macroblock_object(alloc, text, COEFFICIENTS, place, mb, derived)
     }
 
     fn add_fault(
@@ -57,12 +62,14 @@ impl MacroblockForm for ForPrograms {
 fn add_macroblock_object(
     alloc: Global,
     text: &mut String,
+    has_coefficients: bool,
     place: MacroblockPlace,
     mb: &Mb,
+    derived: &Derived,
 ) -> Result<(), OutOfMemory>
-    ensures { OnOk result (string_bytes text.new ≡ string_bytes text.old ++ line_of_data (macroblock_data place mb.now)) }
+    ensures { OnOk result (string_bytes text.new ≡ string_bytes text.old ++ line_of_data (macroblock_data has_coefficients place mb.now derived.now)) }
 {
-    let value = macroblock_value(alloc, place, mb.qp, &mb.syntax)?;
+    let value = macroblock_value(alloc, has_coefficients, place, mb.qp, &mb.syntax, derived)?;
     add_value(alloc, text, &value)
 }
 
@@ -103,14 +110,18 @@ fn fault_value(alloc: Global, place: MacroblockPlace, fault: Fault) -> Result<Va
 
 fn macroblock_value(
     alloc: Global,
+    has_coefficients: bool,
     place: MacroblockPlace,
     qp: u8,
     syntax: &Syntax,
+    derived: &Derived,
 ) -> Result<Value, OutOfMemory>
-    ensures data { IfOk result (λ value. view value ≡ macroblock_data place (record { syntax = syntax_of syntax.now; qp = qp })) }
+    ensures data { IfOk result (λ value. view value ≡ macroblock_data has_coefficients place (record { syntax = syntax_of syntax.now; qp = qp }) derived.now) }
     ensures float { IfOk result (λ value. has_float (view value) ≡ false) }
 {
     let mut map = Map::new(alloc);
+    let derived_modes = derived_modes_value(alloc, syntax, &derived.modes)?;
+    put(&mut map, alloc, "Intra4x4PredMode", derived_modes)?;
     let qp = Value::from(qp);
     put(&mut map, alloc, "QPY", qp)?;
     let pattern = pattern_value(syntax);
@@ -123,6 +134,8 @@ fn macroblock_value(
     put(&mut map, alloc, "mbAddr", address)?;
     let mb_type = type_value(alloc, syntax)?;
     put(&mut map, alloc, "mb_type", mb_type)?;
+    let vectors = vectors_value(alloc, syntax, &derived.motion)?;
+    put(&mut map, alloc, "mv_l0", vectors)?;
     let mvd = mvd_value(alloc, syntax)?;
     put(&mut map, alloc, "mvd_l0", mvd)?;
     let ref_idx = ref_idx_value(alloc, syntax)?;
@@ -133,11 +146,28 @@ fn macroblock_value(
     put(&mut map, alloc, "slice", slice)?;
     let subs = subs_value(alloc, syntax)?;
     put(&mut map, alloc, "sub_mb_type", subs)?;
-    let counts = residual_value(alloc, syntax)?;
+    let counts = residual_value(alloc, BlockFacts::TotalCoeff, syntax)?;
     put(&mut map, alloc, "total_coeff", counts)?;
     let unit = Value::from(place.unit);
     put(&mut map, alloc, "unit", unit)?;
+    put_coefficients(&mut map, alloc, has_coefficients, syntax)?;
     Ok(Value::Object(map))
+}
+
+// With the levels of all blocks, where they are asked for.
+fn put_coefficients(
+    map: &mut Map<String, Value>,
+    alloc: Global,
+    has_coefficients: bool,
+    syntax: &Syntax,
+) -> Result<(), OutOfMemory>
+    ensures { OnOk result (members_view map.new.entries ≡ with_coefficients has_coefficients (syntax_of syntax.now) (members_view map.old.entries)) }
+{
+    if has_coefficients {
+        let levels = residual_value(alloc, BlockFacts::CoeffLevel, syntax)?;
+        put(map, alloc, "coeffLevel", levels)?;
+    }
+    Ok(())
 }
 
 fn type_value(alloc: Global, syntax: &Syntax) -> Result<Value, OutOfMemory>

@@ -3,15 +3,22 @@
 ghost use Rattle.std.specs.Prelude.{◌≡◌, [], map, IfOk};
 ghost use Rattle.serde_json.specs.View.{view};
 ghost use Rattle.avc_types.specs.MacroblockFields.{residual_of, syntax_of};
-ghost use Rattle.avc_info.specs.Json.{count, count_if_given};
-ghost use Rattle.avc_macroblocks.specs.Json.{count_data, counts_data, difference_data};
-ghost use Rattle.avc_macroblocks.specs.Json.{modes_data, mvd_data};
+ghost use Rattle.avc_macroblocks.specs.Json.{all_blocks_data, block_data, blocks_data};
+ghost use Rattle.avc_macroblocks.specs.Json.{derived_mode_data, derived_modes_data};
+ghost use Rattle.avc_macroblocks.specs.Json.{difference_data, level_data, modes_data, motion_data};
+ghost use Rattle.avc_macroblocks.specs.Json.{mvd_data, vector_data, vectors_data};
+ghost use Rattle.avc_macroblocks.specs.Vectors.{vectors_of};
 ghost use Rattle.avc_macroblocks.specs.Json.{ref_idx_data, residual_data, sub_data, subs_data};
-ghost use Rattle.avc_macroblocks.specs.Json.{subs_of, total_coeff_data};
+ghost use Rattle.avc_macroblocks.specs.Json.{subs_of};
+ghost use Rattle.avc_macroblocks.specs.JsonLines.{count, count_if_given};
 
+use crate::block_facts::BlockFacts;
+use crate::levels::count_to_last;
 use crate::names::sub_name;
+use crate::vectors::vectors_of;
 use avc_mbsyntax::{part_count, partitions};
-use avc_types::{BlockLevels, Levels, Mvd, OutOfMemory, PMbType, SubMbType, Syntax};
+use avc_neigh::{Motion, NearMode};
+use avc_types::{BlockLevels, Levels, Mv, Mvd, OutOfMemory, PMbType, SubMbType, Syntax};
 use serde_json::{Map, Value, json, put};
 use std::alloc::Global;
 
@@ -45,6 +52,80 @@ fn mode_value(mode: &Option<u8>) -> Value
         Some(rem) => Value::from(*rem),
         None => Value::Null,
     }
+}
+
+/// Intra4x4PredMode of each block.
+pub(crate) fn derived_modes_value(
+    alloc: Global,
+    syntax: &Syntax,
+    modes: &[NearMode],
+) -> Result<Value, OutOfMemory>
+    ensures { IfOk result (λ value. view value ≡ derived_modes_data (syntax_of syntax.now) modes.now) }
+{
+    match syntax {
+        Syntax::INxN { .. } => {
+            let values = derived_mode_values(alloc, modes)?;
+            Ok(Value::from(values))
+        }
+        _ => Ok(Value::from(Vec::new(alloc))),
+    }
+}
+
+fn derived_mode_values(alloc: Global, modes: &[NearMode]) -> Result<Vec<Value>, OutOfMemory>
+    ensures { IfOk result (λ values. map view values.items ≡ map derived_mode_data modes.now) }
+{
+    let mut values = Vec::new(alloc);
+    for mode in modes {
+        values.push(derived_mode_value(*mode))?;
+    }
+    Ok(values)
+}
+
+fn derived_mode_value(mode: NearMode) -> Value
+    ensures { view result ≡ derived_mode_data mode }
+{
+    match mode {
+        NearMode::Mode(mode) => Value::from(mode),
+        NearMode::Absent | NearMode::Inter => Value::Null,
+    }
+}
+
+/// mv_l0 of each part, where `motion` has that of the luma blocks.
+pub(crate) fn vectors_value(
+    alloc: Global,
+    syntax: &Syntax,
+    motion: &[Motion; 16],
+) -> Result<Value, OutOfMemory>
+    ensures { IfOk result (λ value. view value ≡ vectors_data (vectors_of (syntax_of syntax.now) motion.now)) }
+{
+    let vectors = vectors_of(alloc, syntax, motion)?;
+    let values = motion_values(alloc, vectors.as_slice())?;
+    Ok(Value::from(values))
+}
+
+fn motion_values(alloc: Global, vectors: &[Motion]) -> Result<Vec<Value>, OutOfMemory>
+    ensures { IfOk result (λ values. map view values.items ≡ map motion_data vectors.now) }
+{
+    let mut values = Vec::new(alloc);
+    for motion in vectors {
+        values.push(motion_value(alloc, *motion)?)?;
+    }
+    Ok(values)
+}
+
+fn motion_value(alloc: Global, motion: Motion) -> Result<Value, OutOfMemory>
+    ensures { IfOk result (λ value. view value ≡ motion_data motion) }
+{
+    match motion {
+        Motion::Inter { mv, .. } => vector_value(alloc, mv),
+        Motion::Absent | Motion::Intra => Ok(Value::Null),
+    }
+}
+
+fn vector_value(alloc: Global, mv: Mv) -> Result<Value, OutOfMemory>
+    ensures { IfOk result (λ value. view value ≡ vector_data mv) }
+{
+    Ok(json!(in alloc; [mv.x, mv.y])?)
 }
 
 /// ref_idx_l0 of each partition.
@@ -142,69 +223,100 @@ fn sub_value(alloc: Global, sub: SubMbType) -> Result<Value, OutOfMemory>
     Ok(Value::try_from_str(alloc, sub_name(sub))?)
 }
 
-/// total_coeff of all blocks.
-pub(crate) fn residual_value(alloc: Global, syntax: &Syntax) -> Result<Value, OutOfMemory>
-    ensures { IfOk result (λ value. view value ≡ residual_data (syntax_of syntax.now)) }
+/// total_coeff of all blocks, or their levels.
+pub(crate) fn residual_value(
+    alloc: Global,
+    facts: BlockFacts,
+    syntax: &Syntax,
+) -> Result<Value, OutOfMemory>
+    ensures { IfOk result (λ value. view value ≡ residual_data facts (syntax_of syntax.now)) }
 {
     match syntax {
         Syntax::PSkip | Syntax::IPcm { .. } => Ok(Value::Null),
-        Syntax::INxN { levels, .. } => total_coeff_value(alloc, Value::Null, levels),
+        Syntax::INxN { levels, .. } => all_blocks_value(alloc, facts, Value::Null, levels),
         Syntax::I16x16 {
             luma_dc,
             levels,
             ..
-        } => total_coeff_value(alloc, count_value(luma_dc), levels),
-        Syntax::PInter { levels, .. } => total_coeff_value(alloc, Value::Null, levels),
+        } => {
+            let luma_dc = block_value(alloc, facts, luma_dc)?;
+            all_blocks_value(alloc, facts, luma_dc, levels)
+        }
+        Syntax::PInter { levels, .. } => all_blocks_value(alloc, facts, Value::Null, levels),
     }
 }
 
-fn total_coeff_value<const MAXN: usize>(
+fn all_blocks_value<const MAXN: usize>(
     alloc: Global,
+    facts: BlockFacts,
     luma_dc: Value,
     levels: &BlockLevels<MAXN>,
 ) -> Result<Value, OutOfMemory>
-    ensures { IfOk result (λ value. view value ≡ total_coeff_data (view luma_dc) (residual_of [] levels.now)) }
+    ensures { IfOk result (λ value. view value ≡ all_blocks_data facts (view luma_dc) (residual_of [] levels.now)) }
 {
     let mut map = Map::new(alloc);
-    let cb = counts_value(alloc, &levels.cb_ac)?;
+    let cb = blocks_value(alloc, facts, &levels.cb_ac)?;
     put(&mut map, alloc, "cb", cb)?;
-    let cb_dc = count_value(&levels.cb_dc);
+    let cb_dc = block_value(alloc, facts, &levels.cb_dc)?;
     put(&mut map, alloc, "cb_dc", cb_dc)?;
-    let cr = counts_value(alloc, &levels.cr_ac)?;
+    let cr = blocks_value(alloc, facts, &levels.cr_ac)?;
     put(&mut map, alloc, "cr", cr)?;
-    let cr_dc = count_value(&levels.cr_dc);
+    let cr_dc = block_value(alloc, facts, &levels.cr_dc)?;
     put(&mut map, alloc, "cr_dc", cr_dc)?;
-    let luma = counts_value(alloc, &levels.luma)?;
+    let luma = blocks_value(alloc, facts, &levels.luma)?;
     put(&mut map, alloc, "luma", luma)?;
     put(&mut map, alloc, "luma_dc", luma_dc)?;
     Ok(Value::Object(map))
 }
 
-fn counts_value<const MAXN: usize>(
+fn blocks_value<const MAXN: usize>(
     alloc: Global,
+    facts: BlockFacts,
     blocks: &[Levels<MAXN>],
 ) -> Result<Value, OutOfMemory>
-    ensures { IfOk result (λ value. view value ≡ counts_data blocks.now) }
+    ensures { IfOk result (λ value. view value ≡ blocks_data facts blocks.now) }
 {
-    let values = count_values(alloc, blocks)?;
+    let values = block_values(alloc, facts, blocks)?;
     Ok(Value::from(values))
 }
 
-fn count_values<const MAXN: usize>(
+fn block_values<const MAXN: usize>(
     alloc: Global,
+    facts: BlockFacts,
     blocks: &[Levels<MAXN>],
 ) -> Result<Vec<Value>, OutOfMemory>
-    ensures { IfOk result (λ values. map view values.items ≡ map count_data blocks.now) }
+    ensures { IfOk result (λ values. map view values.items ≡ map (block_data facts) blocks.now) }
 {
     let mut values = Vec::new(alloc);
     for levels in blocks {
-        values.push(count_value(levels))?;
+        values.push(block_value(alloc, facts, levels)?)?;
     }
     Ok(values)
 }
 
-fn count_value<const MAXN: usize>(levels: &Levels<MAXN>) -> Value
-    ensures { view result ≡ count_data levels.now }
+fn block_value<const MAXN: usize>(
+    alloc: Global,
+    facts: BlockFacts,
+    levels: &Levels<MAXN>,
+) -> Result<Value, OutOfMemory>
+    ensures { IfOk result (λ value. view value ≡ block_data facts levels.now) }
 {
-    Value::from(levels.total_coeff())
+    match facts {
+        BlockFacts::TotalCoeff => Ok(Value::from(levels.total_coeff())),
+        BlockFacts::CoeffLevel => {
+            let all = *levels.as_array();
+            let values = level_values(alloc, &all[..count_to_last(all)])?;
+            Ok(Value::from(values))
+        }
+    }
+}
+
+fn level_values(alloc: Global, levels: &[i16]) -> Result<Vec<Value>, OutOfMemory>
+    ensures { IfOk result (λ values. map view values.items ≡ map level_data levels.now) }
+{
+    let mut values = Vec::new(alloc);
+    for level in levels {
+        values.push(Value::from(*level))?;
+    }
+    Ok(values)
 }

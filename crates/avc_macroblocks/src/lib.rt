@@ -1,11 +1,16 @@
 //! The macroblocks of a stream, told as they are read, without being decoded.
 #![tactic(auto)]
 
+mod block_facts;
+mod choice;
+mod derived;
 mod elements;
 mod form;
 mod json;
 mod json_lists;
+mod levels;
 mod lines;
+mod listing;
 mod names;
 mod neighbour_counts;
 mod picture;
@@ -13,9 +18,13 @@ mod place;
 mod program;
 mod slices;
 mod stream;
+mod telling;
 mod units;
+mod vectors;
 
+pub use derived::Derived;
 pub use form::MacroblockForm;
+pub use listing::MacroblockListing;
 pub use place::MacroblockPlace;
 pub use program::{macroblocks, run_macroblocks};
 pub use stream::MacroblockLines;

@@ -3,28 +3,38 @@
 ghost use Rattle.std.specs.Prelude.{◌≡◌, ◌++◌, [], OnOk, string_bytes};
 ghost use Rattle.avc_types.specs.MacroblockFields.{residual_of, syntax_of};
 ghost use Rattle.avc_tools.specs.Lines.{newline};
-ghost use Rattle.avc_macroblocks.specs.Lines.{elements_text, fault_line, fault_text, i_16x16_name};
+ghost use Rattle.avc_macroblocks.specs.Lines.{coefficients_if, elements_text, fault_line};
+ghost use Rattle.avc_macroblocks.specs.Lines.{fault_text, i_16x16_name};
 ghost use Rattle.avc_macroblocks.specs.Lines.{slice_text, stop_text};
 ghost use Rattle.avc_macroblocks.specs.Lines.{macroblock_line, place_text, quantiser_text};
 ghost use Rattle.avc_macroblocks.specs.Lines.{refusal_line, type_name, type_text};
 
-use crate::elements::{add_16x16, add_inter, add_nxn};
+use crate::derived::Derived;
+use crate::elements::{add_16x16, add_coefficients, add_inter, add_nxn, add_vectors};
 use crate::names::p_name;
 use crate::place::MacroblockPlace;
+use crate::vectors::vectors_of;
+use avc_neigh::{Motion, NearMode};
 use avc_types::{BlockLevels, Fault, Mb, OutOfMemory, Syntax};
+use std::alloc::Global;
 
 /// Adds the line of a macroblock at this place.
 pub(crate) fn add_macroblock_line(
+    alloc: Global,
     text: &mut String,
+    has_coefficients: bool,
     place: MacroblockPlace,
     mb: &Mb,
+    derived: &Derived,
 ) -> Result<(), OutOfMemory>
-    ensures { OnOk result (string_bytes text.new ≡ string_bytes text.old ++ macroblock_line place mb.now) }
+    ensures { OnOk result (string_bytes text.new ≡ string_bytes text.old ++ macroblock_line has_coefficients place mb.now derived.now) }
 {
+    let vectors = vectors_of(alloc, &mb.syntax, &derived.motion)?;
     add_place(text, place)?;
     add_type(text, &mb.syntax)?;
     add_quantiser(text, mb.qp)?;
-    add_elements(text, &mb.syntax)?;
+    add_elements(text, &mb.syntax, &derived.modes, vectors.as_slice())?;
+    add_coefficients_if(text, has_coefficients, &mb.syntax)?;
     end_line(text)?;
     Ok(())
 }
@@ -83,16 +93,22 @@ fn add_quantiser(text: &mut String, qp: u8) -> Result<(), OutOfMemory>
     Ok(())
 }
 
-fn add_elements(text: &mut String, syntax: &Syntax) -> Result<(), OutOfMemory>
-    ensures { OnOk result (string_bytes text.new ≡ string_bytes text.old ++ elements_text (syntax_of syntax.now)) }
+fn add_elements(
+    text: &mut String,
+    syntax: &Syntax,
+    derived_modes: &[NearMode],
+    vectors: &[Motion],
+) -> Result<(), OutOfMemory>
+    ensures { OnOk result (string_bytes text.new ≡ string_bytes text.old ++ elements_text (syntax_of syntax.now) derived_modes.now vectors.now) }
 {
     match syntax {
-        Syntax::PSkip | Syntax::IPcm { .. } => Ok(()),
+        Syntax::PSkip => add_vectors(text, vectors),
+        Syntax::IPcm { .. } => Ok(()),
         Syntax::INxN {
             modes,
             chroma_mode,
             levels,
-        } => add_nxn(text, modes, *chroma_mode, levels),
+        } => add_nxn(text, modes, derived_modes, *chroma_mode, levels),
         Syntax::I16x16 {
             chroma_mode,
             luma_dc,
@@ -104,7 +120,21 @@ fn add_elements(text: &mut String, syntax: &Syntax) -> Result<(), OutOfMemory>
             ref_idx,
             mvd,
             levels,
-        } => add_inter(text, mb_type, ref_idx, mvd, levels),
+        } => add_inter(text, mb_type, ref_idx, mvd, vectors, levels),
+    }
+}
+
+fn add_coefficients_if(
+    text: &mut String,
+    has_coefficients: bool,
+    syntax: &Syntax,
+) -> Result<(), OutOfMemory>
+    ensures { OnOk result (string_bytes text.new ≡ string_bytes text.old ++ coefficients_if has_coefficients (syntax_of syntax.now)) }
+{
+    if has_coefficients {
+        add_coefficients(text, syntax)
+    } else {
+        Ok(())
     }
 }
 

@@ -1,24 +1,27 @@
-//! What later macroblocks ask of one when they are read: total_coeff of its blocks (9.2.1).
+//! What later macroblocks ask of one: total_coeff of its blocks (9.2.1), its prediction modes and its motion.
 
 ghost use Rattle.std.specs.Prelude.{◌≡◌, map};
 ghost use Rattle.std.specs.Option.{option_copied, option_map};
 ghost use Rattle.avc_types.specs.Macroblock.{total_coeff};
 ghost use Rattle.avc_neigh.specs.TotalCoeffs.{all_total_coeffs, total_coeffs_of};
 
-use avc_neigh::{Motion, NearMode, NeighbourInfo, TotalCoeffs};
+use crate::derived::Derived;
+use avc_neigh::{NeighbourInfo, TotalCoeffs};
 use avc_types::{BlockLevels, Levels, Mb, Syntax};
 
-/// What is known of a macroblock of this slice that was read. It is not decoded, so its vectors and
-/// prediction modes are not known.
-pub(crate) fn info_of(mb: &Mb, slice: u32) -> NeighbourInfo
+/// What is known of a macroblock of this slice that was read, for which this follows from its
+/// neighbours.
+pub(crate) fn info_of(mb: &Mb, slice: u32, derived: &Derived) -> NeighbourInfo
     ensures slice { result.slice ≡ slice }
     ensures total_coeffs { result.total_coeffs ≡ total_coeffs_of mb.now.syntax }
+    ensures modes { result.modes ≡ derived.now.modes }
+    ensures motion { result.motion ≡ derived.now.motion }
 {
     NeighbourInfo {
         slice,
         total_coeffs: total_coeffs_of(mb),
-        modes: [NearMode::Absent; 16],
-        motion: [Motion::Absent; 16],
+        modes: derived.modes,
+        motion: derived.motion,
     }
 }
 

@@ -10,21 +10,25 @@ ghost use Rattle.avc_mbsyntax.specs.Rest.{Follows, IsHandedOut, handed_out, rest
 ghost use Rattle.avc_mbsyntax.specs.SliceData.{SliceStart};
 ghost use Rattle.avc_macroblocks.specs.Listing.{macroblocks};
 ghost use Rattle.avc_macroblocks.specs.Pictures.{OpenPicture, macroblocks_of};
+ghost use Rattle.avc_macroblocks.specs.Derived.{derived_of};
+ghost use Rattle.avc_macroblocks.specs.Neighbours.{HasRems};
 ghost use Rattle.avc_macroblocks.specs.Reading.{AreRead, IsBehind, IsDataIn, IsPicture};
-ghost use Rattle.avc_macroblocks.specs.Reading.{IsSliceTold, address_fault};
+ghost use Rattle.avc_macroblocks.specs.Reading.{IsFollowed, IsSliceListed, IsSliceTold};
+ghost use Rattle.avc_macroblocks.specs.Reading.{address_fault, asked_in};
 
+use crate::derived::{Derived, derived_of};
 use crate::form::MacroblockForm;
 use crate::neighbour_counts::{info_of, total_coeffs_in};
 use crate::picture::Picture;
 use crate::place::MacroblockPlace;
+use crate::telling::Telling;
 use avc_bits::BitReader;
 use avc_mbsyntax::SliceData;
 use avc_neigh::Row;
-use avc_neigh::laws::total_coeffs_are_found;
+use avc_neigh::laws::{blocks_are_found, total_coeffs_are_found};
 use avc_params::Pps;
 use avc_slice::{Header, Slice};
 use avc_types::{Fault, Mb, OutOfMemory, Syntax};
-use std::alloc::Global;
 
 /// Pic_init_qp without its offset (7.4.2.2).
 const FIRST_QP: i32 = 26;
@@ -64,7 +68,7 @@ fn next_macroblock(
     number: u32,
     mb: &mut Mb,
 ) -> Result<bool, Fault>
-    ensures { (s : SliceStart) (before : List PicMb) → IsBehind s before number row.now → Follows s before unread.old
+    ensures { (s : SliceStart) (before : List PicMb) (known : List Derived) → IsBehind s before known number row.now → Follows s before unread.old
         → IsHandedOut s before (handed_out result mb.new) unread.old unread.new }
 {
     if unread.next_skipped(mb) {
@@ -75,23 +79,33 @@ fn next_macroblock(
     unread.next(total_coeffs_in(around.a), total_coeffs_in(around.b), mb)
 }
 
+/// What follows for a macroblock of slice `number` that was read, from its neighbours in the picture.
+fn derived_next(mb: &Mb, row: &Row, number: u32, constrained_intra_pred: bool) -> Derived
+    ensures { (s : SliceStart) (before : List PicMb) (known : List Derived) → IsBehind s before known number row.now → HasRems mb.now.syntax
+        → result ≡ derived_of constrained_intra_pred s before known mb.now }
+{
+    blocks_are_found();
+    derived_of(mb, &row.around(number), constrained_intra_pred)
+}
+
 /// Reads the macroblocks of a slice's data, the first of which stands at this place, and of which
 /// there can be so many. Adds a line for each, and one for the fault that comes then. Answers how
 /// many there are.
 fn add_macroblocks<F: MacroblockForm>(
-    alloc: Global,
-    form: &F,
+    telling: &Telling<F>,
     text: &mut String,
     row: &mut Row,
     place: MacroblockPlace,
+    constrained_intra_pred: bool,
     unread: SliceData<'_>,
     remaining: u32,
 ) -> Result<u32, OutOfMemory>
     requires { place.address < 2 ^ 32 }
     ensures few { IfOk result (λ count. count ≤ remaining) }
-    ensures read { IfOk result (λ count. (s : SliceStart) (before : List PicMb) → s.size ≡ length before + remaining
-        → IsBehind s before place.slice row.old → Follows s before unread.entry
-        → AreRead F.form place s before (rest_of s before unread.entry) count row.new (string_bytes text.old) (string_bytes text.new)) }
+    ensures read { IfOk result (λ count. (s : SliceStart) (before : List PicMb) (known : List Derived) → s.size ≡ length before + remaining
+        → IsBehind s before known place.slice row.old → Follows s before unread.entry
+        → AreRead F.form place constrained_intra_pred s before known (rest_of s before unread.entry) count row.new
+        (string_bytes text.old) (string_bytes text.new)) }
 {
     let mut unread = unread;
     let mut mb = Mb {
@@ -103,12 +117,15 @@ fn add_macroblocks<F: MacroblockForm>(
         let here = place.behind(turn);
         match next_macroblock(&mut unread, row, place.slice, &mut mb) {
             Ok(true) => {
-                form.add_macroblock(alloc, text, here, &mb)?;
-                row.put(&info_of(&mb, place.slice));
+                let derived = derived_next(&mb, row, place.slice, constrained_intra_pred);
+                telling
+                    .form
+                    .add_macroblock(telling.alloc, text, here, &mb, &derived)?;
+                row.put(&info_of(&mb, place.slice, &derived));
             }
             Ok(false) => return Ok(turn as u32),
             Err(fault) => {
-                form.add_fault(alloc, text, here, fault)?;
+                telling.form.add_fault(telling.alloc, text, here, fault)?;
                 return Ok(turn as u32);
             }
         }
@@ -147,9 +164,8 @@ fn one_more(slices: u32, count: u32) -> u32
 
 /// Reads the macroblocks of a slice of this picture, and adds a line for each, and for the fault
 /// that comes then.
-pub(crate) fn add_slice<F: MacroblockForm>(
-    alloc: Global,
-    form: &F,
+fn add_slice<F: MacroblockForm>(
+    telling: &Telling<F>,
     text: &mut String,
     picture: &mut Picture,
     pps: &Pps,
@@ -159,8 +175,9 @@ pub(crate) fn add_slice<F: MacroblockForm>(
     requires low { pos 0 ≤ℤ slice_qp pps.now slice.now.header.slice_qp_delta }
     requires high { slice_qp pps.now slice.now.header.slice_qp_delta ≤ℤ pos 51 }
     requires active { slice.now.header.num_ref_idx_active ≤ 16 }
-    ensures { OnOk result ((p : OpenPicture) → IsPicture p picture.old
+    ensures told { OnOk result ((p : OpenPicture) → IsPicture p picture.old
         → IsSliceTold F.form p pps.now slice.now picture.new (string_bytes text.old) (string_bytes text.new)) }
+    ensures choice { OnOk result (picture.new.choice ≡ picture.old.choice) }
 {
     let place = MacroblockPlace {
         unit: slice.unit,
@@ -172,11 +189,11 @@ pub(crate) fn add_slice<F: MacroblockForm>(
             let remaining = picture.size.saturating_sub(picture.next);
             let unread = slice_data(pps, slice, remaining);
             let count = add_macroblocks(
-                alloc,
-                form,
+                telling,
                 text,
                 &mut picture.row,
                 place,
+                pps.constrained_intra_pred_flag,
                 unread,
                 remaining,
             )?;
@@ -184,6 +201,27 @@ pub(crate) fn add_slice<F: MacroblockForm>(
             picture.slices = one_more(picture.slices, count);
             Ok(())
         }
-        Err(fault) => form.add_fault(alloc, text, place, fault),
+        Err(fault) => telling.form.add_fault(telling.alloc, text, place, fault),
     }
+}
+
+/// The same, where the picture is listed; else nothing.
+pub(crate) fn add_slice_if_listed<F: MacroblockForm>(
+    telling: &Telling<F>,
+    text: &mut String,
+    picture: &mut Picture,
+    pps: &Pps,
+    slice: &Slice,
+) -> Result<(), OutOfMemory>
+    requires pps { IsPps pps.now }
+    requires low { pos 0 ≤ℤ slice_qp pps.now slice.now.header.slice_qp_delta }
+    requires high { slice_qp pps.now slice.now.header.slice_qp_delta ≤ℤ pos 51 }
+    requires active { slice.now.header.num_ref_idx_active ≤ 16 }
+    ensures { OnOk result ((p : OpenPicture) → IsFollowed telling.now.picture p picture.old
+        → IsSliceListed (asked_in F.form telling.now.picture) p pps.now slice.now picture.new (string_bytes text.old) (string_bytes text.new)) }
+{
+    if picture.choice.is_listed() {
+        return add_slice(telling, text, picture, pps, slice);
+    }
+    Ok(())
 }

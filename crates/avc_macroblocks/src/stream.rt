@@ -3,10 +3,11 @@
 ghost use Rattle.std.specs.Prelude.{◌≡◌, ◌++◌, [], false, IfOk, OnOk, string_bytes};
 ghost use Rattle.avc_units.specs.Grouping.{set_units};
 ghost use Rattle.avc_tools.specs.Streams.{after_units_left, max_unit, units_left};
-ghost use Rattle.avc_macroblocks.specs.Reading.{AreToldFrom};
+ghost use Rattle.avc_macroblocks.specs.Reading.{AreToldFrom, asked_in};
 
 use crate::form::MacroblockForm;
 use crate::picture::Picture;
+use crate::telling::Telling;
 use crate::units::add_unit;
 use avc_annexb::Splitter;
 use avc_annexb::laws::units_stay;
@@ -19,13 +20,12 @@ use std::marker::Model;
 // No unit in memory has more bytes.
 const MAX_UNIT: usize = usize::MAX;
 
-/// A line of a form for each macroblock of a stream (Annex B) that comes in pieces, those of a slice
-/// once its unit has ended. It keeps the unit that is not over, the parameter sets in force, and of
+/// A line of a form for each macroblock of a stream (Annex B) that comes in pieces, or of one of its
+/// pictures, those of a slice once its unit has ended. It keeps the unit that is not over, the parameter sets in force, and of
 /// the open picture what the next macroblocks ask for. A contract sees what came of the stream.
 #[derive(Drop)]
 pub struct MacroblockLines<F> {
-    alloc: Global,
-    form: F,
+    telling: Telling<F>,
     splitter: Splitter<MAX_UNIT>,
     table: ParamTable,
     kept: Option<Picture>,
@@ -34,42 +34,66 @@ pub struct MacroblockLines<F> {
 
 impl<F> Model for MacroblockLines<F> {
     ghost use Rattle.std.specs.Prelude.{◌≡◌, false};
-    ghost use Rattle.avc_tools.specs.Streams.{StreamSoFar, max_unit};
+    ghost use Rattle.avc_tools.specs.Streams.{max_unit};
+    ghost use Rattle.avc_macroblocks.specs.Listing.{ListedSoFar};
     ghost use Rattle.avc_macroblocks.specs.Reading.{AreListed};
 
-    ghost Value = { StreamSoFar };
+    ghost Value = { ListedSoFar };
 
-    ghost view = { λ l. record { bytes = l.splitter.bytes; ended = l.splitter.ended; failed = l.failed } };
+    ghost view = { λ l. record {
+      picture = l.telling.picture;
+      stream = record { bytes = l.splitter.bytes; ended = l.splitter.ended; failed = l.failed };
+    } };
 
-    ghost invariant = { λ l. l.failed ≡ false → AreListed max_unit l.splitter l.table l.kept };
+    ghost invariant = { λ l. l.failed ≡ false → AreListed l.telling.picture max_unit l.splitter l.table l.kept };
 }
 
 impl<F> MacroblockLines<F> {
+    ghost use Rattle.std.specs.Prelude.{◌^◌, ◌<◌, length};
     ghost use Rattle.avc_tools.specs.Streams.{new_stream};
+    ghost use Rattle.avc_macroblocks.specs.Listing.{has_picture};
 
-    /// At the start of a stream.
-    pub fn new(alloc: Global, form: F) -> MacroblockLines<F>
-        ensures { result ≡ new_stream }
+    /// At the start of a stream, for the macroblocks of the picture of this number, counted from 0
+    /// as the first slices of primary coded pictures come (7.4.1.2.4), or for all.
+    pub fn new(alloc: Global, form: F, picture: Option<u64>) -> MacroblockLines<F>
+        ensures { result ≡ record { picture = picture; stream = new_stream } }
     {
         MacroblockLines {
-            alloc,
-            form,
+            telling: Telling {
+                alloc,
+                form,
+                picture,
+            },
             splitter: Splitter::new(alloc),
             table: ParamTable::new(alloc),
             kept: None,
             failed: WantOfMemory::none(),
         }
     }
+
+    /// Whether the picture that is asked for has begun, if one is.
+    pub fn has_begun(&self) -> bool
+        ensures { self.now.stream.failed ≡ false → length self.now.stream.bytes < 2 ^ 64
+            → result ≡ has_picture self.now.picture self.now.stream.bytes self.now.stream.ended }
+    {
+        match (&self.kept, self.telling.picture) {
+            (_, None) => true,
+            (None, Some(_)) => false,
+            (Some(picture), Some(_)) => picture.choice.has_come(),
+        }
+    }
 }
 
 impl<F: MacroblockForm> StreamText for MacroblockLines<F> {
-    ghost use Rattle.avc_macroblocks.specs.Listing.{macroblock_lines_so_far};
+    ghost use Rattle.avc_macroblocks.specs.Asked.{picture_of_text, text_number};
+    ghost use Rattle.avc_macroblocks.specs.Listing.{lines_so_far};
+    ghost use Rattle.avc_macroblocks.specs.Reading.{asked_in};
 
-    ghost so_far = { λ l. l };
+    ghost so_far = { λ l. l.stream };
 
-    ghost number = { λ _. 0 };
+    ghost number = { λ l. text_number l.picture };
 
-    ghost text = { λ _. macroblock_lines_so_far F.form };
+    ghost text = { λ number. lines_so_far (asked_in F.form (picture_of_text number)) };
 
     // a further unit may have lines
     ghost over = { λ _ _ _. false };
@@ -79,8 +103,7 @@ impl<F: MacroblockForm> StreamText for MacroblockLines<F> {
         self.failed.check()?;
         self.failed.keep(self.splitter.feed(piece))?;
         let lines = lines_of_units_left(
-            self.alloc,
-            &self.form,
+            &self.telling,
             &mut self.splitter,
             &mut self.table,
             &mut self.kept,
@@ -94,8 +117,7 @@ impl<F: MacroblockForm> StreamText for MacroblockLines<F> {
         self.failed.check()?;
         self.failed.keep(self.splitter.finish())?;
         let lines = lines_of_units_left(
-            self.alloc,
-            &self.form,
+            &self.telling,
             &mut self.splitter,
             &mut self.table,
             &mut self.kept,
@@ -115,20 +137,19 @@ impl<F: MacroblockForm> StreamText for MacroblockLines<F> {
 
 // Takes all units whose end has been seen, and makes their lines.
 fn lines_of_units_left<F: MacroblockForm>(
-    alloc: Global,
-    form: &F,
+    telling: &Telling<F>,
     splitter: &mut Splitter<MAX_UNIT>,
     table: &mut ParamTable,
     kept: &mut Option<Picture>,
 ) -> Result<String, OutOfMemory>
     requires { splitter.old.failed ≡ false }
-    ensures text { IfOk result (λ text. AreToldFrom F.form table.old kept.old kept.new (units_left max_unit splitter.old) [] (string_bytes text)) }
+    ensures text { IfOk result (λ text. AreToldFrom (asked_in F.form telling.now.picture) table.old kept.old kept.new (units_left max_unit splitter.old) [] (string_bytes text)) }
     ensures sets { OnOk result (table.new ≡ table.old ++ set_units (units_left max_unit splitter.old)) }
     ensures taken { OnOk result (splitter.new ≡ after_units_left max_unit splitter.old) }
 {
-    let mut text = String::new(alloc);
+    let mut text = String::new(telling.alloc);
     while let Some(unit) = splitter.next_unit() {
-        add_unit(alloc, form, &mut text, table, kept, &unit)?;
+        add_unit(telling, &mut text, table, kept, &unit)?;
     }
     Ok(text)
 }

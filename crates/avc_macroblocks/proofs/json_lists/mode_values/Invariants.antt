@@ -1,7 +1,7 @@
 use Rattle.std.proofs.Common.{◌≡◌, take}
 use Rattle.std.specs.Prelude.{map}
 use Rattle.serde_json.specs.View.{view}
-use Rattle.avc_info.specs.Json.{count_if_given}
+use Rattle.avc_macroblocks.specs.JsonLines.{count_if_given}
 use Rattle.avc_macroblocks.proofs.json_lists.mode_values.Given as goal
 
 abbrev pub invariant-loop-mode : goal.invariant-loop-mode

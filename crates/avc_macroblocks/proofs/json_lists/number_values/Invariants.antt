@@ -1,7 +1,7 @@
 use Rattle.std.proofs.Common.{◌≡◌, take}
 use Rattle.std.specs.Prelude.{map}
 use Rattle.serde_json.specs.View.{view}
-use Rattle.avc_info.specs.Json.{count}
+use Rattle.avc_macroblocks.specs.JsonLines.{count}
 use Rattle.avc_macroblocks.proofs.json_lists.number_values.Given as goal
 
 abbrev pub invariant-loop-number : goal.invariant-loop-number

@@ -1,5 +1,5 @@
-use Rattle.avc_macroblocks.proofs.Read.{lines_grow}
+use Rattle.avc_macroblocks.proofs.Read.{asked_in, lines_grow, picture_of_text, text_number}
 use Rattle.avc_macroblocks.proofs.stream.MacroblockLinesStreamText.text_only_grows.Goals as goal
 
 pub returns : goal.returns
-returns g c = lines_grow g.F.MacroblockForm.form c.units_stay.ensures
+returns g c = lines_grow (asked_in g.F.MacroblockForm.form (picture_of_text (text_number c.args.self.now.picture))) c.units_stay.ensures

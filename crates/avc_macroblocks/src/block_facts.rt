@@ -1,0 +1,11 @@
+//! What is told of each block of a macroblock.
+
+/// What is told of each block of a macroblock.
+#[derive(Clone, Copy, Debug, PartialEq, Eq)]
+pub(crate) enum BlockFacts {
+    /// total_coeff.
+    TotalCoeff,
+
+    /// Its levels, up to the last that is not 0.
+    CoeffLevel,
+}
