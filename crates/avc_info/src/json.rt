@@ -184,7 +184,10 @@ fn ratio_value(alloc: Global, ratio: Option<Ratio>) -> Result<Value, OutOfMemory
 fn size_value(alloc: Global, size: Size) -> Result<Value, OutOfMemory>
     ensures { IfOk result (λ value. view value ≡ size_data size) }
 {
-    Ok(json!(in alloc; { "height": size.height, "width": size.width })?)
+    let mut map = Map::new(alloc);
+    put_count(&mut map, alloc, "height", size.height)?;
+    put_count(&mut map, alloc, "width", size.width)?;
+    Ok(Value::Object(map))
 }
 
 fn sizes_value(alloc: Global, sizes: &[Size]) -> Result<Value, OutOfMemory>
@@ -207,12 +210,12 @@ fn size_values(alloc: Global, sizes: &[Size]) -> Result<Vec<Value>, OutOfMemory>
 fn crop_value(alloc: Global, crop: Crop) -> Result<Value, OutOfMemory>
     ensures { IfOk result (λ value. view value ≡ crop_data crop) }
 {
-    Ok(json!(in alloc; {
-        "bottom": crop.bottom,
-        "left": crop.left,
-        "right": crop.right,
-        "top": crop.top
-    })?)
+    let mut map = Map::new(alloc);
+    put_count(&mut map, alloc, "bottom", crop.bottom)?;
+    put_count(&mut map, alloc, "left", crop.left)?;
+    put_count(&mut map, alloc, "right", crop.right)?;
+    put_count(&mut map, alloc, "top", crop.top)?;
+    Ok(Value::Object(map))
 }
 
 fn colour_value(alloc: Global, colour: Option<Colour>) -> Result<Value, OutOfMemory>

@@ -1,10 +1,13 @@
 //! Units, headers and pieces as lines of JSON.
 
-ghost use Rattle.std.specs.Prelude.{◌≡◌, ◌++◌, ◌∷◌, [], false, IfOk, OnOk, string_bytes};
+ghost use Rattle.std.specs.Prelude.{◌≡◌, ◌++◌, ◌∷◌, [], false, IfOk, OnOk, codes, string_bytes};
 ghost use Rattle.avc_params.specs.Tables.{sets_after};
 ghost use Rattle.avc_units.specs.Grouping.{set_units};
-ghost use Rattle.serde_json.specs.View.{view};
+ghost use Rattle.serde_json.specs.Data.{number, put as with_member};
+ghost use Rattle.serde_json.specs.Find.{of_integer};
+ghost use Rattle.serde_json.specs.View.{members_view, view};
 ghost use Rattle.serde_json.specs.Written.{has_float};
+ghost use Rattle.avc_info.specs.Json.{count};
 ghost use Rattle.avc_info.specs.ListingJson.{header_data, header_json, line_of_data};
 ghost use Rattle.avc_info.specs.ListingJson.{line_of_data_if, piece_data, piece_json};
 ghost use Rattle.avc_info.specs.ListingJson.{pps_data, refused_data, set_data, slice_data};
@@ -21,7 +24,7 @@ use avc_tools::{
 };
 use avc_types::{Fault, OutOfMemory};
 use avc_units::{Brought, HeaderReader, ParameterSet};
-use serde_json::{Map, Value, json};
+use serde_json::{Map, Value, put};
 use std::alloc::Global;
 
 impl ListingForm for ForPrograms {
@@ -76,23 +79,23 @@ fn add_value(alloc: Global, text: &mut String, value: &Value) -> Result<(), OutO
 fn unit_value(alloc: Global, facts: UnitFacts) -> Result<Value, OutOfMemory>
     ensures { IfOk result (λ value. view value ≡ unit_data facts) }
 {
-    Ok(json!(in alloc; {
-        "bytes": facts.bytes,
-        "first_byte": facts.first_byte,
-        "nal_ref_idc": facts.nal_ref_idc,
-        "nal_unit_type": facts.nal_unit_type,
-        "unit": facts.unit
-    })?)
+    let mut map = Map::new(alloc);
+    put_count(&mut map, alloc, "bytes", facts.bytes)?;
+    put_count(&mut map, alloc, "first_byte", facts.first_byte)?;
+    put_byte(&mut map, alloc, "nal_ref_idc", facts.nal_ref_idc)?;
+    put_byte(&mut map, alloc, "nal_unit_type", facts.nal_unit_type)?;
+    put_count(&mut map, alloc, "unit", facts.unit)?;
+    Ok(Value::Object(map))
 }
 
 fn piece_value(alloc: Global, number: u64, unit: &Unit) -> Result<Value, OutOfMemory>
     ensures { IfOk result (λ value. view value ≡ piece_data number unit.now) }
 {
-    Ok(json!(in alloc; {
-        "first_byte": unit.offset,
-        "piece": number,
-        "unit": unit.index
-    })?)
+    let mut map = Map::new(alloc);
+    put_count(&mut map, alloc, "first_byte", unit.offset)?;
+    put_count(&mut map, alloc, "piece", number)?;
+    put_count(&mut map, alloc, "unit", unit.index)?;
+    Ok(Value::Object(map))
 }
 
 // of a unit that brings this
@@ -163,17 +166,62 @@ fn sps_value(alloc: Global, unit: u64, sps: &Sps) -> Result<Value, OutOfMemory>
 fn pps_value(alloc: Global, unit: u64, pps: &Pps) -> Result<Value, OutOfMemory>
     ensures { IfOk result (λ value. view value ≡ pps_data unit pps.now) }
 {
-    Ok(json!(in alloc; {
-        "constrained_intra_pred_flag": flag_number(pps.constrained_intra_pred_flag),
-        "deblocking_filter_control_present_flag":
-            flag_number(pps.deblocking_filter_control_present_flag),
-        "kind": "pps",
-        "num_ref_idx_l0_default_active_minus1": pps.num_ref_idx_l0_default_active_minus1,
-        "pic_init_qp_minus26": pps.pic_init_qp_minus26,
-        "pic_parameter_set_id": pps.pic_parameter_set_id,
-        "seq_parameter_set_id": pps.seq_parameter_set_id,
-        "unit": unit
-    })?)
+    let mut map = Map::new(alloc);
+    let constrained = flag_number(pps.constrained_intra_pred_flag);
+    put_byte(&mut map, alloc, "constrained_intra_pred_flag", constrained)?;
+    let controlled = flag_number(pps.deblocking_filter_control_present_flag);
+    put_byte(
+        &mut map,
+        alloc,
+        "deblocking_filter_control_present_flag",
+        controlled,
+    )?;
+    put_text(&mut map, alloc, "kind", "pps")?;
+    put_byte(
+        &mut map,
+        alloc,
+        "num_ref_idx_l0_default_active_minus1",
+        pps.num_ref_idx_l0_default_active_minus1,
+    )?;
+    put_initial_qp(&mut map, alloc, pps)?;
+    put_byte(
+        &mut map,
+        alloc,
+        "pic_parameter_set_id",
+        pps.pic_parameter_set_id,
+    )?;
+    put_byte(
+        &mut map,
+        alloc,
+        "seq_parameter_set_id",
+        pps.seq_parameter_set_id,
+    )?;
+    put_count(&mut map, alloc, "unit", unit)?;
+    Ok(Value::Object(map))
+}
+
+fn put_initial_qp(map: &mut Map<String, Value>, alloc: Global, pps: &Pps) -> Result<(), OutOfMemory>
+    ensures { OnOk result (members_view map.new.entries ≡ with_member (codes "pic_init_qp_minus26") (number (of_integer pps.now.pic_init_qp_minus26)) (members_view map.old.entries)) }
+{
+    put(
+        map,
+        alloc,
+        "pic_init_qp_minus26",
+        Value::from(pps.pic_init_qp_minus26),
+    )?;
+    Ok(())
+}
+
+// Puts a number of eight bits under a name.
+fn put_byte(
+    map: &mut Map<String, Value>,
+    alloc: Global,
+    name: &str,
+    number: u8,
+) -> Result<(), OutOfMemory>
+    ensures { OnOk result (members_view map.new.entries ≡ with_member name.now (count number) (members_view map.old.entries)) }
+{
+    put_count(map, alloc, name, u64::from(number))
 }
 
 fn slice_value(
@@ -184,25 +232,32 @@ fn slice_value(
 ) -> Result<Value, OutOfMemory>
     ensures { IfOk result (λ value. view value ≡ slice_data unit (sets_after reader.now) header.now) }
 {
-    Ok(json!(in alloc; {
-        "IdrPicFlag": flag_number(header.is_idr()),
-        "SliceQPY": slice_qp_under(reader.pps(header.pic_parameter_set_id), header),
-        "first_mb_in_slice": header.first_mb_in_slice.get(),
-        "frame_num": header.frame_num,
-        "kind": "slice",
-        "pic_parameter_set_id": header.pic_parameter_set_id,
-        "slice_type": type_name(header),
-        "unit": unit
-    })?)
+    let mut map = Map::new(alloc);
+    put_byte(&mut map, alloc, "IdrPicFlag", flag_number(header.is_idr()))?;
+    let qp = slice_qp_under(reader.pps(header.pic_parameter_set_id), header);
+    put_count(&mut map, alloc, "SliceQPY", qp)?;
+    let first_mb = u64::from(header.first_mb_in_slice.get());
+    put_count(&mut map, alloc, "first_mb_in_slice", first_mb)?;
+    put_count(&mut map, alloc, "frame_num", u64::from(header.frame_num))?;
+    put_text(&mut map, alloc, "kind", "slice")?;
+    put_byte(
+        &mut map,
+        alloc,
+        "pic_parameter_set_id",
+        header.pic_parameter_set_id,
+    )?;
+    put_text(&mut map, alloc, "slice_type", type_name(header))?;
+    put_count(&mut map, alloc, "unit", unit)?;
+    Ok(Value::Object(map))
 }
 
 fn refused_value(alloc: Global, unit: u64, fault: Fault) -> Result<Value, OutOfMemory>
     ensures { IfOk result (λ value. view value ≡ refused_data unit fault) }
 {
-    Ok(json!(in alloc; {
-        "kind": "refused",
-        "name": fault.name(),
-        "number": u64::from(fault.number()),
-        "unit": unit
-    })?)
+    let mut map = Map::new(alloc);
+    put_text(&mut map, alloc, "kind", "refused")?;
+    put_text(&mut map, alloc, "name", fault.name())?;
+    put_byte(&mut map, alloc, "number", fault.number())?;
+    put_count(&mut map, alloc, "unit", unit)?;
+    Ok(Value::Object(map))
 }

@@ -1,0 +1,13 @@
+use Rattle.avc_info.proofs.Noted.{◌∙◌, ap, refl, serde_json_on_literals, view-Object, object, members_view, with_one}
+use Rattle.avc_info.proofs.listing_json.unit_value.Goals as goal
+
+pub returns : goal.returns
+unfolding serde_json_on_literals
+returns c =
+    let none = ap members_view c.new-map.ensures.empty in
+    let bytes = with_one _ _ _ _ _ _ c.in_ok-put_count.ensures refl none in
+    let first = with_one _ _ _ _ _ _ c.in_ok-put_count-2.ensures refl bytes in
+    let importance = with_one _ _ _ _ _ _ c.in_ok-put_byte.ensures refl first in
+    let kind = with_one _ _ _ _ _ _ c.in_ok-put_byte-2.ensures refl importance in
+    let unit = with_one _ _ _ _ _ _ c.in_ok-put_count-3.ensures refl kind in
+    view-Object c.put_count-3.new.map ∙ ap object unit
