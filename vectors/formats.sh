@@ -35,11 +35,9 @@ done
 # NAME.types: the md5 of QP_Y and type of each macroblock that ffmpeg decodes, one a line, in decoding order: i is I_NxN, I Intra 16x16, P I_PCM
 # (without its QP, for which ffmpeg shows that of deblocking), S P_Skip, > another inter macroblock, with -, | or + where it is 16x8, 8x16 or
 # 8x8. What its first reading of the stream shows, by another decoder, is left out.
-for name in \
-    corners/i_pcm_in_p_e0 encoder/pub_o_qp12 encoder/pub_o_rc_quality encoder/pub_o_rowslices encoder/pub_x_aud encoder/pub_x_tiny16 \
-    generated/pubgen_28 pcm/pcm_3; do
-    ffmpeg -hide_banner -nostdin -threads 1 -debug qp+mb_type -i "$here/$name.264" -f null - 2>&1 | awk '
-        /^\[h264 @ [0-9a-fx]*\] New frame/ { rows = 1; if ($3 != decoder) { decoder = $3; count = 0 }; next }
+types() { # of the picture of this number alone, counted from 0; all where it is -1
+    ffmpeg -hide_banner -nostdin -threads 1 -debug qp+mb_type -i "$here/$1.264" -f null - 2>&1 | awk -v only="$2" '
+        /^\[h264 @ [0-9a-fx]*\] New frame/ { rows = 1; if ($3 != decoder) { decoder = $3; count = 0; frame = -1 }; frame++; next }
         /^\[h264 @ [0-9a-fx]*\] ( *[0-9]+[iIPS>][-+| ][= ])+$/ && rows {
             line = $0
             sub(/^\[h264 @ [0-9a-fx]*\] /, "", line)
@@ -48,10 +46,29 @@ for name in \
                 line = substr(line, RLENGTH + 1)
                 gsub(/[ =]/, "", one)
                 sub(/^[0-9]*P$/, "P", one)
-                told[count++] = one
+                if (only < 0 || frame == only) told[count++] = one
             }
             next
         }
         { rows = 0 }
-        END { for (k = 0; k < count; k++) print told[k] }' | md5sum >"$here/$name.types"
+        END { for (k = 0; k < count; k++) print told[k] }' | md5sum
+}
+for name in \
+    corners/i_pcm_in_p_e0 encoder/pub_o_qp12 encoder/pub_o_rc_quality encoder/pub_o_rowslices encoder/pub_x_aud encoder/pub_x_tiny16 \
+    generated/pubgen_28 pcm/pcm_3; do
+    types "$name" -1 >"$here/$name.types"
+done
+
+# NAME.types_1: the same of the second picture alone
+for name in encoder/pub_o_qp12 encoder/pub_o_rowslices generated/pubgen_28; do
+    types "$name" 1 >"$here/$name.types_1"
+done
+
+# NAME.vectors: the md5 of the vectors that libavcodec finds (vectors.c). No stream is here whose pictures are put out in another order.
+program=$(mktemp)
+trap 'rm -f "$program"' EXIT
+cc -o "$program" "$here/vectors.c" -lavcodec -lavutil
+for name in \
+    corners/i_pcm_in_p_e0 encoder/pub_o_qp12 encoder/pub_o_rc_quality encoder/pub_o_rowslices encoder/pub_x_aud generated/pubgen_28; do
+    "$program" <"$here/$name.264" 2>/dev/null | md5sum >"$here/$name.vectors"
 done

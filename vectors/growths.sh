@@ -227,7 +227,7 @@ for name in cases/held_before_refusal corners/operations_k39; do
     beside refused_in_program "$here/$name.264" headers
     beside refused_in_program "$here/$name.264" cut 0
 done
-for words in decode 'decode --early' units headers 'cut 0'; do
+for words in decode 'decode --early' 'decode --from 0' units headers 'cut 0'; do
     # shellcheck disable=SC2086
     beside failing_in_program "$here/corners/five_g121.264" $words
 done

@@ -3,7 +3,8 @@
 # NAME.md5 the md5 of its pictures as I420, NAME.early, where there is one, the other md5 that `decode --early` gives, NAME.refused,
 # where there is one, the standard error with status 1 (else nothing is written there, and the status is 0), NAME.units,
 # NAME.headers, NAME.info and NAME.json, where there are such, what these commands (and `info --json`) write, NAME.y4m the md5 of
-# ffmpeg's YUV4MPEG2, NAME.framemd5 its framemd5 and NAME.types the md5 of its macroblock types (formats.sh), and NAME.piece_0 and so on all pieces that `cut` writes. Words and
+# ffmpeg's YUV4MPEG2, NAME.framemd5 its framemd5 and NAME.types the md5 of its macroblock types (formats.sh), NAME.rgb the md5 of red, green
+# and blue of its pictures (png.py), and NAME.piece_0 and so on all pieces that `cut` writes. Words and
 # faults of reading and writing are tried after that. The last line is 'N passed, M failed'; how far it is stands on standard error.
 set -u
 here=$(cd "$(dirname "$0")" && pwd)
@@ -126,6 +127,13 @@ tells_its_macroblocks() {
         "$program" macroblocks >"$work/lines" 2>"$work/told" && cmp -s "$work/lines" "$work/expected"
 }
 
+# The one level of its second macroblock is 10: by it each sample is 8 above the predicted 128 (8.5.10).
+tells_its_level() {
+    printf "\\000\\000\\000\\001\\147\\102\\300\\012\\332\\054\\100\\000\\000\\000\\001\\150\\316\\070\\200\\000\\000\\001$(cut_slice 58)" |
+        "$program" macroblocks --coefficients 2>"$work/told" | tail -n 1 |
+        grep -q ' levels dc 10 luma\( -\)\{16\} cb\( -\)\{4\} cr\( -\)\{4\} cbdc - crdc -$'
+}
+
 # QP_Y and the type of each macroblock, by the lines of `macroblocks`, as ffmpeg shows them (formats.sh)
 types_in_lines() {
     awk '$2 == "slice" && $4 == "mb" {
@@ -138,6 +146,36 @@ types_in_lines() {
         else if ($6 == "P_L0_L0_8x16") print $8 ">|"
         else print $8 ">+"
     }'
+}
+
+# The vectors of each inter macroblock with its address, by the lines of `macroblocks`, as vectors.c shows those that libavcodec finds: of
+# each quarter with parts that of the first part.
+vectors_in_lines() {
+    awk '$2 == "slice" && $4 == "mb" {
+        text = $5
+        for (k = 7; k <= NF && $k != "mv"; k++)
+            if ($k == "sub")
+                for (q = 1; q <= 4; q++) parts[q] = $(k + q) ~ /8x8$/ ? 1 : $(k + q) ~ /4x4$/ ? 4 : 2
+        if (k > NF) next
+        k++
+        if ($6 ~ /^P_8x8/)
+            for (q = 1; q <= 4; k += parts[q++]) text = text " " $k
+        else
+            for (; $k ~ /,/; k++) text = text " " $k
+        print text
+    }'
+}
+
+# Each picture alone has its lines of all, one after another; behind the last one there is none.
+pictures_are_told_alone() {
+    picture=0
+    : >"$work/joined"
+    while "$program" macroblocks --picture "$picture" <"$1" >"$work/alone" 2>"$work/told" && [ -s "$work/alone" ]; do
+        cat "$work/alone" >>"$work/joined"
+        picture=$((picture + 1))
+    done
+    [ "$picture" = "$(python3 -c 'import json, sys; print(json.load(sys.stdin)["pictures"])' <"$work/facts")" ] &&
+        cmp -s "$work/joined" "$work/lines"
 }
 
 # The pieces of a stream with several IDR pictures, decoded one by one, give what the whole gives.
@@ -183,6 +221,11 @@ import json, sys
 def listed(word, values):
     return f" {word} " + " ".join(str(value) for value in values) if values else ""
 
+def word(levels, count):
+    if sum(level != 0 for level in levels) != count or levels[-1:] == [0]:
+        sys.exit(f"no levels of total_coeff {count}: {levels}")
+    return ",".join(map(str, levels)) or "-"
+
 for line in sys.stdin:
     told = json.loads(line)
     if json.dumps(told, sort_keys=True, separators=(",", ":")) + "\n" != line:
@@ -196,11 +239,13 @@ for line in sys.stdin:
         continue
     text = f"{place} mb {told['mbAddr']} {told['mb_type']} qp {told['QPY']}"
     text += listed("modes", ["-" if mode is None else mode for mode in told["rem_intra4x4_pred_mode"]])
+    text += listed("intra4x4", told["Intra4x4PredMode"])
     if told["intra_chroma_pred_mode"] is not None:
         text += f" chroma {told['intra_chroma_pred_mode']}"
     text += listed("sub", told["sub_mb_type"])
     text += listed("ref", told["ref_idx_l0"])
     text += listed("mvd", [f"{x},{y}" for x, y in told["mvd_l0"]])
+    text += listed("mv", ["-" if vector is None else f"{vector[0]},{vector[1]}" for vector in told["mv_l0"]])
     counts = told["total_coeff"]
     if counts is not None:
         if counts["luma_dc"] is not None:
@@ -209,6 +254,14 @@ for line in sys.stdin:
         for blocks in ("luma", "cb", "cr"):
             text += listed(blocks, counts[blocks])
         text += f" cbdc {counts['cb_dc']} crdc {counts['cr_dc']}"
+    levels = told.get("coeffLevel")
+    if levels is not None:
+        text += " levels"
+        if levels["luma_dc"] is not None:
+            text += f" dc {word(levels['luma_dc'], counts['luma_dc'])}"
+        for blocks in ("luma", "cb", "cr"):
+            text += listed(blocks, map(word, levels[blocks], counts[blocks]))
+        text += f" cbdc {word(levels['cb_dc'], counts['cb_dc'])} crdc {word(levels['cr_dc'], counts['cr_dc'])}"
     print(text)
 END
 
@@ -255,11 +308,27 @@ for stream in "$here"/*/*.264; do
         judge "macroblocks of ${name#"$here"/}" $? 0 ''
         types_in_lines <"$work/lines" | md5sum >"$work/written"
         holds "types of ${name#"$here"/}" cmp -s "$work/written" "$name.types"
+        if [ -f "$name.vectors" ]; then
+            vectors_in_lines <"$work/lines" | md5sum >"$work/written"
+            holds "vectors of ${name#"$here"/}" cmp -s "$work/written" "$name.vectors"
+        fi
+        if [ -f "$name.types_1" ]; then
+            "$program" macroblocks --picture 1 <"$stream" 2>"$work/told" | types_in_lines | md5sum >"$work/written"
+            holds "types of picture 1 of ${name#"$here"/}" cmp -s "$work/written" "$name.types_1"
+            "$program" info --json <"$stream" >"$work/facts" 2>"$work/told"
+            holds "each picture of ${name#"$here"/} alone" pictures_are_told_alone "$stream"
+        fi
         if command -v python3 >/dev/null; then
             "$program" macroblocks --json <"$stream" >"$work/written" 2>"$work/told"
             judge "macroblocks --json of ${name#"$here"/}" $? 0 ''
             python3 "$work/plain_macroblocks.py" <"$work/written" >"$work/expected"
             holds "JSON of macroblocks of ${name#"$here"/}" cmp -s "$work/lines" "$work/expected"
+            "$program" macroblocks --coefficients <"$stream" >"$work/lines" 2>"$work/told"
+            judge "macroblocks --coefficients of ${name#"$here"/}" $? 0 ''
+            "$program" macroblocks --coefficients --json <"$stream" >"$work/written" 2>"$work/told"
+            judge "macroblocks --coefficients --json of ${name#"$here"/}" $? 0 ''
+            python3 "$work/plain_macroblocks.py" <"$work/written" >"$work/expected"
+            holds "levels of ${name#"$here"/}" cmp -s "$work/lines" "$work/expected"
         fi
     fi
     if [ -f "$name.y4m" ]; then
@@ -270,6 +339,17 @@ for stream in "$here"/*/*.264; do
         "$program" decode --format framemd5 <"$stream" >"$work/lines" 2>"$work/told"
         [ $? = "$wanted" ] && cmp -s "$work/told" "$refused" && cmp -s "$work/lines" "$name.framemd5"
         holds "framemd5 of ${name#"$here"/}" [ $? = 0 ]
+    fi
+    if [ -f "$name.rgb" ] && command -v python3 >/dev/null; then
+        "$program" decode --format png <"$stream" >"$work/files" 2>"$work/told"
+        judge "png of ${name#"$here"/}" $? 0 ''
+        python3 "$here/png.py" --read <"$work/files" >"$work/pictures" 2>"$work/told"
+        holds "pixels of ${name#"$here"/}" is_decoded "$name.rgb" $? 0 /dev/null
+        if command -v ffmpeg >/dev/null; then
+            ffmpeg -v error -nostdin -f png_pipe -i "$work/files" -fps_mode passthrough -f rawvideo -pix_fmt rgb24 - \
+                >"$work/pictures" 2>"$work/told"
+            holds "pixels that ffmpeg reads of ${name#"$here"/}" is_decoded "$name.rgb" $? 0 /dev/null
+        fi
     fi
     number=0
     while [ -f "$name.piece_$number" ]; do
@@ -304,6 +384,7 @@ while [ "$bits" -le 58 ]; do
     holds "its macroblocks" tells_its_macroblocks "$bits"
     bits=$((bits + 1))
 done
+holds 'its level' tells_its_level
 
 for stream in "$here"/encoder/*.264; do
     dd bs=1 if="$stream" 2>/dev/null | "$program" decode >"$work/pictures" 2>"$work/told"
@@ -506,7 +587,7 @@ done
 
 some_md5=d41d8cd98f00b204e9800998ecf8427e
 # wrong words have a text on the standard error, and help that is asked for on the standard output
-for words in '' unit 'units in more' 'decode --fast' 'decode --format png' 'decode --limit x' 'decode --skip' 'units --skip 1' 'cut 0 --json' \
+for words in '' unit 'units in more' 'decode --fast' 'decode --format jpeg' 'decode --limit x' 'decode --skip' 'units --skip 1' 'cut 0 --json' \
     'decode --verify 0' "decode --verify $some_md5 --format md5" "decode --verify $some_md5 -o $work/out"; do
     # shellcheck disable=SC2086
     "$program" $words <"$picture" >"$work/written" 2>"$work/told"
@@ -888,6 +969,10 @@ done
 "$program" decode --explain "$moving" >"$work/written" 2>"$work/told"
 judge 'decode --explain of ten pictures' $? 0 '10 pictures, 0 refusals, 0 slices passed over
 '
+# where a fault ends the run nothing is counted
+"$program" decode --explain "$moving" >/dev/full 2>"$work/told"
+judge 'decode --explain to a full device' $? 3 'avcdec: write fault
+'
 # the slice with the gap, which is bytes 26 to 32, two times more: they are passed over
 gap=$here/cases/gap_and_resumed.264
 { head -c 33 "$gap"; tail -c +27 "$gap" | head -c 7; tail -c +27 "$gap" | head -c 7; tail -c +34 "$gap"; } | "$program" decode --explain >"$work/written" 2>"$work/told"
@@ -976,6 +1061,11 @@ judge 'a file of a picture that is the one that is read' $? 3 "avcdec: write fau
 avcdec: $work/files/read-%d: there is no permission
 "
 holds 'it is as it was' cmp -s "$moving" "$work/files/read-1"
+"$program" decode -o "$work/files/read-%d" <"$work/files/read-1" 2>"$work/told"
+judge 'a file of a picture that is the standard input' $? 3 "avcdec: write fault: $work/files/read-%d
+avcdec: $work/files/read-%d: there is no permission
+"
+holds 'that is as it was, too' cmp -s "$moving" "$work/files/read-1"
 
 # how long each picture took: a number for each, and no more together than what passed
 before=$(date +%s%N)
@@ -988,6 +1078,18 @@ holds 'they are not above what was measured' [ "$(awk '{ all += $1 } END { print
 # from a reader that waits a second before its last bytes; the program may begin a little later than it
 { head -c "$(($(wc -c <"$moving") - 1))" "$moving"; sleep 1; tail -c 1 "$moving"; } | "$program" decode --frametimes - >"$work/pictures" 2>"$work/told"
 holds 'times of a stream that waits' [ "$(awk '{ all += $1 } END { print (all >= 900000000) }' "$work/told")" = 1 ]
+# from one that waits before its first bytes: that second is the first picture's alone
+before=$(date +%s%N)
+{ sleep 1; cat "$moving"; } | "$program" decode --frametimes - >"$work/pictures" 2>"$work/told"
+passed_time=$(($(date +%s%N) - before))
+holds 'times of a stream that comes late' [ "$(awk '{ all += $1 } END { print all }' "$work/told")" -le "$passed_time" ]
+holds 'the first picture waited' [ "$(head -n 1 "$work/told")" -ge 900000000 ]
+# a full device takes no times: the pictures are written, and the fault is told
+"$program" decode --frametimes /dev/full "$moving" >"$work/pictures" 2>"$work/told"
+judge 'times to a full device' $? 3 'avcdec: write fault: /dev/full
+avcdec: /dev/full: there is no space left
+'
+holds 'the pictures are written' [ "$(md5sum <"$work/pictures" | cut -d ' ' -f 1)" = "$(cut -d ' ' -f 1 <"${moving%.264}.md5")" ]
 "$program" decode --frametimes "$work" "$moving" >"$work/pictures" 2>"$work/told"
 judge 'times into a folder' $? 3 "avcdec: write fault: $work
 avcdec: $work: it is a folder

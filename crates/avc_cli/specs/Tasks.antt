@@ -2,8 +2,10 @@
 use Rattle.std.specs.Prelude.{◌≡◌, ◌⊎◌, ℕ, Bool, true, false, List, Option, None}
 use Rattle.std.specs.Borrow.{Bor}
 use Rattle.avc_request.specs.Commands.{mode_of}
+use Rattle.avc_request.specs.declared.request.Comparing.{Comparing}
 use Rattle.avc_request.specs.declared.request.Form.{Form}
 use Rattle.avc_request.specs.declared.request.Form.TheVariants as forms
+use Rattle.avc_request.specs.declared.request.MacroblockChoice.{MacroblockChoice}
 use Rattle.avc_request.specs.declared.request.Showing.{Showing}
 use Rattle.avc_request.specs.declared.request.Subject.{Subject}
 use Rattle.avc_request.specs.declared.request.Subject.TheVariants.{Headers, Info, Macroblocks, Pieces, Units}
@@ -24,10 +26,9 @@ use Rattle.avc_info.specs.Info.{info_so_far}
 use Rattle.avc_info.specs.Json.{json_line}
 use Rattle.avc_info.specs.ListingJson.{header_json, piece_json, unit_json}
 use Rattle.avc_info.specs.PictureText.{info_text}
-use Rattle.avc_macroblocks.specs.Json.{for_programs}
-use Rattle.avc_macroblocks.specs.Lines.{for_people}
 use Rattle.avc_macroblocks.specs.Listing.{macroblock_lines_so_far}
-use Rattle.avc_formats.specs.Formats.{plain, Format}
+use Rattle.avc_macroblocks.specs.declared.listing.MacroblockListing.{MacroblockListing}
+use Rattle.avc_formats.specs.Formats.{plain, png, Format}
 use Rattle.avc_formats.specs.Headed.{headed}
 use Rattle.avc_formats.specs.Selecting.{selected}
 use Rattle.avc_formats.specs.declared.headed.HeadedFormat.{HeadedFormat}
@@ -36,6 +37,8 @@ use Rattle.avc_run.specs.BySet.{EndsDecodingBySet}
 use Rattle.avc_run.specs.Digesting.{EndsDigesting, EndsVerifying}
 use Rattle.avc_run.specs.Program.{EndsDecodingAs}
 use Rattle.avc_compare.specs.Told.{EndsComparing}
+use Rattle.avc_compare.specs.declared.comparison.Comparison.{Comparison}
+use Rattle.avc_compare.specs.declared.verdict.PictureSize.{PictureSize}
 
 -- ---- pictures
 
@@ -61,42 +64,65 @@ EndsShowing forms.Y4m s alone names explained unread left held holds before now 
     EndsDecodingBySet names explained (λ said. selection_of s (headed (y4m_of alone) said)) s.mode unread left held holds before now ending
 EndsShowing forms.FrameMd5 s alone names explained unread left held holds before now ending =
     EndsDecodingBySet names explained (λ said. selection_of s (headed FrameMd5 said)) s.mode unread left held holds before now ending
+EndsShowing forms.Png s alone names explained unread left held holds before now ending =
+    EndsDecodingAs names explained (selection_of s png) s.mode unread left held holds before now ending
 EndsShowing (forms.Verify digest) s alone names explained unread left held holds before now ending =
     (holds ≡ held) × EndsVerifying names explained (selection_of s plain) s.mode digest unread left before now ending
 
+-- the picture of this number in output order, as PNG
+abbrev pub drawing_of : (number : ℕ) → Showing
+drawing_of number = record { mode = mode_of false; skip = number; limit = 1; form = forms.Png }
+
 -- ---- what is told of a stream
 
+-- what is written of a stream so far
+abbrev Text : Type 0
+Text = List ℕ → (ended : Bool) → List ℕ
+
 -- the one of five texts that is on this subject
-abbrev pub text_on : Subject → (of_units of_headers of_pieces of_macroblocks of_all : List ℕ → (ended : Bool) → List ℕ) → List ℕ → (ended : Bool) → List ℕ
+abbrev pub text_on : Subject → (of_units of_headers of_pieces : Text) → (of_macroblocks : MacroblockChoice → Text) → (of_all : Text) → Text
 text_on Units of_units of_headers of_pieces of_macroblocks of_all = of_units
 text_on Headers of_units of_headers of_pieces of_macroblocks of_all = of_headers
 text_on Pieces of_units of_headers of_pieces of_macroblocks of_all = of_pieces
-text_on Macroblocks of_units of_headers of_pieces of_macroblocks of_all = of_macroblocks
+text_on (Macroblocks choice) of_units of_headers of_pieces of_macroblocks of_all = of_macroblocks choice
 text_on Info of_units of_headers of_pieces of_macroblocks of_all = of_all
+
+-- it is told in JSON
+abbrev is_json : Wording → Bool
+is_json Plain = false
+is_json Json = true
+
+-- what is asked of a listing of macroblocks
+abbrev pub listing_of : MacroblockChoice → Wording → MacroblockListing
+listing_of choice wording = record { is_json = is_json wording; has_coefficients = choice.has_coefficients; picture = choice.picture }
 
 -- in a wording
 abbrev pub text_in : Wording → Subject → List ℕ → (ended : Bool) → List ℕ
 text_in Plain subject =
     text_on subject (unit_lines_so_far unit_line) (header_lines_so_far header_line) (cut_point_lines_so_far cut_point_line)
-    (macroblock_lines_so_far for_people) (info_so_far info_text)
+    (λ choice. macroblock_lines_so_far (listing_of choice Plain)) (info_so_far info_text)
 text_in Json subject =
     text_on subject (unit_lines_so_far unit_json) (header_lines_so_far header_json) (cut_point_lines_so_far piece_json)
-    (macroblock_lines_so_far for_programs) (info_so_far json_line)
+    (λ choice. macroblock_lines_so_far (listing_of choice Json)) (info_so_far json_line)
 
 -- ---- comparing
 
--- The other's file can't be opened: that is told, and nothing is written.
-pub record IsNotOpened (other : Option (Bor (List ℕ))) (held holds before now : Option (List ℕ)) (ending : Ending) : Type 0 where
+-- The other's file can't be opened, or not what it begins with be read: that is told.
+pub record IsNotRead (other : Option (Bor (List ℕ))) (before now : Option (List ℕ)) (ending : Ending) : Type 0 where
   pub status_is : ending.status ≡ fault_status Read
   pub told : Tells before now (fault_line (record { input = other; output = None }) Read) ending.told
-  pub nothing : holds ≡ held
 
--- The pictures were compared with those of the other's file, all of them and as they go out by
--- default, or that file can't be opened.
-abbrev pub EndsComparingFile : Names → (other : Option (Bor (List ℕ))) → (explained : Bool) → (most : ℕ) → (unread left held holds before now : Option (List ℕ)) → Ending → Type 0
-EndsComparingFile names other explained most unread left held holds before now ending =
-    EndsComparing names other explained most (mode_of false) unread left None None held holds before now ending
-    ⊎ IsNotOpened other held holds before now ending
+-- How pictures are compared, all of them and as they go out by default, where the other's have this
+-- size, if that is known.
+abbrev pub comparison_of : Comparing → Option PictureSize → Comparison
+comparison_of how size = record { output = mode_of false; most = how.most; has_psnr = how.has_psnr; size = size }
+
+-- The pictures were compared with those of the other's file, with the size that it says, if it says
+-- one (that is read by code that is tested alone); or that file can't be read, and nothing is written.
+abbrev pub EndsComparingFile : Names → (other : Option (Bor (List ℕ))) → (explained : Bool) → Comparing → (unread left held holds before now : Option (List ℕ)) → Ending → Type 0
+EndsComparingFile names other explained how unread left held holds before now ending =
+    ((size : Option PictureSize) × EndsComparing names other explained (comparison_of how size) unread left None None held holds before now ending)
+    ⊎ ((holds ≡ held) × IsNotRead other before now ending)
 
 -- ---- all of them
 
@@ -112,5 +138,13 @@ EndsTask (tasks.Tell subject wording) other alone names explained unread left he
     EndsListing names (text_in wording subject) unread left held holds before now ending
 EndsTask (tasks.Cut number) other alone names explained unread left held holds before now ending =
     EndsCutting names number unread left held holds before now ending
-EndsTask (tasks.Compare most) other alone names explained unread left held holds before now ending =
-    EndsComparingFile names other explained most unread left held holds before now ending
+EndsTask (tasks.Draw number) other alone names explained unread left held holds before now ending =
+    EndsShowing forms.Png (drawing_of number) true names explained unread left held holds before now ending
+EndsTask (tasks.Compare how) other alone names explained unread left held holds before now ending =
+    EndsComparingFile names other explained how unread left held holds before now ending
+
+-- Where decoding waits, and how many slices it passes over, is told of what is decoded; of pictures
+-- that are compared it is not followed.
+abbrev pub are_losses_told : Task → Bool
+are_losses_told (tasks.Compare how) = false
+are_losses_told _ = true

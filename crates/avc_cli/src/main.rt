@@ -9,7 +9,8 @@ ghost use Rattle.avc_macroblocks.specs.Listing.{macroblock_lines_so_far};
 ghost use Rattle.avc_console.specs.Program.{EndsListing};
 ghost use Rattle.avc_formats.specs.Headed.{headed};
 ghost use Rattle.avc_run.specs.BySet.{EndsDecodingBySet};
-ghost use Rattle.avc_cli.specs.Tasks.{selection_of, text_on, y4m_of, EndsShowing, EndsTask};
+ghost use Rattle.avc_cli.specs.Tasks.{are_losses_told, drawing_of, listing_of, selection_of};
+ghost use Rattle.avc_cli.specs.Tasks.{text_on, y4m_of, EndsShowing, EndsTask};
 
 mod comparing;
 
@@ -17,15 +18,17 @@ use avc_console::{
     Answer, Console, Ending, Names, RunFault, Watch, answer_status, cut, cut_status, fail,
     fault_status, headers, pieces, units,
 };
-use avc_formats::{HeadedFormat, I420, Selected};
+use avc_formats::{HeadedFormat, I420, Png, Selected};
 use avc_info::{ForPrograms, InfoForm, info};
-use avc_macroblocks::{MacroblockForm, macroblocks};
-use avc_request::{Form, Request, Showing, Subject, Task, Wording, requested, words_of};
-use avc_run::{decode, decode_as, decode_headed, decode_md5, verify};
+use avc_macroblocks::{MacroblockListing, macroblocks};
+use avc_request::{
+    Form, MacroblockChoice, Request, Showing, Subject, Task, Wording, requested, words_of,
+};
+use avc_run::{Output as OutputMode, decode, decode_as, decode_headed, decode_md5, verify};
 use avc_shell::{
     Errors, FrameTimes, FromPiece, Input, LossLines, Observer, Output, OutputFile, PictureFiles,
-    Progress, ended_status, is_output_refused, is_progress_told, is_told_more, tell_container,
-    tell_no_piece, tell_outcome, tell_reason,
+    Progress, absent_picture, ended_status, is_output_refused, is_progress_told, is_told_more,
+    tell_absent_picture, tell_container, tell_no_piece, tell_outcome, tell_reason,
 };
 use avc_tools::{ForPeople, ListingForm};
 use clap::error::ErrorKind;
@@ -99,7 +102,12 @@ fn carry_out_on<R: Read + Drop>(
         names: names_of(request),
         is_explained: manner.is_explained,
         errors: Errors::new(rt, manner.is_quiet, &has_left, &progress_stands),
-        watch: Observer::new(progress, LossLines::new(rt, is_told_more), times, &pictures),
+        watch: Observer::new(
+            progress,
+            LossLines::new(rt, is_told_more && are_losses_told(&request.task)),
+            times,
+            &pictures,
+        ),
     };
     let noted = Noted {
         has_left: &has_left,
@@ -107,6 +115,21 @@ fn carry_out_on<R: Read + Drop>(
     };
     let written = write_out_from(rt, request, &mut input, noted, &mut console);
     tell_end(rt, request, is_told_more, &input, written, &console.watch)
+}
+
+// Whether it is told where decoding waits and how many slices it passes over.
+fn are_losses_told(task: &Task) -> bool
+    ensures { result ≡ are_losses_told task.now }
+{
+    match task {
+        Task::Compare(_) => false,
+        Task::Decode(_)
+        | Task::Show(_)
+        | Task::Check(_)
+        | Task::Tell(..)
+        | Task::Cut(_)
+        | Task::Draw(_) => true,
+    }
 }
 
 // Tells how it ended, behind what the command told itself. Answers the exit status.
@@ -135,6 +158,9 @@ fn tell_end<R>(
         Some(outcome) => {
             if is_told_more {
                 tell_outcome(rt, outcome, watch.passed(), input.first());
+            }
+            if let Some(number) = absent_picture(&request.task, outcome.pictures, status) {
+                tell_absent_picture(rt, number);
             }
             ended_status(
                 request.manner.is_strict,
@@ -308,20 +334,40 @@ fn carry_out_between<R: Read, W: Write, E: Write, V: Watch>(
             )
         }
         Task::Tell(subject, Wording::Plain) => {
-            tell(alloc, subject, ForPeople, reader, writer, console)
+            tell(
+                alloc,
+                subject,
+                Wording::Plain,
+                ForPeople,
+                reader,
+                writer,
+                console,
+            )
         }
         Task::Tell(subject, Wording::Json) => {
-            tell(alloc, subject, ForPrograms, reader, writer, console)
+            tell(
+                alloc,
+                subject,
+                Wording::Json,
+                ForPrograms,
+                reader,
+                writer,
+                console,
+            )
         }
         Task::Cut(number) => cut(alloc, number, reader, writer, console),
-        Task::Compare(most) => compare_files(rt, request, most, reader, writer, console),
+        Task::Draw(number) => show(alloc, drawing_of(number), true, reader, writer, console),
+        Task::Compare(comparing) => {
+            compare_files(rt, request, comparing, reader, writer, console)
+        }
     }
 }
 
-// Tells something of a stream in this form.
-fn tell<F: ListingForm + MacroblockForm + InfoForm + Drop, R: Read, W: Write, E: Write, V: Watch>(
+// Tells something of a stream in this wording, which has this form.
+fn tell<F: ListingForm + InfoForm + Drop, R: Read, W: Write, E: Write, V: Watch>(
     alloc: Global,
     subject: Subject,
+    wording: Wording,
     form: F,
     reader: &mut R,
     writer: &mut W,
@@ -329,7 +375,7 @@ fn tell<F: ListingForm + MacroblockForm + InfoForm + Drop, R: Read, W: Write, E:
 ) -> Ending
     ensures { EndsListing console.old.names
         (text_on subject (unit_lines_so_far F.of_unit) (header_lines_so_far F.of_header) (cut_point_lines_so_far F.of_piece)
-        (macroblock_lines_so_far F.form) (info_so_far F.text))
+        (λ choice. macroblock_lines_so_far (listing_of choice wording)) (info_so_far F.text))
         (R.remaining reader.old) (R.remaining reader.new) (W.contents writer.old) (W.contents writer.new)
         (E.contents console.old.errors) (E.contents console.new.errors) result }
 {
@@ -337,8 +383,25 @@ fn tell<F: ListingForm + MacroblockForm + InfoForm + Drop, R: Read, W: Write, E:
         Subject::Units => units(alloc, form, reader, writer, console),
         Subject::Headers => headers(alloc, form, reader, writer, console),
         Subject::Pieces => pieces(alloc, form, reader, writer, console),
-        Subject::Macroblocks => macroblocks(alloc, form, reader, writer, console),
+        Subject::Macroblocks(choice) => {
+            let listing = listing_of(choice, wording);
+            macroblocks(alloc, listing, reader, writer, console)
+        }
         Subject::Info => info(alloc, form, reader, writer, console),
+    }
+}
+
+// What is asked of a listing of macroblocks.
+fn listing_of(choice: MacroblockChoice, wording: Wording) -> MacroblockListing
+    ensures { result ≡ listing_of choice wording }
+{
+    MacroblockListing {
+        is_json: match wording {
+            Wording::Json => true,
+            Wording::Plain => false,
+        },
+        has_coefficients: choice.has_coefficients,
+        picture: choice.picture,
     }
 }
 
@@ -383,7 +446,27 @@ fn show<R: Read, W: Write, E: Write, V: Watch>(
             writer,
             console,
         ),
+        Form::Png => {
+            let format = Selected {
+                format: Png { alloc },
+                skip,
+                limit,
+            };
+            decode_as(alloc, mode, &format, reader, writer, console)
+        }
         Form::Verify(expected) => verify(alloc, mode, &format, expected, reader, console),
+    }
+}
+
+// The picture of this number, as PNG.
+fn drawing_of(number: u64) -> Showing
+    ensures { result ≡ drawing_of number }
+{
+    Showing {
+        mode: OutputMode::Full,
+        skip: number,
+        limit: 1,
+        form: Form::Png,
     }
 }
 

@@ -1,9 +1,9 @@
 -- What the words of the command line name.
-use Rattle.std.specs.Prelude.{◌≡◌, ℕ, ◌^◌, ◌-◌, Bool, ◌==◌, ◌&&◌, true, false, if◌then◌else◌, List, Option, Some, None, codes}
+use Rattle.std.specs.Prelude.{◌≡◌, ◌⊎◌, ℕ, ◌^◌, ◌-◌, Bool, ◌==◌, ◌&&◌, true, false, if◌then◌else◌, List, Option, Some, None, codes}
 use Rattle.avc_dpb.specs.declared.output.Output.{Output}
 use Rattle.avc_dpb.specs.declared.output.Output.TheVariants.{Early, Full}
 use Rattle.avc_request.specs.declared.words.Command.{Command}
-use Rattle.avc_request.specs.declared.words.Command.TheVariants.{Compare, Cut, Decode, Headers, Info, Macroblocks, Pieces, Units}
+use Rattle.avc_request.specs.declared.words.Command.TheVariants.{Compare, Cut, Decode, Headers, Info, Macroblocks, Picture, Pieces, Units}
 use Rattle.avc_request.specs.declared.file_kind.FileKind.{FileKind}
 use Rattle.avc_request.specs.declared.file_kind.FileKind.TheVariants as kinds
 use Rattle.avc_request.specs.declared.request.Form.{Form}
@@ -26,6 +26,7 @@ word_of Macroblocks = codes "macroblocks"
 word_of Info = codes "info"
 word_of Cut = codes "cut"
 word_of Compare = codes "compare"
+word_of Picture = codes "picture"
 
 -- The word names this command, or none.
 abbrev pub IsNamed : (word : List ℕ) → Option Command → Type 0
@@ -36,6 +37,14 @@ IsNamed word None = (command : Command) → word ≡ word_of command → ⊥
 abbrev pub mode_of : (early : Bool) → Output
 mode_of true = Early
 mode_of false = Full
+
+-- The output of a command is written: a container by none, a picture as PNG by those that show pictures,
+-- and by that of one picture no other.
+abbrev pub IsWritten : Command → FileKind → Type 0
+IsWritten command kinds.Container = ⊥
+IsWritten command kinds.Png = (command ≡ Decode) ⊎ (command ≡ Picture)
+IsWritten command kinds.Y4m = command ≡ Picture → ⊥
+IsWritten command kinds.Other = Unit {0}
 
 -- when progress is told, by whether `--progress` or `--quiet` is among the words
 abbrev pub progress_of : (is_wanted is_quiet : Bool) → Telling
@@ -54,13 +63,15 @@ IsForm word forms.Null = word ≡ codes "null"
 IsForm word forms.Md5 = word ≡ codes "md5"
 IsForm word forms.Y4m = word ≡ codes "y4m"
 IsForm word forms.FrameMd5 = word ≡ codes "framemd5"
+IsForm word forms.Png = word ≡ codes "png"
 IsForm word forms.I420 =
-    (word ≡ codes "null" → ⊥) × (word ≡ codes "md5" → ⊥) × (word ≡ codes "y4m" → ⊥) × (word ≡ codes "framemd5" → ⊥)
+    (word ≡ codes "null" → ⊥) × (word ≡ codes "md5" → ⊥) × (word ≡ codes "y4m" → ⊥) × (word ≡ codes "framemd5" → ⊥) × (word ≡ codes "png" → ⊥)
 IsForm word (forms.Verify digest) = ⊥
 
 -- the form that a file of this kind asks for
 abbrev pub form_by_name : FileKind → Form
 form_by_name kinds.Y4m = forms.Y4m
+form_by_name kinds.Png = forms.Png
 form_by_name kinds.Container = forms.I420
 form_by_name kinds.Other = forms.I420
 
@@ -71,6 +82,7 @@ task_of_all showing forms.Null = tasks.Check showing.mode
 task_of_all showing forms.Md5 = tasks.Show showing
 task_of_all showing forms.Y4m = tasks.Show showing
 task_of_all showing forms.FrameMd5 = tasks.Show showing
+task_of_all showing forms.Png = tasks.Show showing
 task_of_all showing (forms.Verify digest) = tasks.Show showing
 
 -- the task of showing pictures: none are left out where none is skipped and the limit is the
@@ -83,6 +95,7 @@ task_showing showing =
 abbrev pub is_raw_form : Form → Bool
 is_raw_form forms.I420 = true
 is_raw_form forms.Y4m = true
+is_raw_form forms.Png = true
 is_raw_form forms.Null = false
 is_raw_form forms.Md5 = false
 is_raw_form forms.FrameMd5 = false
@@ -92,7 +105,8 @@ is_raw_form (forms.Verify digest) = false
 abbrev pub is_raw : Task → Bool
 is_raw (tasks.Decode mode) = true
 is_raw (tasks.Cut number) = true
+is_raw (tasks.Draw number) = true
 is_raw (tasks.Show showing) = is_raw_form showing.form
 is_raw (tasks.Check mode) = false
 is_raw (tasks.Tell subject wording) = false
-is_raw (tasks.Compare most) = false
+is_raw (tasks.Compare how) = false

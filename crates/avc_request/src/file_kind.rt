@@ -10,7 +10,10 @@ pub(crate) enum FileKind {
     /// YUV4MPEG2.
     Y4m,
 
-    /// A container or a picture, as no command writes.
+    /// A picture as PNG.
+    Png,
+
+    /// A container, or a picture of another format, as no command writes.
     Container,
 
     Other,
@@ -31,18 +34,9 @@ fn kind_named(extension: &str) -> FileKind
 {
     match extension {
         "y4m" => FileKind::Y4m,
-        "mp4"
-        | "m4v"
-        | "mov"
-        | "mkv"
-        | "webm"
-        | "ts"
-        | "flv"
-        | "avi"
-        | "ivf"
-        | "jpg"
-        | "jpeg"
-        | "png" => FileKind::Container,
+        "png" => FileKind::Png,
+        "mp4" | "m4v" | "mov" | "mkv" | "webm" | "ts" | "flv" | "avi" | "ivf" | "jpg" | "jpeg" =>
+            FileKind::Container,
         _ => FileKind::Other,
     }
 }

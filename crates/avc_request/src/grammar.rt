@@ -17,6 +17,11 @@ pub(crate) const INFO: &str = "info";
 
 pub(crate) const CUT: &str = "cut";
 
+// the command, and the option of macroblocks
+pub(crate) const PICTURE: &str = "picture";
+
+pub(crate) const COEFFICIENTS: &str = "coefficients";
+
 pub(crate) const COMPARE: &str = "compare";
 
 pub(crate) const EARLY: &str = "early";
@@ -28,6 +33,8 @@ pub(crate) const INPUT: &str = "INPUT";
 pub(crate) const OTHER: &str = "OTHER";
 
 pub(crate) const MAX_DIFF: &str = "max-diff";
+
+pub(crate) const PSNR: &str = "psnr";
 
 pub(crate) const OUTPUT: &str = "output";
 
@@ -43,7 +50,9 @@ pub(crate) const Y4M: &str = "y4m";
 
 pub(crate) const FRAME_MD5: &str = "framemd5";
 
-const FORMATS: &[&str] = &[I420, Y4M, NULL, MD5, FRAME_MD5];
+pub(crate) const PNG: &str = "png";
+
+const FORMATS: &[&str] = &[I420, Y4M, PNG, NULL, MD5, FRAME_MD5];
 
 pub(crate) const VERIFY: &str = "verify";
 
@@ -67,7 +76,7 @@ pub(crate) const JSON: &str = "json";
 
 const STATUSES: &str = concat!(
     "Exit status: 0 all well, 1 decode refused something, found another MD5 or, with --strict, no picture, ",
-    "compare found a difference, or a stream has no such piece, 2 wrong words, ",
+    "compare found a difference, or a stream has no such piece or picture, 2 wrong words, ",
     "3 reading or writing failed, 4 out of memory"
 );
 
@@ -100,6 +109,9 @@ enum Kind {
 
     /// The number of a piece.
     Piece,
+
+    /// The number of a picture.
+    Picture,
 
     /// An option with how far samples may be apart.
     Distance,
@@ -139,7 +151,11 @@ const OUTPUT_WORD: Word = Word {
     name: OUTPUT,
     short: Some('o'),
     kind: Kind::Output,
-    help: "The file to write, which is emptied first; standard output where none is named, and for -, which may be a terminal; by decode one file a picture, where %d, or %05d, stands for its number",
+    help: concat!(
+        "The file to write, which is emptied first; standard output where none is named, and ",
+        "for -, which may be a terminal; by decode one file a picture, where %d, or %05d, ",
+        "stands for its number"
+    ),
     conflicts: &[],
 };
 
@@ -147,7 +163,10 @@ const EXPLAIN_WORD: Word = Word {
     name: EXPLAIN,
     short: None,
     kind: Kind::Flag,
-    help: "Tells on standard error what each refusal means, how many pictures and refusals there are, and what a stream without a picture is",
+    help: concat!(
+        "Tells on standard error what each refusal means, how many pictures and refusals there ",
+        "are, and what a stream without a picture is"
+    ),
     conflicts: &[],
 };
 
@@ -179,21 +198,31 @@ const COMMANDS: &[CommandWords] = &[
                 name: FORMAT,
                 short: Some('f'),
                 kind: Kind::Format,
-                help: "How the pictures are written: i420 unless FILE ends in .y4m, md5 writes their MD5 alone, framemd5 that of each, null nothing",
+                help: concat!(
+                    "How the pictures are written: i420 unless FILE ends in .y4m or .png, md5 ",
+                    "writes their MD5 alone, framemd5 that of each, null nothing; png is for ",
+                    "one file a picture"
+                ),
                 conflicts: &[],
             },
             Word {
                 name: VERIFY,
                 short: None,
                 kind: Kind::Digest,
-                help: "Writes nothing; the status is 1 where the pictures have another MD5, in hex digits, or there are none",
+                help: concat!(
+                    "Writes nothing; the status is 1 where the pictures have another MD5, in ",
+                    "hex digits, or there are none"
+                ),
                 conflicts: &[FORMAT, OUTPUT],
             },
             Word {
                 name: FROM,
                 short: None,
                 kind: Kind::Start,
-                help: "Begins with the piece of this number, from 0, as pieces lists them; what stands before it is not decoded",
+                help: concat!(
+                    "Begins with the piece of this number, from 0, as pieces lists them; what ",
+                    "stands before it is not decoded"
+                ),
                 conflicts: &[],
             },
             Word {
@@ -214,7 +243,10 @@ const COMMANDS: &[CommandWords] = &[
                 name: FRAME_TIMES,
                 short: None,
                 kind: Kind::Times,
-                help: "Writes a line for each picture to this file: the nanoseconds that it took; standard error for -",
+                help: concat!(
+                    "Writes a line for each picture to this file: the nanoseconds that it took; ",
+                    "standard error for -"
+                ),
                 conflicts: &[],
             },
             Word {
@@ -228,7 +260,10 @@ const COMMANDS: &[CommandWords] = &[
                 name: QUIET,
                 short: Some('q'),
                 kind: Kind::Flag,
-                help: "Shows no progress, and does not tell that whoever reads the output has left; refusals and other faults are told",
+                help: concat!(
+                    "Shows no progress, and does not tell that whoever reads the output has ",
+                    "left; refusals and other faults are told"
+                ),
                 conflicts: &[],
             },
             Word {
@@ -242,7 +277,11 @@ const COMMANDS: &[CommandWords] = &[
                 name: EXPLAIN,
                 short: None,
                 kind: Kind::Flag,
-                help: "Tells on standard error what each refusal means and loses, how many pictures, refusals and slices passed over there are, and what a stream without a picture is",
+                help: concat!(
+                    "Tells on standard error what each refusal means and loses, how many ",
+                    "pictures, refusals and slices passed over there are, and what a stream ",
+                    "without a picture is"
+                ),
                 conflicts: &[],
             },
             OUTPUT_WORD,
@@ -266,28 +305,58 @@ const COMMANDS: &[CommandWords] = &[
     },
     CommandWords {
         name: PIECES,
-        about: "Prints a line for each piece that cut can write: N INDEX OFFSET, of the unit with which it begins",
+        about: concat!(
+            "Prints a line for each piece that cut can write: N INDEX OFFSET, of the unit with ",
+            "which it begins"
+        ),
         example: "Example: avcdec pieces in.264 | tail -1",
         words: &[JSON_WORD, INPUT_WORD],
     },
     CommandWords {
         name: MACROBLOCKS,
-        about: "Prints a line for each macroblock as it is read, without decoding: INDEX slice N mb ADDRESS, its type, QP and syntax elements; faults that only decoding finds are not seen",
+        about: concat!(
+            "Prints a line for each macroblock as it is read, without decoding: INDEX slice N ",
+            "mb ADDRESS, its type, QP and syntax elements; faults that only decoding finds are ",
+            "not seen"
+        ),
         example: concat!(
             "Example: avcdec macroblocks in.264 | grep -c P_Skip\n",
             "         avcdec macroblocks --json in.264 | jq 'select(.mb_type == \"P_8x8\").mvd_l0'"
         ),
-        words: &[JSON_WORD, INPUT_WORD],
+        words: &[
+            Word {
+                name: COEFFICIENTS,
+                short: None,
+                kind: Kind::Flag,
+                help: "Tells the levels of each block too",
+                conflicts: &[],
+            },
+            Word {
+                name: PICTURE,
+                short: None,
+                kind: Kind::Pictures,
+                help: "Tells of the picture of this number alone, from 0, in decoding order",
+                conflicts: &[],
+            },
+            JSON_WORD,
+            INPUT_WORD,
+        ],
     },
     CommandWords {
         name: INFO,
-        about: "Prints the size, profile, level and frame rate, and counts of pictures and slices, without decoding",
+        about: concat!(
+            "Prints the size, profile, level and frame rate, and counts of pictures and slices, ",
+            "without decoding"
+        ),
         example: "Example: avcdec info in.264",
         words: &[JSON_WORD, INPUT_WORD],
     },
     CommandWords {
         name: COMPARE,
-        about: "Says where the pictures of another decoder, as I420 or Y4M, differ first; nothing where they are the same",
+        about: concat!(
+            "Says where the pictures of another decoder, as I420 or Y4M, differ first; nothing ",
+            "where they are the same"
+        ),
         example: "Example: avcdec compare other.yuv in.264",
         words: &[
             Word {
@@ -295,6 +364,13 @@ const COMMANDS: &[CommandWords] = &[
                 short: None,
                 kind: Kind::Distance,
                 help: "Samples that are at most N apart do not differ",
+                conflicts: &[],
+            },
+            Word {
+                name: PSNR,
+                short: None,
+                kind: Kind::Flag,
+                help: "Tells of each picture that is compared the PSNR of luma, Cb and Cr, in decibels",
                 conflicts: &[],
             },
             EXPLAIN_WORD,
@@ -305,6 +381,22 @@ const COMMANDS: &[CommandWords] = &[
                 help: "The file with the other decoder's pictures; - is standard input",
                 conflicts: &[],
             },
+            INPUT_WORD,
+        ],
+    },
+    CommandWords {
+        name: PICTURE,
+        about: "Writes one picture as PNG, to look at",
+        example: "Example: avcdec picture 7 in.264 -o out.png",
+        words: &[
+            Word {
+                name: NUMBER,
+                short: None,
+                kind: Kind::Picture,
+                help: "The number of the picture, from 0, in output order",
+                conflicts: &[],
+            },
+            OUTPUT_WORD,
             INPUT_WORD,
         ],
     },
@@ -381,6 +473,10 @@ fn taking<'a>(arg: Arg<'a>, name: &'static str, kind: Kind) -> Arg<'a> {
             .required(true)
             .action(ArgAction::Set)
             .value_parser(clap::value_parser!(u32)),
+        Kind::Picture => arg
+            .required(true)
+            .action(ArgAction::Set)
+            .value_parser(clap::value_parser!(u64)),
         Kind::Distance => option(arg, name, NUMBER).value_parser(clap::value_parser!(u8)),
         Kind::Other => arg.required(true).action(ArgAction::Set),
     }

@@ -10,5 +10,7 @@ mod words;
 
 pub use numbered::Numbered;
 pub use reading::words_of;
-pub use request::{Form, Manner, Request, Showing, Subject, Task, Telling, Wording};
+pub use request::{
+    Comparing, Form, MacroblockChoice, Manner, Request, Showing, Subject, Task, Telling, Wording,
+};
 pub use words::requested;

@@ -81,9 +81,11 @@ pub enum Task {
     /// The piece of this number.
     Cut(u32),
 
-    /// The pictures are compared with another decoder's, where samples that are at most so far
-    /// apart are the same.
-    Compare(u8),
+    /// The picture of this number, in output order, from 0, as PNG.
+    Draw(u64),
+
+    /// The pictures are compared with another decoder's.
+    Compare(Comparing),
 }
 
 impl Task {
@@ -92,11 +94,21 @@ impl Task {
         ensures { result ≡ is_raw self.now }
     {
         match self {
-            Task::Decode(_) | Task::Cut(_) => true,
+            Task::Decode(_) | Task::Cut(_) | Task::Draw(_) => true,
             Task::Show(showing) => is_raw_form(&showing.form),
             Task::Check(_) | Task::Tell(..) | Task::Compare(_) => false,
         }
     }
+}
+
+/// How pictures are compared.
+#[derive(Clone, Copy, Debug, PartialEq, Eq)]
+pub struct Comparing {
+    /// Samples that are at most so far apart are the same.
+    pub most: u8,
+
+    /// Whether a line tells how near each picture is.
+    pub has_psnr: bool,
 }
 
 /// What is told of a stream.
@@ -111,11 +123,22 @@ pub enum Subject {
     /// A line for each piece.
     Pieces,
 
-    /// A line for each macroblock.
-    Macroblocks,
+    /// A line for each of these macroblocks.
+    Macroblocks(MacroblockChoice),
 
     /// What the headers say of the stream.
     Info,
+}
+
+/// Which macroblocks are told of, and what.
+#[derive(Clone, Copy, Debug, PartialEq, Eq)]
+pub struct MacroblockChoice {
+    /// With the levels of each block.
+    pub has_coefficients: bool,
+
+    /// The number of the picture whose macroblocks they are, in decoding order, from 0, where they
+    /// are not all.
+    pub picture: Option<u64>,
 }
 
 /// How it is told.
@@ -160,6 +183,9 @@ pub enum Form {
     /// The MD5 of each picture is written, as framemd5 does.
     FrameMd5,
 
+    /// They are written as PNG.
+    Png,
+
     /// Their MD5 is compared with this one.
     Verify([u8; 16]),
 }
@@ -169,7 +195,7 @@ fn is_raw_form(form: &Form) -> bool
     ensures { result ≡ is_raw_form form.now }
 {
     match form {
-        Form::I420 | Form::Y4m => true,
+        Form::I420 | Form::Y4m | Form::Png => true,
         Form::Null | Form::Md5 | Form::FrameMd5 | Form::Verify(_) => false,
     }
 }

@@ -1,18 +1,20 @@
 //! From words to what is asked for.
 
-ghost use Rattle.std.specs.Prelude.{◌≡◌};
+ghost use Rattle.std.specs.Prelude.{◌≡◌, ◌↔◌, IsTrue};
 ghost use Rattle.avc_request.specs.Commands.{form_by_name, mode_of, progress_of, task_of_all};
-ghost use Rattle.avc_request.specs.Commands.{task_showing, wording_of, IsForm, IsNamed};
+ghost use Rattle.avc_request.specs.Commands.{task_showing, wording_of, IsForm, IsNamed, IsWritten};
 ghost use Rattle.avc_request.specs.Numberings.{IsFileNamed};
 
 use crate::file_kind::{FileKind, file_kind};
 use crate::grammar::{
-    COMPARE, CUT, DECODE, EARLY, EXPLAIN, FORMAT, FRAME_MD5, FRAME_TIMES, FROM, HEADERS, I420,
-    INFO, INPUT, JSON, LIMIT, MACROBLOCKS, MAX_DIFF, MD5, NULL, NUMBER, OTHER, OUTPUT, PIECES,
-    PROGRESS, QUIET, SKIP, STRICT, UNITS, VERIFY, Y4M, grammar,
+    COEFFICIENTS, COMPARE, CUT, DECODE, EARLY, EXPLAIN, FORMAT, FRAME_MD5, FRAME_TIMES, FROM,
+    HEADERS, I420, INFO, INPUT, JSON, LIMIT, MACROBLOCKS, MAX_DIFF, MD5, NULL, NUMBER, OTHER,
+    OUTPUT, PICTURE, PIECES, PNG, PROGRESS, PSNR, QUIET, SKIP, STRICT, UNITS, VERIFY, Y4M, grammar,
 };
 use crate::numbered::{Naming, Numbered, naming_of};
-use crate::request::{Form, Manner, Request, Showing, Subject, Task, Telling, Wording};
+use crate::request::{
+    Comparing, Form, MacroblockChoice, Manner, Request, Showing, Subject, Task, Telling, Wording,
+};
 use avc_dpb::Output;
 use clap::error::ErrorKind;
 use clap::{ArgMatches, Error};
@@ -30,6 +32,7 @@ enum Command {
     Info,
     Cut,
     Compare,
+    Picture,
 }
 
 /// Why words that the grammar takes name nothing to do.
@@ -68,6 +71,7 @@ fn command_named(name: &str) -> Option<Command>
         INFO => Some(Command::Info),
         CUT => Some(Command::Cut),
         COMPARE => Some(Command::Compare),
+        PICTURE => Some(Command::Picture),
         _ => None,
     }
 }
@@ -86,19 +90,39 @@ fn task_of(command: Command, matches: &ArgMatches<'_>, kind: FileKind) -> Option
         Command::Units => Some(telling_of(Subject::Units, matches)),
         Command::Headers => Some(telling_of(Subject::Headers, matches)),
         Command::Pieces => Some(telling_of(Subject::Pieces, matches)),
-        Command::Macroblocks => Some(telling_of(Subject::Macroblocks, matches)),
+        Command::Macroblocks => Some(telling_of(Subject::Macroblocks(choice_of(matches)), matches)),
         Command::Info => Some(telling_of(Subject::Info, matches)),
         Command::Cut => {
             let number = matches.get_one::<u32>(NUMBER)?;
             Some(Task::Cut(number))
         }
-        Command::Compare => Some(Task::Compare(matches.get_one::<u8>(MAX_DIFF).unwrap_or(0))),
+        Command::Compare => Some(Task::Compare(comparing_of(matches))),
+        Command::Picture => {
+            let number = matches.get_one::<u64>(NUMBER)?;
+            Some(Task::Draw(number))
+        }
     }
 }
 
 // The task of telling this.
 fn telling_of(subject: Subject, matches: &ArgMatches<'_>) -> Task {
     Task::Tell(subject, wording_of(matches.get_flag(JSON)))
+}
+
+// How pictures are compared.
+fn comparing_of(matches: &ArgMatches<'_>) -> Comparing {
+    Comparing {
+        most: matches.get_one::<u8>(MAX_DIFF).unwrap_or(0),
+        has_psnr: matches.get_flag(PSNR),
+    }
+}
+
+// Which macroblocks are told of, and what.
+fn choice_of(matches: &ArgMatches<'_>) -> MacroblockChoice {
+    MacroblockChoice {
+        has_coefficients: matches.get_flag(COEFFICIENTS),
+        picture: matches.get_one::<u64>(PICTURE),
+    }
 }
 
 // The wording, by whether `--json` is among the words.
@@ -140,7 +164,9 @@ fn task_of_all(showing: Showing) -> Task
     match showing.form {
         Form::I420 => Task::Decode(showing.mode),
         Form::Null => Task::Check(showing.mode),
-        Form::Md5 | Form::Y4m | Form::FrameMd5 | Form::Verify(_) => Task::Show(showing),
+        Form::Md5 | Form::Y4m | Form::FrameMd5 | Form::Png | Form::Verify(_) => {
+            Task::Show(showing)
+        }
     }
 }
 
@@ -161,6 +187,7 @@ fn form_named(name: &str) -> Form
         MD5 => Form::Md5,
         Y4M => Form::Y4m,
         FRAME_MD5 => Form::FrameMd5,
+        PNG => Form::Png,
         _ => Form::I420,
     }
 }
@@ -171,6 +198,7 @@ fn form_by_name(kind: FileKind) -> Form
 {
     match kind {
         FileKind::Y4m => Form::Y4m,
+        FileKind::Png => Form::Png,
         FileKind::Container | FileKind::Other => Form::I420,
     }
 }
@@ -196,13 +224,25 @@ fn file_named<'a>(word: Option<&'a str>) -> Option<&'a str>
     }
 }
 
+// Whether a command writes files of this kind.
+fn is_written(command: Command, kind: FileKind) -> bool
+    ensures { IsTrue result ↔ IsWritten command kind }
+{
+    match kind {
+        FileKind::Container => false,
+        FileKind::Png => matches!(command, Command::Decode | Command::Picture),
+        FileKind::Y4m => !matches!(command, Command::Picture),
+        FileKind::Other => true,
+    }
+}
+
 // The request of a command, or why its words name none.
 fn request_of<'a>(
     command: Command,
     matches: &ArgMatches<'a>,
     kind: FileKind,
 ) -> Result<Request<'a>, Misuse> {
-    if let FileKind::Container = kind {
+    if !is_written(command, kind) {
         return Err(Misuse::Container);
     }
     let task = match task_of(command, matches, kind) {
@@ -232,7 +272,7 @@ fn request_of<'a>(
 // What stands for the output.
 fn output_word<'a>(command: Command, matches: &ArgMatches<'a>) -> Option<&'a str> {
     match command {
-        Command::Decode | Command::Cut => word(matches, OUTPUT),
+        Command::Decode | Command::Cut | Command::Picture => word(matches, OUTPUT),
         Command::Units
         | Command::Headers
         | Command::Pieces
@@ -252,7 +292,8 @@ fn other_word<'a>(command: Command, matches: &ArgMatches<'a>) -> Option<&'a str>
         | Command::Pieces
         | Command::Macroblocks
         | Command::Info
-        | Command::Cut => None,
+        | Command::Cut
+        | Command::Picture => None,
     }
 }
 
@@ -282,7 +323,8 @@ fn start_of(command: Command, matches: &ArgMatches<'_>) -> Option<u32> {
         | Command::Macroblocks
         | Command::Info
         | Command::Compare
-        | Command::Cut => None,
+        | Command::Cut
+        | Command::Picture => None,
     }
 }
 
@@ -296,7 +338,8 @@ fn times_word<'a>(command: Command, matches: &ArgMatches<'a>) -> Option<&'a str>
         | Command::Macroblocks
         | Command::Info
         | Command::Compare
-        | Command::Cut => None,
+        | Command::Cut
+        | Command::Picture => None,
     }
 }
 
@@ -319,7 +362,8 @@ fn manner_of(command: Command, matches: &ArgMatches<'_>) -> Manner {
         | Command::Pieces
         | Command::Macroblocks
         | Command::Info
-        | Command::Cut => Manner {
+        | Command::Cut
+        | Command::Picture => Manner {
             progress: Telling::Never,
             is_quiet: false,
             is_strict: false,
@@ -372,11 +416,17 @@ fn misuse_text(misuse: Misuse) -> &'static str {
     match misuse {
         Misuse::Digest => "--verify takes an MD5 of 32 hex digits",
         Misuse::Numbering => {
-            "--output takes one %d in the name, or %01d to %09d, for one file a picture, with the formats i420 and y4m, and no other %"
+            concat!(
+                "--output takes one %d in the name, or %01d to %09d, for one file a picture, ",
+                "with the formats i420, y4m and png, and no other %"
+            )
         }
         Misuse::SameInput => "OTHER and INPUT can't both be standard input",
         Misuse::Container => {
-            "--output takes no container, nor a picture of another format: FILE.yuv or FILE.y4m is written, and FILE.264 by cut"
+            concat!(
+                "--output takes no container, nor a picture of another format: FILE.yuv, ",
+                "FILE.y4m or FILE.png is written, FILE.png by picture, and FILE.264 by cut"
+            )
         }
     }
 }

@@ -1,11 +1,12 @@
 -- What is given of a stream from a cut point on, read by read.
-use Rattle.std.proofs.Common.{◌≡◌, ℕ, ◌+◌, ◌-◌, ◌≤◌, min, Bool, true, false, List, [], ◌++◌, length, take, drop, refl, ap, sym, ◌∙◌, append_assoc, append-nil, arith, length-append, subst}
+use Rattle.std.proofs.Common.{◌≡◌, ℕ, ◌+◌, ◌-◌, ◌≤◌, min, Bool, true, false, List, [], ◌++◌, length, take, drop, Option, refl, ap, sym, ◌∙◌, append_assoc, append-nil, arith, length-append, subst}
+use Rattle.std.proofs.KnownBytes.{Consumes-nil, Consumes-trans}
 use Rattle.std.proofs.lemmas.List.{take-append-drop, take-append-le, take-take, drop-drop, drop_all, length-take}
 use Rattle.std.specs.Prelude.{if◌then◌else◌}
 use Rattle.avc_tools.specs.PieceSoFar.{PieceSoFar}
 use Rattle.avc_tools.specs.Streams.{Adds, StreamSoFar, after_piece}
 use Rattle.avc_tools.specs.Tail.{tail_text}
-use Rattle.avc_shell.specs.FromPieces.{GivesOn}
+use Rattle.avc_shell.specs.FromPieces.{GivesOn, ReadsOn}
 
 -- nothing
 pub gives_nothing : (p : PieceSoFar) (waited : List ℕ) → GivesOn p p waited waited []
@@ -75,3 +76,23 @@ gives_copied a b waited ready bytes buf now given len so_far same count is =
 pub gives_after : (a b c : PieceSoFar) (waited ready waits : List ℕ) (given : ℕ) → GivesOn a b waited (drop given ready) [] → length ready ≤ given → GivesOn b c [] waits [] → GivesOn a c waited waits []
 gives_after a b c waited ready waits given so_far all next =
     gives_then a b c waited [] waits [] [] (subst (λ (l : List ℕ). GivesOn a b waited l []) (drop_all given ready all) so_far) next
+
+-- ---- what is read
+
+-- nothing
+pub reads_nothing : (unread : Option (List ℕ)) (s : StreamSoFar) → ReadsOn unread unread s s
+reads_nothing unread s = record {
+  more = [];
+  consumed = Consumes-nil unread;
+  bytes = sym (append-nil s.bytes);
+  ends = λ open_end ended. cc (open_end, ended);
+}
+
+-- one read after another, where the first was not the last
+pub reads_then : (u v w : Option (List ℕ)) (a b c : StreamSoFar) → ReadsOn u v a b → b.ended ≡ false → ReadsOn v w b c → ReadsOn u w a c
+reads_then u v w a b c first open_end second = record {
+  more = first.more ++ second.more;
+  consumed = Consumes-trans u v w first.more second.more first.consumed second.consumed;
+  bytes = second.bytes ∙ ap (λ l. l ++ second.more) first.bytes ∙ append_assoc a.bytes first.more second.more;
+  ends = λ was_open ended. second.ends open_end ended;
+}

@@ -1,10 +1,11 @@
 //! What is decoded of a stream from one of its pieces on.
 
-ghost use Rattle.std.specs.Prelude.{◌≡◌, ◌++◌, [], drop, length, min, take, None, IfOk, OnOk};
+ghost use Rattle.std.specs.Prelude.{◌≡◌, ◌++◌, ◌<◌, ◌^◌, [], drop, false, length, min, take, None};
+ghost use Rattle.std.specs.Prelude.{IfOk, OnOk};
 ghost use Rattle.std.specs.Io.{ReadsAtMost};
 ghost use Rattle.std.specs.Io.KnownBytes.{ReadConsumes};
 ghost use Rattle.avc_tools.specs.Streams.{new_stream};
-ghost use Rattle.avc_shell.specs.FromPieces.{GivesOn};
+ghost use Rattle.avc_shell.specs.FromPieces.{is_missing, GivesOn, KeepsTail, ReadsOn};
 
 use avc_console::{PIECE, READS};
 use avc_tools::{StreamText, TailText};
@@ -24,6 +25,7 @@ pub struct FromPiece<'a, R> {
     has_begun: bool,
     has_ended: bool,
     is_out_of_memory: bool,
+    ghost kept: { KeepsTail tail has_begun has_ended is_out_of_memory },
 }
 
 impl<'a, R> FromPiece<'a, R> {
@@ -48,12 +50,16 @@ impl<'a, R> FromPiece<'a, R> {
     }
 
     /// Whether the stream was read to its end and has no such piece.
-    pub fn is_missing(&self) -> bool {
+    pub fn is_missing(&self) -> bool
+        ensures { length self.now.tail.stream.bytes < 2 ^ 64 → result ≡ is_missing self.now.tail }
+    {
         self.has_ended && !self.has_begun && !self.is_out_of_memory
     }
 
     /// Whether memory was wanting for what is read.
-    pub fn is_out_of_memory(&self) -> bool {
+    pub fn is_out_of_memory(&self) -> bool
+        ensures { result ≡ self.now.tail.stream.failed }
+    {
         self.is_out_of_memory
     }
 }
@@ -61,7 +67,11 @@ impl<'a, R> FromPiece<'a, R> {
 impl<R: Read> FromPiece<'_, R> {
     // Reads on, once all that has come was given.
     fn read_on(&mut self) -> io::Result<()>
-        ensures { OnOk result (GivesOn self.old.tail self.new.tail [] (drop self.new.given self.new.ready.items) []) }
+        requires { self.old.has_ended ≡ false }
+        ensures given { OnOk result (GivesOn self.old.tail self.new.tail [] (drop self.new.given self.new.ready.items) []) }
+        ensures read { OnOk result (ReadsOn (R.remaining self.old.reader.now) (R.remaining self.new.reader.now)
+            self.old.tail.stream self.new.tail.stream) }
+        ensures open_end { OnOk result (self.old.tail.stream.ended ≡ false) }
     {
         let mut piece = [0; PIECE];
         let len = self.reader.read(&mut piece)?;
@@ -96,6 +106,8 @@ impl<R: Read> Read for FromPiece<'_, R> {
         ensures bytes { ReadConsumes None None result buf.new }
         ensures given { IfOk result (λ len. GivesOn self.old.tail self.new.tail (drop self.old.given self.old.ready.items)
             (drop self.new.given self.new.ready.items) (take len buf.new)) }
+        ensures read { OnOk result (ReadsOn (R.remaining self.old.reader.now) (R.remaining self.new.reader.now)
+            self.old.tail.stream self.new.tail.stream) }
     {
         'reads: for _read in 0..READS {
             if self.given < self.ready.len() {

@@ -18,7 +18,7 @@ mod reason;
 mod told;
 mod y4m_header;
 
-pub use ending::ended_status;
+pub use ending::{absent_picture, ended_status};
 pub use errors::Errors;
 pub use frame_times::FrameTimes;
 pub use from_piece::FromPiece;
@@ -30,5 +30,7 @@ pub use other_pictures::OtherPictures;
 pub use output::{Output, OutputFile, PictureFiles};
 pub use progress::Progress;
 pub use told::{
-    is_progress_told, is_told_more, tell_container, tell_no_piece, tell_outcome, tell_reason,
+    is_progress_told, is_told_more, tell_absent_picture, tell_container, tell_no_piece,
+    tell_outcome, tell_reason,
 };
+pub use y4m_header::StatedSize;

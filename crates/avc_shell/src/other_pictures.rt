@@ -5,7 +5,7 @@ ghost use Rattle.std.specs.Io.{ReadsAtMost};
 ghost use Rattle.avc_shell.specs.declared.other_pictures.Place.TheVariants as places;
 
 use crate::from_piece::copied;
-use crate::y4m_header::picture_len;
+use crate::y4m_header::{StatedSize, picture_len, stated_size};
 use arrayvec::ArrayVec;
 use avc_console::READS;
 use std::io;
@@ -43,6 +43,8 @@ pub struct OtherPictures<R> {
     place: Place,
     // of the line that is read, or the first bytes of all
     line: ArrayVec<u8, LINE>,
+    // that of the pictures, where the first line says it
+    size: Option<StatedSize>,
     // how many samples a picture has
     picture_len: u64,
     is_invalid: bool,
@@ -58,6 +60,7 @@ impl<R> OtherPictures<R> {
             reader,
             place: Place::Start,
             line: ArrayVec::new(),
+            size: None,
             picture_len: 0,
             is_invalid: false,
         }
@@ -85,6 +88,18 @@ impl<R> OtherPictures<R> {
 }
 
 impl<R: Read> OtherPictures<R> {
+    /// The size of the pictures, where they are YUV4MPEG2: what its first line says, which is read
+    /// where nothing has been read.
+    pub fn size(&mut self) -> io::Result<Option<StatedSize>>
+        ensures { IfOk result (λ size. size ≡ self.new.size) }
+    {
+        match self.place {
+            Place::Start => self.begin()?,
+            Place::Samples(_) | Place::Line | Place::Picture(_) => {}
+        }
+        Ok(self.size)
+    }
+
     // Reads so many bytes of a line at the most, up to its end. Answers whether it has one.
     fn read_line(&mut self, most: usize) -> io::Result<bool>
         ensures { self.new.picture_len ≡ self.old.picture_len }
@@ -110,9 +125,10 @@ impl<R: Read> OtherPictures<R> {
             return Ok(());
         }
         let is_whole = self.read_line(LINE)?;
-        match picture_len(self.line.as_slice()) {
-            Some(len) if is_whole => {
-                self.picture_len = len;
+        match stated_size(self.line.as_slice()) {
+            Some(size) if is_whole => {
+                self.size = Some(size);
+                self.picture_len = picture_len(size);
                 self.place = Place::Line;
                 Ok(())
             }

@@ -1,6 +1,7 @@
 //! What is told behind what a command tells itself.
 
-ghost use Rattle.std.specs.Prelude.{◌≡◌};
+ghost use Rattle.std.specs.Prelude.{◌≡◌, IfOk, string_bytes};
+ghost use Rattle.avc_shell.specs.Ending.{absent_picture_line};
 ghost use Rattle.avc_shell.specs.Manners.{is_line_wanted, is_more_told};
 
 use crate::reason::reason_line;
@@ -8,6 +9,7 @@ use avc_console::{Counts, no_piece_line};
 use avc_container::{container_line, container_of, no_picture_line};
 use avc_explain::counts_line;
 use avc_request::{Manner, Subject, Task, Telling};
+use std::alloc::{AllocError, Global};
 use std::io::{ErrorKind, IsTerminal, Write};
 
 /// Tells why a file could not be read or written, where it has a name and that is known.
@@ -78,6 +80,21 @@ pub fn tell_no_piece(rt: &HostRuntime, number: u32) {
     if let Ok(line) = no_piece_line(rt.alloc(), number) {
         tell(rt, &line);
     }
+}
+
+/// Tells that a stream has no picture of this number.
+pub fn tell_absent_picture(rt: &HostRuntime, number: u64) {
+    if let Ok(line) = absent_picture_line(rt.alloc(), number) {
+        tell(rt, &line);
+    }
+}
+
+fn absent_picture_line(alloc: Global, number: u64) -> Result<String, AllocError>
+    ensures { IfOk result (λ line. string_bytes line ≡ absent_picture_line number) }
+{
+    let mut line = String::new(alloc);
+    writeln!(line, "avcdec: no picture {number}")?;
+    Ok(line)
 }
 
 // Where the standard error takes no more, nothing is told.

@@ -6,9 +6,16 @@ const COLOURS: [&[u8]; 4] = [b"420", b"420jpeg", b"420mpeg2", b"420paldv"];
 /// The most digits of a width or a height.
 const DIGITS: usize = 9;
 
-/// How many samples a picture has by this line: none where it does not say it, or where they are
-/// not 4:2:0 with 8 bits. Without a word for the samples they are.
-pub(crate) fn picture_len(line: &[u8]) -> Option<u64> {
+/// How many columns and rows of luma samples a picture has, as the first line says.
+#[derive(Clone, Copy, Debug, PartialEq, Eq)]
+pub struct StatedSize {
+    pub width: u64,
+    pub height: u64,
+}
+
+/// The size of a picture by this line: none where it does not say it, or where the samples are not
+/// 4:2:0 with 8 bits. Without a word for the samples they are.
+pub(crate) fn stated_size(line: &[u8]) -> Option<StatedSize> {
     let width = number(word(line, b'W')?)?;
     let height = number(word(line, b'H')?)?;
     if let Some(colour) = word(line, b'C') {
@@ -16,9 +23,15 @@ pub(crate) fn picture_len(line: &[u8]) -> Option<u64> {
             return None;
         }
     }
+    Some(StatedSize { width, height })
+}
+
+/// How many samples a picture of this size has.
+pub(crate) fn picture_len(size: StatedSize) -> u64 {
+    let StatedSize { width, height } = size;
     let chroma = width.div_ceil(2).saturating_mul(height.div_ceil(2));
     let luma = width.saturating_mul(height);
-    Some(luma.saturating_add(chroma).saturating_add(chroma))
+    luma.saturating_add(chroma).saturating_add(chroma)
 }
 
 fn is_taken(colour: &[u8]) -> bool {

@@ -2,7 +2,10 @@
 
 // What no contract says: what the words of the command line mean. Where an allocation is refused
 // (`rt try --test --fail-alloc N`), a test ends in that error, and not at an assertion.
-use avc_request::{Form, Manner, Request, Showing, Subject, Task, Telling, Wording, requested};
+use avc_request::{
+    Comparing, Form, MacroblockChoice, Manner, Request, Showing, Subject, Task, Telling, Wording,
+    requested,
+};
 use avc_run::Output;
 use clap::error::ErrorKind;
 use std::alloc::Global;
@@ -99,11 +102,11 @@ fn in_manner(task: Task, manner: Manner) -> Result<Request<'static>, (ErrorKind,
 
 // A comparison with this file of this one.
 fn compared(
-    most: u8,
+    comparing: Comparing,
     other: Option<&'static str>,
     input: Option<&'static str>,
 ) -> Result<Request<'static>, (ErrorKind, i32)> {
-    let task = Task::Compare(most);
+    let task = Task::Compare(comparing);
     Ok(Request {
         task,
         input,
@@ -115,6 +118,14 @@ fn compared(
         frame_times: None,
         manner: usual_manner(task),
     })
+}
+
+// Samples that are at most so far apart are the same.
+fn at_most(most: u8) -> Comparing {
+    Comparing {
+        most,
+        has_psnr: false,
+    }
 }
 
 // What is asked for where progress is told so.
@@ -246,18 +257,76 @@ fn takes_words(rt: HostRuntime) -> Result<(), Fail> {
         ),
         (
             "avcdec decode --format png",
+            plain(shown(u64::MAX, Form::Png)),
+        ),
+        (
+            "avcdec decode -o out.PNG",
+            named(shown(u64::MAX, Form::Png), None, Some("out.PNG")),
+        ),
+        (
+            "avcdec cut 0 -o piece.png",
+            Err((ErrorKind::ValueValidation, 2)),
+        ),
+        (
+            "avcdec decode --format jpeg",
             Err((ErrorKind::InvalidValue, 2)),
         ),
         ("avcdec units --early", Err((ErrorKind::UnknownArgument, 2))),
         (
             "avcdec compare a.yuv in.264",
-            compared(0, Some("a.yuv"), Some("in.264")),
+            compared(at_most(0), Some("a.yuv"), Some("in.264")),
         ),
         (
             "avcdec compare --max-diff 3 - in.264",
-            compared(3, None, Some("in.264")),
+            compared(at_most(3), None, Some("in.264")),
         ),
-        ("avcdec compare a.yuv", compared(0, Some("a.yuv"), None)),
+        (
+            "avcdec compare a.yuv",
+            compared(at_most(0), Some("a.yuv"), None),
+        ),
+        (
+            "avcdec compare --psnr a.yuv in.264",
+            compared(
+                Comparing {
+                    most: 0,
+                    has_psnr: true,
+                },
+                Some("a.yuv"),
+                Some("in.264"),
+            ),
+        ),
+        (
+            "avcdec macroblocks --picture 3 --coefficients --json",
+            telling_of(
+                Subject::Macroblocks(MacroblockChoice {
+                    has_coefficients: true,
+                    picture: Some(3),
+                }),
+                Wording::Json,
+            ),
+        ),
+        (
+            "avcdec macroblocks",
+            telling_of(
+                Subject::Macroblocks(MacroblockChoice {
+                    has_coefficients: false,
+                    picture: None,
+                }),
+                Wording::Plain,
+            ),
+        ),
+        (
+            "avcdec picture 7 in.264 -o out.png",
+            named(Task::Draw(7), Some("in.264"), Some("out.png")),
+        ),
+        (
+            "avcdec picture 7 -o out.y4m",
+            Err((ErrorKind::ValueValidation, 2)),
+        ),
+        (
+            "avcdec picture",
+            Err((ErrorKind::MissingRequiredArgument, 2)),
+        ),
         ("avcdec compare -", Err((ErrorKind::ValueValidation, 2))),
         (
             "avcdec compare --max-diff 256 a.yuv in.264",

@@ -7,7 +7,9 @@ use avc_run::{
     Console, Ending, Names, Output, RunFault, Unwatched, decode, decode_as, decode_headed, run,
     run_units,
 };
+use avc_shell::FromPiece;
 use avc_tools::ForPeople;
+use avc_types::OutOfMemory;
 use std::alloc::{AllocError, Global};
 use std::io;
 use std::io::{ErrorKind, Read, Write};
@@ -16,11 +18,11 @@ use std::test::Fail;
 // Gives these bytes, at most so many a call, and then the end. The call of one number, from 0,
 // fails, and those after it would not.
 #[derive(Drop)]
-struct CountingReader<'a> {
+pub(crate) struct CountingReader<'a> {
     bytes: &'a [u8],
     piece: usize,
     failing: Option<usize>,
-    calls: usize,
+    pub(crate) calls: usize,
 }
 
 impl Read for CountingReader<'_> {
@@ -37,7 +39,7 @@ impl Read for CountingReader<'_> {
     }
 }
 
-fn reader_of(bytes: &[u8], piece: usize, failing: Option<usize>) -> CountingReader<'_> {
+pub(crate) fn reader_of(bytes: &[u8], piece: usize, failing: Option<usize>) -> CountingReader<'_> {
     CountingReader {
         bytes,
         piece,
@@ -48,11 +50,11 @@ fn reader_of(bytes: &[u8], piece: usize, failing: Option<usize>) -> CountingRead
 
 // Takes all bytes of each call, but of the one of this number, from 0.
 #[derive(Drop)]
-struct CountingWriter {
+pub(crate) struct CountingWriter {
     failing: Option<usize>,
     refusal: Refusal,
-    calls: usize,
-    taken: usize,
+    pub(crate) calls: usize,
+    pub(crate) taken: usize,
 }
 
 impl Write for CountingWriter {
@@ -74,7 +76,7 @@ impl Write for CountingWriter {
     }
 }
 
-fn writer_failing(failing: Option<usize>, refusal: Refusal) -> CountingWriter {
+pub(crate) fn writer_failing(failing: Option<usize>, refusal: Refusal) -> CountingWriter {
     CountingWriter {
         failing,
         refusal,
@@ -83,7 +85,7 @@ fn writer_failing(failing: Option<usize>, refusal: Refusal) -> CountingWriter {
     }
 }
 
-fn console_of(errors: CountingWriter) -> Console<'static, CountingWriter, Unwatched> {
+pub(crate) fn console_of(errors: CountingWriter) -> Console<'static, CountingWriter, Unwatched> {
     Console {
         names: Names {
             input: None,
@@ -189,6 +191,43 @@ fn a_million_reads_are_no_fault(rt: HostRuntime) -> Result<(), Fail> {
     let mut console = console_of(writer_failing(None, Refusal::Error));
     let ending = framed(alloc, &mut front, &mut writer, &mut console);
     assert_eq!(rt; (ending.status, ending.told), (0, true));
+    Ok(())
+}
+
+// How many bytes the first read from the first piece on gives, where it doesn't fail, and whether
+// the stream turns out to have no piece.
+fn first_read<R: Read>(
+    alloc: Global,
+    reader: &mut R,
+) -> Result<(Option<usize>, bool), OutOfMemory> {
+    let mut from = FromPiece::new(alloc, 0, reader)?;
+    let read = from.read(&mut [0; 16]).ok();
+    Ok((read, from.is_missing()))
+}
+
+// A piece that never begins is looked for up to the end of the stream.
+#[test]
+fn a_million_reads_before_a_piece_are_no_fault(rt: HostRuntime) -> Result<(), Fail> {
+    let alloc = rt.alloc();
+    let zeros = vec![in alloc; 0; MANY]?;
+    let mut reader = reader_of(&zeros, 1, None);
+    assert_eq!(rt; first_read(alloc, &mut reader)?, (Some(0), true));
+    assert_eq!(rt; reader.calls, MANY + 1);
+    Ok(())
+}
+
+// Where a read fails before the piece has begun, that is told, and no piece is missing.
+#[test]
+fn a_read_that_fails_before_a_piece_is_the_last(rt: HostRuntime) -> Result<(), Fail> {
+    for (failing, calls) in [(0, 1), (20, 21)] {
+        let mut reader = reader_of(ONE_HELD, 1, Some(failing));
+        assert_eq!(rt;
+            first_read(rt.alloc(), &mut reader)?,
+            (None, false),
+            "{failing}"
+        );
+        assert_eq!(rt; reader.calls, calls, "{failing}");
+    }
     Ok(())
 }
 

@@ -6,6 +6,8 @@ mod command_line;
 #[cfg(test)]
 mod counted_calls;
 #[cfg(test)]
+mod counted_comparisons;
+#[cfg(test)]
 mod decoder_calls;
 #[cfg(test)]
 mod limited_writer;
