@@ -18,14 +18,15 @@ _avcdec_files() {
 _avcdec_options() {
     case $1 in
     decode) echo '--early --format -f --verify --from --skip -s --limit -l --frametimes --progress --quiet -q --strict --explain --output -o --help -h' ;;
-    cut) echo '--output -o --help -h' ;;
-    compare) echo '--max-diff --explain --help -h' ;;
-    units | headers | pieces | macroblocks | info) echo '--json --help -h' ;;
+    cut | picture) echo '--output -o --help -h' ;;
+    compare) echo '--max-diff --psnr --explain --help -h' ;;
+    macroblocks) echo '--picture --coefficients --json --help -h' ;;
+    units | headers | pieces | info) echo '--json --help -h' ;;
     esac
 }
 
 _avcdec() {
-    local commands='decode units headers pieces macroblocks info cut compare help'
+    local commands='decode units headers pieces macroblocks info picture cut compare help'
     COMPREPLY=()
     if [ "$COMP_CWORD" -eq 1 ]; then
         _avcdec_words "$commands --help -h --version -V"
@@ -33,8 +34,8 @@ _avcdec() {
     fi
     case ${COMP_WORDS[COMP_CWORD - 1]} in
     help) _avcdec_words "$commands" ;;
-    --format | -f) _avcdec_words 'i420 y4m null md5 framemd5' ;;
-    --verify | --from | --skip | -s | --limit | -l) ;;
+    --format | -f) _avcdec_words 'i420 y4m png null md5 framemd5' ;;
+    --verify | --from | --skip | -s | --limit | -l | --picture | --max-diff) ;;
     -o | --output | --frametimes) _avcdec_files ;;
     *)
         case ${COMP_WORDS[COMP_CWORD]} in

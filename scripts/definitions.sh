@@ -13,9 +13,9 @@ roots() {
         ls crates/"$crate"/src/*.rt
     done
 }
-claim=avc_decoder
+claim='avc_decoder avc_laws'
 c=avc_c
-program='avc_yuv avc_tools avc_pieces avc_console avc_formats avc_events avc_run avc_compare avc_info avc_macroblocks avc_container avc_explain avc_request'
+program='avc_yuv avc_png avc_tools avc_pieces avc_console avc_formats avc_events avc_run avc_compare avc_info avc_macroblocks avc_container avc_explain avc_request'
 command='avc_shell avc_cli'
 open_picture=avc_picture
 below=

@@ -32,7 +32,7 @@ dd { margin: 0 0 .6em 2em }
 CSS
 
 {
-    echo '<h2>What has to be believed</h2><p>Begin at <a href="avc_decoder.html#Headline.TakesThem">TakesThem</a> and follow the words; or read crate by crate, or <a href=clauses.html>by clause</a>.<table><tr><th>What is promised<th>definitions, those before not counted'
+    echo '<h2>What has to be believed</h2><p>Begin at <a href="avc_laws.html#Headline.TakesThem">TakesThem</a> and follow the words; or read crate by crate, or <a href=clauses.html>by clause</a>.<table><tr><th>What is promised<th>definitions, those before not counted'
     awk -F '\t' '{ print "<tr><td>" $1 "<td>" $2 }' "$to/counts"
     echo '</table><h2>By crate</h2><table><tr><th>Crate<th>About<th>Definitions and types'
     while IFS='	' read -r crate count; do

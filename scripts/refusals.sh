@@ -37,7 +37,7 @@ avc_request/src/reading.rt: Err(error) if error.kind() == io::ErrorKind::OutOfMe
 # a read answered an error
 avc_console/src/read.rt: Err(_) => Err(RunFault::Read),
 # the input, or the other's, is no file that can be opened
-avc_cli/src/comparing.rt: let ending = fail(RunFault::Read, &names, &mut console.errors);
+avc_cli/src/comparing.rt: fail(RunFault::Read, &names, &mut console.errors)
 avc_cli/src/main.rt: let ending = fail(RunFault::Read, &names_of(request), &mut rt.stderr());
 # the file of frame times can't be made or written
 avc_cli/src/main.rt: let ending = fail(RunFault::Write, &names, &mut rt.stderr());
@@ -52,6 +52,8 @@ avc_compare/src/stream.rt: Err(RunFault::Endless)
 avc_compare/src/comparison.rt: Err(CompareFault::Ours(RunFault::Endless))
 # a picture has not the size that the head says
 avc_formats/src/headed.rt: return Err(RunFault::Size);
+# nothing is shown of a picture, or more columns or rows than PNG has
+avc_formats/src/png.rt: return Err(RunFault::Size);
 # a read of the other's pictures answered an error, which is told as a read fault
 avc_compare/src/picture.rt: Err(_) => return Err(CompareFault::Theirs),
 avc_compare/src/program.rt: tell(Err(RunFault::Read), tally, &named, errors)
