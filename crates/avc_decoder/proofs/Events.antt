@@ -4,6 +4,9 @@ unfoldable pub use Steps.*
 use Rattle.avc_annexb.specs.SplitterState.{unit_count, TakesUnit}
 use Rattle.avc_decoder.specs.Machine.{IsRefused}
 use Rattle.avc_decoder.specs.Machine as machine
+use Rattle.avc_decoder.specs.Events.{picture_of_phase}
+use Rattle.avc_decoder.specs.OpenPictures.{IsDecodedBy, IsLent, LendsCurrent, LendsCurrentIn}
+use Rattle.avc_decoder.specs.declared.open_picture.OpenPicture.{OpenPicture as LentPicture}
 
 -- ---- the events
 
@@ -305,12 +308,26 @@ up_to_unit {max} {s} {s1} {bytes} {used} t on =
       all = λ less. omega (arith, now, before, t.all less);
     }
 
+-- the sequence goes on
+pub goes_on : (s : SequenceState) (phase : PhaseHere) → IsPhase s phase → s.failed ≡ false
+goes_on s Waiting is = is.0.on
+goes_on s (Running None) is = is.on
+goes_on s (Running (Some c)) is = is.on
+
+one_at_most : {A : Type 0} (it : Option A) → one_if_any it ≤ 1
+one_at_most None = omega arith
+one_at_most (Some it) = omega arith
+
+-- the frames that there is memory of
+pub few_in : (t : Stream) → length (t.sequence).frames ≤ 16 → length ((t.memory).planes).closed ≤ most_closed → frames_in t ≤ most_frames
+few_in t stored closed = omega (arith, stored, closed, one_at_most (current_in t.phase), one_at_most ((t.memory).planes).open_planes)
+
 -- bytes up to a unit were taken, and the unit handled
 pub fed_on : {max : ℕ} {P : Type 0} (old : Parts max P) (bytes : List ℕ) (used : ℕ) (s1 s2 : SplitterState) (t2 : Stream) → IsWorking max old
-    → TakesUnit max old.splitter bytes used s1 → IsStream t2 → HandlesAll max s1 s2 (stream_state old.stream) (stream_state t2)
+    → TakesUnit max old.splitter bytes used s1 → IsStream t2 → frames_in t2 ≤ most_frames → HandlesAll max s1 s2 (stream_state old.stream) (stream_state t2)
     → FeedsUnit max old bytes (record { used = used; read = t2.read })
     (record { splitter = s2; stream = record t2 { queue = passed_on t2.queue }; outgoing = record old.outgoing { events = t2.queue.events } })
-fed_on {max} old bytes used s1 s2 t2 w t works h =
+fed_on {max} old bytes used s1 s2 t2 w t works few h =
     let s = old.splitter in
     let more = s.bytes ++ take used bytes in
     let is : s1 ≡ record s { bytes = more; ended = false } = t.is ∙ rw w.unended refl in
@@ -320,6 +337,7 @@ fed_on {max} old bytes used s1 s2 t2 w t works h =
       feeds = record {
         now = record {
           works = works;
+          few = few;
           passed = record { events = refl; taken = refl };
           taken = refl;
           going = ap (λ (x : SplitterState). x.failed) now ∙ w.going;
@@ -334,16 +352,17 @@ fed_on {max} old bytes used s1 s2 t2 w t works h =
 
 -- the end was taken, and the last units handled
 pub ended_on : {max : ℕ} {P : Type 0} (old : Parts max P) (s1 s2 : SplitterState) (t2 t3 : Stream) → IsWorking max old
-    → s1 ≡ after_finish old.splitter → IsStream t3 → HandlesAll max s1 s2 (stream_state old.stream) (stream_state t2)
+    → s1 ≡ after_finish old.splitter → IsStream t3 → frames_in t3 ≤ most_frames → HandlesAll max s1 s2 (stream_state old.stream) (stream_state t2)
     → stream_state t3 ≡ after_stream_end (stream_state t2)
     → Ends max old t3.read
     (record { splitter = s2; stream = record t3 { queue = passed_on t3.queue }; outgoing = record old.outgoing { events = t3.queue.events } })
-ended_on {max} old s1 s2 t2 t3 w is works h ends =
+ended_on {max} old s1 s2 t2 t3 w is works few h ends =
     let s = old.splitter in
     let now = h.splitter ∙ ap (λ (x : SplitterState). record x { taken = x.taken + length (drop x.taken (units max x.bytes x.ended)) }) is in
     record {
       now = record {
         works = works;
+        few = few;
         passed = record { events = refl; taken = refl };
         taken = refl;
         going = ap (λ (x : SplitterState). x.failed) now ∙ w.going;
@@ -359,6 +378,7 @@ ended_on {max} old s1 s2 t2 t3 w is works h ends =
 pub none_fed : {max : ℕ} {P : Type 0} (old : Parts max P) → IsWorking max old → HaveDecoded max old (old.splitter.bytes ++ []) false old
 none_fed old w = record {
   works = w.stream;
+  few = w.few;
   passed = w.passed;
   taken = refl;
   going = w.going;
@@ -369,7 +389,7 @@ none_fed old w = record {
 
 -- the stream goes on
 pub works_on : {max : ℕ} {P : Type 0} {old new : Parts max P} {bytes : List ℕ} → HaveDecoded max old bytes false new → IsWorking max new
-works_on d = record { going = d.going; unended = d.ends; stream = d.works; passed = d.passed }
+works_on d = record { going = d.going; unended = d.ends; stream = d.works; few = d.few; passed = d.passed }
 
 -- one piece after another
 pub fed_more : {max : ℕ} {P : Type 0} {old mid new : Parts max P} (piece : List ℕ) (place used : ℕ) {read : ℕ}
@@ -379,6 +399,7 @@ fed_more {old = old} piece place used a f =
     let b = f.now in
     record {
       works = b.works;
+      few = b.few;
       passed = b.passed;
       taken = b.taken ∙ a.taken;
       going = b.going;
@@ -408,7 +429,7 @@ kept {output} {max} bytes' ended' p p' i unended n count =
     let d = n.decoded output (subst (λ e. IsDecoded output max p.splitter e (stream_state p.stream)) unended i.decoded) in
     record {
       count_is = count ∙ d.read ∙ ap (λ bs. turns output max bs ended') n.bytes_are;
-      parts = record { works = n.works; passed = n.passed; decoded = d; bytes = n.bytes_are; taken = n.taken ∙ i.taken };
+      parts = record { works = n.works; few = n.few; passed = n.passed; decoded = d; bytes = n.bytes_are; taken = n.taken ∙ i.taken };
     }
 
 -- a piece more was handled
@@ -461,3 +482,81 @@ pub run_more : (max : ℕ) (calls : List Call) (replies : List Reply) (old betwe
 run_more max [] [] old between new call reply r s = (new, subst (λ (m : Machine). IsCallAnswer max m call reply new) r s, refl)
 run_more max (x ∷ xs) (y ∷ ys) old between new call reply r s = (r.0, r.1, run_more max xs ys r.0 between new call reply r.2 s)
 run_more max _ _ old between new call reply r s = absurd r
+
+-- ---- the open picture, as it is lent
+
+module _ (s : SequenceState) (c : CurrentPicture) (w : IsOpenIn s c) where
+  abbrev opened : OpenPicture
+  opened = opened_as s c.decoder w.last w.earlier
+
+  abbrev before : History
+  before = current_history s
+
+  stands_there : history_of opened ≡ before
+  stands_there = history_is opened before (stands_as s c w)
+
+  all_slices : progress_on_history before c.decoder ≡ progress_on opened (history_of opened)
+  all_slices =
+      ap (λ ss. progress (start_with (stored_frames before) c.decoder) ss) w.slices ∙ ap (progress_on opened) (sym stands_there)
+
+  decoded_by : (idr : Bool) → is_idr (w.last).header ≡ idr → IsDecodedBy opened c.decoder s.frames
+  decoded_by true e =
+      let none : (c.decoder).frames ≡ [] = rw (e, frames_for) at (w.frames).frames in
+      let same = progress-other (start_at [] c.decoder) (stored_frames before) (c.decoder).slices ((w.frames).intra e) in
+      record {
+        sps_is = refl;
+        pps_is = refl;
+        slices_are = w.slices;
+        well = w.well;
+        indices = [];
+        stand = rw none (record { each = refl; rising = none_rises });
+        so_far = same ∙ all_slices;
+        frames_are = λ other. absurd (false≢true (sym other ∙ e));
+        stored = λ other. absurd (false≢true (sym other ∙ e));
+        idr = λ _. none;
+      }
+  decoded_by false e =
+      let a = (w.frames).stored e in
+      let are : (c.decoder).frames ≡ s.frames = rw (e, frames_for) at (w.frames).frames in
+      record {
+        sps_is = refl;
+        pps_is = refl;
+        slices_are = w.slices;
+        well = w.well;
+        indices = a.indices;
+        stand = subst (λ (fs : List (Frame 16)). StandAt a.indices (map marked_frame fs)) (sym are) a.stand;
+        so_far = ap (λ fs. progress (start_with fs c.decoder) (c.decoder).slices) (ap (stored_at a.indices) are ∙ a.stored) ∙ all_slices;
+        frames_are = λ _. are;
+        stored = λ _. a.stored ∙ ap stored_frames (sym stands_there);
+        idr = λ other. absurd (false≢true (sym e ∙ other));
+      }
+
+lent_as : (s : SequenceState) (phase : PhaseHere) (answer : Option LentPicture) → IsPhase s phase → LendsCurrent s (current_in phase) answer
+    → IsLent (picture_of_phase (phase_of s phase)) answer
+lent_as s (Running (Some c)) (Some lent) w is =
+    let o = opened s c w in
+    let here = decoded_by s c w (is_idr (w.last).header) refl in
+    let lent_frames = subst (λ (fs : List (Frame 16)). IsDecodedBy o c.decoder fs) (sym is.1) here in
+    subst (λ (p : Phase). IsLent (picture_of_phase p) (Some lent)) (sym (opened_phase s c w))
+    (subst (λ (d : Decoding 16). IsDecodedBy o d lent.frames.now) (sym is.0) lent_frames)
+lent_as s (Running (Some c)) None w is = absurd is
+lent_as s (Running None) (Some lent) w is = is
+lent_as s (Running None) None w is = tt
+lent_as s Waiting (Some lent) w is = is
+lent_as s Waiting None w is = tt
+
+none_at_end : (max : ℕ) (output : Output) (bytes : List ℕ) (taken : ℕ) (failed : Bool) → IsOpenPictureAnswer max (machine_of output bytes true taken failed) None
+none_at_end max output bytes taken true = refl
+none_at_end max output bytes taken false = tt
+
+pub ended_none : (max : ℕ) (m : Machine) → m.ended ≡ true → IsOpenPictureAnswer max m None
+ended_none max m e = rw e (none_at_end max m.output m.bytes m.taken m.failed)
+
+pub lent_in : {max : ℕ} {P : Type 0} (m : Machine) (running : PartsOrRefusal max P) (answer : Option LentPicture) → m.failed ≡ is_err running → m.ended ≡ false
+    → IfOk running (AreParts max m) → LendsCurrentIn max running answer → IsOpenPictureAnswer max m answer
+lent_in {max} m (Ok p) answer failed going parts is =
+    let from = first_state m.output in
+    let state : state_through from (units max m.bytes false) ≡ (stream_state p.stream).state =
+    sym (parts.decoded.state going ∙ ap (λ bytes. state_through from (units max bytes false)) parts.bytes) in
+    rw (failed, going, state) (lent_as (p.stream).sequence (p.stream).phase answer parts.works.stands is)
+lent_in m (Err refusal) answer failed going parts is = rw failed is

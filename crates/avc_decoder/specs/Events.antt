@@ -48,6 +48,11 @@ pub data Phase : Type 0 where
   -- with the history of the coded video sequence, and the open picture, if there is one
   running : History → Option OpenPicture → Phase
 
+-- the open picture, if there is one
+abbrev pub picture_of_phase : Phase → Option OpenPicture
+picture_of_phase waiting = None
+picture_of_phase (running h o) = o
+
 -- when pictures go out, and what the units before leave
 pub record State : Type 0 where
   pub output : Output

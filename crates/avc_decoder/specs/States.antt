@@ -1,5 +1,5 @@
 -- What the decoder's parts keep.
-use Rattle.std.specs.Prelude.{◌≡◌, ℕ, zero, suc, ◌+◌, ◌-◌, Bool, true, false, not, List, [], ◌∷◌, ◌++◌, length, take, drop, Option, Some, None, IfOk, IfSome, Result, Ok, Err, slice_get}
+use Rattle.std.specs.Prelude.{◌≡◌, ℕ, zero, suc, ◌+◌, ◌-◌, ◌≤◌, Bool, true, false, not, List, [], ◌∷◌, ◌++◌, length, take, drop, Option, Some, None, IfOk, IfSome, Result, Ok, Err, slice_get}
 use Rattle.std.specs.Option.{option_map}
 use Rattle.avc_types.specs.declared.fault.Fault.{Fault}
 use Rattle.avc_types.specs.declared.memory.OutOfMemory.{OutOfMemory}
@@ -15,6 +15,7 @@ use Rattle.avc_params.specs.declared.pps.Pps.{Pps}
 use Rattle.avc_slice.specs.Begins.{begins}
 use Rattle.avc_slice.specs.declared.header.Header.{Header}
 use Rattle.avc_slice.specs.declared.slice.Slice.{Slice}
+use Rattle.avc_plane.specs.Spare.{Spare, most_closed}
 use Rattle.avc_picture.specs.Decoding.{Decoding, HasNoFault, HasRead, IsFull, IsSliceAnswer, with_slice_more}
 use Rattle.avc_units.specs.GrouperState.{IfSlice, IsSliceUnder, open_picture_of}
 use Rattle.avc_units.specs.Grouping.{set_units, step}
@@ -118,6 +119,23 @@ pub record Works (sets : Sets) (s : SequenceState) (phase : PhaseHere) : Type 0 
 -- it stands between two units
 abbrev pub IsStream : Stream → Type 0
 IsStream s = Works (sets_after s.table) s.sequence s.phase
+
+-- 1 where there is one
+abbrev pub one_if_any : {A : Type 0} → Option A → ℕ
+one_if_any None = 0
+one_if_any (Some it) = 1
+
+-- how many planes are left over, closed and open ones
+abbrev pub planes_left_over : Spare → ℕ
+planes_left_over s = length s.closed + one_if_any s.open_planes
+
+-- how many frames there is memory of: the stored ones, the open picture, and what is left over
+abbrev pub frames_in : Stream → ℕ
+frames_in s = length (s.sequence).frames + one_if_any (current_in s.phase) + planes_left_over (s.memory).planes
+
+-- There are never more: 16 that are stored (A.3.1), the open picture, and what is left over.
+abbrev pub most_frames : ℕ
+most_frames = 16 + 1 + (most_closed + 1)
 
 -- so many macroblocks and more, as far as a u64 counts
 abbrev pub more_read : (before more : ℕ) → ℕ
@@ -313,12 +331,14 @@ pub record IsWorking (max : ℕ) {P : Type 0} (p : Parts max P) : Type 0 where
   pub going : (p.splitter).failed ≡ false
   pub unended : (p.splitter).ended ≡ false
   pub stream : IsStream p.stream
+  pub few : frames_in p.stream ≤ most_frames
   pub passed : ArePassedOn (p.stream).queue p.outgoing
 
 -- at the start of a stream
 pub record IsNew (max : ℕ) (output : Output) {P : Type 0} (p : Parts max P) : Type 0 where
   pub splitter : p.splitter ≡ new_splitter
   pub works : IsStream p.stream
+  pub few : frames_in p.stream ≤ most_frames
   pub stream : stream_state p.stream ≡ new_stream output
   pub outgoing : p.outgoing ≡ record { events = []; taken = 0 }
 
@@ -335,6 +355,7 @@ pub record IsDecoded (output : Output) (max : ℕ) (s : SplitterState) (ended : 
 -- taken.
 pub record HaveDecoded (max : ℕ) {P : Type 0} (old : Parts max P) (bytes : List ℕ) (ended : Bool) (new : Parts max P) : Type 0 where
   pub works : IsStream new.stream
+  pub few : frames_in new.stream ≤ most_frames
   pub passed : ArePassedOn (new.stream).queue new.outgoing
   pub taken : (new.outgoing).taken ≡ (old.outgoing).taken
   pub going : (new.splitter).failed ≡ false
@@ -393,9 +414,10 @@ abbrev pub after_take_in : (max : ℕ) → {P : Type 0} → Option Event → Par
 after_take_in max event (Err refusal) = Err refusal
 after_take_in max event (Ok p) = Ok (record p { outgoing = after_queue_take event p.outgoing })
 
--- Memory was not refused, and the parts have all of the machine.
+-- Memory was not refused, and the parts have all of the machine. They have memory of few frames.
 pub record AreParts (max : ℕ) (m : Machine) {P : Type 0} (p : Parts max P) : Type 0 where
   pub works : IsStream p.stream
+  pub few : frames_in p.stream ≤ most_frames
   pub passed : ArePassedOn (p.stream).queue p.outgoing
   pub decoded : IsDecoded m.output max p.splitter m.ended (stream_state p.stream)
   pub bytes : (p.splitter).bytes ≡ m.bytes

@@ -4,12 +4,14 @@ ghost use Rattle.std.specs.Prelude.{◌≡◌};
 ghost use Rattle.avc_decoder.specs.Machine.{after_feed, after_flush, new_machine};
 ghost use Rattle.avc_decoder.specs.Machine.{IsCount, IsFeedAnswer, IsFeedUnitAnswer, IsTakeAnswer};
 ghost use Rattle.avc_decoder.specs.Machine.{IsUnitCount};
+ghost use Rattle.avc_decoder.specs.OpenPictures.{IsOpenPictureAnswer};
 ghost use Rattle.avc_decoder.specs.SeenEvents.{seen_answer};
 
 use crate::error::DecodeError;
 use crate::event::Event;
+use crate::open_picture::OpenPicture;
 use crate::parts::{
-    Parts, check, feed, feed_unit, finish, stop_at_refusal, take_event, units_begun,
+    Parts, check, feed, feed_unit, finish, lent_picture, stop_at_refusal, take_event, units_begun,
 };
 use avc_decoder_core::Output;
 use avc_plane::{OutputPicture, SharedPicture};
@@ -185,6 +187,18 @@ impl<const MAX: usize, P: OutputPicture> Decoder<MAX, P> {
         ensures { IsUnitCount MAX self.now result }
     {
         units_begun(&self.running)
+    }
+
+    /// The open picture, if there is one: that of the last slice that has ended, as long as no unit
+    /// that ended behind it has closed it. After the end of the stream there is none, and after want
+    /// of memory none is answered. It takes no memory.
+    pub fn open_picture(&self) -> Option<OpenPicture<'_>>
+        ensures { IsOpenPictureAnswer MAX self.now result }
+    {
+        if self.ended {
+            return None;
+        }
+        lent_picture(&self.running)
     }
 
     /// How many macroblocks of slices have been read since the last reset, as far as a u64 counts.

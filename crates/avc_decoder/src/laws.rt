@@ -1,6 +1,6 @@
 //! Laws of whole streams that callers of the decoder rest on, over the definitions alone.
 
-ghost use Rattle.avc_decoder.specs.Laws.{EventsOnlyGrow, PicturesAreWhole};
+ghost use Rattle.avc_decoder.specs.Laws.{EventsOnlyGrow, FramesAreBounded, PicturesAreWhole};
 
 use avc_annexb::laws::units_stay;
 use avc_params::laws::sps_in_force_keeps_limits;
@@ -20,3 +20,13 @@ pub fn pictures_are_whole()
     pictures_are_sized();
     sps_in_force_keeps_limits();
 }
+
+/// Whatever is fed, a decoder has memory of few frames: at most 16 that are stored, the open
+/// picture, and 18 of pictures that are over. The state of which this is said is that which each
+/// call of a decoder keeps.
+///
+/// It says nothing of frames that have left the buffer since a picture began last (at most 17 wait
+/// there, by their type), nor of those that pictures hold which went out.
+pub fn frames_are_bounded()
+    ensures { FramesAreBounded }
+{}

@@ -1,14 +1,16 @@
 //! What a decoder consists of: units, their events, and those that wait.
 
 ghost use Rattle.std.specs.Prelude.{◌≡◌, false, true, is_err, IfOk, OnErr, OnOk};
+ghost use Rattle.avc_decoder.specs.OpenPictures.{LendsCurrentIn};
 ghost use Rattle.avc_decoder.specs.SeenEvents.{seen_if_any};
 ghost use Rattle.avc_decoder.specs.States.{after_take_in, next_event_in, stream_state};
 ghost use Rattle.avc_decoder.specs.States.{Ends, EndsIn, Feeds, FeedsIn, FeedsUnit, FeedsUnitIn};
 ghost use Rattle.avc_decoder.specs.States.{HandlesAll, IsNew, IsStream, IsUnitCountIn, IsWorking};
 
 use crate::event::Event;
+use crate::open_picture::OpenPicture;
 use crate::outgoing::Outgoing;
-use crate::stream::Stream;
+use crate::stream::{Stream, frames_are_few};
 use avc_annexb::Splitter;
 use avc_decoder_core::Output;
 use avc_plane::OutputPicture;
@@ -74,6 +76,7 @@ impl<const MAX: usize, P: OutputPicture> Parts<MAX, P> {
     {
         let used = self.splitter.feed_unit(bytes)?;
         handle_units(&mut self.splitter, &mut self.stream)?;
+        frames_are_few(&self.stream);
         self.outgoing
             .put_all(self.stream.alloc, &mut self.stream.queue)?;
         Ok(Fed {
@@ -90,6 +93,7 @@ impl<const MAX: usize, P: OutputPicture> Parts<MAX, P> {
         self.splitter.finish()?;
         handle_units(&mut self.splitter, &mut self.stream)?;
         self.stream.finish()?;
+        frames_are_few(&self.stream);
         self.outgoing
             .put_all(self.stream.alloc, &mut self.stream.queue)?;
         Ok(self.stream.read)
@@ -161,6 +165,18 @@ pub fn units_begun<const MAX: usize, P: OutputPicture>(
     match running {
         Ok(parts) => Ok(parts.splitter.units_begun()),
         Err(refusal) => Err(refusal.again()),
+    }
+}
+
+/// The open picture, where the stream goes on and has one.
+pub fn lent_picture<const MAX: usize, P: OutputPicture>(
+    running: &Result<Parts<MAX, P>, OutOfMemory>,
+) -> Option<OpenPicture<'_>>
+    ensures { LendsCurrentIn MAX running.now result }
+{
+    match running {
+        Ok(parts) => parts.stream.open_picture(),
+        Err(_) => None,
     }
 }
 

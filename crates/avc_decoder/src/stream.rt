@@ -1,14 +1,17 @@
 //! From a unit to its events.
 
-ghost use Rattle.std.specs.Prelude.{◌≡◌, IfOk, IfSome, OnOk};
+ghost use Rattle.std.specs.Prelude.{◌≡◌, ◌≤◌, IfOk, IfSome, OnOk};
 ghost use Rattle.avc_decoder.specs.Events.{after_next};
+ghost use Rattle.avc_decoder.specs.OpenPictures.{LendsCurrent};
 ghost use Rattle.avc_decoder.specs.States.{after_stream_end, after_unit_in_stream, current_in};
-ghost use Rattle.avc_decoder.specs.States.{new_stream, phase_of, stream_state};
-ghost use Rattle.avc_decoder.specs.States.{FitsPhase, HasOutcome, HasStep, IsStream};
+ghost use Rattle.avc_decoder.specs.States.{frames_in, most_frames, new_stream, phase_of};
+ghost use Rattle.avc_decoder.specs.States.{stream_state, FitsPhase, HasOutcome, HasStep};
+ghost use Rattle.avc_decoder.specs.States.{IsStream};
 ghost use Rattle.avc_params.specs.Tables.{sets_after};
 ghost use Rattle.avc_picture.specs.Decoding.{HasNoFault};
 
 use crate::close::{close, empty, fail};
+use crate::open_picture::OpenPicture;
 use crate::phase::Phase;
 use crate::queue::Queue;
 use crate::slices::{first_slice, next_slice};
@@ -45,6 +48,7 @@ impl Stream {
     /// At the start: it waits for a picture to start with.
     pub fn new(alloc: Global, output: Output) -> Stream
         ensures works { IsStream result }
+        ensures few { frames_in result ≤ most_frames }
         ensures state { stream_state result ≡ new_stream output }
     {
         Stream {
@@ -95,6 +99,29 @@ impl Stream {
         empty(self)?;
         Ok(())
     }
+
+    /// The open picture, if there is one.
+    pub fn open_picture(&self) -> Option<OpenPicture<'_>>
+        ensures { LendsCurrent self.now.sequence (current_in self.now.phase) result }
+    {
+        match &self.phase {
+            Phase::Running(Some(current)) => Some(OpenPicture {
+                decoder: &current.decoder,
+                frames: self.sequence.frames(),
+            }),
+            _ => None,
+        }
+    }
+}
+
+/// There is memory of few frames. This does nothing: it says what is true of every stream.
+#[inline(always)]
+pub fn frames_are_few(stream: &Stream)
+    requires { IsStream stream.now }
+    ensures { frames_in stream.now ≤ most_frames }
+{
+    stream.memory.are_few();
+    let _ = stream.sequence.frames();
 }
 
 /// What a unit does in this phase, and what it puts into the table. Where the next picture begins

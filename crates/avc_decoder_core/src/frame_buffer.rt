@@ -229,11 +229,13 @@ impl FrameBuffer {
         }
     }
 
-    /// The stored frames with their marks, in decoding order. After want of memory they are any.
+    /// The stored frames with their marks, in decoding order: at most 16. After want of memory they
+    /// are any.
     pub fn frames(&self) -> &[Frame<PADDING>]
         ensures value { result.now ≡ self.now.frames }
         ensures stored { self.now.failed ≡ false → AreStoredIn self.now.history result.now }
         ensures sized { self.now.failed ≡ false → AreFramesIn self.now.history result.now }
+        ensures few { self.now.failed ≡ false → length result.now ≤ 16 }
     {
         self.dpb.frames()
     }

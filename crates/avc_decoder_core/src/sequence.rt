@@ -1,6 +1,7 @@
 //! The pictures of a coded video sequence, opened and closed one after another.
 
-ghost use Rattle.std.specs.Prelude.{◌≡◌, true, false, IfOk, IfErr, OnErr, None, Some, is_some};
+ghost use Rattle.std.specs.Prelude.{◌≡◌, ◌≤◌, true, false, IfOk, IfErr, OnErr, None, Some, is_some};
+ghost use Rattle.std.specs.Prelude.{length};
 ghost use Rattle.avc_decoder_core.specs.History.{history_after_closing, history_at_opening};
 ghost use Rattle.avc_decoder_core.specs.Opening.{set_with, Finds};
 ghost use Rattle.avc_decoder_core.specs.SequenceState.{empty_sequence, current_history, Fails};
@@ -193,11 +194,13 @@ impl Sequence {
         Ok(out)
     }
 
-    /// The stored frames with their marks, in decoding order. After want of memory they are any.
+    /// The stored frames with their marks, in decoding order: at most 16. After want of memory they
+    /// are any.
     pub fn frames(&self) -> &[Frame<PADDING>]
         ensures value { result.now ≡ self.now.frames }
         ensures stored { self.now.failed ≡ false → AreStoredIn (current_history self.now) result.now }
         ensures sized { self.now.failed ≡ false → AreFramesIn (current_history self.now) result.now }
+        ensures few { self.now.failed ≡ false → length result.now ≤ 16 }
     {
         self.buffer.frames()
     }

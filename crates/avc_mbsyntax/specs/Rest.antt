@@ -87,8 +87,8 @@ IsOneMore s before (Ok mb) old new =
     (one_more s before old.qp (reader_bits old.reader) ≡ after (mb ∷ []) (rest_of s (before ++ placed s mb ∷ []) new)) × Follows s (before ++ placed s mb ∷ []) new × IsOfSlice s mb
 IsOneMore s before (Err f) old new = (one_more s before old.qp (reader_bits old.reader) ≡ stopped f) × (new ≡ old)
 
--- a run that was read changes nothing in the rest
-abbrev pub IsRun : SliceStart → (before : List PicMb) → Result ℕ Fault → SliceData → SliceData → Type 0
+-- Reading how many skipped macroblocks come next changes nothing in the rest. A fault comes again.
+abbrev pub IsRun : {A : Type 0} → SliceStart → (before : List PicMb) → Result A Fault → SliceData → SliceData → Type 0
 IsRun s before (Ok count) old new = (rest_of s before old ≡ rest_of s before new) × Follows s before new
 IsRun s before (Err f) old new = (rest_of s before old ≡ stopped f) × (rest_of s before new ≡ stopped f) × Follows s before new
 

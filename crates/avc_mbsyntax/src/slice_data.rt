@@ -86,6 +86,22 @@ impl<'a> SliceData<'a> {
         }
     }
 
+    /// Reads how many skipped macroblocks come next (mb_skip_run) where that is what comes next in a
+    /// P slice, so that `next_skipped` hands out the first of them. Else nothing is read. The fault is
+    /// the one that `next` would give.
+    #[inline]
+    pub fn begin_run(&mut self) -> Result<(), Fault>
+        ensures { (s : SliceStart) (before : List PicMb) → Follows s before self.old → IsRun s before result self.old self.new }
+    {
+        match self.stage {
+            Stage::Next if self.is_p => {
+                self.read_run()?;
+                Ok(())
+            }
+            _ => Ok(()),
+        }
+    }
+
     /// Hands out the next macroblock into `mb` where it is one of a run of skipped ones that was
     /// read, for which no neighbour is asked. Answers whether it is; if not, nothing was read.
     #[inline]

@@ -410,6 +410,40 @@ refused-again {sps = sps} {pps = pps} {fs = fs} {slices = slices} {f = f} s kept
       cc;
 }
 
+-- ---- the info of a macroblock that is kept
+
+by-test : {A : Type 0} (b : Bool) (o : Option A) (x : A) → (if b then o else None) ≡ Some x → o ≡ Some x
+by-test true o x e = e
+by-test false o x e = cc
+
+got-kept : (width : ℕ) (info : List MbInfo) (address : ℕ) (f : MbInfo) → kept_info width info address ≡ Some f → slice_get info address ≡ Some f
+got-kept width info address f e = by-test (is_in_last_rows width (length info) address) (slice_get info address) f e
+
+some-by-test : {A : Type 0} (b : Bool) (o : Option A) → (b ≡ true → is_some o ≡ true) → is_some (if b then o else None) ≡ b
+some-by-test true o e = e refl
+some-by-test false o e = refl
+
+low-place : (first address n : ℕ) → (nat_le first address && nat_lt address n) ≡ true → address < n
+low-place first address n e = grind (arith, nat_tests)
+
+is-there : (info : List MbInfo) (address : ℕ) → address < length info → is_some (slice_get info address) ≡ true
+is-there info address low = elim (slice_get_cases info address).1 [ inl found ↦ ap is_some found.2 | inr past ↦ absurd (omega (arith, past.0)) ]
+
+some-kept : (width : ℕ) (info : List MbInfo) (address : ℕ) → is_some (kept_info width info address) ≡ is_in_last_rows width (length info) address
+some-kept width info address =
+    some-by-test (is_in_last_rows width (length info) address) (slice_get info address)
+    (λ e. is-there info address (low-place ((length info / width - 2) * width) address (length info) e))
+
+-- what holds of a value holds of it where it is lent
+pub lent-is : {A : Type 0} (P : A → Type 0) (lent : Option (Bor A)) (value : Option A) → option_copied lent ≡ value → ((x : A) → value ≡ Some x → P x)
+    → IfSome lent (λ x. P x.now)
+lent-is P (Some x) value is holds = holds x.now (sym is)
+lent-is P None value is holds = tt
+
+pub lent-some : {A : Type 0} (lent : Option (Bor A)) (value : Option A) → option_copied lent ≡ value → is_some lent ≡ is_some value
+lent-some (Some x) value is = ap is_some is
+lent-some None value is = ap is_some is
+
 -- ---- what is kept without a fault
 
 module _ {PAD : ℕ} {sps : Sps} {pps : Pps} {fs : List (Frame PAD)} {slices : List Slice} {count read : ℕ} {fault : Option Fault} {m : MbsState} (none : fault ≡ None)
@@ -455,6 +489,30 @@ module _ {PAD : ℕ} {sps : Sps} {pps : Pps} {fs : List (Frame PAD)} {slices : L
       let es = places-of fs in
       let well = kept es (stand-somewhere fs) in
       rw state.width (omega (arith, covered es (stand-somewhere fs), well.read_is, well.reached))
+
+  -- what the filter is told, where it is kept
+  module _ (address : ℕ) (count_is : length m.filter_info ≡ m.next) where
+    pub kept-now : IsKept address (is_some (kept_info m.canvas.width m.filter_info address)) d
+    kept-now es stand =
+        some-kept m.canvas.width m.filter_info address
+        ∙ ap₂ (λ w n. is_in_last_rows w n address) state.width (count_is ∙ sym (kept es stand).decoded.next)
+
+    pub info-now : (f : MbInfo) → kept_info m.canvas.width m.filter_info address ≡ Some f → HasFilterInfo address f d
+    info-now f is es names stand are =
+        let c = coded_of (begun es) (progress (begun es) slices) in
+        let holds : HoldsFirst c names m = (kept es stand).decoded.holds c names (begins-itself c) are in
+        let found = got-kept m.canvas.width m.filter_info address f is in
+        let place : 0 + address ≡ address = omega arith in
+        rw (place, get_or_from_slice_get m.filter_info address f f found) at (holds.filter address f (slice_get_within m.filter_info address f found))
+
+    pub places-now : (f : MbInfo) → kept_info m.canvas.width m.filter_info address ≡ Some f → NamesPlaces f d
+    places-now f is between quarter low =
+        let es = places-of fs in
+        let stand = stand-somewhere fs in
+        let here = (info-now f is es (names-of es stand.rising) stand (are-names es stand.rising)).motion_is between (4 * quarter) (omega (arith, low)) in
+        let quarter_is : (4 * quarter) / 4 ≡ quarter = omega arith in
+        let named : slice_index f.pictures quarter < length es = rw quarter_is at here.named in
+        omega (arith, named, stand.each, length-map fs marked_frame)
 
   module _ (full : read ≡ size_in_mbs sps) where
     pub none-at-end : (es : List ℕ) → FramesStandAt es fs → end_fault es d ≡ None

@@ -1,5 +1,5 @@
 -- The three rows of macroblocks whose info is kept for the deblocking filter.
-use Rattle.std.specs.Prelude.{◌≡◌, ℕ, ◌+◌, ◌-◌, ◌*◌, ◌<◌, ◌≤◌, List, ◌++◌, ◌∷◌, [], length, slice_index_or}
+use Rattle.std.specs.Prelude.{◌≡◌, ℕ, ◌+◌, ◌-◌, ◌*◌, ◌/◌, ◌<◌, ◌≤◌, nat_le, nat_lt, Bool, ◌&&◌, if◌then◌else◌, List, ◌++◌, ◌∷◌, [], length, Option, None, slice_get, slice_index_or}
 use Rattle.avc_types.specs.Macroblock.{Mb}
 use Rattle.avc_neigh.specs.declared.neighbour_info.Motion.{Motion}
 use Rattle.avc_deblock.specs.declared.mb_info.MbInfo.{MbInfo}
@@ -23,6 +23,15 @@ pub record AreLastRows (info : List MbInfo) (width column row : ℕ) (current la
   pub current_is : AreFrom info (row * width) column current
   pub last_is : 1 ≤ row → AreFrom info ((row - 1) * width) width last
   pub above_is : 2 ≤ row → AreFrom info ((row - 2) * width) width above
+
+-- Of a picture of this width, n macroblocks of which are there, macroblock `address` is one, and
+-- lies in the row of the macroblock that comes next or in one of the two rows above that.
+abbrev pub is_in_last_rows : (width n address : ℕ) → Bool
+is_in_last_rows width n address = nat_le ((n / width - 2) * width) address && nat_lt address n
+
+-- the info of macroblock `address`, where it is in those rows
+abbrev pub kept_info : (width : ℕ) → (info : List MbInfo) → (address : ℕ) → Option MbInfo
+kept_info width info address = if is_in_last_rows width (length info) address then slice_get info address else None
 
 -- with the info of one macroblock more
 abbrev pub with_info_more : FilterInfo → MbInfo → FilterInfo

@@ -1,6 +1,6 @@
 //! The decoder of one picture: its slices, one after another, and its end.
 
-ghost use Rattle.std.specs.Prelude.{◌≡◌, ◌==◌, ◌^◌, ◌<◌, ◌≤◌, ◌*◌, IfOk, IsOk};
+ghost use Rattle.std.specs.Prelude.{◌≡◌, ◌==◌, ◌^◌, ◌<◌, ◌≤◌, ◌*◌, is_some, IfOk, IfSome, IsOk};
 ghost use Rattle.avc_params.specs.Limits.{height_in_mbs, size_in_mbs, width_in_mbs};
 ghost use Rattle.avc_params.specs.Within.{IsPps, IsSps};
 ghost use Rattle.avc_slice.specs.Within.{IsHeader};
@@ -10,11 +10,13 @@ ghost use Rattle.avc_picture.specs.Decoding.{no_slice_yet, AreFramesOf, HasNoFau
 ghost use Rattle.avc_picture.specs.Decoding.{IsFinishAnswer, IsFull, IsSliceAnswer};
 ghost use Rattle.avc_picture.specs.DecoderState.{number_after};
 ghost use Rattle.avc_picture.specs.Memory.{HasMemoryFor, LeavesMemory, LeavesAll};
-ghost use Rattle.avc_picture.specs.OpenPicture.{HasFiltered, HasSample, IsCovered};
+ghost use Rattle.avc_picture.specs.OpenPicture.{HasFiltered, HasFilterInfo, HasSample, IsCovered};
+ghost use Rattle.avc_picture.specs.OpenPicture.{IsKept, NamesPlaces};
 
 use crate::macroblocks::Macroblocks;
 use crate::memory::PictureMemory;
 use crate::slice_decoding::decode_slice;
+use avc_deblock::MbInfo;
 use avc_params::{Pps, Sps};
 use avc_plane::{Frame, PaddedPlanes};
 use avc_slice::Slice;
@@ -127,6 +129,13 @@ impl<const PAD: usize> PictureDecoder<PAD> {
         }
     }
 
+    /// The sequence parameter set of the picture.
+    pub fn sps(&self) -> &Sps
+        ensures { result.now ≡ self.now.sps }
+    {
+        &self.sps
+    }
+
     /// How many macroblocks have been read so far: up to the first fault, the faulty one included.
     pub fn read(&self) -> u32
         ensures { HasRead result self.now }
@@ -162,6 +171,19 @@ impl<const PAD: usize> PictureDecoder<PAD> {
         ensures { HasSample component x y result self.now }
     {
         self.macroblocks.sample(component, x, y)
+    }
+
+    /// What the deblocking filter is told of the macroblock with this address (8.7), where that is
+    /// kept still: of the macroblocks that have been read those in the row of the one that comes
+    /// next, and in the two rows above that. Its `pictures` are places among the frames that the
+    /// picture began with.
+    pub fn filter_info(&self, address: usize) -> Option<&MbInfo>
+        requires { HasNoFault self.now }
+        ensures kept { IsKept address (is_some result) self.now }
+        ensures info { IfSome result (λ f. HasFilterInfo address f.now self.now) }
+        ensures pictures { IfSome result (λ f. NamesPlaces f.now self.now) }
+    {
+        self.macroblocks.filter_info(address)
     }
 
     /// The samples of the picture after deblocking. Where the slices have a fault it answers the

@@ -8,7 +8,8 @@ ghost use Rattle.avc_deblock.specs.OneEdge.{HasRoom};
 ghost use Rattle.avc_picture_core.specs.Canvas.{address_of};
 ghost use Rattle.avc_picture.specs.RowLate.{filtered_rows, AreInfoOf, FiltersUpTo};
 ghost use Rattle.avc_motion.specs.Motion.{AreOfOneMotion, has_one_motion};
-ghost use Rattle.avc_picture.specs.FilterRows.{AddsInfo};
+ghost use Rattle.std.specs.Option.{option_copied};
+ghost use Rattle.avc_picture.specs.FilterRows.{kept_info, AddsInfo};
 
 use crate::filter_info::set_filter_info;
 use crate::slice_context::SliceContext;
@@ -102,6 +103,24 @@ impl FilterRows {
         MbPlace {
             column: self.column,
             row: self.row,
+        }
+    }
+
+    /// The info of the macroblock with this address, where it is kept: of those so far in the row
+    /// of the macroblock that comes next, and in the two rows above that.
+    pub(crate) fn info(&self, address: usize) -> Option<&MbInfo>
+        ensures { option_copied result ≡ kept_info self.now.width self.now.info address }
+    {
+        let row = address / self.width;
+        let column = address % self.width;
+        if self.row < row {
+            return None;
+        }
+        match self.row - row {
+            0 => self.current[..self.column].get(column),
+            1 => self.last.get(column),
+            2 => self.above.get(column),
+            _ => None,
         }
     }
 

@@ -2,6 +2,7 @@
 #![tactic(auto)]
 
 mod current_info;
+mod current_macroblock;
 mod decoder;
 mod filter_info;
 mod filter_rows;
@@ -15,5 +16,6 @@ mod slice_context;
 mod slice_decoding;
 mod still_run;
 
+pub use avc_deblock::MbInfo;
 pub use decoder::PictureDecoder;
 pub use memory::PictureMemory;

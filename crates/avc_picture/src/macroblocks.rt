@@ -15,6 +15,7 @@ ghost use Rattle.avc_picture_core.specs.Built.{size_of};
 ghost use Rattle.avc_deblock.specs.FilterInfo.{Names};
 ghost use Rattle.avc_picture_core.specs.References.{AreUsable};
 ghost use Rattle.avc_picture.specs.Decoded.{deblocked};
+ghost use Rattle.avc_picture.specs.FilterRows.{kept_info};
 ghost use Rattle.avc_picture.specs.FirstMbs.{HasSameSize, HasSets, HoldsFirst, IsDecoded, IsSlice};
 ghost use Rattle.avc_picture.specs.MacroblockInfo.{IsRead};
 ghost use Rattle.avc_picture.specs.Memory.{with_info, HasMemoryFor, LeavesAll};
@@ -26,6 +27,7 @@ use crate::filter_rows::FilterRows;
 use crate::memory::{FactRows, PictureMemory};
 use crate::slice_context::SliceContext;
 use crate::still_run::StillRun;
+use avc_deblock::MbInfo;
 use avc_neigh::{NeighbourInfo, Neighbours, Row, TotalCoeffs};
 use avc_params::{Pps, Sps};
 use avc_picture_core::{Canvas, ReferencePicture, Sources};
@@ -205,6 +207,15 @@ impl<const PAD: usize> Macroblocks<PAD> {
             → result ≡ samples_of (row_late c (empty_planes c.width c.height) self.now.next) component x y }
     {
         sample_of(&self.planes, component, x, y)
+    }
+
+    /// What the filter is told of the macroblock with this address, where that is kept: of those so
+    /// far in the row of the macroblock that comes next, and in the two rows above that.
+    pub(crate) fn filter_info(&self, address: usize) -> Option<&MbInfo>
+        ensures info { option_copied result ≡ kept_info self.now.canvas.width self.now.filter_info address }
+        ensures count { length self.now.filter_info ≡ self.now.next }
+    {
+        self.filter_rows.info(address)
     }
 
     /// The samples of the picture after deblocking (8.7).

@@ -1,10 +1,10 @@
 //! What a picture is decoded in, kept from one picture to the next.
 
 ghost use Rattle.std.specs.Prelude.{◌≡◌, ◌+◌, ◌*◌, ◌^◌, ◌<◌, [], None, Some, IfOk, IsOk, IsOkAnd};
-ghost use Rattle.std.specs.Prelude.{OnErr};
+ghost use Rattle.std.specs.Prelude.{◌≤◌, length, OnErr};
 ghost use Rattle.avc_neigh.specs.Around.{no_info};
 ghost use Rattle.avc_plane.specs.Frames.{planes_of, AreSized};
-ghost use Rattle.avc_plane.specs.Spare.{left_over, AreHad, HasOpen};
+ghost use Rattle.avc_plane.specs.Spare.{left_over, most_closed, AreHad, HasOpen};
 ghost use Rattle.avc_picture.specs.Memory.{no_memory, with_closed_planes, with_info};
 ghost use Rattle.avc_picture.specs.Memory.{with_open_planes, without_info};
 
@@ -83,6 +83,15 @@ impl<const PAD: usize> PictureMemory<PAD> {
         ensures { self.new ≡ with_closed_planes planes.entry self.old }
     {
         self.planes.put(planes);
+    }
+
+    /// No more closed planes than these are ever left over. This does nothing: it says what is true
+    /// of every value.
+    #[inline(always)]
+    pub fn are_few(&self)
+        ensures { length (self.now.planes).closed ≤ most_closed }
+    {
+        self.planes.are_few();
     }
 
     /// Keeps the planes of a picture that is refused.

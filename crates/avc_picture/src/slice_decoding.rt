@@ -25,6 +25,7 @@ ghost use Rattle.avc_picture.specs.Slices.{data_of, start_of};
 ghost use Rattle.avc_picture.specs.StillRuns.{AreCopiedFrom};
 
 use crate::current_info::CurrentInfo;
+use crate::current_macroblock::CurrentMacroblock;
 use crate::header_checks::check_address;
 use crate::macroblocks::Macroblocks;
 use crate::reference_places::{Places, reference_places};
@@ -35,7 +36,7 @@ use avc_mbsyntax::SliceData;
 use avc_params::{Pps, Sps};
 use avc_plane::Frame;
 use avc_slice::{Header, Slice};
-use avc_types::{Fault, Mb, Syntax};
+use avc_types::Fault;
 
 /// Pic_init_qp without its offset (7.4.2.2).
 const FIRST_QP: i32 = 26;
@@ -68,34 +69,35 @@ fn slice_data<'a>(sps: &Sps, pps: &Pps, slice: &'a Slice, read: u32) -> SliceDat
     )
 }
 
-/// Reads the next macroblock of the data into `mb`, as its neighbours in the picture have it read.
-/// Answers whether there was one.
+/// Reads the next macroblock of the data, as its neighbours in the picture have it read. Answers
+/// whether there was one.
 fn next_macroblock<const PAD: usize>(
     unread: &mut SliceData<'_>,
     macroblocks: &Macroblocks<PAD>,
     number: u32,
-    mb: &mut Mb,
+    current: &mut CurrentMacroblock,
 ) -> Result<bool, Fault>
     ensures { (c : Coded) (names : Names) (s : SliceStart) → HoldsFirst c names macroblocks.now → s.width ≡ c.width → s.slice ≡ number
         → Follows s (take macroblocks.now.next c.mbs) unread.old
-        → IsHandedOut s (take macroblocks.now.next c.mbs) (handed_out result mb.new) unread.old unread.new }
+        → IsHandedOut s (take macroblocks.now.next c.mbs) (handed_out result current.new) unread.old unread.new }
 {
-    if unread.next_skipped(mb) {
+    unread.begin_run()?;
+    if current.read_skipped(unread) {
         return Ok(true);
     }
     let (left, up) = macroblocks.left_and_above(number);
-    unread.next(left, up, mb)
+    current.read(unread, left, up)
 }
 
 /// Decodes the macroblocks of a slice, and counts in `read` those that are read, a faulty one
-/// included. Answers the first fault. Anything may stand in `mb`, which is where they are read, and
-/// in `info`, which is where the info of each is written. `run` has those that were copied ahead.
+/// included. Answers the first fault. Anything may stand in `current`, which is where they are read,
+/// and in `info`, which is where the info of each is written. `run` has those that were copied ahead.
 fn decode_data<const PAD: usize>(
     unread: &mut SliceData<'_>,
     context: &SliceContext<'_, PAD>,
     macroblocks: &mut Macroblocks<PAD>,
     read: &mut u32,
-    mb: &mut Mb,
+    current: &mut CurrentMacroblock,
     info: &mut CurrentInfo,
     run: &mut StillRun,
 ) -> Result<(), Fault>
@@ -110,14 +112,14 @@ fn decode_data<const PAD: usize>(
     ensures answer { (c : Coded) (names : Names) (s : SliceStart) → GoesOn c names s macroblocks.old unread.old context.now
         → IsDataAnswer c names macroblocks.old.next (outcome_from c s macroblocks.old unread.old) result read.new macroblocks.new }
 {
-    'macroblocks: while next_macroblock(unread, macroblocks, context.number, mb)? {
+    'macroblocks: while next_macroblock(unread, macroblocks, context.number, current)? {
         *read += 1;
-        macroblocks.decode(mb, context, info, run)?;
+        macroblocks.decode(current.mb(), context, info, run)?;
     }
     Ok(())
 }
 
-/// Likewise from the first macroblock on, which stands in `mb`. What all macroblocks of a slice are
+/// Likewise from the first macroblock on, which is the current one. What all macroblocks of a slice are
 /// decoded with is large: it is made here, so that a slice without any pays nothing for it.
 #[inline(never)]
 fn decode_macroblocks<const PAD: usize>(
@@ -128,27 +130,35 @@ fn decode_macroblocks<const PAD: usize>(
     places: &Places,
     macroblocks: &mut Macroblocks<PAD>,
     read: &mut u32,
-    mb: &mut Mb,
+    current: &mut CurrentMacroblock,
 ) -> Result<(), Fault>
     requires frames { AreFrames macroblocks.old.canvas.width macroblocks.old.canvas.height frames.now }
     requires places { ArePlacesIn frames.now places.now }
     requires deblocking { IfSome header.now.deblocking IsDeblocking }
     requires weights { IfSome header.now.pred_weight_table (IsPredWeightTable header.now.num_ref_idx_active) }
-    requires some { CanHaveFirst (IsContextAt number frames.now header.now places.now) macroblocks.old mb.old unread.old }
+    requires some { CanHaveFirst (IsContextAt number frames.now header.now places.now) macroblocks.old current.old unread.old }
     requires read { macroblocks.old.next ≡ read.old }
     requires small { macroblocks.old.canvas.width * macroblocks.old.canvas.height ≤ max_macroblocks }
     ensures size { HasSameSize macroblocks.old macroblocks.new }
     ensures within { read.new ≤ macroblocks.old.canvas.width * macroblocks.old.canvas.height }
     ensures answer { (c : Coded) (names : Names) (s : SliceStart) (d : SliceFrom)
-        → HasFirst (IsContextAt number frames.now header.now places.now) c names s d macroblocks.old mb.old unread.old
+        → HasFirst (IsContextAt number frames.now header.now places.now) c names s d macroblocks.old current.old unread.old
         → IsDataAnswer c names macroblocks.old.next (outcome_from c s macroblocks.old d) result read.new macroblocks.new }
 {
     let context = SliceContext::new(number, header, frames, places);
     let mut info = CurrentInfo::new();
     let mut run = StillRun::new();
     *read += 1;
-    macroblocks.decode(mb, &context, &mut info, &mut run)?;
-    decode_data(unread, &context, macroblocks, read, mb, &mut info, &mut run)
+    macroblocks.decode(current.mb(), &context, &mut info, &mut run)?;
+    decode_data(
+        unread,
+        &context,
+        macroblocks,
+        read,
+        current,
+        &mut info,
+        &mut run,
+    )
 }
 
 /// Decodes slice `number` of a picture, of which `read` macroblocks have been read. Answers the
@@ -177,11 +187,8 @@ pub(crate) fn decode_slice<const PAD: usize>(
     check_address(*read, &slice.header)?;
     let places = reference_places(sps, &slice.header, frames)?;
     let mut unread = slice_data(sps, pps, slice, *read);
-    let mut mb = Mb {
-        syntax: Syntax::PSkip,
-        qp: 0,
-    };
-    let more = next_macroblock(&mut unread, macroblocks, number, &mut mb)?;
+    let mut current = CurrentMacroblock::new();
+    let more = next_macroblock(&mut unread, macroblocks, number, &mut current)?;
     if !more {
         return Ok(());
     }
@@ -193,6 +200,6 @@ pub(crate) fn decode_slice<const PAD: usize>(
         &places,
         macroblocks,
         read,
-        &mut mb,
+        &mut current,
     )
 }

@@ -67,6 +67,14 @@ impl<const PAD: usize> SparePlanes<PAD> {
         let _full = self.closed.try_push(Some(planes.into_shared())).is_err();
     }
 
+    /// No more than these are ever kept. This does nothing: it says what is true of every value.
+    #[inline(always)]
+    pub fn are_few(&self)
+        ensures { length self.now.closed ≤ most_closed }
+    {
+        let _ = &self.closed;
+    }
+
     /// Keeps the planes of a picture that became no frame. Those that were kept so before are
     /// dropped.
     pub fn put_open(&mut self, planes: Planes<PAD>)

@@ -104,7 +104,7 @@ pub record StandsOn (history : History) (d : Decoding 16) : Type 0 where
   pub stand : CanStandAt indices d
   pub same : progress_at indices d ≡ progress_on_history history d
 
-none_rises : IsStrictlyIncreasing []
+pub none_rises : IsStrictlyIncreasing []
 none_rises k below = search arith
 
 stands_by : (idr : Bool) (s : SequenceState) (d : Decoding 16) → d.frames ≡ elim idr [ true ↦ [] | false ↦ s.frames ] → (idr ≡ true → All IsISlice d.slices) → (idr ≡ false → AreStoredIn (current_history s) s.frames)

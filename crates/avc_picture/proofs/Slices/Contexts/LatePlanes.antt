@@ -226,6 +226,90 @@ module _ {info : List MbInfo} {width column row : ℕ} {current last above : Lis
       ∙ ap (λ t. all_filtered c motion t (row_lines c r)) (old_is ∙ ap (λ n. rows_filtered c (n - 1) s) row_of_last)
       ∙ ap (λ n. rows_filtered c n s) (sym whole ∙ sym row_of_last)
 
+-- ---- what the filter is told of one macroblock, where it is kept
+
+-- an entry of what is kept, from the info of all macroblocks
+entry_kept : (all kept : List MbInfo) (first n k : ℕ) → AreFrom all first n kept → n ≤ length kept → first + n ≤ length all → k < n
+    → slice_get kept k ≡ slice_get all (first + k)
+entry_kept all kept first n k from long within below = elim (slice_get_cases kept k).1 [
+  | inl found ↦ found.2 ∙ sym (slice_get-get_or all (first + k) found.0 (omega arith) ∙ ap Some (sym (from k found.0 below) ∙ found.3))
+  | inr past ↦ absurd (omega (arith, past.0))
+]
+
+-- an entry of a list that is lent
+pub lent_entry : {A : Type 0} (lent : Option (Bor A)) (xs : List A) (k : ℕ) → is_some lent ≡ nat_lt k (length xs)
+    → IfSome lent (λ x. x.now ≡ slice_index_or xs k x.now) → option_copied lent ≡ slice_get xs k
+lent_entry (Some x) xs k some at = let low : k < length xs = grind (arith, nat_tests) in sym (slice_get_read xs (length xs) k x.now refl low at)
+lent_entry None xs k some at = let past : length xs ≤ k = grind (arith, nat_tests) in sym (slice_get_past xs k past)
+
+within_rows : (first address n : ℕ) → first ≤ address → address < n → (nat_le first address && nat_lt address n) ≡ true
+within_rows first address n low high = grind (arith, nat_tests)
+
+behind_rows : (first address n : ℕ) → n ≤ address → (nat_le first address && nat_lt address n) ≡ false
+behind_rows first address n past = grind (arith, nat_tests)
+
+module _ {info : List MbInfo} {width column row : ℕ} {current last above : List MbInfo} (kept : AreLastRows info width column row current last above) (address : ℕ) where
+  abbrev own_row : ℕ
+  own_row = address / width
+
+  abbrev own_column : ℕ
+  own_column = address % width
+
+  abbrev if_kept : Bool → Option MbInfo
+  if_kept is = if is then slice_get info address else None
+
+  some_width : 0 < width
+  some_width = omega (arith, kept.narrow)
+
+  own_place : own_row * width + own_column ≡ address
+  own_place = div-add-mod' address width
+
+  own_narrow : own_column < width
+  own_narrow = mod_below address width some_width
+
+  first_is : (length info / width - 2) * width ≡ (row - 2) * width
+  first_is = ap (λ r. (r - 2) * width) (row_of_last kept)
+
+  is_there_still : (row - 2) * width ≤ address → address < length info → kept_info width info address ≡ slice_get info address
+  is_there_still low high = ap if_kept (within_rows ((length info / width - 2) * width) address (length info) (omega (arith, low, first_is)) high)
+
+  is_not_yet : length info ≤ address → kept_info width info address ≡ None
+  is_not_yet past = ap if_kept (behind_rows ((length info / width - 2) * width) address (length info) past)
+
+  -- the entry of one of the rows that are kept
+  entry_of_row : (r : ℕ) (xs : List MbInfo) (n : ℕ) → r ≡ own_row → r ≤ row → row - 2 ≤ r → AreFrom info (r * width) n xs → n ≤ length xs → r * width + n ≤ length info
+      → own_column < n → slice_get xs own_column ≡ kept_info width info address
+  entry_of_row r xs n is low near from long within below =
+      let place : r * width + own_column ≡ address = ap (λ k. k * width + own_column) is ∙ own_place in
+      let first : (row - 2) * width ≤ r * width = mul-le-mul_right width near in
+      entry_kept info xs (r * width) n own_column from long within below ∙ ap (slice_get info) place ∙ sym (is_there_still (omega (arith, first, place)) (omega (arith, within, place, below)))
+
+  pub current_entry : own_row ≡ row → slice_get (take column current) own_column ≡ kept_info width info address
+  current_entry is =
+      let long : length (take column current) ≡ column = length-take-le column current (omega (arith, kept.narrow, kept.current_long)) in
+      let place : row * width + own_column ≡ address = ap (λ k. k * width + own_column) (sym is) ∙ own_place in
+      elim (cases_lt own_column column) [
+        | inl below ↦ entry_of_row row (take column current) column (sym is) (omega arith) (omega arith)
+            (λ k other low. get_or-take column current k other low ∙ kept.current_is k other low) (omega (arith, long)) (omega (arith, kept.count)) below
+        | inr past ↦ slice_get_past (take column current) own_column (omega (arith, long, past)) ∙ sym (is_not_yet (omega (arith, kept.count, place, past)))
+      ]
+
+  -- a row above that of the macroblock that comes next is whole
+  whole_row : (r : ℕ) → suc r ≤ row → r * width + width ≤ length info
+  whole_row r less = let above_it : suc r * width ≤ row * width = mul-le-mul_right width less in omega (arith, above_it, kept.count)
+
+  pub last_entry : suc own_row ≡ row → slice_get last own_column ≡ kept_info width info address
+  last_entry is =
+      let r : row - 1 ≡ own_row = omega (arith, is) in
+      entry_of_row own_row last width refl (omega (arith, is)) (omega (arith, is)) (subst (λ k. AreFrom info (k * width) width last) r (kept.last_is (omega (arith, is))))
+      (omega (arith, kept.last_long)) (whole_row own_row (omega (arith, is))) own_narrow
+
+  pub above_entry : suc (suc own_row) ≡ row → slice_get above own_column ≡ kept_info width info address
+  above_entry is =
+      let r : row - 2 ≡ own_row = omega (arith, is) in
+      entry_of_row own_row above width refl (omega (arith, is)) (omega (arith, is)) (subst (λ k. AreFrom info (k * width) width above) r (kept.above_is (omega (arith, is))))
+      (omega (arith, kept.above_long)) (whole_row own_row (omega (arith, is))) own_narrow
+
 -- the filter of a row keeps the size of the planes
 pub row_sized : (offset : ℤ) (row : ℕ) (above info : List MbInfo) (s : Planes) → ((column : ℕ) → column < length info → HasRoom column row s)
     → (w h : ℕ) → AreSized w h s → AreSized w h (row_by_info offset row above info (length info) s)

@@ -11,17 +11,17 @@ returns-in_err-next_macroblock-clause-answer g c = λ coded names s go.
 
 pub decode-requires : goal.decode-requires
 decode-requires g c =
-    let out = has-room c.requires.some c.macroblocks.invariant.goes_on (rw (c.if-branch.true) at c.in_ok-next_macroblock.ensures) in
+    let out = has-room c.requires.some c.macroblocks.invariant.goes_on (rw (c.if-branch.true, ← c.mb.ensures) at c.in_ok-next_macroblock.ensures) in
     (omega arith, (omega arith, (out.0, (out.1, (usable-still _ c.macroblocks.invariant.size c.requires.usable, c.macroblocks.invariant.copied)))))
 
 pub macroblocks-smaller : goal.macroblocks-smaller
 macroblocks-smaller g c =
-    let out = has-room c.requires.some c.macroblocks.invariant.goes_on (rw (c.if-branch.true) at c.in_ok-next_macroblock.ensures) in
+    let out = has-room c.requires.some c.macroblocks.invariant.goes_on (rw (c.if-branch.true, ← c.mb.ensures) at c.in_ok-next_macroblock.ensures) in
     omega (arith, out.0, c.in_ok-decode.ensures.next, same-area c.in_ok-decode.ensures.size)
 
 pub macroblocks-preserved : goal.macroblocks-preserved
 macroblocks-preserved g c =
-    let hands = rw (c.if-branch.true) at c.in_ok-next_macroblock.ensures in
+    let hands = rw (c.if-branch.true, ← c.mb.ensures) at c.in_ok-next_macroblock.ensures in
     let before = c.macroblocks.invariant in
     let out = has-room c.requires.some before.goes_on hands in
     let done = c.in_ok-decode.ensures in
@@ -37,13 +37,13 @@ macroblocks-preserved g c =
 
 pub returns-in_err-decode-clause-within : goal.returns-in_err-decode-clause-within
 returns-in_err-decode-clause-within g c =
-    let out = has-room c.requires.some c.macroblocks.invariant.goes_on (rw (c.if-branch.true) at c.in_ok-next_macroblock.ensures) in
+    let out = has-room c.requires.some c.macroblocks.invariant.goes_on (rw (c.if-branch.true, ← c.mb.ensures) at c.in_ok-next_macroblock.ensures) in
     omega (arith, out.0, same-area c.macroblocks.invariant.size, c.macroblocks.invariant.reached)
 
 pub returns-in_err-decode-clause-answer : goal.returns-in_err-decode-clause-answer
 returns-in_err-decode-clause-answer g c = λ coded names s go.
     let far = c.macroblocks.invariant.goes_on coded names s go in
-    let out = handed far.goes_on (rw (c.if-branch.true) at c.in_ok-next_macroblock.ensures) in
+    let out = handed far.goes_on (rw (c.if-branch.true, ← c.mb.ensures) at c.in_ok-next_macroblock.ensures) in
     let f = c.in_err-decode.field-0.0 in
     let e : c.from_residual-in_err-decode.result ≡ Err f = search rules in
     rw e (ends-badly far 1 _ f c.decode.new.self (omega (arith, c.macroblocks.invariant.reached)) (faulty far.goes_on out f c.decode.new.self (c.in_err-decode.ensures.decoded coded names)))

@@ -12,14 +12,15 @@ decode-requires g c =
     let go = h.goes_on context knows in
     let usable =
     usable-pictures m.canvas.width m.canvas.height c.args.frames.now c.args.header.now c.requires.frames c.requires.weights c.args.places.now context.references knows.full knows.pictures in
-    (omega arith, (omega arith, (room go h.first, (is-read go h.first, (usable, none_copied context.references m.canvas.width m.next c.new-run.result.copied m.canvas.planes c.new-run.ensures)))))
+    (omega arith, (omega arith, (room go h.first, (rw c.mb.ensures (is-read go h.first), (usable, none_copied context.references m.canvas.width m.next c.new-run.result.copied m.canvas.planes c.new-run.ensures)))))
 
 pub returns-in_err-decode-clause-answer : goal.returns-in_err-decode-clause-answer
 returns-in_err-decode-clause-answer g c = λ coded names s d h.
     let go = h.goes_on c.new-context.result c.new-context.ensures in
+    let first = rw (← c.mb.ensures) at h.first in
     let f = c.in_err-decode.field-0.0 in
     let e : c.from_residual.result ≡ Err f = search rules in
-    rw e (ends-badly (from-here go) 1 _ f c.decode.new.self (omega (arith, c.requires.read)) (faulty go h.first f c.decode.new.self (c.in_err-decode.ensures.decoded coded names)))
+    rw e (ends-badly (from-here go) 1 _ f c.decode.new.self (omega (arith, c.requires.read)) (faulty go first f c.decode.new.self (c.in_err-decode.ensures.decoded coded names)))
 
 pub decode_data-requires : goal.decode_data-requires
 decode_data-requires g c =
@@ -32,7 +33,7 @@ decode_data-requires g c =
     let done = c.in_ok-decode.ensures in
     let inside = room go h.first in
     let area = same-area done.size in
-    let far = goes-on-from go h.first c.decode.new.self done.next (done.decoded w.coded w.names) in
+    let far = goes-on-from go (rw (← c.mb.ensures) at h.first) c.decode.new.self done.next (done.decoded w.coded w.names) in
     let usable = usable-still _ done.size
     (usable-pictures m.canvas.width m.canvas.height c.args.frames.now c.args.header.now c.requires.frames c.requires.weights c.args.places.now context.references knows.full knows.pictures) in
     (omega arith, (omega arith, (record { coded = w.coded; names = w.names; start = w.start; goes_on = far.goes_on }, (usable, (done.copied, (omega (arith, done.next, c.requires.read), (omega (arith, inside, area, c.requires.read), omega (arith, area, c.requires.small))))))))
@@ -40,5 +41,5 @@ decode_data-requires g c =
 pub returns-clause-answer : goal.returns-clause-answer
 returns-clause-answer g c = λ coded names s d h.
     let done = c.in_ok-decode.ensures in
-    let far = goes-on-from (h.goes_on c.new-context.result c.new-context.ensures) h.first c.decode.new.self done.next (done.decoded coded names) in
+    let far = goes-on-from (h.goes_on c.new-context.result c.new-context.ensures) (rw (← c.mb.ensures) at h.first) c.decode.new.self done.next (done.decoded coded names) in
     answers-further far c.decode_data.result c.decode_data.new.read c.decode_data.new.macroblocks (c.decode_data.ensures.answer coded names s far.goes_on)

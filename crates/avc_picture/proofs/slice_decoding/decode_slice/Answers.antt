@@ -25,7 +25,7 @@ decode_macroblocks-requires g c =
     let area : m.canvas.width * m.canvas.height ≡ size_in_mbs c.args.sps.now = rw (c.requires.width, c.requires.height) refl in
     let first = can-have-first c.args.sps.now c.args.pps.now c.args.frames.now c.args.slice.now c.args.number c.args.read.now m c.slice_data-unread.result c.in_ok-places.places
     c.slice_data-unread.ensures places.list c.in_ok-check_address.ensures w.indices w.so_far w.stand w.well places.long places.within qp
-    c.next_macroblock.new.mb c.next_macroblock.new.unread (rw (c.if-not-more.false) at c.in_ok-more.ensures) in
+    c.next_macroblock.new.current c.next_macroblock.new.unread (rw (c.if-not-more.false) at c.in_ok-more.ensures) in
     (omega arith, (omega arith, (rw (c.requires.width, c.requires.height) c.requires.frames, (places.within, (h.deblocking, (h.weights, (first, (w.well.reached, omega (arith, c.requires.sps.size)))))))))
 
 pub returns-clause-state : goal.returns-clause-state
@@ -34,5 +34,5 @@ returns-clause-state g c = λ indices so_far stand well.
     let qp = abs-within 51 (slice_qp c.args.pps.now c.args.slice.now.header.slice_qp_delta) c.requires.header.qp_low c.requires.header.qp_high in
     slice-through c.args.sps.now c.args.pps.now c.args.frames.now c.args.slice.now c.args.number c.args.read.now c.args.macroblocks.now c.slice_data-unread.result
     c.in_ok-places.places c.slice_data-unread.ensures places.list c.in_ok-check_address.ensures indices so_far stand well places.long places.within qp
-    c.next_macroblock.new.mb c.next_macroblock.new.unread (rw (c.if-not-more.false) at c.in_ok-more.ensures)
+    c.next_macroblock.new.current c.next_macroblock.new.unread (rw (c.if-not-more.false) at c.in_ok-more.ensures)
     c.decode_macroblocks.result c.decode_macroblocks.new.read c.decode_macroblocks.new.macroblocks c.decode_macroblocks.ensures.answer

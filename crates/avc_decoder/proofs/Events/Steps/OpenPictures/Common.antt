@@ -40,6 +40,7 @@ pub use Rattle.avc_picture.specs.Decoding.{IsFinishAnswer, fault_at_end, no_slic
 pub use Rattle.avc_picture.specs.Slices.{is_full, Progress, progress, coded_of}
 pub use Rattle.avc_plane.specs.Frames.{AreFrames, marked_frame, stored_at, AreSized, padded_planes_of, subsampled_of_size}
 pub use Rattle.avc_plane.specs.Planes.{Planes}
+pub use Rattle.avc_plane.specs.Spare.{most_closed}
 pub use Rattle.avc_plane.specs.declared.frame.Frame.{Frame}
 pub use Rattle.avc_plane.specs.declared.frame.PaddedPlanes.{PaddedPlanes}
 pub use Rattle.avc_slice.specs.Begins.{begins}
@@ -66,15 +67,16 @@ pub use Rattle.avc_decoder.specs.Events.{after_closing, after_next, after_unit, 
 pub use Rattle.avc_decoder.specs.Events.{read_from, state_through, turns, events}
 pub use Rattle.avc_decoder.specs.FirstFault.{OpenPicture, closed_history, progress_on, start_on, first_header, first_slice, history_at_opening_of, first_fault}
 pub use Rattle.avc_decoder.specs.FirstFault.{history_of, read_of, oldest}
-pub use Rattle.avc_decoder.specs.Laws.{EventsOnlyGrow}
+pub use Rattle.avc_decoder.specs.Laws.{EventsOnlyGrow, FramesAreBounded}
 pub use Rattle.avc_decoder.specs.Machine.{Machine, IsFeedAnswer, IsUpToUnit, new_machine, Run, IsCallAnswer}
+pub use Rattle.avc_decoder.specs.OpenPictures.{IsOpenPictureAnswer}
 pub use Rattle.avc_decoder.specs.PictureFrames.{CanHave, HasItsFrames, IsISlice, frames_for, progress_on_history, read_of_slice, start_with}
 pub use Rattle.avc_decoder.specs.QueueState.{QueueState, IsBehind, after_queue_take, passed_on, with_events}
 pub use Rattle.avc_decoder.specs.States.{ComesTo, HasOutcome, IsOpenIn, Stops, WaitsAfter, closed_in, more_read, open_picture_from, phase_of, Decodes}
 pub use Rattle.avc_decoder.specs.States.{DecodesAs, IsNamed, Works, current_in, HasAnswered, IsAnswerIn, picture_answer, with_last, IsPhase, is_waiting_in}
 pub use Rattle.avc_decoder.specs.States.{last_header_in, FitsPhase, HasStep, StreamState, after_stream_end, after_unit_in_stream, stream_state, EndsIn, FeedsIn}
 pub use Rattle.avc_decoder.specs.States.{HandlesAll, IsDecoded, IsDecoderState, after_units_in_stream, IsStream, queue_in, ArePassedOn, AreParts, IsWorking, HaveDecoded}
-pub use Rattle.avc_decoder.specs.States.{Feeds, FeedsUnit, FeedsUnitIn, Ends, PartsOrRefusal, open_picture_start}
+pub use Rattle.avc_decoder.specs.States.{Feeds, FeedsUnit, FeedsUnitIn, Ends, PartsOrRefusal, open_picture_start, frames_in, most_frames, one_if_any}
 pub use Rattle.avc_decoder.specs.declared.parts.Fed.{Fed}
 pub use Rattle.avc_decoder.specs.declared.calls.Call.{Call}
 pub use Rattle.avc_decoder.specs.declared.calls.Reply.{Reply}

@@ -10,4 +10,5 @@ pub returns : goal.returns
 returns g c =
     rw (c.in_ok-put_all.ensures.queue, c.in_ok-put_all.ensures.events)
     (fed_on c.args.self.now c.args.bytes.now c.in_ok-used.used c.feed_unit.new.self c.handle_units.new.splitter
-    c.handle_units.new.stream c.requires c.in_ok-used.ensures.ok c.in_ok-handle_units.ensures.works c.in_ok-handle_units.ensures.handles)
+    c.handle_units.new.stream c.requires c.in_ok-used.ensures.ok c.in_ok-handle_units.ensures.works c.frames_are_few.ensures
+    c.in_ok-handle_units.ensures.handles)

@@ -1,8 +1,8 @@
 -- The names that the proofs cite of std, of the crates below and of the definitions here, passed on from one place. Declares nothing.
-pub use Rattle.std.proofs.Common.{◌≡◌, ◌∙◌, ℕ, List, [], ◌∷◌, ◌++◌, length, map, take, drop, refl, sym, ap, Some, slice_get, slice_index_or, ◌<◌}
+pub use Rattle.std.proofs.Common.{◌≡◌, ◌∙◌, ℕ, List, [], ◌∷◌, ◌++◌, length, map, take, drop, refl, sym, ap, ap₂, Some, slice_get, slice_index_or, ◌<◌}
 pub use Rattle.std.proofs.Common.{nat_lt, Bool, true, false, not, ℤ, pos, ◌+ℤ◌, Option, None, subst, arith, zero, suc, ◌+◌, ◌-◌, ◌≤◌, inl, inr}
 pub use Rattle.std.proofs.Common.{add-one, ◌/◌, ◌%◌, ◌==◌, nat_abs, cond, ◌*◌, ◌^◌, Ok, Err, ◌≤ℤ◌, Result, append_assoc, length-set, mul_comm, ⊎_elim}
-pub use Rattle.std.proofs.Common.{replicate, unwrap_or, lit≤, ◌⊎◌, rules, w8, to_z, of_z, w32}
+pub use Rattle.std.proofs.Common.{Bor, replicate, unwrap_or, lit≤, ◌⊎◌, rules, w8, to_z, of_z, w32}
 pub use Rattle.std.proofs.Math.Nat.{div-div-eq-div-mul, pow-succ', div-le_self, add-mul, mul-le-mul_right, div-lt_iff_lt-mul, div-mul-le_self}
 pub use Rattle.std.proofs.Math.Seq.{get_or-append_seam, take-append-add, take-append_seam, take-suc, take-length}
 pub use Rattle.std.proofs.lemmas.Bool.{cases_lt, ne_eqb}
@@ -19,10 +19,11 @@ pub use Rattle.std.proofs.lemmas.List.Kept.{AllPairs-from_increasing}
 pub use Rattle.std.proofs.lemmas.List.Sums.{AllPass-from_list_all}
 pub use Rattle.std.proofs.lemmas.Nat.{div-add-mod', mod_below, div-mul-add}
 pub use Rattle.std.proofs.lemmas.Option.{same_Some, get_or_from_slice_get, slice_get_within, slice_get_cases, slice_get-map, unwrap_or-slice_get}
+pub use Rattle.std.proofs.lemmas.Option.{slice_get-get_or, slice_get_past, slice_get_read}
 pub use Rattle.std.specs.List.{list_all, range_with_len, list_any, flat_map, filter, find}
 pub use Rattle.std.specs.List.Sorted.{IsStrictlyIncreasing}
-pub use Rattle.std.specs.Option.{option_map}
-pub use Rattle.std.specs.Prelude.{◌&&◌, ◌||◌, negsuc, ◌-ℤ◌, if◌then◌else◌, slice_index, IfOk, IfSome, is_some}
+pub use Rattle.std.specs.Option.{option_copied, option_map}
+pub use Rattle.std.specs.Prelude.{nat_le, ◌&&◌, ◌||◌, negsuc, ◌-ℤ◌, if◌then◌else◌, slice_index, IfOk, IfSome, is_some}
 pub use Rattle.avc_bits.specs.Bits.{at}
 pub use Rattle.avc_deblock.proofs.FilteredPictures.{row_acts, row_lines_filtered, row_changes, row_commutes, row_reads}
 pub use Rattle.avc_deblock.proofs.FilteredPictures.Edges.{row_more, rows_are_all, all_filtered-append}
@@ -32,7 +33,7 @@ pub use Rattle.avc_deblock.specs.ByInfo.{row_by_info, AreOfRow}
 pub use Rattle.avc_deblock.specs.Edges.{filter_qp, has_coefficients, mb_at, picture_named, LineFilter, line_at, with_line, line_filtered, setting_at}
 pub use Rattle.avc_deblock.specs.Edges.{step_filtered, all_filtered, line_filters, in_component, luma_per_sample, deblocked_planes}
 unfoldable pub use Rattle.avc_deblock.specs.Edges.{row_lines}
-pub use Rattle.avc_deblock.specs.FilterInfo.{Names, HasInfo, HaveInfo, has_bit}
+pub use Rattle.avc_deblock.specs.FilterInfo.{Names, HasInfo, HaveInfo, HasMotion, has_bit}
 pub use Rattle.avc_deblock.specs.Line.{Line, Setting, filtered}
 pub use Rattle.avc_deblock.specs.Locality.{ChangesWithin, ChangesInRow, HasRow, AgreesAbove}
 pub use Rattle.avc_deblock.specs.OneEdge.{HasRoom}
@@ -119,11 +120,11 @@ pub use Rattle.avc_picture.specs.Decoded.{deblocked}
 pub use Rattle.avc_picture.specs.DecoderState.{CanGoOn, GoesOn, GoesOnFrom, IsDataAnswer, outcome_from, first_of, outcome, CanHaveFirst, HasFirst, IsDataOf}
 pub use Rattle.avc_picture.specs.DecoderState.{IsStateOrFault, IsWellSoFar, address_fault, number_after, IsDecoderState, IsWellSomewhere}
 pub use Rattle.avc_picture.specs.Decoding.{AreFramesOf, Decoding, HasNoFault, Refuses, end_fault, fault_at_end, CanStandAt, start_at, with_slice_more}
-pub use Rattle.avc_picture.specs.FilterRows.{AreFrom, AreLastRows}
+pub use Rattle.avc_picture.specs.FilterRows.{AreFrom, AreLastRows, is_in_last_rows, kept_info}
 pub use Rattle.avc_picture.specs.FirstMbs.{HasNeighbourInfo, HoldsFirst, MbsState, IsSlice, HasSameSize, IsDecoded, HasNumber, BeginsWith, HasSets}
 pub use Rattle.avc_picture.specs.MacroblockInfo.{IsFilterInfo, number_of, IsRead, IsNeighbourInfo}
 pub use Rattle.avc_picture.specs.MacroblocksState.{PartsAgree, HaveModes, state_of}
-pub use Rattle.avc_picture.specs.OpenPicture.{planes_so_far, IsCovered}
+pub use Rattle.avc_picture.specs.OpenPicture.{planes_so_far, IsCovered, IsKept, HasFilterInfo, NamesPlaces}
 pub use Rattle.avc_picture.specs.RowLate.{filtered_rows, first_built, rows_filtered, AreInfoOf, FilterInfo, FiltersUpTo, row_late, covering_address}
 pub use Rattle.avc_picture.specs.Sizes.{HasSize, IsSized, PicturesAreSized}
 pub use Rattle.avc_picture.specs.Slices.{first_mb_fault, coded_of, progress, PictureStart, current_of, list_of, or_empty, references_in, Progress}
