@@ -21,12 +21,12 @@ both_same most a b x y long first second k inside =
     ∙ second (k - length a) (omega (arith, inside, below, length-append a b)))
     (cases_lt k (length a))
 
-pictures-append : (a b : List Event) → pictures_in (a ++ b) ≡ pictures_in a ++ pictures_in b
+pub pictures-append : (a b : List Event) → pictures_in (a ++ b) ≡ pictures_in a ++ pictures_in b
 pictures-append [] b = refl
 pictures-append (Picture p ∷ a) b = ap (λ ps. p ∷ ps) (pictures-append a b)
 pictures-append (Refused unit f ∷ a) b = pictures-append a b
 
-shown-append : (a b : List Event) → shown (a ++ b) ≡ shown a ++ shown b
+pub shown-append : (a b : List Event) → shown (a ++ b) ≡ shown a ++ shown b
 shown-append a b = ap (λ ps. flat_map i420 ps) (pictures-append a b) ∙ flat_map-append i420 (pictures_in a) (pictures_in b)
 
 same_then : (most : ℕ) (a b : List Event) (x y : List ℕ) → IsSame most a x → IsSame most b y → IsSame most (a ++ b) (x ++ y)
@@ -71,7 +71,7 @@ pub picture_line : (how : Comparison) (r : Report) (p : Decoded) (here line : Li
 picture_line how r p here line long fits is =
     ([], [], record { here = here; line = line; bytes = sym (append-nil here); texts = sym (append-nil line); long = long; is = is; fits = fits }, (refl, refl))
 
-lines_more : (how : Comparison) (r : Report) (done : List Event) (event : Event) (theirs here text line : List ℕ) → r ≡ report_of done → AreLines how no_report done theirs text
+pub lines_more : (how : Comparison) (r : Report) (done : List Event) (event : Event) (theirs here text line : List ℕ) → r ≡ report_of done → AreLines how no_report done theirs text
     → AreLines how r (event ∷ []) here line → AreLines how no_report (done ++ event ∷ []) (theirs ++ here) (text ++ line)
 lines_more how r done event theirs here text line reported before more =
     lines_then how no_report done (event ∷ []) theirs here text line before (subst (λ (q : Report). AreLines how q (event ∷ []) here line) (reported ∙ sym (report_more [] done)) more)
@@ -124,7 +124,7 @@ stopped (Ours Endless) how number event here h h' bytes front rest why = absurd 
 stopped (Ours Size) how number event here h h' bytes front rest why = absurd why
 stopped Theirs how number event here h h' bytes front rest why = tt
 
-stopped_part : (fault : CompareFault) (how : Comparison) (number : ℕ) (event : Event) (here : List ℕ) (h h' : Option (List ℕ)) (rest : List Event)
+pub stopped_part : (fault : CompareFault) (how : Comparison) (number : ℕ) (event : Event) (here : List ℕ) (h h' : Option (List ℕ)) (rest : List Event)
     → StopsAt fault how number event here h h' → WritesPart fault how.has_psnr number (event ∷ rest) here h h'
 stopped_part (Ours Memory) how number event here h h' rest why = why
 stopped_part (Ours Write) how number (Picture p) here h h' rest why = why
@@ -137,25 +137,49 @@ stopped_part Theirs how number event here h h' rest why = why
 -- ---- how it ends
 
 -- what the bytes define that were read up to an event
-up_to : EventsOnlyGrow → (output : Output) (unread l l' : Option (List ℕ)) (m m' : Machine) (a a' : Waiting) (done : List Event) (event : Event)
+pub up_to : EventsOnlyGrow → (output : Output) (unread l l' : Option (List ℕ)) (m m' : Machine) (a a' : Waiting) (done : List Event) (event : Event)
     → TakesNext l l' m m' a a' (Some event) → IsReading output unread l m a done
     → (bytes : List ℕ) × (all : Bool) × (rest : List Event) × HasRead unread l' bytes all × (events output max_unit bytes all ≡ done ++ event ∷ rest)
 up_to grow output unread l l' m m' a a' done event next i =
     let left = left_over grow output unread l' m' a' (done ++ event ∷ []) (next.on output unread done i) in
     (m'.bytes ++ a'.bytes, m'.ended, left.0, left.1, left.2 ∙ append_assoc done (event ∷ []) left.0)
 
-pub found : EventsOnlyGrow → (how : Comparison) (count : ℕ) (unread l l' other o o' held h h' : Option (List ℕ)) (m m' : Machine) (a a' : Waiting) (r r' : Report) (event : Event) (verdict : Verdict)
-    → TakesNext l l' m m' a a' (Some event) → ComparesEvent how event o o' h h' r r' (Ok (Some verdict)) → IsComparing how count unread l other o held h m a r
-    → Compares how unread l' other o' held h' r' (Ok verdict)
-found grow how count unread l l' other o o' held h h' m m' a a' r r' event verdict next compared i =
-    subst (λ q. Compares how unread l' other o' held h' q (Ok verdict)) (sym compared.3) (by event verdict next compared.2)
-  where
-    all_theirs : Consumes other o' (i.theirs ++ compared.0)
-    all_theirs = Consumes-trans other o o' i.theirs compared.0 i.consumed compared.1
+-- the pictures before an event are the other's
+pub comparing_looks : (how : Comparison) (count : ℕ) (unread l other o held h : Option (List ℕ)) (m : Machine) (a : Waiting) (r : Report) → (i : IsComparing how count unread l other o held h m a r)
+    → IsLooking how unread other held (stand l o h m a r) i.done i.theirs i.text
+comparing_looks how count unread l other o held h m a r i = record { reading = i.reading; consumed = i.consumed; written = i.written; reported = i.alike.reported; lines = i.alike.lines }
 
-    by : (e : Event) (v : Verdict) → TakesNext l l' m m' a a' (Some e) → EndsAtEvent how r.pictures e compared.0 o' h h' v → Compares how unread l' other o' held h' r (Ok v)
-    by (Picture p) (Fewer n) next' ends =
-        let at = up_to grow how.output unread l l' m m' a a' i.done (Picture p) next' i.reading in (
+-- with an event more
+pub looking_more : (how : Comparison) (unread other held : Option (List ℕ)) (s t : Stand) (done : List Event) (before text : List ℕ) (event : Event) (here line : List ℕ)
+    → TakesNext s.left t.left s.machine t.machine s.waiting t.waiting (Some event) → Consumes s.rest t.rest here → Appends s.holds t.holds line → AreLines how s.report (event ∷ []) here line
+    → t.report ≡ report_with s.report (event ∷ []) → IsLooking how unread other held s done before text
+    → IsLooking how unread other held t (done ++ event ∷ []) (before ++ here) (text ++ line)
+looking_more how unread other held s t done before text event here line next more wrote lines reported i = record {
+  reading = next.on how.output unread done i.reading;
+  consumed = Consumes-trans other s.rest t.rest before here i.consumed more;
+  written = Appends-trans held s.holds t.holds text line i.written wrote;
+  reported = reported ∙ ap (λ q. report_with q (event ∷ [])) i.reported ∙ report_more done (event ∷ []);
+  lines = lines_more how s.report done event before here text line i.reported i.lines lines;
+}
+
+-- at an event, and what was sought behind it
+pub found : EventsOnlyGrow → (how : Comparison) (count : ℕ) (unread l other o held h : Option (List ℕ)) (s t : Stand) (m : Machine) (a : Waiting) (r : Report) (event : Event) (verdict : Verdict)
+    (displaced : Result (List Displaced) CompareFault) → TakesNext l s.left m s.machine a s.waiting (Some event) → ComparesEvent how event o s.rest h s.holds r s.report (Ok (Some verdict))
+    → IsComparing how count unread l other o held h m a r → FindsBehind how verdict s t displaced → FindsAll how unread t.left other t.rest held t.holds t.report verdict displaced
+found grow how count unread l other o held h s t m a r event verdict displaced next compared i behind = by event verdict next compared.2 behind
+  where
+    all_theirs : Consumes other s.rest (i.theirs ++ compared.0)
+    all_theirs = Consumes-trans other o s.rest i.theirs compared.0 i.consumed compared.1
+
+    stays : (v : Verdict) → t ≡ s → FindsAll how unread s.left other s.rest held s.holds r v displaced → FindsAll how unread t.left other t.rest held t.holds t.report v displaced
+    stays v same f =
+        subst (λ (u : Stand). FindsAll how unread u.left other u.rest held u.holds u.report v displaced) (sym same) (subst (λ q. FindsAll how unread s.left other s.rest held s.holds q v displaced) (sym compared.3) f)
+
+    by : (e : Event) (v : Verdict) → TakesNext l s.left m s.machine a s.waiting (Some e) → EndsAtEvent how r.pictures e compared.0 s.rest h s.holds v → FindsBehind how v s t displaced
+        → FindsAll how unread t.left other t.rest held t.holds t.report v displaced
+    by (Picture p) (Fewer n) next' ends behind' =
+        let at = up_to grow how.output unread l s.left m s.machine a s.waiting i.done (Picture p) next' i.reading in
+        stays (Fewer n) behind'.0 (
           at.0,
           i.theirs ++ compared.0,
           i.text,
@@ -163,11 +187,13 @@ found grow how count unread l l' other o o' held h h' m m' a a' r r' event verdi
           true,
           at.3,
           record { consumed = all_theirs; whole = λ over. ends.1 },
-          no_more held h h' i.text i.written ends.3,
+          no_more held h s.holds i.text i.written ends.3,
           (p, compared.0, record { front = i.done; rest = at.2; before = i.theirs; parts = at.4; bytes = refl; alike = i.alike }, refl, ends.0, ends.2, ends.4),
+          behind'.1,
         )
-    by (Picture p) (OtherSize sizes) next' ends =
-        let at = up_to grow how.output unread l l' m m' a a' i.done (Picture p) next' i.reading in (
+    by (Picture p) (OtherSize sizes) next' ends behind' =
+        let at = up_to grow how.output unread l s.left m s.machine a s.waiting i.done (Picture p) next' i.reading in
+        stays (OtherSize sizes) behind'.0 (
           at.0,
           i.theirs ++ compared.0,
           i.text,
@@ -175,46 +201,39 @@ found grow how count unread l l' other o o' held h h' m m' a a' r r' event verdi
           false,
           at.3,
           record { consumed = all_theirs; whole = λ over. cc },
-          no_more held h h' i.text i.written ends.2,
+          no_more held h s.holds i.text i.written ends.2,
           (
             p,
             record { front = i.done; rest = at.2; before = i.theirs; parts = at.4; bytes = ap (λ b. i.theirs ++ b) ends.0; alike = i.alike },
             ends.1,
           ),
+          behind'.1,
         )
-    by (Picture p) (Differs d) next' ends =
-        let at = up_to grow how.output unread l l' m m' a a' i.done (Picture p) next' i.reading in (
-          at.0,
-          i.theirs ++ compared.0,
-          i.text ++ ends.0,
-          at.1,
-          false,
-          at.3,
-          record { consumed = all_theirs; whole = λ over. cc },
-          Appends-trans held h h' i.text ends.0 i.written ends.5,
-          (
-            p,
-            compared.0,
-            i.text,
-            ends.0,
-            record { front = i.done; rest = at.2; before = i.theirs; parts = at.4; bytes = refl; alike = i.alike },
-            ends.1,
-            ends.2,
-            ends.3,
-            ends.4,
-            refl,
-            ends.6,
-          ),
+    by (Picture p) (Differs d) next' ends behind' =
+        let counted : Stand = record s { report = report_with s.report (Picture p ∷ []) } in
+        let line = picture_line how r p compared.0 ends.0 (ends.1).long (ends.1).fits ends.2 in
+        let looking = looking_more how unread other held (stand l o h m a r) counted i.done i.theirs i.text (Picture p) compared.0 ends.0 next' compared.1 ends.3 line
+        (ap (λ q. report_with q (Picture p ∷ [])) compared.3) (comparing_looks how count unread l other o held h m a r i) in
+        let seen = behind'.on unread other held p (i.done ++ Picture p ∷ []) (i.theirs ++ compared.0) (i.text ++ ends.0) looking in (
+          i.done,
+          p,
+          i.theirs,
+          compared.0,
+          seen.0,
+          i.alike.same,
+          subst (λ (q : Report). IsDiffering how q.pictures p compared.0 d) i.alike.reported ends.1,
+          seen.1,
+          seen.2,
         )
-    by (Picture p) Same next' ends = absurd ends
-    by (Picture p) (More n) next' ends = absurd ends
-    by (Refused unit f) v next' ends = absurd ends
+    by (Picture p) Same next' ends behind' = absurd ends
+    by (Picture p) (More n) next' ends behind' = absurd ends
+    by (Refused unit f) v next' ends behind' = absurd ends
 
 -- behind all events
-pub at_end : (how : Comparison) (count number : ℕ) (unread l l' other o o' held h : Option (List ℕ)) (m m' : Machine) (a a' : Waiting) (r : Report) (result : Result Verdict CompareFault)
-    → number ≡ r.pictures → TakesNext l l' m m' a a' None → EndsAll number o o' result → IsComparing how count unread l other o held h m a r
-    → Compares how unread l' other o' held h r result
-at_end how count number unread l l' other o o' held h m m' a a' r result counted next ended i = by result ended
+pub at_end : (how : Comparison) (count number : ℕ) (unread l l' other o o' held h : Option (List ℕ)) (m m' : Machine) (a a' : Waiting) (r : Report) (verdict : Verdict)
+    → number ≡ r.pictures → TakesNext l l' m m' a a' None → EndsAll number o o' (Ok verdict) → IsComparing how count unread l other o held h m a r
+    → FindsAll how unread l' other o' held h r verdict (Ok [])
+at_end how count number unread l l' other o o' held h m m' a a' r verdict counted next ended i = by verdict ended
   where
     last : HasRead unread l' m'.bytes true × (events how.output max_unit m'.bytes true ≡ i.done)
     last = next.on how.output unread i.done i.reading
@@ -222,18 +241,64 @@ at_end how count number unread l l' other o o' held h m m' a a' r result counted
     alike : IsAlike how (events how.output max_unit m'.bytes true) i.theirs r i.text
     alike = subst (λ es. IsAlike how es i.theirs r i.text) (sym last.1) i.alike
 
-    broken : (here : List ℕ) → Consumes o o' here → Compares how unread l' other o' held h r (Err Theirs)
-    broken here more = (
+    by : (v : Verdict) → EndsAll number o o' (Ok v) → FindsAll how unread l' other o' held h r v (Ok [])
+    by Same ends = (
       m'.bytes,
-      i.theirs ++ here,
+      i.theirs,
+      i.text,
+      true,
       true,
       last.0,
-      Consumes-trans other o o' i.theirs here i.consumed more,
+      record { consumed = subst (Consumes other o') (append-nil i.theirs) (Consumes-trans other o o' i.theirs [] i.consumed ends.0); whole = λ over. ends.1 },
+      i.written,
+      (refl, refl, alike),
+      refl,
+    )
+    by (More n) ends = (
+      m'.bytes,
+      i.theirs ++ ends.0 ∷ [],
+      i.text,
+      true,
+      false,
+      last.0,
+      record { consumed = Consumes-trans other o o' i.theirs (ends.0 ∷ []) i.consumed ends.1; whole = λ over. cc },
+      i.written,
+      (i.theirs, ends.0, refl, refl, alike, ends.2 ∙ counted),
+      refl,
+    )
+    by (Fewer n) ends = absurd ends
+    by (Differs d) ends = absurd ends
+    by (OtherSize sizes) ends = absurd ends
+
+-- ---- faults
+
+pub reading_stopped : (fault : RunFault) (bytes : List ℕ) (front rest : List Event) → StopsFor fault bytes rest → BreaksOffFor (Ours fault) bytes front rest
+reading_stopped Read bytes front rest why = why
+reading_stopped Endless bytes front rest why = let many : 2 ^ 32 ≤ length bytes + length front = omega (arith, why) in many
+reading_stopped Memory bytes front rest why = tt
+reading_stopped Write bytes front rest why = absurd why
+reading_stopped Size bytes front rest why = absurd why
+
+pub err_is : {A E : Type 0} (r : Result A E) (f : E) → IsErrAnd r (λ e. e ≡ f) → r ≡ Err f
+err_is r f is = grind arith
+
+-- behind all events, where the other can't be read
+pub not_ended : (how : Comparison) (count number : ℕ) (unread l l' other o o' held h : Option (List ℕ)) (m m' : Machine) (a a' : Waiting) (r : Report) (fault : CompareFault) (result : Result Findings CompareFault)
+    → IsErrAnd result (λ e. e ≡ fault) → TakesNext l l' m m' a a' None → EndsAll number o o' (Err fault) → IsComparing how count unread l other o held h m a r
+    → Compares how unread l' other o' held h r result
+not_ended how count number unread l l' other o o' held h m m' a a' r fault result is next ended i =
+    let last = next.on how.output unread i.done i.reading in
+    subst (Compares how unread l' other o' held h r) (sym (err_is result fault is ∙ ap (λ f. Err f) ended.2)) (
+      m'.bytes,
+      i.theirs ++ ended.0,
+      true,
+      last.0,
+      Consumes-trans other o o' i.theirs ended.0 i.consumed ended.1,
       record {
         front = i.done;
         rest = [];
         before = i.theirs;
-        here = here;
+        here = ended.0;
         text = i.text;
         wrote = h;
         parts = last.1 ∙ sym (append-nil i.done);
@@ -245,47 +310,7 @@ at_end how count number unread l l' other o o' held h m m' a a' r result counted
       },
     )
 
-    by : (res : Result Verdict CompareFault) → EndsAll number o o' res → Compares how unread l' other o' held h r res
-    by (Ok Same) ends = (
-      m'.bytes,
-      i.theirs,
-      i.text,
-      true,
-      true,
-      last.0,
-      record { consumed = subst (Consumes other o') (append-nil i.theirs) (Consumes-trans other o o' i.theirs [] i.consumed ends.0); whole = λ over. ends.1 },
-      i.written,
-      (refl, refl, alike),
-    )
-    by (Ok (More n)) ends = (
-      m'.bytes,
-      i.theirs ++ ends.0 ∷ [],
-      i.text,
-      true,
-      false,
-      last.0,
-      record { consumed = Consumes-trans other o o' i.theirs (ends.0 ∷ []) i.consumed ends.1; whole = λ over. cc },
-      i.written,
-      (i.theirs, ends.0, refl, refl, alike, ends.2 ∙ counted),
-    )
-    by (Ok (Fewer n)) ends = absurd ends
-    by (Ok (Differs d)) ends = absurd ends
-    by (Ok (OtherSize sizes)) ends = absurd ends
-    by (Err fault) ends = subst (λ f. Compares how unread l' other o' held h r (Err f)) (sym ends.2) (broken ends.0 ends.1)
-
--- ---- faults
-
-reading_stopped : (fault : RunFault) (bytes : List ℕ) (front rest : List Event) → StopsFor fault bytes rest → BreaksOffFor (Ours fault) bytes front rest
-reading_stopped Read bytes front rest why = why
-reading_stopped Endless bytes front rest why = let many : 2 ^ 32 ≤ length bytes + length front = omega (arith, why) in many
-reading_stopped Memory bytes front rest why = tt
-reading_stopped Write bytes front rest why = absurd why
-reading_stopped Size bytes front rest why = absurd why
-
-pub err_is : {A E : Type 0} (r : Result A E) (f : E) → IsErrAnd r (λ e. e ≡ f) → r ≡ Err f
-err_is r f is = grind arith
-
-no_part : (fault : RunFault) (told : Bool) (number : ℕ) (bytes here : List ℕ) (rest front : List Event) (h : Option (List ℕ)) → StopsFor fault bytes front → WritesPart (Ours fault) told number rest here h h
+pub no_part : (fault : RunFault) (told : Bool) (number : ℕ) (bytes here : List ℕ) (rest front : List Event) (h : Option (List ℕ)) → StopsFor fault bytes front → WritesPart (Ours fault) told number rest here h h
 no_part Read told number bytes here rest front h why = Appends-nil h
 no_part Endless told number bytes here rest front h why = Appends-nil h
 no_part Memory told number bytes here rest front h why = Appends-nil h
@@ -293,7 +318,7 @@ no_part Write told number bytes here rest front h why = absurd why
 no_part Size told number bytes here rest front h why = absurd why
 
 -- in reading
-pub not_taken : (how : Comparison) (count : ℕ) (unread l l' other o held h : Option (List ℕ)) (m : Machine) (a : Waiting) (r : Report) (fault : RunFault) (result : Result Verdict CompareFault)
+pub not_taken : (how : Comparison) (count : ℕ) (unread l l' other o held h : Option (List ℕ)) (m : Machine) (a : Waiting) (r : Report) (fault : RunFault) (result : Result Findings CompareFault)
     → IsErrAnd result (λ e. e ≡ Ours fault) → BreaksReading l l' m a fault → IsComparing how count unread l other o held h m a r → Compares how unread l' other o held h r result
 not_taken how count unread l l' other o held h m a r fault result is broken i =
     let off = broken.on how.output unread i.done i.reading in
@@ -321,7 +346,7 @@ not_taken how count unread l l' other o held h m a r fault result is broken i =
 
 -- at an event
 pub not_compared : EventsOnlyGrow → (how : Comparison) (count : ℕ) (unread l l' other o o' held h h' : Option (List ℕ)) (m m' : Machine) (a a' : Waiting) (r r' : Report) (event : Event) (fault : CompareFault)
-    (result : Result Verdict CompareFault) → IsErrAnd result (λ e. e ≡ fault) → TakesNext l l' m m' a a' (Some event) → ComparesEvent how event o o' h h' r r' (Err fault)
+    (result : Result Findings CompareFault) → IsErrAnd result (λ e. e ≡ fault) → TakesNext l l' m m' a a' (Some event) → ComparesEvent how event o o' h h' r r' (Err fault)
     → IsComparing how count unread l other o held h m a r → Compares how unread l' other o' held h' r' result
 not_compared grow how count unread l l' other o o' held h h' m m' a a' r r' event fault result is next compared i =
     let at = up_to grow how.output unread l l' m m' a a' i.done event next i.reading in
@@ -375,7 +400,7 @@ too_many grow how count unread l other o held h m a r all i =
     )
 
 -- before anything was read
-pub none_read : (how : Comparison) (unread other held : Option (List ℕ)) (r : Report) (fault : RunFault) (result : Result Verdict CompareFault) → IsErrAnd result (λ e. e ≡ Ours fault) → fault ≡ Memory
+pub none_read : (how : Comparison) (unread other held : Option (List ℕ)) (r : Report) (fault : RunFault) (result : Result Findings CompareFault) → IsErrAnd result (λ e. e ≡ Ours fault) → fault ≡ Memory
     → r ≡ no_report → Compares how unread unread other other held held r result
 unfolding begins
 none_read how unread other held r fault result is memory none =
@@ -418,7 +443,7 @@ i420_count p =
     ∙ ap (λ n. shown_samples (shape_of p) Luma + shown_samples (shape_of p) Cb + n) cr_is
 
 -- the line on the samples that were compared is that on the picture
-line_of : (told : Bool) (number : ℕ) (p : Decoded) (picture : ComparedPicture) (ours theirs bytes line : List ℕ) → picture ≡ compared_picture number p → ours ≡ i420 p → theirs ≡ bytes
+pub line_of : (told : Bool) (number : ℕ) (p : Decoded) (picture : ComparedPicture) (ours theirs bytes line : List ℕ) → picture ≡ compared_picture number p → ours ≡ i420 p → theirs ≡ bytes
     → IsLineOf told picture ours theirs line → IsLine told number p bytes line
 line_of told number p picture ours theirs bytes line compared whole read is =
     by told (subst (λ s. IsLineOf told s (i420 p) bytes line) compared (subst (λ o. IsLineOf told picture o bytes line) whole (subst (λ t. IsLineOf told picture ours t line) read is)))
@@ -442,7 +467,8 @@ judged how number count p old new held holds picture ours theirs bytes found com
 
     by : (f : Option Verdict) → FindsIn how.most (compared_picture number p) (i420 p) bytes f → ComparesPicture how number p old new held holds (Ok f)
     by None same = (bytes, told.0, here, long, same, is, told.2, fits)
-    by (Some (Differs d)) found' = (bytes, here, (told.0, long, found'.0, found'.1, is, told.2, fits))
+    by (Some (Differs d)) found' =
+        (bytes, here, (told.0, record { long = long; fits = fits; which = found'.0; differs = found'.1; ours = found'.2; theirs = found'.3 }, is, told.2))
     by (Some Same) found' = absurd found'
     by (Some (Fewer n)) found' = absurd found'
     by (Some (More n)) found' = absurd found'

@@ -1,1 +1,3 @@
 pub mod Comparisons
+pub mod Seeking
+pub mod Further

@@ -1,6 +1,8 @@
 -- A stream's pictures beside another decoder's, which are bytes: each as I420, one behind another.
-use Rattle.std.specs.Prelude.{◌≡◌, ℕ, ◌+◌, ◌<◌, ◌≤◌, ◌^◌, ◌==◌, ◌&&◌, Bool, true, false, if◌then◌else◌, List, [], ◌∷◌, ◌++◌, length, Option, Some, None, Result, Ok, Err}
+use Rattle.std.specs.Prelude.{◌≡◌, ◌⊎◌, ℕ, ◌+◌, ◌<◌, ◌≤◌, ◌^◌, ◌==◌, ◌&&◌, Bool, true, false, if◌then◌else◌, List, [], ◌∷◌, ◌++◌, length, map, take, Option, Some, None, Result, Ok, Err}
 use Rattle.std.specs.Io.KnownBytes.{Appends, Consumes}
+use Rattle.std.specs.List.{cons_option}
+use Rattle.md5.specs.Md5.{md5}
 use Rattle.avc_types.specs.declared.picture.Picture.{Picture as Decoded}
 use Rattle.avc_yuv.specs.I420.{i420, shown_height, shown_width}
 use Rattle.avc_difference.specs.Differences.{AreSame, IsDifference}
@@ -8,7 +10,7 @@ use Rattle.avc_difference.specs.Places.{shape_of}
 use Rattle.avc_difference.specs.Psnr.{IsPsnr}
 use Rattle.avc_difference.specs.Text.{psnr_line}
 use Rattle.avc_difference.specs.declared.psnr.Psnr.{Psnr}
-use Rattle.avc_decoder.specs.Events.{events}
+use Rattle.avc_decoder.specs.Events.{events, pictures_in}
 use Rattle.avc_decoder.specs.SeenEvents.{Event}
 use Rattle.avc_decoder.specs.declared.event.Event.TheVariants.{Picture, Refused}
 use Rattle.avc_console.specs.Reading.{max_unit, HasRead, WritesFirst}
@@ -16,10 +18,14 @@ use Rattle.avc_console.specs.Reporting.{no_report}
 use Rattle.avc_console.specs.declared.fault.RunFault.TheVariants.{Read, Write, Endless, Memory}
 use Rattle.avc_console.specs.declared.report.Report.{Report}
 use Rattle.avc_events.specs.EventReports.{report_of, report_with, shown}
+use Rattle.avc_compare.specs.Displaced.{digests_of, displaced_pictures, most_sought, pictures_beside, Digested}
 use Rattle.avc_compare.specs.declared.comparison.Comparison.{Comparison}
+use Rattle.avc_compare.specs.declared.comparison.Findings.{Findings}
+use Rattle.avc_compare.specs.declared.displaced.Displaced.{Displaced}
 use Rattle.avc_compare.specs.declared.verdict.ComparedPicture.{ComparedPicture}
 use Rattle.avc_compare.specs.declared.verdict.CompareFault.{CompareFault}
 use Rattle.avc_compare.specs.declared.verdict.CompareFault.TheVariants.{Ours, Theirs}
+use Rattle.avc_compare.specs.declared.verdict.Differing.{Differing}
 use Rattle.avc_compare.specs.declared.verdict.PictureSize.{PictureSize}
 use Rattle.avc_compare.specs.declared.verdict.Sizes.{Sizes}
 use Rattle.avc_compare.specs.declared.verdict.Verdict.{Verdict}
@@ -89,8 +95,8 @@ abbrev pub compared_picture : (number : ℕ) → Decoded → ComparedPicture
 compared_picture number p = record { number = number; info = p.info; shape = shape_of p }
 
 -- What becomes of the comparison of the events that a stream defines, all or so far, with the
--- other's bytes, all or so far, and which lines are told. A picture's number is that of the pictures
--- before it (the greatest number, once there).
+-- other's bytes, all or so far, and which lines are told, where no picture differs. A picture's number
+-- is that of the pictures before it (the greatest number, once there).
 abbrev pub Finds : (how : Comparison) → List Event → (all : Bool) → (theirs : List ℕ) → (over : Bool) → Report → (text : List ℕ) → Verdict → Type 0
 Finds how events all theirs over report text Same = (all ≡ true) × (over ≡ true) × IsAlike how events theirs report text
 Finds how events all theirs over report text (More number) =
@@ -100,10 +106,16 @@ Finds how events all theirs over report text (Fewer number) =
     × (other_size how.size p ≡ None)
 Finds how events all theirs over report text (OtherSize sizes) =
     (p : Decoded) × IsReached how events p theirs [] report text × (other_size how.size p ≡ Some sizes)
-Finds how events all theirs over report text (Differs d) =
-    (p : Decoded) × (here lines line : List ℕ) × IsReached how events p theirs here report lines × (length here ≡ length (i420 p))
-    × (d.picture ≡ compared_picture report.pictures p) × IsDifference (shape_of p) how.most (i420 p) here d.difference
-    × IsLine how.has_psnr report.pictures p here line × (text ≡ lines ++ line) × (other_size how.size p ≡ None)
+Finds how events all theirs over report text (Differs d) = ⊥
+
+-- The picture of this number differs from the other's bytes beside it.
+pub record IsDiffering (how : Comparison) (number : ℕ) (p : Decoded) (here : List ℕ) (d : Differing) : Type 0 where
+  pub long : length here ≡ length (i420 p)
+  pub fits : other_size how.size p ≡ None
+  pub which : d.picture ≡ compared_picture number p
+  pub differs : IsDifference (shape_of p) how.most (i420 p) here d.difference
+  pub ours : d.our_digest ≡ md5 (i420 p)
+  pub theirs : d.their_digest ≡ md5 here
 
 -- Why a comparison was broken off after the first of a stream's events: a read of the stream
 -- failed, when no event was left; or there were so many bytes and events; or the other's file can't
@@ -144,11 +156,74 @@ pub record IsBrokenOff (how : Comparison) (fault : CompareFault) (bytes : List �
   pub lines : Appends held wrote text
   pub part : WritesPart fault how.has_psnr report.pictures rest here wrote holds
 
--- A stream, of which these bytes were read, was compared with the other's bytes that were read.
-abbrev pub Compares : (how : Comparison) → (unread left other rest held holds : Option (List ℕ)) → Report → Result Verdict CompareFault → Type 0
-Compares how unread left other rest held holds report (Ok verdict) =
+-- Beside a picture the other has not as many bytes left; or it has none of this size.
+abbrev pub Lacks : Option Sizes → (over : Bool) → (part : List ℕ) → Decoded → Type 0
+Lacks None over part p = (over ≡ true) × (length part < length (i420 p))
+Lacks (Some sizes) over part p = part ≡ []
+
+-- Where looking on ends behind these events: after so many pictures, if no lines are told, or with the
+-- stream; or at the next picture, beside which the other lacks one.
+abbrev pub EndsLooking : (how : Comparison) → (all over : Bool) → (looked others : List Event) → (part : List ℕ) → (last : Option Decoded) → Type 0
+EndsLooking how all over looked others part None =
+    (part ≡ []) × (((how.has_psnr ≡ false) × (most_sought ≤ length (pictures_in looked) + 1)) ⊎ ((all ≡ true) × (others ≡ [])))
+EndsLooking how all over looked others part (Some p) =
+    (next : List Event) × (others ≡ Picture p ∷ next) × Lacks (other_size how.size p) over part p
+
+-- Behind the first picture that differs, which has these MD5s, the pictures were looked at of these
+-- events, beside the other's next bytes: their MD5s and that of the picture at which it ended; or the
+-- fault that broke it off.
+abbrev pub Sees : (how : Comparison) → (ours theirs : List ℕ) → (bytes : List ℕ) → (all over : Bool) → (done looked others : List Event) → (more part : List ℕ) → (number : ℕ) → (wrote holds : Option (List ℕ)) → Result Digested CompareFault → Type 0
+Sees how ours theirs bytes all over done looked others more part number wrote holds (Ok d) =
+    (last : Option Decoded) × EndsLooking how all over looked others part last × Appends wrote holds []
+    × (d.ours ≡ take most_sought (ours ∷ digests_of (pictures_in looked ++ cons_option last [])))
+    × (d.theirs ≡ take most_sought (theirs ∷ map md5 (pictures_beside (pictures_in looked) more)))
+Sees how ours theirs bytes all over done looked others more part number wrote holds (Err fault) =
+    BreaksOffFor fault bytes (done ++ looked) others × WritesPart fault how.has_psnr number others part wrote holds
+
+-- Behind these events of a stream, beside which these bytes of the other stand, others were looked at:
+-- the report and the lines are on all of them.
+pub record IsLookedOn (how : Comparison) (unread left other rest held holds : Option (List ℕ)) (report : Report) (done : List Event) (before ours theirs : List ℕ) (result : Result Digested CompareFault) : Type 0 where
+  pub bytes : List ℕ
+  pub all : Bool
+  pub over : Bool
+  pub looked : List Event
+  pub others : List Event
+  pub more : List ℕ
+  pub part : List ℕ
+  pub text : List ℕ
+  pub wrote : Option (List ℕ)
+  pub read : HasRead unread left bytes all
+  pub read_theirs : HasRead other rest (before ++ more ++ part) over
+  pub parts : events how.output max_unit bytes all ≡ done ++ looked ++ others
+  pub reported : report ≡ report_of (done ++ looked)
+  pub lines : AreLines how no_report (done ++ looked) (before ++ more) text
+  pub written : Appends held wrote text
+  pub few : how.has_psnr ≡ false → length (pictures_in looked) < most_sought
+  pub sees : Sees how ours theirs bytes all over done looked others more part report.pictures wrote holds result
+
+-- The other's pictures that are ours of another number, by these MD5s; or why they are not known: the
+-- fault that broke looking on off, or want of memory.
+abbrev pub IsDisplaced : (first : ℕ) → Result Digested CompareFault → Result (List Displaced) CompareFault → Type 0
+IsDisplaced first (Ok d) (Ok displaced) = displaced ≡ displaced_pictures first d
+IsDisplaced first (Ok d) (Err fault) = fault ≡ Ours Memory
+IsDisplaced first (Err fault) (Ok displaced) = ⊥
+IsDisplaced first (Err fault) (Err told) = told ≡ fault
+
+-- What a comparison finds. The pictures before the first that differs are the other's.
+abbrev pub FindsAll : (how : Comparison) → (unread left other rest held holds : Option (List ℕ)) → Report → Verdict → Result (List Displaced) CompareFault → Type 0
+FindsAll how unread left other rest held holds report (Differs d) displaced =
+    (front : List Event) × (p : Decoded) × (before here : List ℕ) × (seen : Result Digested CompareFault)
+    × IsSame how.most front before × IsDiffering how (report_of front).pictures p here d
+    × IsLookedOn how unread left other rest held holds report (front ++ Picture p ∷ []) (before ++ here) d.our_digest d.their_digest seen
+    × IsDisplaced d.picture.number seen displaced
+FindsAll how unread left other rest held holds report verdict displaced =
     (bytes theirs text : List ℕ) × (all over : Bool) × HasRead unread left bytes all × HasRead other rest theirs over × Appends held holds text
-    × Finds how (events how.output max_unit bytes all) all theirs over report text verdict
+    × Finds how (events how.output max_unit bytes all) all theirs over report text verdict × (displaced ≡ Ok [])
+
+-- A stream, of which these bytes were read, was compared with the other's bytes that were read.
+abbrev pub Compares : (how : Comparison) → (unread left other rest held holds : Option (List ℕ)) → Report → Result Findings CompareFault → Type 0
+Compares how unread left other rest held holds report (Ok findings) =
+    FindsAll how unread left other rest held holds report findings.verdict findings.displaced
 Compares how unread left other rest held holds report (Err fault) =
     (bytes theirs : List ℕ) × (all : Bool) × HasRead unread left bytes all × Consumes other rest theirs
     × IsBrokenOff how fault bytes (events how.output max_unit bytes all) theirs held holds report

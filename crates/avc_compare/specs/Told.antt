@@ -1,6 +1,7 @@
 -- What is told of a comparison, and how the command ends.
 use Rattle.std.specs.Prelude.{◌≡◌, ℕ, Bool, true, false, if◌then◌else◌, List, [], ◌++◌, length, Option, Result, Ok, Err, codes}
 use Rattle.std.specs.Fmt.{decimal, signed_decimal}
+use Rattle.std.specs.List.{flat_map}
 use Rattle.std.specs.Borrow.{Bor}
 use Rattle.std.specs.Io.KnownBytes.{Appends}
 use Rattle.avc_difference.specs.Places.{macroblocks}
@@ -9,12 +10,14 @@ use Rattle.avc_console.specs.Program.{TellsRun}
 use Rattle.avc_console.specs.declared.console.Names.{Names}
 use Rattle.avc_console.specs.declared.exit.Ending.{Ending}
 use Rattle.avc_console.specs.declared.fault.RunFault.{RunFault}
-use Rattle.avc_console.specs.declared.fault.RunFault.TheVariants.{Read}
+use Rattle.avc_console.specs.declared.fault.RunFault.TheVariants.{Read, Write}
 use Rattle.avc_console.specs.declared.report.Report.{Report}
 use Rattle.avc_formats.specs.Formats.{StopsPicture}
 use Rattle.avc_console.specs.Status.{other_status}
 use Rattle.avc_compare.specs.Comparing.{Compares}
 use Rattle.avc_compare.specs.declared.comparison.Comparison.{Comparison}
+use Rattle.avc_compare.specs.declared.comparison.Findings.{Findings}
+use Rattle.avc_compare.specs.declared.displaced.Displaced.{Displaced}
 use Rattle.avc_compare.specs.declared.verdict.ComparedPicture.{ComparedPicture}
 use Rattle.avc_compare.specs.declared.verdict.CompareFault.{CompareFault}
 use Rattle.avc_compare.specs.declared.verdict.CompareFault.TheVariants.{Ours, Theirs}
@@ -50,6 +53,20 @@ verdict_text (Fewer number) = fewer_line number
 verdict_text (More number) = more_line number
 verdict_text (OtherSize sizes) = sizes_line sizes
 
+-- that a picture of the other's is one of ours of another number
+abbrev pub displaced_line : Displaced → List ℕ
+displaced_line d = codes "picture " ++ decimal d.number ++ codes " is our picture " ++ decimal d.ours ++ newline
+
+-- What is written of what a comparison found: the verdict, and behind it a line for each such picture;
+-- nothing after a line that could not be written.
+abbrev pub text_with : Verdict → Result (List Displaced) CompareFault → List ℕ
+text_with verdict (Ok displaced) = verdict_text verdict ++ flat_map displaced_line displaced
+text_with verdict (Err (Ours Write)) = []
+text_with verdict (Err _) = verdict_text verdict
+
+abbrev pub findings_text : Findings → List ℕ
+findings_text f = text_with f.verdict f.displaced
+
 -- A difference has a mark for each macroblock of its picture.
 abbrev pub HasMarks : Verdict → Type 0
 HasMarks (Differs d) = length (d.difference).marks.items ≡ macroblocks d.picture.shape
@@ -80,13 +97,29 @@ abbrev pub fault_names : Names → (other : Option (Bor (List ℕ))) → Compare
 fault_names names other (Ours fault) = names
 fault_names names other Theirs = record names { input = other }
 
--- A verdict is written, and the exit status and what is told are those of a run that ended as the
--- writing did. Where the run was broken off they are those of its fault, which names the other's
--- file where that can't be read.
-abbrev pub TellsVerdict : Names → (other : Option (Bor (List ℕ))) → (explained : Bool) → Report → Result Verdict CompareFault → (held holds before now : Option (List ℕ)) → Ending → Type 0
-TellsVerdict names other explained report (Ok verdict) held holds before now ending =
-    (written : Result (Unit {0}) RunFault) × (decoded : Ending) × WritesText (verdict_text verdict) held holds written
-    × TellsRun names explained report written before now decoded × (ending.told ≡ decoded.told) × (ending.status ≡ verdict_status verdict decoded.status)
+-- how a run ended, and the files' names then
+abbrev pub run_of : Result (Unit {0}) CompareFault → Result (Unit {0}) RunFault
+run_of (Ok done) = Ok done
+run_of (Err fault) = Err (run_fault fault)
+
+abbrev pub names_of : Names → (other : Option (Bor (List ℕ))) → Result (Unit {0}) CompareFault → Names
+names_of names other (Ok done) = names
+names_of names other (Err fault) = fault_names names other fault
+
+-- how a comparison ended whose findings were written so: as the writing did, or by the fault that broke
+-- looking on off
+abbrev pub ended_by : (written : Result (Unit {0}) RunFault) → Result (List Displaced) CompareFault → Result (Unit {0}) CompareFault
+ended_by (Err fault) displaced = Err (Ours fault)
+ended_by (Ok done) (Ok displaced) = Ok done
+ended_by (Ok done) (Err fault) = Err fault
+
+-- Findings are written, and the exit status and what is told are those of a run that ended so. Where the
+-- run was broken off they are those of its fault, which names the other's file where that can't be read.
+abbrev pub TellsVerdict : Names → (other : Option (Bor (List ℕ))) → (explained : Bool) → Report → Result Findings CompareFault → (held holds before now : Option (List ℕ)) → Ending → Type 0
+TellsVerdict names other explained report (Ok findings) held holds before now ending =
+    (written : Result (Unit {0}) RunFault) × (decoded : Ending) × WritesText (findings_text findings) held holds written
+    × TellsRun (names_of names other (ended_by written findings.displaced)) explained report (run_of (ended_by written findings.displaced)) before now decoded
+    × (ending.told ≡ decoded.told) × (ending.status ≡ verdict_status findings.verdict decoded.status)
 TellsVerdict names other explained report (Err fault) held holds before now ending =
     Appends held holds [] × TellsRun (fault_names names other fault) explained report (Err (run_fault fault)) before now ending
 
@@ -94,7 +127,7 @@ TellsVerdict names other explained report (Err fault) held holds before now endi
 -- of the verdict.
 pub record EndsComparing (names : Names) (other_name : Option (Bor (List ℕ))) (explained : Bool) (how : Comparison) (unread left other rest held holds before now : Option (List ℕ)) (ending : Ending) : Type 0 where
   pub report : Report
-  pub run : Result Verdict CompareFault
+  pub run : Result Findings CompareFault
   pub wrote : Option (List ℕ)
   pub compares : Compares how unread left other rest held wrote report run
   pub tells : TellsVerdict names other_name explained report run wrote holds before now ending

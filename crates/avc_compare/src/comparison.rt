@@ -5,9 +5,11 @@ ghost use Rattle.avc_types.specs.Whole.{IsWhole};
 ghost use Rattle.avc_console.specs.Reporting.{no_report, TellsOn};
 ghost use Rattle.avc_events.specs.EventReports.{IfPicture};
 ghost use Rattle.avc_compare.specs.Comparing.{Compares};
-ghost use Rattle.avc_compare.specs.Running.{ComparesEvent, EndsAll};
+ghost use Rattle.avc_compare.specs.Running.{stand, ComparesEvent, EndsAll, FindsBehind};
 
 use crate::ahead::Ahead;
+use crate::displaced::DisplacedPictures;
+use crate::looking::seek_displaced;
 use crate::picture::{compare_picture, read_other};
 use crate::stream::next_of;
 use crate::verdict::{CompareFault, PictureSize, Verdict};
@@ -34,13 +36,25 @@ pub struct Comparison {
     pub size: Option<PictureSize>,
 }
 
-/// The most events of one comparison.
-const EVENTS: u64 = 4_294_967_296;
+/// What a comparison found.
+#[derive(Drop)]
+pub struct Findings {
+    pub verdict: Verdict,
+
+    /// Which of the other's pictures, from the first that differs on, are ours of another number; or the
+    /// fault that came while they were sought.
+    pub displaced: Result<DisplacedPictures, CompareFault>,
+}
+
+/// The most events of one comparison, and so many behind the first picture that differs.
+pub(crate) const EVENTS: u64 = 4_294_967_296;
 
 /// Compares the pictures of a byte stream (Annex B) with another decoder's, which are I420, one
-/// behind another, and ends at the first that differs. Each refusal is reported as it comes, and the
-/// line on a picture is written once it was compared, if that is wanted. Neither is read further than
-/// that needs, and of each one picture is held at a time.
+/// behind another, to the first that differs. Of the other's pictures from that one on, and at most 16
+/// behind it, it then finds those that are ours of another number among as many. Each refusal is
+/// reported as it comes, and the line on a picture is written once it was read of both, if that is
+/// wanted: to the end of one of both. Neither is read further than that needs, and of each one picture
+/// is held at a time.
 pub fn run_comparison<T: Reporter, E: Write, R: Read, O: Read, W: Write>(
     alloc: Global,
     how: Comparison,
@@ -49,7 +63,7 @@ pub fn run_comparison<T: Reporter, E: Write, R: Read, O: Read, W: Write>(
     reader: &mut R,
     other: &mut O,
     writer: &mut W,
-) -> Result<Verdict, CompareFault>
+) -> Result<Findings, CompareFault>
     requires { (T.reported report.old).report ≡ no_report }
     ensures compares { Compares how (R.remaining reader.old) (R.remaining reader.new) (O.remaining other.old) (O.remaining other.new)
         (W.contents writer.old) (W.contents writer.new) (T.reported report.new).report result }
@@ -63,13 +77,84 @@ pub fn run_comparison<T: Reporter, E: Write, R: Read, O: Read, W: Write>(
             Some(event) => {
                 let ended = compare_event(alloc, how, event, report, errors, other, writer)?;
                 if let Some(verdict) = ended {
-                    return Ok(verdict);
+                    return Ok(find_behind(
+                        alloc,
+                        how,
+                        verdict,
+                        &mut decoder,
+                        &mut ahead,
+                        report,
+                        errors,
+                        reader,
+                        other,
+                        writer,
+                    ));
                 }
             }
-            None => return end(report.counts().pictures, other),
+            None => {
+                let verdict = end(report.counts().pictures, other)?;
+                return Ok(Findings {
+                    verdict,
+                    displaced: Ok(DisplacedPictures::new(alloc)),
+                });
+            }
         }
     }
     Err(CompareFault::Ours(RunFault::Endless))
+}
+
+// Seeks the other's pictures among ours, where a picture differs.
+fn find_behind<T: Reporter, E: Write, R: Read, O: Read, W: Write>(
+    alloc: Global,
+    how: Comparison,
+    verdict: Verdict,
+    decoder: &mut Decoder<MAX_UNIT, SharedPicture>,
+    ahead: &mut Ahead,
+    report: &mut T,
+    errors: &mut E,
+    reader: &mut R,
+    other: &mut O,
+    writer: &mut W,
+) -> Findings
+    ensures same { result.verdict ≡ verdict }
+    ensures finds { FindsBehind how verdict
+        (stand (R.remaining reader.old) (O.remaining other.old) (W.contents writer.old) decoder.old ahead.old (T.reported report.old).report)
+        (stand (R.remaining reader.new) (O.remaining other.new) (W.contents writer.new) decoder.new ahead.new (T.reported report.new).report)
+        result.displaced }
+    ensures told { TellsOn (T.reported report.old) (T.reported report.new) (E.contents errors.old) (E.contents errors.new) }
+{
+    let displaced = displaced_behind(
+        alloc, how, &verdict, decoder, ahead, report, errors, reader, other, writer,
+    );
+    Findings { verdict, displaced }
+}
+
+fn displaced_behind<T: Reporter, E: Write, R: Read, O: Read, W: Write>(
+    alloc: Global,
+    how: Comparison,
+    verdict: &Verdict,
+    decoder: &mut Decoder<MAX_UNIT, SharedPicture>,
+    ahead: &mut Ahead,
+    report: &mut T,
+    errors: &mut E,
+    reader: &mut R,
+    other: &mut O,
+    writer: &mut W,
+) -> Result<DisplacedPictures, CompareFault>
+    ensures finds { FindsBehind how verdict.now
+        (stand (R.remaining reader.old) (O.remaining other.old) (W.contents writer.old) decoder.old ahead.old (T.reported report.old).report)
+        (stand (R.remaining reader.new) (O.remaining other.new) (W.contents writer.new) decoder.new ahead.new (T.reported report.new).report)
+        result }
+    ensures told { TellsOn (T.reported report.old) (T.reported report.new) (E.contents errors.old) (E.contents errors.new) }
+{
+    match verdict {
+        Verdict::Differs(differing) => seek_displaced(
+            alloc, how, differing, decoder, ahead, report, errors, reader, other, writer,
+        ),
+        Verdict::Same | Verdict::Fewer(_) | Verdict::More(_) | Verdict::OtherSize(_) => {
+            Ok(DisplacedPictures::new(alloc))
+        }
+    }
 }
 
 // Compares a picture, or reports a refusal. Answers None where the comparison goes on.

@@ -3,13 +3,17 @@
 
 mod ahead;
 mod comparison;
+mod digests;
+mod displaced;
+mod looking;
 mod picture;
 mod program;
 mod stream;
 mod text;
 mod verdict;
 
-pub use comparison::{Comparison, run_comparison};
+pub use comparison::{Comparison, Findings, run_comparison};
+pub use displaced::{Displaced, DisplacedPictures};
 pub use program::compare;
-pub use text::add_verdict;
+pub use text::add_findings;
 pub use verdict::{CompareFault, ComparedPicture, Differing, PictureSize, Sizes, Verdict};

@@ -7,10 +7,11 @@ ghost use Rattle.avc_yuv.specs.I420.{i420};
 ghost use Rattle.avc_difference.specs.Places.{sample_count};
 ghost use Rattle.avc_console.specs.declared.fault.RunFault.TheVariants as faults;
 ghost use Rattle.avc_compare.specs.Comparing.{compared_picture, other_size, size_of};
-ghost use Rattle.avc_compare.specs.Running.{ComparesPicture, FindsIn, TellsLine};
+ghost use Rattle.avc_compare.specs.Running.{ComparesPicture, FindsIn, LooksAt, TellsLine};
 ghost use Rattle.avc_compare.specs.declared.verdict.CompareFault.TheVariants as ends;
 
 use crate::comparison::Comparison;
+use crate::digests::{Digests, digest_of};
 use crate::verdict::{CompareFault, ComparedPicture, Differing, PictureSize, Sizes, Verdict};
 use avc_console::{RunFault, read_once, write_text};
 use avc_difference::{Shape, add_psnr, find_difference, measure};
@@ -45,6 +46,38 @@ pub(crate) fn compare_picture<O: Read, W: Write>(
     let found = judge(alloc, how.most, compared, &ours, &theirs)?;
     tell_line(alloc, how.has_psnr, compared, &ours, &theirs, writer)?;
     Ok(found)
+}
+
+/// Looks at a picture behind the first that differs, beside the other's next bytes, as many as it has
+/// as I420: adds the MD5s of both, and writes the line on it, if that is wanted. Answers whether the
+/// other has so many.
+pub(crate) fn look_at_picture<O: Read, W: Write>(
+    alloc: Global,
+    how: Comparison,
+    number: u64,
+    picture: &SharedPicture,
+    digests: &mut Digests,
+    other: &mut O,
+    writer: &mut W,
+) -> Result<bool, CompareFault>
+    requires { IsWhole picture.now }
+    ensures { LooksAt how number picture.now (O.remaining other.old) (O.remaining other.new) (W.contents writer.old) (W.contents writer.new)
+        digests.old digests.new result }
+{
+    let ours = i420_of(alloc, picture)?;
+    digests.add_ours(digest_of(&ours))?;
+    if let Some(_sizes) = other_size(how.size, picture) {
+        return Ok(false);
+    }
+    let mut theirs = zeros(alloc, ours.len())?;
+    let count = read_other(&mut theirs, other)?;
+    if ours.len() > count {
+        return Ok(false);
+    }
+    digests.add_theirs(digest_of(&theirs))?;
+    let about = compared_picture(number, picture);
+    tell_line(alloc, how.has_psnr, about, &ours, &theirs, writer)?;
+    Ok(true)
 }
 
 // Writes the line on these samples, if such lines are told.
@@ -166,6 +199,8 @@ fn judge(
         Some(difference) => Ok(Some(Verdict::Differs(Differing {
             picture,
             difference,
+            our_digest: digest_of(ours),
+            their_digest: digest_of(theirs),
         }))),
         None => Ok(None),
     }

@@ -6,20 +6,22 @@ ghost use Rattle.avc_console.specs.Program.{TellsRun};
 ghost use Rattle.avc_console.specs.Reporting.{report_in, reported_by, IsTold};
 ghost use Rattle.avc_formats.specs.Formats.{StopsPicture};
 ghost use Rattle.avc_console.specs.Status.{other_status};
-ghost use Rattle.avc_compare.specs.Told.{fault_names, is_same, run_fault, verdict_status};
-ghost use Rattle.avc_compare.specs.Told.{verdict_text, EndsComparing, HasMarks};
+ghost use Rattle.avc_compare.specs.Told.{ended_by, fault_names, findings_text, is_same, names_of, run_fault};
+ghost use Rattle.avc_compare.specs.Told.{run_of, verdict_status, EndsComparing, HasMarks};
 
-use crate::comparison::{Comparison, run_comparison};
-use crate::text::add_verdict;
+use crate::comparison::{Comparison, Findings, run_comparison};
+use crate::displaced::DisplacedPictures;
+use crate::text::add_findings;
 use crate::verdict::{CompareFault, Verdict};
 use avc_console::{Console, Ending, Names, Reporter, RunFault, Tally, Watch, tell, write_text};
 use std::alloc::Global;
 use std::io::{Read, Write};
 
 /// The command `compare`: compares the pictures of a byte stream (Annex B) with another decoder's,
-/// as I420, from a file of this name, and writes where they differ first, or nothing; before that,
-/// if it is wanted, a line on how near each picture is. It tells on the console of each refusal when
-/// it comes, and of the fault that ended the run. The status is 1 where something differs.
+/// as I420, from a file of this name, and writes where they differ first, or nothing; behind that
+/// which of the other's pictures are ours of another number; and before it, if it is wanted, a line on
+/// how near each picture is. It tells on the console of each refusal when it comes, and of the fault
+/// that ended the run. The status is 1 where something differs and no fault came.
 pub fn compare<R: Read, O: Read, W: Write, E: Write, V: Watch>(
     alloc: Global,
     how: Comparison,
@@ -44,11 +46,18 @@ pub fn compare<R: Read, O: Read, W: Write, E: Write, V: Watch>(
         writer,
     );
     match run {
-        Ok(verdict) => {
-            let written = write_verdict(alloc, &verdict, writer);
+        Ok(findings) => {
+            let written = write_findings(alloc, &findings, writer);
             console.watch.end(tally.counts(), written);
-            let decoded = tell(written, &tally, &console.names, &mut console.errors);
-            end_with(&verdict, decoded)
+            let ended = ended_by(written, &findings.displaced);
+            let decoded = tell_end(
+                ended,
+                other_name,
+                &tally,
+                &console.names,
+                &mut console.errors,
+            );
+            end_with(&findings.verdict, decoded)
         }
         Err(fault) => tell_fault(
             fault,
@@ -57,6 +66,38 @@ pub fn compare<R: Read, O: Read, W: Write, E: Write, V: Watch>(
             &console.names,
             &mut console.errors,
         ),
+    }
+}
+
+// How a comparison ended whose findings were written so.
+fn ended_by(
+    written: Result<(), RunFault>,
+    displaced: &Result<DisplacedPictures, CompareFault>,
+) -> Result<(), CompareFault>
+    ensures { result ≡ ended_by written displaced.now }
+{
+    match (written, displaced) {
+        (Err(fault), _) => Err(CompareFault::Ours(fault)),
+        (Ok(()), Err(fault)) => Err(*fault),
+        (Ok(()), Ok(_)) => Ok(()),
+    }
+}
+
+// Tells of how the comparison ended.
+fn tell_end<E: Write>(
+    ended: Result<(), CompareFault>,
+    other_name: Option<&str>,
+    tally: &Tally,
+    names: &Names<'_>,
+    errors: &mut E,
+) -> Ending
+    ensures { (start : Option (List ℕ)) → IsTold start (E.contents errors.old) (reported_by tally.now)
+        → TellsRun (names_of names.now other_name.entry ended) tally.now.explained (report_in tally.now) (run_of ended)
+        start (E.contents errors.new) result }
+{
+    match ended {
+        Ok(()) => tell(Ok(()), tally, names, errors),
+        Err(fault) => tell_fault(fault, other_name, tally, names, errors),
     }
 }
 
@@ -84,14 +125,18 @@ fn tell_fault<E: Write>(
     }
 }
 
-// Writes what is told of the comparison.
-fn write_verdict<W: Write>(alloc: Global, verdict: &Verdict, writer: &mut W) -> Result<(), RunFault>
-    requires { HasMarks verdict.now }
-    ensures ok { OnOk result (Appends (W.contents writer.old) (W.contents writer.new) (verdict_text verdict.now)) }
-    ensures err { IfErr result (λ fault. StopsPicture fault true (W.contents writer.old) (W.contents writer.new) (verdict_text verdict.now)) }
+// Writes what is told of what the comparison found.
+fn write_findings<W: Write>(
+    alloc: Global,
+    findings: &Findings,
+    writer: &mut W,
+) -> Result<(), RunFault>
+    requires { HasMarks findings.now.verdict }
+    ensures ok { OnOk result (Appends (W.contents writer.old) (W.contents writer.new) (findings_text findings.now)) }
+    ensures err { IfErr result (λ fault. StopsPicture fault true (W.contents writer.old) (W.contents writer.new) (findings_text findings.now)) }
 {
     let mut text = String::new(alloc);
-    add_verdict(&mut text, verdict)?;
+    add_findings(&mut text, findings)?;
     write_text(&text, writer)
 }
 

@@ -1,15 +1,53 @@
 //! What is told of a comparison.
 
 ghost use Rattle.std.specs.Prelude.{◌≡◌, ◌++◌, OnOk, string_bytes};
-ghost use Rattle.avc_compare.specs.Told.{fewer_line, info_line, more_line, sizes_line};
-ghost use Rattle.avc_compare.specs.Told.{verdict_text, HasMarks};
+ghost use Rattle.std.specs.List.{flat_map};
+ghost use Rattle.avc_compare.specs.Told.{displaced_line, fewer_line, findings_text, info_line, more_line};
+ghost use Rattle.avc_compare.specs.Told.{sizes_line, verdict_text, HasMarks};
 
-use crate::verdict::{ComparedPicture, Sizes, Verdict};
+use crate::comparison::Findings;
+use crate::displaced::Displaced;
+use crate::verdict::{CompareFault, ComparedPicture, Sizes, Verdict};
+use avc_console::RunFault;
 use avc_difference::add_difference;
 use avc_types::OutOfMemory;
 
-/// Adds what is written of a comparison: nothing where all is the same.
-pub fn add_verdict(text: &mut String, verdict: &Verdict) -> Result<(), OutOfMemory>
+/// Adds what is written of what a comparison found: nothing where all is the same, and nothing behind a
+/// line that could not be written.
+pub fn add_findings(text: &mut String, findings: &Findings) -> Result<(), OutOfMemory>
+    requires { HasMarks findings.now.verdict }
+    ensures { OnOk result (string_bytes text.new ≡ string_bytes text.old ++ findings_text findings.now) }
+{
+    match &findings.displaced {
+        Ok(displaced) => {
+            add_verdict(text, &findings.verdict)?;
+            add_displaced(text, displaced.as_slice())
+        }
+        Err(CompareFault::Ours(RunFault::Write)) => Ok(()),
+        Err(_) => add_verdict(text, &findings.verdict),
+    }
+}
+
+// A line for each picture that is ours of another number.
+fn add_displaced(text: &mut String, pictures: &[Displaced]) -> Result<(), OutOfMemory>
+    ensures { OnOk result (string_bytes text.new ≡ string_bytes text.old ++ flat_map displaced_line pictures.now) }
+{
+    'pictures: for picture in pictures {
+        add_picture(text, *picture)?;
+    }
+    Ok(())
+}
+
+fn add_picture(text: &mut String, picture: Displaced) -> Result<(), OutOfMemory>
+    ensures { OnOk result (string_bytes text.new ≡ string_bytes text.old ++ displaced_line picture) }
+{
+    let Displaced { number, ours } = picture;
+    writeln!(text, "picture {number} is our picture {ours}")?;
+    Ok(())
+}
+
+// What is written of the verdict.
+fn add_verdict(text: &mut String, verdict: &Verdict) -> Result<(), OutOfMemory>
     requires { HasMarks verdict.now }
     ensures { OnOk result (string_bytes text.new ≡ string_bytes text.old ++ verdict_text verdict.now) }
 {

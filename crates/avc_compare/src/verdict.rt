@@ -59,6 +59,12 @@ pub struct Differing {
     pub picture: ComparedPicture,
 
     pub difference: Difference,
+
+    /// The MD5 (RFC 1321) of what is shown of our picture, as I420.
+    pub our_digest: [u8; 16],
+
+    /// That of the other's.
+    pub their_digest: [u8; 16],
 }
 
 /// What ended a comparison before its end.

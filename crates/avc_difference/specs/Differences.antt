@@ -3,6 +3,7 @@ use Rattle.std.specs.Prelude.{◌≡◌, ℕ, ◌+◌, ◌-◌, ◌<◌, ◌==�
 use Rattle.std.specs.Prelude.{List, length, slice_index, slice_index_or, count_by}
 use Rattle.avc_plane.specs.declared.component.Component.{Component}
 use Rattle.avc_plane.specs.declared.component.Component.TheVariants.{Luma, Cb, Cr}
+use Rattle.avc_difference.specs.Origin.{origin_pairs}
 use Rattle.avc_difference.specs.Places.{macroblocks, place_of}
 use Rattle.avc_difference.specs.declared.difference.Difference.{Difference}
 use Rattle.avc_difference.specs.declared.marks.Mark.{Mark}
@@ -92,3 +93,4 @@ pub record IsDifference (s : Shape) (most : ℕ) (ours theirs : List ℕ) (d : D
   pub marked : length d.marks.items ≡ macroblocks s
   pub marks : AreMarks s most ours theirs (length ours) d.marks.items
   pub macroblocks_are : d.macroblocks ≡ count_by is_marked d.marks.items
+  pub origin_is : d.origin.items ≡ origin_pairs s (differs_at most ours theirs) ours theirs

@@ -1,4 +1,5 @@
 pub mod Places
+pub mod Origin
 pub mod Differences
 pub mod Psnr
 pub mod Naturals

@@ -6,6 +6,7 @@ ghost use Rattle.avc_difference.specs.Differences.{count_below, differs_at, AreS
 ghost use Rattle.avc_difference.specs.Differences.{IsFirst};
 
 use crate::marks::{Mark, differs, marked, marks_of};
+use crate::origin::{SamplePair, origin_pairs};
 use crate::place::{Place, Shape, place_of};
 use avc_types::OutOfMemory;
 use std::alloc::Global;
@@ -34,6 +35,10 @@ pub struct Difference {
 
     /// Whether some differ in each macroblock, by its address.
     pub marks: Vec<Mark>,
+
+    /// The samples that are shown of the macroblock at which the difference may begin: the first that
+    /// differs where no edge of a later macroblock reaches (8.7), or else the first that differs.
+    pub origin: Vec<SamplePair>,
 }
 
 /// Compares the samples of two pictures of this shape, both as I420. Those that are at most `most`
@@ -52,6 +57,7 @@ pub fn find_difference(
     match first_difference(most, ours, theirs) {
         Some(place) => {
             let marks = marks_of(alloc, shape, most, ours, theirs)?;
+            let origin = origin_pairs(alloc, shape, most, ours, theirs)?;
             Ok(Some(Difference {
                 place: place_of(shape, place),
                 ours: ours[place],
@@ -60,6 +66,7 @@ pub fn find_difference(
                 all_samples: ours.len(),
                 macroblocks: marked(&marks),
                 marks,
+                origin,
             }))
         }
         None => Ok(None),

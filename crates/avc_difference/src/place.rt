@@ -129,8 +129,8 @@ fn place_at(shape: Shape, component: Component, column: usize, row: usize) -> Pl
     }
 }
 
-// How many columns and rows of a component a macroblock has.
-fn macroblock_side(component: Component) -> usize
+/// How many columns and rows of a component a macroblock has.
+pub(crate) fn macroblock_side(component: Component) -> usize
     ensures is { result ≡ scaled component 16 }
     ensures some { 8 ≤ result }
 {

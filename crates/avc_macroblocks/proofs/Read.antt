@@ -307,7 +307,7 @@ few_more [] slices before few = omega (arith, few)
 few_more (mb ∷ mbs) slices before few = omega (arith, few)
 
 -- the picture behind a slice of it whose macroblocks were read, and their lines
-pub slice_told : (form : Form) (p : OpenPicture) (pps : Pps) (s : Slice) (c now : Picture) (d : SliceData) (remaining count address : ℕ) (old new : List ℕ) → IsPicture p c → c.size < 2 ^ 32
+slice_told : (form : Form) (p : OpenPicture) (pps : Pps) (s : Slice) (c now : Picture) (d : SliceData) (remaining count address : ℕ) (old new : List ℕ) → IsPicture p c → c.size < 2 ^ 32
     → address ≡ c.next → remaining ≡ c.size - c.next → address_fault c.next (s.header).first_mb_in_slice ≡ None
     → ((q : OpenPicture) → q.size ≡ length q.mbs + remaining → IsDataIn q pps s d) → count ≤ remaining
     → ((start : SliceStart) (before : List PicMb) (known : List Derived) → start.size ≡ length before + remaining → IsBehind start before known c.slices c.row → Follows start before d
@@ -344,14 +344,32 @@ slice_told form p pps s c now d remaining count address old new h fits at left n
       added = r.added;
     }
 
+-- the same in the form of what is asked for, by the width of the picture
+pub slice_told_in : (a : Asked) (p : OpenPicture) (pps : Pps) (s : Slice) (c now : Picture) (d : SliceData) (remaining count address : ℕ) (old new : List ℕ) → IsPicture p c → c.size < 2 ^ 32
+    → address ≡ c.next → remaining ≡ c.size - c.next → address_fault c.next (s.header).first_mb_in_slice ≡ None
+    → ((q : OpenPicture) → q.size ≡ length q.mbs + remaining → IsDataIn q pps s d) → count ≤ remaining
+    → ((start : SliceStart) (before : List PicMb) (known : List Derived) → start.size ≡ length before + remaining → IsBehind start before known c.slices c.row → Follows start before d
+    → AreRead (form_in a c.row.width) (record { unit = s.unit; slice = c.slices; address = address }) pps.constrained_intra_pred_flag start before known (rest_of start before d) count now.row old new)
+    → now.last ≡ c.last → now.size ≡ c.size → (count ≡ 0 → now.slices ≡ c.slices) → (0 < count → c.slices < 2 ^ 32 - 1 → now.slices ≡ c.slices + 1)
+    → now.next ≡ min (c.next + count) (2 ^ 32 - 1) → IsSliceTold (form_in a p.width) p pps s now old new
+slice_told_in a p pps s c now d remaining count address old new h fits at left none begun few reads last size no_more one next =
+    subst (λ w. IsSliceTold (form_in a w) p pps s now old new) h.width
+    (slice_told (form_in a c.row.width) p pps s c now d remaining count address old new h fits at left none begun few reads last size no_more one next)
+
+-- what was read in the form of a width is told in that of the same
+pub widened : {place : MacroblockPlace} {c : Bool} {s : SliceStart} {before : List PicMb} {known : List Derived} {ms : SliceMbs} {count : ℕ} {row : PictureInfo} {old new : List ℕ}
+    (a : Asked) (width same : ℕ) → width ≡ same → AreRead (form_in a width) place c s before known ms count row old new → AreRead (form_in a same) place c s before known ms count row old new
+widened {place} {c} {s} {before} {known} {ms} {count} {row} {old} {new} a width same is h = subst (λ w. AreRead (form_in a w) place c s before known ms count row old new) is h
+
 -- ---- the picture that is asked for
 
-choice_next : (picture : Option ℕ) (number : ℕ) → choice_after (choice_at picture number) ≡ choice_at picture (number + 1)
-choice_next None number = refl
-choice_next (Some asked) number = by (nat_lt asked number) refl (nat_lt asked (number + 1)) refl (asked - number == 0) refl
+choice_next : (s : Selection) (number unit next : ℕ) → choice_after s next (choice_at s number unit) ≡ choice_at s (number + 1) next
+choice_next Whole number unit next = refl
+choice_next (Near m) number unit next = refl
+choice_next (OfPicture asked) number unit next = by (nat_lt asked number) refl (nat_lt asked (number + 1)) refl (asked - number == 0) refl
   where
     by : (past : Bool) → nat_lt asked number ≡ past → (next : Bool) → nat_lt asked (number + 1) ≡ next → (here : Bool) → (asked - number == 0) ≡ here
-        → choice_after (if past then Past else Later (asked - number)) ≡ (if next then Past else Later (asked - (number + 1)))
+        → choice_later (if past then Past else Later (asked - number)) ≡ (if next then Past else Later (asked - (number + 1)))
     by true e true f h g = refl
     by true e false f h g = absurd (grind (arith, nat_tests, e, f))
     by false e true f true g = rw g refl
@@ -359,22 +377,28 @@ choice_next (Some asked) number = by (nat_lt asked number) refl (nat_lt asked (n
     by false e false f true g = absurd (grind (arith, nat_tests, e, f, g))
     by false e false f false g = rw g (ap Later (omega arith))
 
-choice_first : (picture : Option ℕ) → first_choice picture ≡ choice_at picture 0
-choice_first None = refl
-choice_first (Some asked) =
+choice_first : (s : Selection) (unit : ℕ) → first_choice s unit ≡ choice_at s 0 unit
+choice_first Whole unit = refl
+choice_first (Near m) unit = refl
+choice_first (OfPicture asked) unit =
     let later : nat_lt asked 0 ≡ false = grind (arith, nat_tests) in
     sym (ap (λ (b : Bool). if b then Past else Later (asked - 0)) later ∙ ap Later (omega arith))
 
-pub chosen_is : (picture : Option ℕ) (number : ℕ) → is_chosen (choice_at picture number) ≡ is_listed picture number
-chosen_is None number = refl
-chosen_is (Some asked) number = by (nat_lt asked number) refl
+pub chosen_is : (s : Selection) (number unit : ℕ) → is_chosen (choice_at s number unit) ≡ is_listed s number unit
+chosen_is Whole number unit = refl
+chosen_is (Near m) number unit = by (m.unit == unit)
+  where
+    by : (here : Bool) → is_chosen (if here then Each else Past) ≡ here
+    by true = refl
+    by false = refl
+chosen_is (OfPicture asked) number unit = by (nat_lt asked number) refl
   where
     by : (past : Bool) → nat_lt asked number ≡ past → is_chosen (if past then Past else Later (asked - number)) ≡ (asked == number)
     by true e = grind (arith, nat_tests, e)
     by false e = grind (arith, nat_tests, e)
 
-come_is : (asked number : ℕ) → has_come (choice_at (Some asked) number) ≡ nat_lt asked (number + 1)
-come_is asked number = by (nat_lt asked number) refl
+come_is : (asked number unit : ℕ) → has_come (choice_at (OfPicture asked) number unit) ≡ nat_lt asked (number + 1)
+come_is asked number unit = by (nat_lt asked number) refl
   where
     by : (past : Bool) → nat_lt asked number ≡ past → has_come (if past then Past else Later (asked - number)) ≡ nat_lt asked (number + 1)
     by true e = grind (arith, nat_tests, e)
@@ -382,29 +406,30 @@ come_is asked number = by (nat_lt asked number) refl
 
 -- ---- the picture of a slice
 
-pub begins_stream : {E : Type 0} (asked : Option ℕ) (sps : Sps) (h : Header) (kept : Option Picture) (choice : Choice) (r : Result Picture E) → kept ≡ None
-    → IfOk r (λ c. (number : ℕ) → IsPicture (new_picture number sps h) c) → IfOk r (λ c. c.choice ≡ choice) → choice ≡ first_choice asked
-    → IfOk r (λ c. (p : Option OpenPicture) → IsOpen asked p kept → IsFollowed asked (picture_of p sps h) c)
-begins_stream asked sps h kept choice (Err e) none read chosen is = tt
-begins_stream asked sps h kept choice (Ok c) none read chosen is = λ p is_open. by p (subst (IsOpen asked p) none is_open)
+pub begins_stream : {E : Type 0} (asked : Selection) (unit : ℕ) (sps : Sps) (h : Header) (kept : Option Picture) (choice : Choice) (r : Result Picture E) → kept ≡ None
+    → IfOk r (λ c. (number : ℕ) → IsPicture (new_picture number unit sps h) c) → IfOk r (λ c. c.unit ≡ unit) → IfOk r (λ c. c.choice ≡ choice) → choice ≡ first_choice asked unit
+    → IfOk r (λ c. (p : Option OpenPicture) → IsOpen asked p kept → IsFollowed asked (picture_of p unit sps h) c)
+begins_stream asked unit sps h kept choice (Err e) none read at chosen is = tt
+begins_stream asked unit sps h kept choice (Ok c) none read at chosen is = λ p is_open. by p (subst (IsOpen asked p) none is_open)
   where
-    by : (p : Option OpenPicture) → IsOpen asked p None → IsFollowed asked (picture_of p sps h) c
-    by None is_open = record { last_is = (read 0).last; choice_is = chosen ∙ is ∙ choice_first asked; listed = λ yes. read 0 }
+    by : (p : Option OpenPicture) → IsOpen asked p None → IsFollowed asked (picture_of p unit sps h) c
+    by None is_open = record { last_is = (read 0).last; unit_is = at; choice_is = chosen ∙ is ∙ choice_first asked unit; listed = λ yes. read 0 }
     by (Some p) is_open = absurd is_open
 
-pub begins_next : {E : Type 0} (asked : Option ℕ) (sps : Sps) (h : Header) (kept : Option Picture) (q : Picture) (choice : Choice) (r : Result Picture E) → kept ≡ Some q
-    → begins_after q.last h ≡ true → IfOk r (λ c. (number : ℕ) → IsPicture (new_picture number sps h) c) → IfOk r (λ c. c.choice ≡ choice) → choice ≡ choice_after q.choice
-    → IfOk r (λ c. (p : Option OpenPicture) → IsOpen asked p kept → IsFollowed asked (picture_of p sps h) c)
-begins_next asked sps h kept q choice (Err e) some begun read chosen is = tt
-begins_next asked sps h kept q choice (Ok c) some begun read chosen is = λ p is_open. by p (subst (IsOpen asked p) some is_open)
+pub begins_next : {E : Type 0} (asked : Selection) (unit : ℕ) (sps : Sps) (h : Header) (kept : Option Picture) (q : Picture) (choice : Choice) (r : Result Picture E) → kept ≡ Some q
+    → begins_after q.last h ≡ true → IfOk r (λ c. (number : ℕ) → IsPicture (new_picture number unit sps h) c) → IfOk r (λ c. c.unit ≡ unit) → IfOk r (λ c. c.choice ≡ choice) → choice ≡ choice_after asked unit q.choice
+    → IfOk r (λ c. (p : Option OpenPicture) → IsOpen asked p kept → IsFollowed asked (picture_of p unit sps h) c)
+begins_next asked unit sps h kept q choice (Err e) some begun read at chosen is = tt
+begins_next asked unit sps h kept q choice (Ok c) some begun read at chosen is = λ p is_open. by p (subst (IsOpen asked p) some is_open)
   where
-    by : (p : Option OpenPicture) → IsOpen asked p (Some q) → IsFollowed asked (picture_of p sps h) c
+    by : (p : Option OpenPicture) → IsOpen asked p (Some q) → IsFollowed asked (picture_of p unit sps h) c
     by None is_open = absurd is_open
     by (Some p) f =
         let here : begins p.last h ≡ true = ap (λ l. begins_after l h) (sym f.last_is) ∙ begun in
-        subst (λ (b : Bool). IsFollowed asked (if b then new_picture (p.number + 1) sps h else record p { last = h }) c) (sym here) (record {
+        subst (λ (b : Bool). IsFollowed asked (if b then new_picture (p.number + 1) unit sps h else record p { last = h }) c) (sym here) (record {
           last_is = (read (p.number + 1)).last;
-          choice_is = chosen ∙ is ∙ ap choice_after f.choice_is ∙ choice_next asked p.number;
+          unit_is = at;
+          choice_is = chosen ∙ is ∙ ap (choice_after asked unit) f.choice_is ∙ choice_next asked p.number p.unit unit;
           listed = λ yes. read (p.number + 1);
         })
 
@@ -413,11 +438,11 @@ abbrev pub come : Option Picture → Bool
 come None = false
 come (Some c) = has_come c.choice
 
-come_by : (asked : ℕ) (p : Option OpenPicture) (kept : Option Picture) → IsOpen (Some asked) p kept → come kept ≡ nat_lt asked (pictures_begun p)
+come_by : (asked : ℕ) (p : Option OpenPicture) (kept : Option Picture) → IsOpen (OfPicture asked) p kept → come kept ≡ nat_lt asked (pictures_begun p)
 come_by asked None None is_open =
     let later : nat_lt asked 0 ≡ false = grind (arith, nat_tests) in
     sym later
-come_by asked (Some p) (Some c) f = ap has_come f.choice_is ∙ come_is asked p.number
+come_by asked (Some p) (Some c) f = ap has_come f.choice_is ∙ come_is asked p.number p.unit
 come_by asked None (Some c) is_open = absurd is_open
 come_by asked (Some p) None is_open = absurd is_open
 
@@ -441,18 +466,37 @@ lines-append a sets p (u ∷ us) vs =
     (lines-append a now first us vs ∙ ap (λ l. lines_under a now first us ++ lines_under a l (picture_behind now first us) vs) (sets_then sets u us))
     ∙ sym (append_assoc (unit_lines a u.index b) (lines_under a now first us) (lines_under a (sets ++ set_units (u ∷ us)) (picture_behind now first us) vs))
 
+or_assoc : (a b c : Bool) → ((a || b) || c) ≡ (a || (b || c))
+or_assoc true b c = refl
+or_assoc false b c = refl
+
+or_none : (a : Bool) → (a || false) ≡ a
+or_none true = refl
+or_none false = refl
+
+met-append : (s : Selection) (sets : List SetUnit) (p : Option OpenPicture) (us vs : List Unit)
+    → is_met_under s sets p (us ++ vs) ≡ (is_met_under s sets p us || is_met_under s (sets ++ set_units us) (picture_behind sets p us) vs)
+met-append s sets p [] vs = ap (λ l. is_met_under s l p vs) (sym (append-nil sets))
+met-append s sets p (u ∷ us) vs =
+    let b = brought (sets_after sets) p u in
+    let first = picture_after p b in
+    let now = sets ++ set_units (u ∷ []) in
+    ap (λ x. is_met_by s b || x)
+    (met-append s now first us vs ∙ ap (λ l. is_met_under s now first us || is_met_under s l (picture_behind now first us) vs) (sets_then sets u us))
+    ∙ sym (or_assoc (is_met_by s b) (is_met_under s now first us) (is_met_under s (sets ++ set_units (u ∷ us)) (picture_behind now first us) vs))
+
 -- These units were taken, with the sets that they brought.
-pub record IsListedSoFar (a : Asked) (before now : List SetUnit) (first kept : Option Picture) (text : List ℕ) (done : List Unit) : Type 0 where
+pub record IsListedSoFar (a : Asked) (before now : List SetUnit) (first kept : Option Picture) (had_met has_met : Bool) (text : List ℕ) (done : List Unit) : Type 0 where
   pub sets : now ≡ before ++ set_units done
-  pub told : AreToldFrom a before first kept done [] text
+  pub told : AreToldFrom a before first kept done had_met has_met [] text
 
-pub none_listed : (a : Asked) (before : List SetUnit) (first : Option Picture) (text : List ℕ) → text ≡ [] → IsListedSoFar a before before first first text []
-none_listed a before first text none = record { sets = sym (append-nil before); told = λ p h. record { stands = h; added = none } }
+pub none_listed : (a : Asked) (before : List SetUnit) (first : Option Picture) (had_met : Bool) (text : List ℕ) → text ≡ [] → IsListedSoFar a before before first first had_met had_met text []
+none_listed a before first had_met text none = record { sets = sym (append-nil before); told = λ p h. record { stands = h; met = sym (or_none had_met); added = none } }
 
-pub listed_more : (a : Asked) (before old new : List SetUnit) (first mid kept : Option Picture) (text more : List ℕ) (u : Unit) → new ≡ old ++ set_units (u ∷ [])
-    → ((p : Option OpenPicture) → IsOpen a.picture p mid → IsTold a u.index p (brought (sets_after old) p u) kept text more)
-    → (done : List Unit) → IsListedSoFar a before old first mid text done → IsListedSoFar a before new first kept more (done ++ u ∷ [])
-listed_more a before old new first mid kept text more u put step done h = record {
+pub listed_more : (a : Asked) (before old new : List SetUnit) (first mid kept : Option Picture) (had_met mid_met has_met : Bool) (text more : List ℕ) (u : Unit) → new ≡ old ++ set_units (u ∷ [])
+    → ((p : Option OpenPicture) → IsOpen a.selection p mid → IsTold a u.index p (brought (sets_after old) p u) kept mid_met has_met text more)
+    → (done : List Unit) → IsListedSoFar a before old first mid had_met mid_met text done → IsListedSoFar a before new first kept had_met has_met more (done ++ u ∷ [])
+listed_more a before old new first mid kept had_met mid_met has_met text more u put step done h = record {
   sets = set_units_more before old new u done put h.sets;
   told = λ p is_open.
       let here = h.told p is_open in
@@ -460,7 +504,13 @@ listed_more a before old new first mid kept text more u put step done h = record
       let now = step q here.stands in
       let same : brought (sets_after old) q u ≡ brought (sets_after (before ++ set_units done)) q u = ap (λ l. brought (sets_after l) q u) h.sets in
       record {
-        stands = subst (λ x. IsOpen a.picture x kept) (ap (picture_after q) same ∙ sym (picture-append before p done (u ∷ []))) now.stands;
+        stands = subst (λ x. IsOpen a.selection x kept) (ap (picture_after q) same ∙ sym (picture-append before p done (u ∷ []))) now.stands;
+        met =
+            now.met ∙ ap (λ x. x || is_met_by a.selection (brought (sets_after old) q u)) here.met
+            ∙ ap (λ b. (had_met || is_met_under a.selection before p done) || is_met_by a.selection b) same
+            ∙ or_assoc had_met (is_met_under a.selection before p done) (is_met_by a.selection (brought (sets_after (before ++ set_units done)) q u))
+            ∙ ap (λ x. had_met || (is_met_under a.selection before p done || x)) (sym (or_none (is_met_by a.selection (brought (sets_after (before ++ set_units done)) q u))))
+            ∙ ap (λ x. had_met || x) (sym (met-append a.selection before p done (u ∷ [])));
         added =
             now.added ∙ ap (λ l. l ++ unit_lines a u.index (brought (sets_after old) q u)) here.added
             ∙ ap (λ b. lines_under a before p done ++ unit_lines a u.index b) same
@@ -470,9 +520,10 @@ listed_more a before old new first mid kept text more u put step done h = record
 }
 
 -- once more has come
-pub listed_again : (a : Asked) (max : ℕ) (old mid new : SplitterState) (sets now : List SetUnit) (kept kept_now : Option Picture) (added : List ℕ) → AreListed a.picture max old sets kept → AreLeft max old mid
-    → new ≡ after_units_left max mid → now ≡ sets ++ set_units (units_left max mid) → AreToldFrom a sets kept kept_now (units_left max mid) [] added → AreListed a.picture max new now kept_now
-listed_again a max old mid new sets now kept kept_now added h left is put told =
+pub listed_again : (a : Asked) (max : ℕ) (old mid new : SplitterState) (sets now : List SetUnit) (kept kept_now : Option Picture) (had_met has_met : Bool) (added : List ℕ) → AreListed a.selection max old sets kept had_met
+    → AreLeft max old mid → new ≡ after_units_left max mid → now ≡ sets ++ set_units (units_left max mid) → AreToldFrom a sets kept kept_now (units_left max mid) had_met has_met [] added
+    → AreListed a.selection max new now kept_now has_met
+listed_again a max old mid new sets now kept kept_now had_met has_met added h left is put told =
     let us = units max old.bytes old.ended in
     let here = told (picture_behind [] None us) h.stands in
     let same : picture_behind sets (picture_behind [] None us) (units_left max mid) ≡ picture_behind [] None (units max new.bytes new.ended) =
@@ -483,7 +534,14 @@ listed_again a max old mid new sets now kept kept_now added h left is put told =
     record {
       drained = drained max old mid new left is;
       sets_are = sets_again max old mid new sets now h.sets_are left is put;
-      stands = subst (λ p. IsOpen a.picture p kept_now) same here.stands;
+      stands = subst (λ p. IsOpen a.selection p kept_now) same here.stands;
+      met =
+          here.met ∙ ap (λ x. x || is_met_under a.selection sets (picture_behind [] None us) (units_left max mid)) h.met
+          ∙ ap (λ l. is_met_under a.selection [] None us || is_met_under a.selection l (picture_behind [] None us) (units_left max mid)) h.sets_are
+          ∙ sym (met-append a.selection [] None us (units_left max mid))
+          ∙ ap (is_met_under a.selection [] None) (sym left.all)
+          ∙ ap (λ (s : SplitterState). is_met_under a.selection [] None (units max s.bytes s.ended)) (sym is);
+      in_range = h.in_range;
     }
 
 lines_are : (a : Asked) (max : ℕ) (bytes : List ℕ) (ended : Bool) → length bytes ≤ max → lines_under a [] None (units max bytes ended) ≡ lines_so_far a bytes ended
@@ -499,10 +557,10 @@ lines_behind a max bytes front ended front_ended others short front_short is =
     sym (lines_are a max bytes ended short) ∙ ap (lines_under a [] None) is ∙ lines-append a [] None us others
     ∙ ap (λ l. l ++ lines_under a (set_units us) (picture_behind [] None us) others) (lines_are a max front front_ended front_short)
 
-pub lines_added : (a : Asked) (max : ℕ) (old mid new : SplitterState) (sets : List SetUnit) (kept kept_now : Option Picture) (text added : List ℕ) → AreListed a.picture max old sets kept → AreLeft max old mid
-    → new ≡ after_units_left max mid → AreToldFrom a sets kept kept_now (units_left max mid) [] text → added ≡ text → length new.bytes ≤ max
+pub lines_added : (a : Asked) (max : ℕ) (old mid new : SplitterState) (sets : List SetUnit) (kept kept_now : Option Picture) (had_met has_met : Bool) (text added : List ℕ) → AreListed a.selection max old sets kept had_met → AreLeft max old mid
+    → new ≡ after_units_left max mid → AreToldFrom a sets kept kept_now (units_left max mid) had_met has_met [] text → added ≡ text → length new.bytes ≤ max
     → lines_so_far a new.bytes new.ended ≡ lines_so_far a old.bytes old.ended ++ added
-lines_added a max old mid new sets kept kept_now text added h left is told out short =
+lines_added a max old mid new sets kept kept_now had_met has_met text added h left is told out short =
     let us = units max old.bytes old.ended in
     let same : length new.bytes ≡ length mid.bytes = ap (λ (s : SplitterState). length s.bytes) is in
     let here = told (picture_behind [] None us) h.stands in
@@ -516,48 +574,201 @@ lines_grow a stay bytes more ended short =
     let later = stay (2 ^ 64) bytes more ended in
     (_, lines_behind a (2 ^ 64) (bytes ++ more) bytes ended false later.0 (omega (arith, short)) (omega (arith, short, length-append bytes more)) later.1)
 
+-- ---- what a text is of, by its number
+
+even : (n : ℕ) → ((2 * n) % 2 == 0) ≡ true
+even n =
+    let none : (2 * n) % 2 ≡ 0 = omega arith in
+    rw none refl
+
+odd : (n : ℕ) → ((2 * n + 1) % 2 == 0) ≡ false
+odd n =
+    let one : (2 * n + 1) % 2 ≡ 1 = omega arith in
+    rw one refl
+
+same_macroblock : (m : AtMacroblock) (unit address : ℕ) → unit ≡ m.unit → address ≡ m.address → ◌≡◌ {A = AtMacroblock} (record { unit = unit; address = address }) m
+same_macroblock m unit address is_unit is_address = ap (λ u. record { unit = u; address = address }) is_unit ∙ ap (λ n. record { unit = m.unit; address = n }) is_address
+
+macroblock_again : (m : AtMacroblock) → m.address < addresses → macroblock_of_text (m.unit * addresses + m.address) ≡ m
+macroblock_again m low =
+    same_macroblock m ((m.unit * addresses + m.address) / addresses) ((m.unit * addresses + m.address) % addresses) (omega (arith, low)) (omega (arith, low))
+
+pub text_again : (s : Selection) → IsInRange s → selection_of_text (text_number s) ≡ s
+text_again Whole range = refl
+text_again (OfPicture number) range =
+    let half : 2 * number / 2 ≡ number = omega arith in
+    ap (λ (b : Bool). if b then OfPicture (2 * number / 2) else Near (macroblock_of_text (2 * number / 2))) (even number) ∙ ap OfPicture half
+text_again (Near m) range =
+    let n = m.unit * addresses + m.address in
+    let half : (2 * n + 1) / 2 ≡ n = omega arith in
+    ap (λ (b : Bool). if b then OfPicture ((2 * n + 1) / 2) else Near (macroblock_of_text ((2 * n + 1) / 2))) (odd n)
+    ∙ ap (λ k. Near (macroblock_of_text k)) half
+    ∙ ap Near (macroblock_again m range)
+
+number_once : (p q : Selection) → IsInRange p → IsInRange q → text_number p ≡ text_number q → p ≡ q
+number_once p q range_p range_q same = sym (text_again p range_p) ∙ ap selection_of_text same ∙ text_again q range_q
+
 -- ---- a stream is read to its end
+
+unmet : (s : Selection) → ((b : Brought) → is_met_by s b ≡ false) → (sets : List SetUnit) (p : Option OpenPicture) (us : List Unit) → is_met_under s sets p us ≡ false
+unmet s none sets p [] = refl
+unmet s none sets p (u ∷ us) =
+    let b = brought (sets_after sets) p u in
+    ap (λ x. x || is_met_under s (sets ++ set_units (u ∷ [])) (picture_after p b) us) (none b) ∙ unmet s none (sets ++ set_units (u ∷ [])) (picture_after p b) us
+
+never_met : (picture : Option ℕ) (bytes : List ℕ) (ended : Bool) → has_met (selection_of picture) bytes ended ≡ false
+never_met picture bytes ended = unmet (selection_of picture) (by picture) [] None (units (length bytes) bytes ended)
+  where
+    by : (picture : Option ℕ) (b : Brought) → is_met_by (selection_of picture) b ≡ false
+    by None nothing = refl
+    by None (refused f) = refl
+    by None (macroblocks p ms derived) = refl
+    by (Some number) nothing = refl
+    by (Some number) (refused f) = refl
+    by (Some number) (macroblocks p ms derived) = refl
+
+counted_range : (picture : Option ℕ) → IsInRange (selection_of picture)
+counted_range None = tt
+counted_range (Some number) = tt
 
 whole : (ended : Bool) → (ended ≡ false → false ≡ true) → ended ≡ true
 whole true over = refl
 whole false over = over refl
 
-pub text_again : (picture : Option ℕ) → picture_of_text (text_number picture) ≡ picture
-text_again None = refl
-text_again (Some number) = refl
+-- the listing that has the text of this number
+asked_of : Form → (text_number : ℕ) → Asked
+asked_of form number = record { form = form; selection = selection_of_text number }
 
-number_once : (p q : Option ℕ) → text_number p ≡ text_number q → p ≡ q
-number_once p q same = sym (text_again p) ∙ ap picture_of_text same ∙ text_again q
+first_selection : (s : Selection) (new : ListedSoFar) → new ≡ record { selection = s; stream = new_stream } → IsInRange s → selection_of_text (text_number new.selection) ≡ s
+first_selection s new is range = ap (λ (l : ListedSoFar). selection_of_text (text_number l.selection)) is ∙ text_again s range
 
-pub listed_asked : (a : Asked) (new now : ListedSoFar) (unread left held holds : Option (List ℕ)) (found : Bool) → new ≡ record { picture = a.picture; stream = new_stream }
-    → text_number now.picture ≡ text_number new.picture
-    → IsWhole (lines_so_far (record { form = a.form; picture = picture_of_text (text_number new.picture) })) (λ bytes ended. false) now.stream unread left held holds
-    → (now.stream.failed ≡ false → length now.stream.bytes < 2 ^ 64 → found ≡ has_picture now.picture now.stream.bytes now.stream.ended)
-    → ListsAsked a unread left held holds (Ok found)
-listed_asked a new now unread left held holds found is kept all tells =
+pub listed_asked : (form : Form) (picture : Option ℕ) (s : Selection) (new now : ListedSoFar) (unread left held holds : Option (List ℕ)) (found : Bool) → s ≡ selection_of picture → new ≡ record { selection = s; stream = new_stream }
+    → text_number now.selection ≡ text_number new.selection
+    → IsWhole (lines_so_far (record { form = form; selection = selection_of_text (text_number new.selection) })) (has_met (selection_of_text (text_number new.selection))) now.stream unread left held holds
+    → (now.stream.failed ≡ false → IsInRange now.selection)
+    → (now.stream.failed ≡ false → length now.stream.bytes < 2 ^ 64 → found ≡ has_picture now.selection now.stream.bytes now.stream.ended)
+    → ListsAsked (asked_in form (selection_of picture)) unread left held holds (Ok found)
+listed_asked form picture selection new now unread left held holds found of is kept all range tells =
     let s = now.stream in
-    let ended = whole s.ended all.is_over in
-    let first : new.picture ≡ a.picture = ap (λ (l : ListedSoFar). l.picture) is in
-    let asked : record { form = a.form; picture = picture_of_text (text_number new.picture) } ≡ a =
-    ap (λ p. record { form = a.form; picture = p }) (text_again new.picture ∙ first) in (
+    let asked = selection_of picture in
+    let read = first_selection asked new (is ∙ ap (λ x. record { selection = x; stream = new_stream }) of) (counted_range picture) in
+    let ended = whole s.ended (λ open_end. sym (ap (λ x. has_met x s.bytes false) read ∙ never_met picture s.bytes false) ∙ all.is_over open_end) in
+    let same : now.selection ≡ asked = sym (text_again now.selection (range all.going)) ∙ ap selection_of_text kept ∙ read in (
       s.bytes,
       subst (HasRead unread left s.bytes) ended all.has_read,
-      subst (λ x. Appends held holds (lines_so_far x s.bytes true)) asked (subst (λ e. Appends held holds (lines_so_far (record { form = a.form; picture = picture_of_text (text_number new.picture) }) s.bytes e)) ended all.written),
-      tells all.going all.short ∙ ap (λ p. has_picture p s.bytes s.ended) (number_once now.picture new.picture kept ∙ first) ∙ ap (λ e. has_picture a.picture s.bytes e) ended,
+      subst (λ x. Appends held holds (lines_so_far (asked_in form x) s.bytes true)) read
+          (subst (λ e. Appends held holds (lines_so_far (asked_in form (selection_of_text (text_number new.selection))) s.bytes e)) ended all.written),
+      tells all.going all.short ∙ ap (λ x. has_picture x s.bytes s.ended) same ∙ ap (λ e. has_picture asked s.bytes e) ended,
+    )
+
+pub listed_near : (m : AtMacroblock) (new now : ListedSoFar) (unread left held holds : Option (List ℕ)) (position : Option MacroblockPosition) → m.address < addresses
+    → new ≡ record { selection = Near m; stream = new_stream } → text_number now.selection ≡ text_number new.selection
+    → IsWhole (lines_so_far (record { form = for_people false; selection = selection_of_text (text_number new.selection) })) (has_met (selection_of_text (text_number new.selection))) now.stream unread left held holds
+    → (now.stream.failed ≡ false → IsInRange now.selection)
+    → (now.stream.failed ≡ false → length now.stream.bytes < 2 ^ 64 → is_some position ≡ has_met now.selection now.stream.bytes now.stream.ended)
+    → ListsNear m unread left held holds (Ok position)
+listed_near m new now unread left held holds position low is kept all range tells =
+    let s = now.stream in
+    let read = first_selection (Near m) new is low in
+    let same : now.selection ≡ Near m = sym (text_again now.selection (range all.going)) ∙ ap selection_of_text kept ∙ read in
+    let met : is_some position ≡ has_met (Near m) s.bytes s.ended = tells all.going all.short ∙ ap (λ x. has_met x s.bytes s.ended) same in (
+      s.bytes,
+      s.ended,
+      all.has_read,
+      subst (λ x. Appends held holds (lines_so_far (asked_in (for_people false) x) s.bytes s.ended)) read all.written,
+      met,
+      λ open_end. met ∙ ap (λ e. has_met (Near m) s.bytes e) open_end ∙ sym (ap (λ x. has_met x s.bytes false) read) ∙ all.is_over open_end,
     )
 
 -- after a fault
-pub unlisted : (a : Asked) (new : ListedSoFar) (unread left held holds : Option (List ℕ)) (fault : RunFault) → new ≡ record { picture = a.picture; stream = new_stream }
-    → Lists (lines_so_far (record { form = a.form; picture = picture_of_text (text_number new.picture) })) unread left held holds (Err fault) → ListsAsked a unread left held holds (Err fault)
-unlisted a new unread left held holds fault is run =
-    let first : new.picture ≡ a.picture = ap (λ (l : ListedSoFar). l.picture) is in
-    subst (λ p. Lists (lines_so_far (record { form = a.form; picture = p })) unread left held holds (Err fault)) (text_again new.picture ∙ first) run
+pub unlisted : (form : Form) (s : Selection) (new : ListedSoFar) (unread left held holds : Option (List ℕ)) (fault : RunFault) → IsInRange s → new ≡ record { selection = s; stream = new_stream }
+    → Lists (lines_so_far (record { form = form; selection = selection_of_text (text_number new.selection) })) unread left held holds (Err fault)
+    → Lists (lines_so_far (asked_in form s)) unread left held holds (Err fault)
+unlisted form s new unread left held holds fault range is run =
+    subst (λ x. Lists (lines_so_far (record { form = form; selection = x })) unread left held holds (Err fault)) (first_selection s new is range) run
+
+pub unlisted_counted : (form : Form) (picture : Option ℕ) (s : Selection) (new : ListedSoFar) (unread left held holds : Option (List ℕ)) (fault : RunFault) → s ≡ selection_of picture
+    → new ≡ record { selection = s; stream = new_stream }
+    → Lists (lines_so_far (record { form = form; selection = selection_of_text (text_number new.selection) })) unread left held holds (Err fault)
+    → ListsAsked (asked_in form (selection_of picture)) unread left held holds (Err fault)
+unlisted_counted form picture s new unread left held holds fault of is run =
+    unlisted form (selection_of picture) new unread left held holds fault (counted_range picture) (is ∙ ap (λ x. record { selection = x; stream = new_stream }) of) run
+
+-- an error that is this one
+pub by_fault : {A : Type 0} (r : Result A RunFault) (f : RunFault) (P : Result A RunFault → Type 0) → IsErrAnd r (λ e. e ≡ f) → P (Err f) → P r
+by_fault (Ok a) f P is p = absurd is
+by_fault (Err fault) f P is p = subst (λ e. P (Err e)) (sym is) p
+
+-- no memory is found to tell how a listing ended
+pub untold : (a : Asked) (unread left held holds : Option (List ℕ)) (found : Bool) → ListsAsked a unread left held holds (Ok found) → ListsAsked a unread left held holds (Err Memory)
+untold a unread left held holds found run =
+    let text = lines_so_far a run.0 true in (
+      run.0,
+      true,
+      run.1,
+      record { count = length text; within = omega arith; written = subst (Appends held holds) (sym (take-length text)) run.2 },
+    )
 
 -- whether the picture that is asked for has begun
-pub tells_begun : (asked : ℕ) (picture : Option ℕ) (max : ℕ) (s : SplitterState) (sets : List SetUnit) (kept : Option Picture) → picture ≡ Some asked
-    → AreListed picture max s sets kept → length s.bytes ≤ max → come kept ≡ has_picture picture s.bytes s.ended
-tells_begun asked picture max s sets kept is h short =
-    let us = units max s.bytes s.ended in
+pub tells_begun : (asked : ℕ) (s : Selection) (max : ℕ) (state : SplitterState) (sets : List SetUnit) (kept : Option Picture) (has_met : Bool) → s ≡ OfPicture asked
+    → AreListed s max state sets kept has_met → length state.bytes ≤ max → come kept ≡ has_picture s state.bytes state.ended
+tells_begun asked s max state sets kept has_met is h short =
+    let us = units max state.bytes state.ended in
     come_by asked (picture_behind [] None us) kept (subst (λ p. IsOpen p (picture_behind [] None us) kept) is h.stands)
-    ∙ ap (λ us. nat_lt asked (pictures_begun (picture_behind [] None us))) (whole_units max s.bytes s.ended short)
-    ∙ ap (λ p. has_picture p s.bytes s.ended) (sym is)
+    ∙ ap (λ us. nat_lt asked (pictures_begun (picture_behind [] None us))) (whole_units max state.bytes state.ended short)
+    ∙ ap (λ p. has_picture p state.bytes state.ended) (sym is)
+
+-- whether the macroblock has come
+pub tells_met : (s : Selection) (max : ℕ) (state : SplitterState) (sets : List SetUnit) (kept : Option Picture) (met : Bool) → AreListed s max state sets kept met → length state.bytes ≤ max
+    → met ≡ has_met s state.bytes state.ended
+tells_met s max state sets kept met h short = h.met ∙ ap (is_met_under s [] None) (whole_units max state.bytes state.ended short)
+
+pub tells_near : (m : AtMacroblock) (s : Selection) (max : ℕ) (state : SplitterState) (sets : List SetUnit) (kept : Option Picture) (met : Bool) → s ≡ Near m → AreListed s max state sets kept met
+    → length state.bytes ≤ max → met ≡ has_picture s state.bytes state.ended
+tells_near m s max state sets kept met is h short =
+    tells_met s max state sets kept met h short ∙ ap (λ x. has_met x state.bytes state.ended) is ∙ sym (ap (λ x. has_picture x state.bytes state.ended) is)
+
+-- ---- the picture has come as far as a macroblock
+
+come_to : (m : AtMacroblock) (p : OpenPicture) (c : Picture) → IsFollowed (Near m) p c → has_come_to m c ≡ is_met (Near m) p
+come_to m p c f = ap (λ u. m.unit == u && nat_lt m.address c.next) f.unit_is ∙ by (m.unit == p.unit) refl
+  where
+    by : (here : Bool) → (m.unit == p.unit) ≡ here → ((m.unit == p.unit) && nat_lt m.address c.next) ≡ is_met (Near m) p
+    by true e = ap (λ n. (m.unit == p.unit) && nat_lt m.address n) (f.listed e).next
+    by false e = rw e refl
+
+-- the picture has come so far, and had or not before
+pub met_now : (s : Selection) (m : AtMacroblock) (p : OpenPicture) (c : Picture) (had : Bool) → s ≡ Near m → IsFollowed s p c → has_come_to m c ≡ true → true ≡ (had || is_met s p)
+met_now s m p c had is f come =
+    sym (ap (λ x. had || x) (ap (λ x. is_met x p) is ∙ sym (come_to m p c (subst (λ x. IsFollowed x p c) is f)) ∙ come) ∙ by had)
+  where
+    by : (had : Bool) → (had || true) ≡ true
+    by true = refl
+    by false = refl
+
+pub not_met : (s : Selection) (m : AtMacroblock) (p : OpenPicture) (c : Picture) (had : Bool) → s ≡ Near m → IsFollowed s p c → has_come_to m c ≡ false → had ≡ (had || is_met s p)
+not_met s m p c had is f come =
+    sym (ap (λ x. had || x) (ap (λ x. is_met x p) is ∙ sym (come_to m p c (subst (λ x. IsFollowed x p c) is f)) ∙ come) ∙ or_none had)
+
+pub met_before : (had met : Bool) → had ≡ true → had ≡ (had || met)
+met_before had met is = is ∙ sym (ap (λ x. x || met) is)
+
+pub met_of_none : (s : Selection) (p : OpenPicture) (had : Bool) → s ≡ Whole → had ≡ (had || is_met s p)
+met_of_none s p had is = sym (ap (λ x. had || is_met x p) is ∙ or_none had)
+
+pub met_of_picture : (s : Selection) (number : ℕ) (p : OpenPicture) (had : Bool) → s ≡ OfPicture number → had ≡ (had || is_met s p)
+met_of_picture s number p had is = sym (ap (λ x. had || is_met x p) is ∙ or_none had)
+
+pub over_is : (s : Selection) (max : ℕ) (state : SplitterState) (sets : List SetUnit) (kept : Option Picture) (met over : Bool) → over ≡ met → AreListed s max state sets kept met
+    → length state.bytes ≤ max → over ≡ has_met (selection_of_text (text_number s)) state.bytes state.ended
+over_is s max state sets kept met over is h short =
+    is ∙ tells_met s max state sets kept met h short ∙ ap (λ x. has_met x state.bytes state.ended) (sym (text_again s h.in_range))
+
+-- ---- units that bring no slice
+
+pub told_refused : (a : Asked) (unit : ℕ) (p : Option OpenPicture) (f : Fault) (kept : Option Picture) (had : Bool) (old new : List ℕ) → IsOpen a.selection p kept
+    → new ≡ old ++ refusal_lines a unit f → IsTold a unit p (refused f) kept had had old new
+told_refused a unit p f kept had old new h added = record { stands = h; met = sym (or_none had); added = added }
+
+pub told_nothing : (a : Asked) (unit : ℕ) (p : Option OpenPicture) (kept : Option Picture) (had : Bool) (text : List ℕ) → IsOpen a.selection p kept → IsTold a unit p nothing kept had had text text
+told_nothing a unit p kept had text h = record { stands = h; met = sym (or_none had); added = sym (append-nil text) }

@@ -1,4 +1,5 @@
 pub mod Derived
+pub mod Near
 pub mod Neighbours
 pub mod Pictures
 pub mod Forms

@@ -1,5 +1,5 @@
 -- What units bring to whoever reads macroblocks, and the lines that tell it.
-use Rattle.std.specs.Prelude.{ℕ, ◌+◌, nat_lt, Bool, true, false, List, [], ◌∷◌, ◌++◌, length, Option, Some, None, Result, Ok, Err, if◌then◌else◌}
+use Rattle.std.specs.Prelude.{ℕ, ◌+◌, ◌==◌, nat_lt, Bool, true, false, ◌&&◌, ◌||◌, List, [], ◌∷◌, ◌++◌, length, Option, Some, None, Result, Ok, Err, if◌then◌else◌}
 use Rattle.avc_types.specs.declared.fault.Fault.{Fault}
 use Rattle.avc_types.specs.declared.fault.Fault.TheVariants as faults
 use Rattle.avc_types.specs.Macroblock.{Mb}
@@ -11,12 +11,14 @@ use Rattle.avc_slice.specs.declared.slice.Slice.{Slice}
 use Rattle.avc_mbsyntax.specs.SliceData.{SliceMbs}
 use Rattle.avc_units.specs.Grouping.{Kind, slice, partition, sps, pps, boundary, other, kind, set_units, slice_in}
 use Rattle.avc_tools.specs.Streams.{StreamSoFar}
-use Rattle.avc_macroblocks.specs.Asked.{Asked, asked_by, is_listed}
+use Rattle.avc_macroblocks.specs.Asked.{Asked, asked_by, form_in, is_listed}
 use Rattle.avc_macroblocks.specs.Forms.{Form}
 use Rattle.avc_macroblocks.specs.Pictures.{OpenPicture, derived_in, macroblocks_of, picture_of, sets_named, with_macroblocks}
 use Rattle.avc_macroblocks.specs.declared.derived.Derived.{Derived}
 use Rattle.avc_macroblocks.specs.declared.listing.MacroblockListing.{MacroblockListing}
 use Rattle.avc_macroblocks.specs.declared.place.MacroblockPlace.{MacroblockPlace}
+use Rattle.avc_macroblocks.specs.declared.selection.Selection.{Selection}
+use Rattle.avc_macroblocks.specs.declared.selection.Selection.TheVariants.{Whole, OfPicture, Near}
 
 -- ---- what a unit brings
 
@@ -35,7 +37,7 @@ brought_under sets open_picture s =
     elim (sets_named sets s.header) [
       | None ↦ nothing
       | Some named ↦
-          let p = picture_of open_picture named.1 s.header in
+          let p = picture_of open_picture s.unit named.1 s.header in
           macroblocks p (macroblocks_of p named.0 s) (derived_in p named.0 s)
     ]
 
@@ -90,16 +92,22 @@ slice_lines form place ms derived = mb_lines form place ms.mbs derived ++ line_o
 abbrev pub first_place : (unit : ℕ) → OpenPicture → MacroblockPlace
 first_place unit p = record { unit = unit; slice = p.slices; address = length p.mbs }
 
--- a unit that is refused, which is of no picture
+-- the line of a unit that is refused, which is of no picture
+abbrev refusal_line_by : Selection → List ℕ → List ℕ
+refusal_line_by Whole line = line
+refusal_line_by (OfPicture number) line = []
+refusal_line_by (Near m) line = []
+
+-- a unit that is refused
 abbrev pub refusal_lines : Asked → (unit : ℕ) → Fault → List ℕ
-refusal_lines a unit f = elim a.picture [ None ↦ a.form.of_refusal unit f | Some number ↦ [] ]
+refusal_lines a unit f = refusal_line_by a.selection (a.form.of_refusal unit f)
 
 -- a unit that brings this
 abbrev pub unit_lines : Asked → (unit : ℕ) → Brought → List ℕ
 unit_lines a unit nothing = []
 unit_lines a unit (refused f) = refusal_lines a unit f
 unit_lines a unit (macroblocks p ms derived) =
-    if is_listed a.picture p.number then slice_lines a.form (first_place unit p) ms derived else []
+    if is_listed a.selection p.number p.unit then slice_lines (form_in a p.width) (first_place unit p) ms derived else []
 
 -- ---- the lines of a stream
 
@@ -123,10 +131,12 @@ lines_so_far a bytes ended = lines_under a [] None (units (length bytes) bytes e
 abbrev pub macroblock_lines_so_far : MacroblockListing → List ℕ → (ended : Bool) → List ℕ
 macroblock_lines_so_far l = lines_so_far (asked_by l)
 
--- What came of a stream, of which the macroblocks of this picture are listed, or of all.
+-- Which macroblocks of a stream are told, and what came of it.
 pub record ListedSoFar : Type 0 where
-  pub picture : Option ℕ
+  pub selection : Selection
   pub stream : StreamSoFar
+
+-- ---- what is asked for has come
 
 -- how many pictures have begun, where this one is open
 abbrev pub pictures_begun : Option OpenPicture → ℕ
@@ -137,7 +147,31 @@ pictures_begun (Some p) = p.number + 1
 abbrev pub has_begun : (number : ℕ) → List ℕ → (ended : Bool) → Bool
 has_begun number bytes ended = nat_lt number (pictures_begun (picture_behind [] None (units (length bytes) bytes ended)))
 
--- the picture that is asked for has begun, if one is
-abbrev pub has_picture : (picture : Option ℕ) → List ℕ → (ended : Bool) → Bool
-has_picture None bytes ended = true
-has_picture (Some number) bytes ended = has_begun number bytes ended
+-- The picture has come as far as the macroblock that is asked for, if one is.
+abbrev pub is_met : Selection → OpenPicture → Bool
+is_met Whole p = false
+is_met (OfPicture number) p = false
+is_met (Near m) p = m.unit == p.unit && nat_lt m.address (length p.mbs)
+
+-- it does so with a unit that brings this
+abbrev pub is_met_by : Selection → Brought → Bool
+is_met_by selection nothing = false
+is_met_by selection (refused f) = false
+is_met_by selection (macroblocks p ms derived) = is_met selection (with_macroblocks p ms.mbs derived)
+
+-- with one of these units, where these parameter sets came before
+abbrev pub is_met_under : Selection → List SetUnit → Option OpenPicture → List Unit → Bool
+is_met_under selection sets p [] = false
+is_met_under selection sets p (u ∷ us) =
+    is_met_by selection (brought (sets_after sets) p u)
+    || is_met_under selection (sets ++ set_units (u ∷ [])) (picture_after p (brought (sets_after sets) p u)) us
+
+-- with one of those whose end has been seen
+abbrev pub has_met : Selection → List ℕ → (ended : Bool) → Bool
+has_met selection bytes ended = is_met_under selection [] None (units (length bytes) bytes ended)
+
+-- the picture that is asked for has begun, if one is; of a macroblock, it has come
+abbrev pub has_picture : Selection → List ℕ → (ended : Bool) → Bool
+has_picture Whole bytes ended = true
+has_picture (OfPicture number) bytes ended = has_begun number bytes ended
+has_picture (Near m) bytes ended = has_met (Near m) bytes ended

@@ -21,6 +21,8 @@ use Rattle.avc_macroblocks.specs.declared.derived.Derived.{Derived}
 pub record OpenPicture : Type 0 where
   -- its number among the stream's pictures, from 0
   pub number : ℕ
+  -- the unit of its first slice
+  pub unit : ℕ
   -- the header of its last slice
   pub last : Header
   -- in macroblocks, by the sequence parameter set of its first slice
@@ -33,13 +35,22 @@ pub record OpenPicture : Type 0 where
   pub known : List Derived
 
 -- at its first slice, which has this header
-abbrev pub new_picture : (number : ℕ) → Sps → Header → OpenPicture
-new_picture number sps h = record { number = number; last = h; width = width_in_mbs sps; size = size_in_mbs sps; slices = 0; mbs = []; known = [] }
+abbrev pub new_picture : (number unit : ℕ) → Sps → Header → OpenPicture
+new_picture number unit sps h = record {
+  number = number;
+  unit = unit;
+  last = h;
+  width = width_in_mbs sps;
+  size = size_in_mbs sps;
+  slices = 0;
+  mbs = [];
+  known = [];
+}
 
--- the picture of a slice with this header: a new one where it begins one (7.4.1.2.4)
-abbrev pub picture_of : Option OpenPicture → Sps → Header → OpenPicture
-picture_of None sps h = new_picture 0 sps h
-picture_of (Some p) sps h = if begins p.last h then new_picture (p.number + 1) sps h else record p { last = h }
+-- the picture of a slice of this unit with this header: a new one where it begins one (7.4.1.2.4)
+abbrev pub picture_of : Option OpenPicture → (unit : ℕ) → Sps → Header → OpenPicture
+picture_of None unit sps h = new_picture 0 unit sps h
+picture_of (Some p) unit sps h = if begins p.last h then new_picture (p.number + 1) unit sps h else record p { last = h }
 
 -- the sets that a slice header names (7.4.1.2.1)
 abbrev pub sets_named : Sets → Header → Option (Pps × Sps)

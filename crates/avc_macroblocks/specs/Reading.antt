@@ -1,5 +1,5 @@
 -- What the functions of this crate say of one another.
-use Rattle.std.specs.Prelude.{◌≡◌, ℕ, ◌-◌, ◌<◌, ◌≤◌, ◌==◌, nat_lt, Bool, true, false, if◌then◌else◌, List, [], ◌++◌, length, map, Option, Some, None}
+use Rattle.std.specs.Prelude.{◌≡◌, ℕ, ◌-◌, ◌<◌, ◌≤◌, ◌==◌, nat_lt, Bool, true, false, ◌&&◌, ◌||◌, if◌then◌else◌, List, [], ◌++◌, length, map, Option, Some, None}
 use Rattle.avc_types.specs.declared.fault.Fault.{Fault}
 use Rattle.avc_types.specs.declared.fault.Fault.TheVariants as faults
 use Rattle.avc_types.specs.Pictures.{PicMb}
@@ -18,16 +18,19 @@ use Rattle.avc_mbsyntax.specs.SliceData.{SliceMbs, SliceStart, placed}
 use Rattle.avc_mbsyntax.specs.declared.slice_data.SliceData.{SliceData}
 use Rattle.avc_units.specs.Grouping.{set_units}
 use Rattle.avc_tools.specs.Streams.{IsDrained}
-use Rattle.avc_macroblocks.specs.Asked.{Asked, is_listed}
+use Rattle.avc_macroblocks.specs.Asked.{Asked, addresses, is_listed}
 use Rattle.avc_macroblocks.specs.Derived.{all_derived}
 use Rattle.avc_macroblocks.specs.Forms.{Form}
-use Rattle.avc_macroblocks.specs.Listing.{Brought, first_place, lines_under, macroblocks, picture_after, picture_behind, slice_lines, unit_lines}
+use Rattle.avc_macroblocks.specs.Listing.{Brought, first_place, is_met_by, is_met_under, lines_under, macroblocks, picture_after, picture_behind, slice_lines, unit_lines}
 use Rattle.avc_macroblocks.specs.Pictures.{OpenPicture, data_of, derived_in, macroblocks_of, start_of, with_macroblocks}
 use Rattle.avc_macroblocks.specs.declared.choice.Choice.{Choice}
 use Rattle.avc_macroblocks.specs.declared.choice.Choice.TheVariants.{Each, Later, Past}
 use Rattle.avc_macroblocks.specs.declared.derived.Derived.{Derived}
 use Rattle.avc_macroblocks.specs.declared.picture.Picture.{Picture}
 use Rattle.avc_macroblocks.specs.declared.place.MacroblockPlace.{MacroblockPlace}
+use Rattle.avc_macroblocks.specs.declared.selection.AtMacroblock.{AtMacroblock}
+use Rattle.avc_macroblocks.specs.declared.selection.Selection.{Selection}
+use Rattle.avc_macroblocks.specs.declared.selection.Selection.TheVariants.{Whole, OfPicture, Near}
 
 -- The info says of each macroblock its slice and total_coeff of its blocks, and what follows for it.
 pub record Tells (mbs : List PicMb) (known : List Derived) (info : List NeighbourInfo) : Type 0 where
@@ -63,16 +66,28 @@ pub record IsPicture (p : OpenPicture) (c : Picture) : Type 0 where
   pub within : length p.mbs ≤ p.size
   pub tells : Tells p.mbs p.known c.row.info
 
--- from the first picture on, where the one of this number is asked for, or all are
-abbrev pub first_choice : (picture : Option ℕ) → Choice
-first_choice None = Each
-first_choice (Some asked) = Later asked
+-- from the picture on of which the first slice comes with a unit, where that is asked for of which it
+-- comes with another
+abbrev pub choice_of_unit : (asked unit : ℕ) → Choice
+choice_of_unit asked unit = if asked == unit then Each else Past
 
--- from the next picture on
-abbrev pub choice_after : Choice → Choice
-choice_after Each = Each
-choice_after (Later later) = if later == 0 then Past else Later (later - 1)
-choice_after Past = Past
+-- from the first picture on, whose first slice comes with this unit
+abbrev pub first_choice : Selection → (unit : ℕ) → Choice
+first_choice Whole unit = Each
+first_choice (OfPicture asked) unit = Later asked
+first_choice (Near m) unit = choice_of_unit m.unit unit
+
+-- from the next picture on, where pictures are counted
+abbrev pub choice_later : Choice → Choice
+choice_later Each = Each
+choice_later (Later later) = if later == 0 then Past else Later (later - 1)
+choice_later Past = Past
+
+-- the same, whose first slice comes with this unit
+abbrev pub choice_after : Selection → (unit : ℕ) → Choice → Choice
+choice_after Whole unit choice = choice_later choice
+choice_after (OfPicture asked) unit choice = choice_later choice
+choice_after (Near m) unit choice = choice_of_unit m.unit unit
 
 -- the first picture of the choice is listed
 abbrev pub is_chosen : Choice → Bool
@@ -86,49 +101,65 @@ has_come Each = true
 has_come (Later later) = later == 0
 has_come Past = true
 
--- from the picture of this number on
-abbrev pub choice_at : (picture : Option ℕ) → (number : ℕ) → Choice
-choice_at None number = Each
-choice_at (Some asked) number = if nat_lt asked number then Past else Later (asked - number)
+-- from the picture of this number on, whose first slice comes with this unit
+abbrev pub choice_at : Selection → (number unit : ℕ) → Choice
+choice_at Whole number unit = Each
+choice_at (OfPicture asked) number unit = if nat_lt asked number then Past else Later (asked - number)
+choice_at (Near m) number unit = choice_of_unit m.unit unit
 
--- What is kept of an open picture where this one is asked for, or all are: of one that is not
--- listed the macroblocks are not read.
-pub record IsFollowed (picture : Option ℕ) (p : OpenPicture) (c : Picture) : Type 0 where
+-- What is kept of an open picture: of one that is not listed the macroblocks are not read.
+pub record IsFollowed (selection : Selection) (p : OpenPicture) (c : Picture) : Type 0 where
   pub last_is : c.last ≡ picture_fields p.last
-  pub choice_is : c.choice ≡ choice_at picture p.number
-  pub listed : is_listed picture p.number ≡ true → IsPicture p c
+  pub unit_is : c.unit ≡ p.unit
+  pub choice_is : c.choice ≡ choice_at selection p.number p.unit
+  pub listed : is_listed selection p.number p.unit ≡ true → IsPicture p c
 
 -- of that which is open, if one is
-abbrev pub IsOpen : (picture : Option ℕ) → Option OpenPicture → Option Picture → Type 0
-IsOpen picture None None = Prim.Unit {0}
-IsOpen picture (Some p) (Some c) = IsFollowed picture p c
-IsOpen picture None (Some c) = ⊥
-IsOpen picture (Some p) None = ⊥
+abbrev pub IsOpen : Selection → Option OpenPicture → Option Picture → Type 0
+IsOpen selection None None = Prim.Unit {0}
+IsOpen selection (Some p) (Some c) = IsFollowed selection p c
+IsOpen selection None (Some c) = ⊥
+IsOpen selection (Some p) None = ⊥
+
+-- by what is kept of a picture, it has come as far as this macroblock
+abbrev pub has_come_to : AtMacroblock → Picture → Bool
+has_come_to m c = m.unit == c.unit && nat_lt m.address c.next
 
 -- what is asked for in this form
-abbrev pub asked_in : Form → (picture : Option ℕ) → Asked
-asked_in form picture = record { form = form; picture = picture }
+abbrev pub asked_in : Form → Selection → Asked
+asked_in form selection = record { form = form; selection = selection }
 
--- Behind a unit that brings this, where that picture was open before.
-pub record IsTold (a : Asked) (unit : ℕ) (open_picture : Option OpenPicture) (b : Brought) (kept : Option Picture) (old new : List ℕ) : Type 0 where
-  pub stands : IsOpen a.picture (picture_after open_picture b) kept
+-- Behind a unit that brings this, where that picture was open before, and the macroblock that is asked
+-- for had come or not.
+pub record IsTold (a : Asked) (unit : ℕ) (open_picture : Option OpenPicture) (b : Brought) (kept : Option Picture) (had_met has_met : Bool) (old new : List ℕ) : Type 0 where
+  pub stands : IsOpen a.selection (picture_after open_picture b) kept
+  pub met : has_met ≡ had_met || is_met_by a.selection b
   pub added : new ≡ old ++ unit_lines a unit b
 
 -- Behind these units, where those sets came before them.
-pub record AreTold (a : Asked) (sets : List SetUnit) (open_picture : Option OpenPicture) (us : List Unit) (kept : Option Picture) (old new : List ℕ) : Type 0 where
-  pub stands : IsOpen a.picture (picture_behind sets open_picture us) kept
+pub record AreTold (a : Asked) (sets : List SetUnit) (open_picture : Option OpenPicture) (us : List Unit) (kept : Option Picture) (had_met has_met : Bool) (old new : List ℕ) : Type 0 where
+  pub stands : IsOpen a.selection (picture_behind sets open_picture us) kept
+  pub met : has_met ≡ had_met || is_met_under a.selection sets open_picture us
   pub added : new ≡ old ++ lines_under a sets open_picture us
 
 -- the same, whatever was open
-abbrev pub AreToldFrom : Asked → (sets : List SetUnit) → (kept now : Option Picture) → (us : List Unit) → (old new : List ℕ) → Type 0
-AreToldFrom a sets kept now us old new =
-    (open_picture : Option OpenPicture) → IsOpen a.picture open_picture kept → AreTold a sets open_picture us now old new
+abbrev pub AreToldFrom : Asked → (sets : List SetUnit) → (kept now : Option Picture) → (us : List Unit) → (had_met has_met : Bool) → (old new : List ℕ) → Type 0
+AreToldFrom a sets kept now us had_met has_met old new =
+    (open_picture : Option OpenPicture) → IsOpen a.selection open_picture kept → AreTold a sets open_picture us now had_met has_met old new
+
+-- its address has fewer than 32 bits
+abbrev pub IsInRange : Selection → Type 0
+IsInRange Whole = Prim.Unit {0}
+IsInRange (OfPicture number) = Prim.Unit {0}
+IsInRange (Near m) = m.address < addresses
 
 -- All units whose end has been seen were taken.
-pub record AreListed (picture : Option ℕ) (max : ℕ) (s : SplitterState) (sets : List SetUnit) (kept : Option Picture) : Type 0 where
+pub record AreListed (selection : Selection) (max : ℕ) (s : SplitterState) (sets : List SetUnit) (kept : Option Picture) (has_met : Bool) : Type 0 where
   pub drained : IsDrained max s
   pub sets_are : sets ≡ set_units (units max s.bytes s.ended)
-  pub stands : IsOpen picture (picture_behind [] None (units max s.bytes s.ended)) kept
+  pub stands : IsOpen selection (picture_behind [] None (units max s.bytes s.ended)) kept
+  pub met : has_met ≡ is_met_under selection [] None (units max s.bytes s.ended)
+  pub in_range : IsInRange selection
 
 -- a slice that begins with this address is refused (7.4.3)
 abbrev pub address_fault : (next first : ℕ) → Option Fault
@@ -145,7 +176,7 @@ IsDataIn p pps s d =
 
 -- The picture of a slice of it behind the slice, and its lines.
 pub record IsSliceListed (a : Asked) (p : OpenPicture) (pps : Pps) (s : Slice) (c : Picture) (old new : List ℕ) : Type 0 where
-  pub stands : IsFollowed a.picture (with_macroblocks p (macroblocks_of p pps s).mbs (derived_in p pps s)) c
+  pub stands : IsFollowed a.selection (with_macroblocks p (macroblocks_of p pps s).mbs (derived_in p pps s)) c
   pub added : new ≡ old ++ unit_lines a s.unit (macroblocks p (macroblocks_of p pps s) (derived_in p pps s))
 
 -- the same of a picture whose macroblocks are listed

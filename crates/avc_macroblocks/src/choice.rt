@@ -1,7 +1,10 @@
 //! Which pictures have their macroblocks listed, told one after another.
 
 ghost use Rattle.std.specs.Prelude.{◌≡◌};
-ghost use Rattle.avc_macroblocks.specs.Reading.{choice_after, first_choice, has_come, is_chosen};
+ghost use Rattle.avc_macroblocks.specs.Reading.{choice_after, choice_later, choice_of_unit};
+ghost use Rattle.avc_macroblocks.specs.Reading.{first_choice, has_come, is_chosen};
+
+use crate::selection::Selection;
 
 /// Which of the pictures from one on have their macroblocks listed.
 #[derive(Clone, Copy, Debug, PartialEq, Eq)]
@@ -17,19 +20,42 @@ pub(crate) enum Choice {
 }
 
 impl Choice {
-    /// From the first picture of a stream on, where the one of this number is asked for, or all are.
-    pub(crate) fn first(picture: Option<u64>) -> Choice
-        ensures { result ≡ first_choice picture }
+    /// From the first picture of a stream on, whose first slice this unit brings.
+    pub(crate) fn first(selection: Selection, unit: u64) -> Choice
+        ensures { result ≡ first_choice selection unit }
     {
-        match picture {
-            None => Choice::Each,
-            Some(number) => Choice::Later(number),
+        match selection {
+            Selection::Whole => Choice::Each,
+            Selection::OfPicture(number) => Choice::Later(number),
+            Selection::Near(macroblock) => Choice::of_unit(macroblock.unit, unit),
         }
     }
 
-    /// From the next picture on.
-    pub(crate) fn next(self) -> Choice
-        ensures { result ≡ choice_after self }
+    /// From the next picture on, whose first slice this unit brings.
+    pub(crate) fn next(self, selection: Selection, unit: u64) -> Choice
+        ensures { result ≡ choice_after selection unit self }
+    {
+        match selection {
+            Selection::Whole | Selection::OfPicture(_) => self.later(),
+            Selection::Near(macroblock) => Choice::of_unit(macroblock.unit, unit),
+        }
+    }
+
+    // Where the picture is asked for whose first slice comes with one unit, from that on of which it
+    // comes with another.
+    fn of_unit(asked: u64, unit: u64) -> Choice
+        ensures { result ≡ choice_of_unit asked unit }
+    {
+        if asked == unit {
+            Choice::Each
+        } else {
+            Choice::Past
+        }
+    }
+
+    // From the next picture on, where pictures are counted.
+    fn later(self) -> Choice
+        ensures { result ≡ choice_later self }
     {
         match self {
             Choice::Each => Choice::Each,

@@ -6,6 +6,7 @@ ghost use Rattle.avc_macroblocks.specs.Pictures.{OpenPicture, new_picture, pictu
 ghost use Rattle.avc_macroblocks.specs.Reading.{IsFollowed, IsOpen, IsPicture};
 
 use crate::choice::Choice;
+use crate::selection::Selection;
 use avc_neigh::Row;
 use avc_params::Sps;
 use avc_slice::{Header, PictureFields, begins_picture};
@@ -17,6 +18,9 @@ use std::alloc::Global;
 pub(crate) struct Picture {
     /// What the next slice's header is compared with.
     pub last: PictureFields,
+
+    /// The unit of its first slice.
+    pub unit: u64,
 
     /// Its macroblocks so far, as far as the next ones ask for them.
     pub row: Row,
@@ -30,23 +34,27 @@ pub(crate) struct Picture {
     /// The address of the macroblock that comes next.
     pub next: u32,
 
-    /// From this picture on. Of one that is not listed nothing but `last` is kept up.
+    /// From this picture on. Of one that is not listed nothing but `last` is kept
+    /// up.
     pub choice: Choice,
 }
 
-// At its first slice, which has this header.
+// At its first slice, which this unit brings, and which has this header.
 fn new_picture(
     alloc: Global,
     choice: Choice,
+    unit: u64,
     sps: &Sps,
     header: &Header,
 ) -> Result<Picture, OutOfMemory>
     requires { IsSps sps.now }
-    ensures read { IfOk result (λ c. (number : ℕ) → IsPicture (new_picture number sps.now header.now) c) }
+    ensures read { IfOk result (λ c. (number : ℕ) → IsPicture (new_picture number unit sps.now header.now) c) }
+    ensures unit { IfOk result (λ c. c.unit ≡ unit) }
     ensures choice { IfOk result (λ c. c.choice ≡ choice) }
 {
     Ok(Picture {
         last: header.picture_fields(),
+        unit,
         row: Row::new(alloc, sps.width_in_mbs())?,
         size: sps.size_in_mbs(),
         slices: 0,
@@ -55,22 +63,28 @@ fn new_picture(
     })
 }
 
-/// The picture of a slice with this header: a new one, where it begins one (7.4.1.2.4). The picture
-/// of number `asked` is asked for, or all are.
+/// The picture of a slice of this unit with this header: a new one, where it begins one (7.4.1.2.4).
 pub(crate) fn picture_of(
     alloc: Global,
-    asked: Option<u64>,
+    selection: Selection,
     kept: Option<Picture>,
+    unit: u64,
     sps: &Sps,
     header: &Header,
 ) -> Result<Picture, OutOfMemory>
     requires { IsSps sps.now }
-    ensures { IfOk result (λ c. (p : Option OpenPicture) → IsOpen asked p kept → IsFollowed asked (picture_of p sps.now header.now) c) }
+    ensures { IfOk result (λ c. (p : Option OpenPicture) → IsOpen selection p kept → IsFollowed selection (picture_of p unit sps.now header.now) c) }
 {
     match kept {
         Some(picture) => {
             if begins_picture(&picture.last, header) {
-                new_picture(alloc, picture.choice.next(), sps, header)
+                new_picture(
+                    alloc,
+                    picture.choice.next(selection, unit),
+                    unit,
+                    sps,
+                    header,
+                )
             } else {
                 Ok(Picture {
                     last: header.picture_fields(),
@@ -78,6 +92,6 @@ pub(crate) fn picture_of(
                 })
             }
         }
-        None => new_picture(alloc, Choice::first(asked), sps, header),
+        None => new_picture(alloc, Choice::first(selection, unit), unit, sps, header),
     }
 }

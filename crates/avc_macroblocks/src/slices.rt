@@ -8,6 +8,7 @@ ghost use Rattle.avc_params.specs.Within.{IsPps};
 ghost use Rattle.avc_slice.specs.Header.{slice_qp};
 ghost use Rattle.avc_mbsyntax.specs.Rest.{Follows, IsHandedOut, handed_out, rest_of};
 ghost use Rattle.avc_mbsyntax.specs.SliceData.{SliceStart};
+ghost use Rattle.avc_macroblocks.specs.Asked.{form_in};
 ghost use Rattle.avc_macroblocks.specs.Listing.{macroblocks};
 ghost use Rattle.avc_macroblocks.specs.Pictures.{OpenPicture, macroblocks_of};
 ghost use Rattle.avc_macroblocks.specs.Derived.{derived_of};
@@ -34,7 +35,7 @@ use avc_types::{Fault, Mb, OutOfMemory, Syntax};
 const FIRST_QP: i32 = 26;
 
 /// SliceQP_Y (7.4.3).
-fn slice_quantiser(pps: &Pps, header: &Header) -> u8
+pub(crate) fn slice_quantiser(pps: &Pps, header: &Header) -> u8
     requires low { pos 0 ≤ℤ slice_qp pps.now header.now.slice_qp_delta }
     requires high { slice_qp pps.now header.now.slice_qp_delta ≤ℤ pos 51 }
     requires pps { IsPps pps.now }
@@ -62,7 +63,7 @@ fn slice_data<'a>(pps: &Pps, slice: &'a Slice, remaining: u32) -> SliceData<'a>
 
 /// Reads the next macroblock of the data of slice `number` into `mb`, as its neighbours in the
 /// picture have it read. Answers whether there was one.
-fn next_macroblock(
+pub(crate) fn next_macroblock(
     unread: &mut SliceData<'_>,
     row: &Row,
     number: u32,
@@ -104,28 +105,27 @@ fn add_macroblocks<F: MacroblockForm>(
     ensures few { IfOk result (λ count. count ≤ remaining) }
     ensures read { IfOk result (λ count. (s : SliceStart) (before : List PicMb) (known : List Derived) → s.size ≡ length before + remaining
         → IsBehind s before known place.slice row.old → Follows s before unread.entry
-        → AreRead F.form place constrained_intra_pred s before known (rest_of s before unread.entry) count row.new
-        (string_bytes text.old) (string_bytes text.new)) }
+        → AreRead (form_in (asked_in F.form telling.now.selection) row.old.width) place constrained_intra_pred s before known
+        (rest_of s before unread.entry) count row.new (string_bytes text.old) (string_bytes text.new)) }
 {
     let mut unread = unread;
     let mut mb = Mb {
         syntax: Syntax::PSkip,
         qp: 0,
     };
+    let width = row.width();
     let turns = u64::from(remaining) + 1;
     'macroblocks: for turn in 0..turns {
         let here = place.behind(turn);
         match next_macroblock(&mut unread, row, place.slice, &mut mb) {
             Ok(true) => {
                 let derived = derived_next(&mb, row, place.slice, constrained_intra_pred);
-                telling
-                    .form
-                    .add_macroblock(telling.alloc, text, here, &mb, &derived)?;
+                telling.add_macroblock(text, width, here, &mb, &derived)?;
                 row.put(&info_of(&mb, place.slice, &derived));
             }
             Ok(false) => return Ok(turn as u32),
             Err(fault) => {
-                telling.form.add_fault(telling.alloc, text, here, fault)?;
+                telling.add_fault(text, width, here, fault)?;
                 return Ok(turn as u32);
             }
         }
@@ -176,8 +176,10 @@ fn add_slice<F: MacroblockForm>(
     requires high { slice_qp pps.now slice.now.header.slice_qp_delta ≤ℤ pos 51 }
     requires active { slice.now.header.num_ref_idx_active ≤ 16 }
     ensures told { OnOk result ((p : OpenPicture) → IsPicture p picture.old
-        → IsSliceTold F.form p pps.now slice.now picture.new (string_bytes text.old) (string_bytes text.new)) }
+        → IsSliceTold (form_in (asked_in F.form telling.now.selection) p.width) p pps.now slice.now picture.new
+        (string_bytes text.old) (string_bytes text.new)) }
     ensures choice { OnOk result (picture.new.choice ≡ picture.old.choice) }
+    ensures unit { OnOk result (picture.new.unit ≡ picture.old.unit) }
 {
     let place = MacroblockPlace {
         unit: slice.unit,
@@ -201,7 +203,7 @@ fn add_slice<F: MacroblockForm>(
             picture.slices = one_more(picture.slices, count);
             Ok(())
         }
-        Err(fault) => telling.form.add_fault(telling.alloc, text, place, fault),
+        Err(fault) => telling.add_fault(text, picture.row.width(), place, fault),
     }
 }
 
@@ -217,8 +219,8 @@ pub(crate) fn add_slice_if_listed<F: MacroblockForm>(
     requires low { pos 0 ≤ℤ slice_qp pps.now slice.now.header.slice_qp_delta }
     requires high { slice_qp pps.now slice.now.header.slice_qp_delta ≤ℤ pos 51 }
     requires active { slice.now.header.num_ref_idx_active ≤ 16 }
-    ensures { OnOk result ((p : OpenPicture) → IsFollowed telling.now.picture p picture.old
-        → IsSliceListed (asked_in F.form telling.now.picture) p pps.now slice.now picture.new (string_bytes text.old) (string_bytes text.new)) }
+    ensures { OnOk result ((p : OpenPicture) → IsFollowed telling.now.selection p picture.old
+        → IsSliceListed (asked_in F.form telling.now.selection) p pps.now slice.now picture.new (string_bytes text.old) (string_bytes text.new)) }
 {
     if picture.choice.is_listed() {
         return add_slice(telling, text, picture, pps, slice);

@@ -1,6 +1,7 @@
 //! What each unit brings to whoever reads macroblocks.
 
-ghost use Rattle.std.specs.Prelude.{◌≡◌, ◌++◌, ◌∷◌, [], false, Option, Some, OnOk, string_bytes};
+ghost use Rattle.std.specs.Prelude.{◌≡◌, ◌++◌, ◌∷◌, [], false, Option, Some, OnOk, is_some};
+ghost use Rattle.std.specs.Prelude.{string_bytes};
 ghost use Rattle.avc_annexb.specs.Units.{forbidden_zero_bit};
 ghost use Rattle.avc_params.specs.Tables.{sets_after};
 ghost use Rattle.avc_params.specs.Within.{IsPps, IsSps};
@@ -8,12 +9,12 @@ ghost use Rattle.avc_slice.specs.Within.{IsHeader, IsReadUnder};
 ghost use Rattle.avc_units.specs.Grouping.{kind, list_of, rbsp_of, set_of, set_units};
 ghost use Rattle.avc_units.specs.Grouping.{pps as pps_kind, slice as slice_kind, sps as sps_kind};
 ghost use Rattle.avc_macroblocks.specs.Listing.{brought, brought_by, brought_under};
-ghost use Rattle.avc_macroblocks.specs.Listing.{refusal_lines};
 ghost use Rattle.avc_macroblocks.specs.Pictures.{OpenPicture, sets_named};
 ghost use Rattle.avc_macroblocks.specs.Reading.{IsOpen, IsTold, asked_in};
 
 use crate::form::MacroblockForm;
 use crate::picture::{Picture, picture_of};
+use crate::position::{MacroblockPosition, find};
 use crate::slices::add_slice_if_listed;
 use crate::telling::Telling;
 use avc_annexb::Unit;
@@ -47,57 +48,50 @@ fn sets_of<'a>(table: &'a ParamTable, slice: &Slice) -> NamedSets<'a>
     NamedSets { sps, pps }
 }
 
-/// Adds the line of a unit that should bring a slice, and is refused, where all pictures are listed.
-fn add_refusal<F: MacroblockForm>(
-    telling: &Telling<F>,
-    text: &mut String,
-    unit: u64,
-    fault: Fault,
-) -> Result<(), OutOfMemory>
-    ensures { OnOk result (string_bytes text.new ≡ string_bytes text.old ++ refusal_lines (asked_in F.form telling.now.picture) unit fault) }
-{
-    match telling.picture {
-        None => telling.form.add_refusal(telling.alloc, text, unit, fault),
-        Some(_) => Ok(()),
-    }
-}
-
 /// Adds the lines of a slice, and keeps what the picture's next slice asks for.
 fn add_read_slice<F: MacroblockForm>(
     telling: &Telling<F>,
     text: &mut String,
     table: &ParamTable,
     kept: &mut Option<Picture>,
+    found: &mut Option<MacroblockPosition>,
     slice: &Slice,
 ) -> Result<(), OutOfMemory>
     requires { IsReadUnder (sets_after table.now) slice.now.rbsp slice.now.header }
-    ensures { OnOk result ((p : Option OpenPicture) → IsOpen telling.now.picture p kept.old
-        → IsTold (asked_in F.form telling.now.picture) slice.now.unit p (brought_under (sets_after table.now) p slice.now) kept.new (string_bytes text.old) (string_bytes text.new)) }
+    ensures { OnOk result ((p : Option OpenPicture) → IsOpen telling.now.selection p kept.old
+        → IsTold (asked_in F.form telling.now.selection) slice.now.unit p (brought_under (sets_after table.now) p slice.now)
+        kept.new (is_some found.old) (is_some found.new) (string_bytes text.old) (string_bytes text.new)) }
 {
     let sets = sets_of(table, slice);
     let mut picture = picture_of(
         telling.alloc,
-        telling.picture,
+        telling.selection,
         kept.take(),
+        slice.unit,
         sets.sps,
         &slice.header,
     )?;
+    let first = picture.next;
     add_slice_if_listed(telling, text, &mut picture, sets.pps, slice)?;
+    find(telling, found, &picture, first, sets.pps, slice)?;
     *kept = Some(picture);
     Ok(())
 }
 
 /// Adds the lines of a slice's unit; `idr` says that its type is 5.
+#[tactic(auto, using(crate::proofs::Read::told_refused))]
 fn add_slice_unit<F: MacroblockForm>(
     telling: &Telling<F>,
     text: &mut String,
     table: &ParamTable,
     kept: &mut Option<Picture>,
+    found: &mut Option<MacroblockPosition>,
     unit: &Unit,
     idr: bool,
 ) -> Result<(), OutOfMemory>
-    ensures { OnOk result ((p : Option OpenPicture) → IsOpen telling.now.picture p kept.old
-        → IsTold (asked_in F.form telling.now.picture) unit.now.index p (brought_by (sets_after table.now) p unit.now (slice_kind idr)) kept.new (string_bytes text.old) (string_bytes text.new)) }
+    ensures { OnOk result ((p : Option OpenPicture) → IsOpen telling.now.selection p kept.old
+        → IsTold (asked_in F.form telling.now.selection) unit.now.index p (brought_by (sets_after table.now) p unit.now (slice_kind idr))
+        kept.new (is_some found.old) (is_some found.new) (string_bytes text.old) (string_bytes text.new)) }
 {
     match rbsp_of(telling.alloc, unit)? {
         Some(rbsp) => match read_header(unit.header, rbsp.as_slice(), table) {
@@ -107,11 +101,11 @@ fn add_slice_unit<F: MacroblockForm>(
                     header,
                     rbsp,
                 };
-                add_read_slice(telling, text, table, kept, &slice)
+                add_read_slice(telling, text, table, kept, found, &slice)
             }
-            Err(fault) => add_refusal(telling, text, unit.index, fault),
+            Err(fault) => telling.add_refusal(text, unit.index, fault),
         },
-        None => add_refusal(telling, text, unit.index, Fault::NalTooLong),
+        None => telling.add_refusal(text, unit.index, Fault::NalTooLong),
     }
 }
 
@@ -142,23 +136,26 @@ fn put_pps(alloc: Global, table: &mut ParamTable, unit: &Unit) -> Result<(), Out
 }
 
 /// Adds the lines of a unit, and keeps its parameter set.
+#[tactic(auto, using(crate::proofs::Read::told_refused, crate::proofs::Read::told_nothing))]
 pub(crate) fn add_unit<F: MacroblockForm>(
     telling: &Telling<F>,
     text: &mut String,
     table: &mut ParamTable,
     kept: &mut Option<Picture>,
+    found: &mut Option<MacroblockPosition>,
     unit: &Unit,
 ) -> Result<(), OutOfMemory>
-    ensures told { OnOk result ((p : Option OpenPicture) → IsOpen telling.now.picture p kept.old
-        → IsTold (asked_in F.form telling.now.picture) unit.now.index p (brought (sets_after table.old) p unit.now) kept.new (string_bytes text.old) (string_bytes text.new)) }
+    ensures told { OnOk result ((p : Option OpenPicture) → IsOpen telling.now.selection p kept.old
+        → IsTold (asked_in F.form telling.now.selection) unit.now.index p (brought (sets_after table.old) p unit.now)
+        kept.new (is_some found.old) (is_some found.new) (string_bytes text.old) (string_bytes text.new)) }
     ensures sets { OnOk result (table.new ≡ table.old ++ set_units (unit.now ∷ [])) }
 {
     if unit.header >= 128 {
-        return add_refusal(telling, text, unit.index, Fault::ForbiddenBit);
+        return telling.add_refusal(text, unit.index, Fault::ForbiddenBit);
     }
     match kind_of(unit.header) {
-        UnitKind::Slice { idr } => add_slice_unit(telling, text, table, kept, unit, idr),
-        UnitKind::Partition => add_refusal(telling, text, unit.index, Fault::DataPartition),
+        UnitKind::Slice { idr } => add_slice_unit(telling, text, table, kept, found, unit, idr),
+        UnitKind::Partition => telling.add_refusal(text, unit.index, Fault::DataPartition),
         UnitKind::Sps => put_sps(telling.alloc, table, unit),
         UnitKind::Pps => put_pps(telling.alloc, table, unit),
         UnitKind::Boundary | UnitKind::Other => Ok(()),

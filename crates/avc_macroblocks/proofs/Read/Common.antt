@@ -1,6 +1,8 @@
 -- The names that the proofs cite of std, of the crates below and of the definitions here, passed on from one place. Declares nothing.
-pub use Rattle.std.proofs.Common.{◌≡◌, ◌+◌, ◌-◌, ◌==◌, ◌≤◌, ◌<◌, ◌^◌, ℕ, Bool, true, false, List, [], ◌∷◌, ◌++◌, length, map, Option, Some, None, Result, Ok, Err}
+pub use Rattle.std.proofs.Common.{◌≡◌, ◌+◌, ◌-◌, ◌*◌, ◌/◌, ◌%◌, ◌&&◌, ◌||◌, is_some, ◌==◌, ◌≤◌, ◌<◌, ◌^◌, ℕ, Bool, true, false, List, [], ◌∷◌, ◌++◌, length, map, Option, Some, None, Result, Ok, Err}
 pub use Rattle.std.proofs.Common.{refl, ap, sym, ◌∙◌, subst, arith, rules, append_assoc, append-nil, length-append, zero, suc, string_bytes, if◌then◌else◌, nat_lt, IfOk, IfSome, All, slice_get, slice_index_or, min}
+pub use Rattle.std.proofs.Common.{IsErrAnd}
+pub use Rattle.std.proofs.Math.Seq.{take-length}
 pub use Rattle.std.proofs.lemmas.Bool.Decides.{nat_tests}
 pub use Rattle.std.proofs.lemmas.List.{get_or_default, length-map, map-append}
 pub use Rattle.std.specs.Io.KnownBytes.{Appends}
@@ -44,17 +46,23 @@ pub use Rattle.avc_console.specs.Listing.{Lists}
 pub use Rattle.avc_console.specs.Reading.{HasRead}
 pub use Rattle.avc_console.specs.StreamWriting.{IsWhole}
 pub use Rattle.avc_console.specs.declared.fault.RunFault.{RunFault}
+pub use Rattle.avc_console.specs.declared.fault.RunFault.TheVariants.{Memory}
 pub use Rattle.avc_tools.specs.Streams.{OnlyGrows, after_units_left, max_unit, new_stream, units_left}
-pub use Rattle.avc_macroblocks.specs.Asked.{Asked, is_listed, picture_of_text, text_number}
+pub use Rattle.avc_macroblocks.specs.Asked.{Asked, addresses, asked_by, asked_near, form_in, is_listed, macroblock_of_text, selection_of, selection_of_text, text_number}
 pub use Rattle.avc_macroblocks.specs.Derived.{all_derived, coded_up_to, derived_of, had}
 pub use Rattle.avc_macroblocks.specs.Forms.{Form}
-pub use Rattle.avc_macroblocks.specs.Listing.{Brought, ListedSoFar, behind, brought, first_place, has_begun, has_picture, line_of_fault, lines_so_far, lines_under, mb_lines}
-pub use Rattle.avc_macroblocks.specs.Listing.{macroblocks, picture_after, picture_behind, pictures_begun, slice_lines, unit_lines}
+pub use Rattle.avc_macroblocks.specs.Listing.{Brought, ListedSoFar, behind, brought, first_place, has_begun, has_met, has_picture, is_met, is_met_by, is_met_under, line_of_fault, refusal_lines, lines_so_far, lines_under, mb_lines}
+pub use Rattle.avc_macroblocks.specs.Listing.{macroblocks, nothing, refused, picture_after, picture_behind, pictures_begun, slice_lines, unit_lines}
 pub use Rattle.avc_types.specs.declared.fault.Fault.TheVariants.{MissingMacroblocks, ArbitrarySliceOrder}
 pub use Rattle.avc_macroblocks.specs.Pictures.{OpenPicture, data_of, where_next, macroblocks_of, new_picture, picture_of, start_of, with_macroblocks}
-pub use Rattle.avc_macroblocks.specs.Reading.{AreListed, AreRead, AreTold, AreToldFrom, IsBehind, IsFollowed, IsOpen, IsPicture, IsSliceListed, IsSliceTold, IsTold, Tells}
-pub use Rattle.avc_macroblocks.specs.Program.{ListsAsked}
-pub use Rattle.avc_macroblocks.specs.Reading.{IsDataIn, address_fault, asked_in, choice_after, choice_at, first_choice, has_come, is_chosen}
+pub use Rattle.avc_macroblocks.specs.Reading.{AreListed, AreRead, IsInRange, AreTold, AreToldFrom, IsBehind, IsFollowed, IsOpen, IsPicture, IsSliceListed, IsSliceTold, IsTold, Tells}
+pub use Rattle.avc_macroblocks.specs.Program.{ListsAsked, ListsNear}
+pub use Rattle.avc_macroblocks.specs.Lines.{for_people}
+pub use Rattle.avc_macroblocks.specs.declared.position.MacroblockPosition.{MacroblockPosition}
+pub use Rattle.avc_macroblocks.specs.declared.selection.AtMacroblock.{AtMacroblock}
+pub use Rattle.avc_macroblocks.specs.declared.selection.Selection.{Selection}
+pub use Rattle.avc_macroblocks.specs.declared.selection.Selection.TheVariants.{Whole, OfPicture, Near}
+pub use Rattle.avc_macroblocks.specs.Reading.{IsDataIn, address_fault, asked_in, choice_after, choice_at, choice_later, first_choice, has_come, has_come_to, is_chosen}
 pub use Rattle.avc_macroblocks.specs.declared.choice.Choice.{Choice}
 pub use Rattle.avc_macroblocks.specs.declared.choice.Choice.TheVariants.{Each, Later, Past}
 pub use Rattle.avc_macroblocks.specs.Neighbours.{HasRems, IsDerived}

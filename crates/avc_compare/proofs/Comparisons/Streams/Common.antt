@@ -41,14 +41,20 @@ pub use Rattle.avc_types.specs.declared.fault.Fault.{Fault}
 pub use Rattle.avc_types.specs.declared.picture.Picture.{Picture as Decoded}
 pub use Rattle.avc_yuv.proofs.Windows.{length-window}
 pub use Rattle.avc_yuv.specs.I420.{chroma_window, i420, luma_window, shown_height, shown_width, window}
-pub use Rattle.avc_compare.specs.Comparing.{AreLines, BreaksOffFor, Compares, Finds, IsAlike, IsBeside, IsBrokenOff, IsLine, IsReached, IsSame, WritesPart}
+pub use Rattle.avc_compare.specs.Comparing.{AreLines, BreaksOffFor, Compares, EndsLooking, Finds, FindsAll, IsAlike, IsBeside, IsBrokenOff, IsDiffering, IsDisplaced, IsLine, IsLookedOn, IsReached, IsSame, Lacks, Sees, WritesPart}
+pub use Rattle.avc_compare.specs.Displaced.{digests_of, most_sought, pictures_beside, Digested}
+pub use Rattle.avc_compare.specs.declared.comparison.Findings.{Findings}
+pub use Rattle.avc_compare.specs.declared.displaced.Displaced.{Displaced}
+pub use Rattle.avc_compare.specs.declared.verdict.Differing.{Differing}
+pub use Rattle.avc_compare.specs.declared.verdict.Sizes.{Sizes}
 pub use Rattle.avc_compare.specs.Kept.{nothing_read, Waiting}
 pub use Rattle.avc_compare.specs.Reading.{BreaksReading, Fills, IsNext, IsReading, IsReadOff, IsWholeIfAny, ReadsOn, StopsFor, TakesNext}
 pub use Rattle.avc_compare.specs.Comparing.{compared_picture, other_size}
 pub use Rattle.avc_compare.specs.declared.comparison.Comparison.{Comparison}
 pub use Rattle.avc_compare.specs.declared.verdict.ComparedPicture.{ComparedPicture}
-pub use Rattle.avc_compare.specs.Running.{ComparesEvent, ComparesPicture, EndsAll, EndsAt, EndsAtEvent, FindsIn, IsComparing, IsLineOf, StopsAt, TellsLine}
-pub use Rattle.avc_compare.specs.Told.{fault_names, run_fault, verdict_text, WritesText}
+pub use Rattle.avc_compare.specs.Running.{kept, stand, with_ours, with_theirs, ComparesEvent, ComparesPicture, EndsAll, EndsAt, EndsAtEvent, FindsBehind, FindsIn, GoesOn, IsComparing, IsCounted, IsFurther, IsLineOf}
+pub use Rattle.avc_compare.specs.Running.{is_enough, IsLooking, LacksLeft, LooksAt, LooksAtEvent, LooksOn, PassesRefusal, Seeks, Stand, StopsAt, TellsLine}
+pub use Rattle.avc_compare.specs.Told.{ended_by, fault_names, findings_text, names_of, run_fault, run_of, verdict_text, WritesText}
 pub use Rattle.avc_console.specs.Reporting.{report_in}
 pub use Rattle.avc_compare.specs.declared.verdict.CompareFault.{CompareFault}
 pub use Rattle.avc_compare.specs.declared.verdict.CompareFault.TheVariants.{Ours, Theirs}

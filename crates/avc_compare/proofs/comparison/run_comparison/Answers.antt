@@ -1,4 +1,4 @@
-use Rattle.avc_compare.proofs.Comparisons.{arith, subst, Ok, ComparesEvent, TakesNext, at_end, begins, found, is_none, not_compared, none_read, not_taken, one_more, stays_told, told_then, too_many}
+use Rattle.avc_compare.proofs.Comparisons.{arith, subst, sym, Ok, ComparesEvent, FindsAll, Stand, TakesNext, at_end, begins, found, is_none, not_compared, not_ended, none_read, not_taken, one_more, stand, stays_told, told_then, too_many}
 use Rattle.avc_compare.proofs.comparison.run_comparison.Goals as goal
 
 pub events-init : goal.events-init
@@ -26,21 +26,42 @@ returns-in_err-ended-in-Some-clause-told g c =
 
 pub returns-in-Some-ended-clause-compares : goal.returns-in-Some-ended-clause-compares
 returns-in-Some-ended-clause-compares g c =
-    found c.events_only_grow.ensures c.args.how c.events._event _ _ _ _ _ _ _ _ _ c.events.decoder c.next_of.new.decoder c.events.ahead c.next_of.new.ahead
-    (g.T.Reporter.reported c.events.report).report (g.T.Reporter.reported c.compare_event.new.report).report c.in-Some.event c.in-Some-ended.verdict
+    let at : Stand =
+    stand (g.R.Read.remaining c.next_of.new.reader) (g.O.Read.remaining c.compare_event.new.other) (g.W.Write.contents c.compare_event.new.writer) c.next_of.new.decoder c.next_of.new.ahead
+    (g.T.Reporter.reported c.compare_event.new.report).report in
+    let last : Stand =
+    stand (g.R.Read.remaining c.find_behind.new.reader) (g.O.Read.remaining c.find_behind.new.other) (g.W.Write.contents c.find_behind.new.writer) c.find_behind.new.decoder c.find_behind.new.ahead
+    (g.T.Reporter.reported c.find_behind.new.report).report in
+    let all =
+    found c.events_only_grow.ensures c.args.how c.events._event _ _ _ _ _ _ at last c.events.decoder c.events.ahead (g.T.Reporter.reported c.events.report).report c.in-Some.event c.in-Some-ended.verdict
+    c.find_behind.result.displaced
     (subst (λ e. TakesNext (g.R.Read.remaining c.events.reader) (g.R.Read.remaining c.next_of.new.reader) c.events.decoder c.next_of.new.decoder c.events.ahead c.next_of.new.ahead e) c.in-Some.is c.in_ok-event.ensures.ok)
     (subst (λ e. ComparesEvent c.args.how c.in-Some.event (g.O.Read.remaining c.events.other) (g.O.Read.remaining c.compare_event.new.other) (g.W.Write.contents c.events.writer) (g.W.Write.contents c.compare_event.new.writer) (g.T.Reporter.reported c.events.report).report (g.T.Reporter.reported c.compare_event.new.report).report (Ok e)) c.in-Some-ended.is
-    c.in_ok-ended-in-Some.ensures.compares) c.events.invariant.comparing
+    c.in_ok-ended-in-Some.ensures.compares) c.events.invariant.comparing c.find_behind.ensures.finds in
+    subst (λ v. FindsAll c.args.how (g.R.Read.remaining c.args.reader.now) last.left (g.O.Read.remaining c.args.other.now) last.rest (g.W.Write.contents c.args.writer.now) last.holds last.report v c.find_behind.result.displaced)
+    (sym c.find_behind.ensures.same) all
 
 pub returns-in-Some-ended-clause-told : goal.returns-in-Some-ended-clause-told
 returns-in-Some-ended-clause-told g c =
-    told_then _ (g.T.Reporter.reported c.events.report) (g.T.Reporter.reported c.compare_event.new.report) _ _ _ c.events.invariant.told c.compare_event.ensures.told
+    told_then _ (g.T.Reporter.reported c.events.report) (g.T.Reporter.reported c.find_behind.new.report) _ _ _ c.events.invariant.told
+    (told_then _ (g.T.Reporter.reported c.compare_event.new.report) (g.T.Reporter.reported c.find_behind.new.report) _ _ _ c.compare_event.ensures.told c.find_behind.ensures.told)
+
+pub returns-in_err-verdict-in-None-clause-compares : goal.returns-in_err-verdict-in-None-clause-compares
+returns-in_err-verdict-in-None-clause-compares g c =
+    not_ended c.args.how c.events._event c.counts.result.pictures _ _ _ _ _ _ _ _ c.events.decoder c.next_of.new.decoder c.events.ahead c.next_of.new.ahead
+    (g.T.Reporter.reported c.events.report).report c.in_err-verdict-in-None.field-0.0 c.from_residual-in_err-verdict-in-None.result c.from_residual-in_err-verdict-in-None.ensures.1
+    (subst (λ e. TakesNext (g.R.Read.remaining c.events.reader) (g.R.Read.remaining c.next_of.new.reader) c.events.decoder c.next_of.new.decoder c.events.ahead c.next_of.new.ahead e) c.in-None.is c.in_ok-event.ensures.ok)
+    c.in_err-verdict-in-None.ensures c.events.invariant.comparing
 
 pub returns-in-None-clause-compares : goal.returns-in-None-clause-compares
 returns-in-None-clause-compares g c =
+    let all =
     at_end c.args.how c.events._event c.counts.result.pictures _ _ _ _ _ _ _ _ c.events.decoder c.next_of.new.decoder c.events.ahead c.next_of.new.ahead
-    (g.T.Reporter.reported c.events.report).report c.end.result c.counts.ensures.pictures
-    (subst (λ e. TakesNext (g.R.Read.remaining c.events.reader) (g.R.Read.remaining c.next_of.new.reader) c.events.decoder c.next_of.new.decoder c.events.ahead c.next_of.new.ahead e) c.in-None.is c.in_ok-event.ensures.ok) c.end.ensures c.events.invariant.comparing
+    (g.T.Reporter.reported c.events.report).report c.in_ok-verdict-in-None.verdict c.counts.ensures.pictures
+    (subst (λ e. TakesNext (g.R.Read.remaining c.events.reader) (g.R.Read.remaining c.next_of.new.reader) c.events.decoder c.next_of.new.decoder c.events.ahead c.next_of.new.ahead e) c.in-None.is c.in_ok-event.ensures.ok)
+    c.in_ok-verdict-in-None.ensures c.events.invariant.comparing in
+    subst (λ d. FindsAll c.args.how (g.R.Read.remaining c.args.reader.now) (g.R.Read.remaining c.next_of.new.reader) (g.O.Read.remaining c.args.other.now) (g.O.Read.remaining c.end.new.other)
+    (g.W.Write.contents c.args.writer.now) (g.W.Write.contents c.events.writer) (g.T.Reporter.reported c.events.report).report c.in_ok-verdict-in-None.verdict (Ok d)) (sym c.new-in-None.ensures) all
 
 pub events-preserved : goal.events-preserved
 events-preserved g c =

@@ -1,22 +1,30 @@
-use Rattle.avc_compare.proofs.Comparisons.{Ok, Err, fault_names, report_in, run_fault, run_told, subst, verdict_text, writes_text, Appends-nil, Compares}
+use Rattle.avc_compare.proofs.Comparisons.{Ok, Err, fault_names, findings_text, names_of, report_in, run_fault, run_of, run_told, subst, writes_text, Appends-nil, Compares}
+use Rattle.avc_console.specs.Program.{TellsRun}
 use Rattle.avc_compare.proofs.program.compare.Goals as goal
 
 pub returns-in-Ok : goal.returns-in-Ok
-returns-in-Ok g c = record {
-  report = report_in c.run_comparison-run.new.report;
-  run = Ok c.in-Ok.verdict;
-  wrote = g.W.Write.contents c.run_comparison-run.new.writer;
-  compares = c.in-Ok.ensures.compares;
-  tells = (
-    c.write_verdict-written.result,
-    c.tell-decoded.result,
-    writes_text (verdict_text c.in-Ok.verdict) _ _ c.write_verdict-written.result c.write_verdict-written.ensures.ok c.write_verdict-written.ensures.err,
-    run_told c.args.console.now.names c.args.console.now.is_explained c.new-tally.result c.run_comparison-run.new.report c.write_verdict-written.result _ _ _ c.tell-decoded.result
-        c.new-tally.ensures c.run_comparison-run.ensures.told c.tell-decoded.ensures,
-    c.end_with.ensures.told,
-    c.end_with.ensures.status,
-  );
-}
+returns-in-Ok g c =
+    let names = c.args.console.now.names in
+    let explained = c.args.console.now.is_explained in
+    let ended = c.ended_by-ended.result in
+    let told =
+    run_told (names_of names c.args.other_name ended) explained c.new-tally.result c.run_comparison-run.new.report (run_of ended) _ _ _ c.tell_end-decoded.result
+    c.new-tally.ensures c.run_comparison-run.ensures.told c.tell_end-decoded.ensures in
+    record {
+      report = report_in c.run_comparison-run.new.report;
+      run = Ok c.in-Ok.findings;
+      wrote = g.W.Write.contents c.run_comparison-run.new.writer;
+      compares = c.in-Ok.ensures.compares;
+      tells = (
+        c.write_findings-written.result,
+        c.tell_end-decoded.result,
+        writes_text (findings_text c.in-Ok.findings) _ _ c.write_findings-written.result c.write_findings-written.ensures.ok c.write_findings-written.ensures.err,
+        subst (λ e. TellsRun (names_of names c.args.other_name e) explained (report_in c.run_comparison-run.new.report) (run_of e) (g.E.Write.contents c.args.console.now.errors) (g.E.Write.contents c.tell_end-decoded.new.errors) c.tell_end-decoded.result)
+            c.ended_by-ended.ensures told,
+        c.end_with.ensures.told,
+        c.end_with.ensures.status,
+      );
+    }
 
 pub returns-in-Err : goal.returns-in-Err
 returns-in-Err g c = record {

@@ -1,0 +1,5 @@
+pub mod Fed
+pub mod Traced
+pub mod Replayed
+pub mod Opened
+pub mod CutUnits

@@ -1,0 +1,4 @@
+pub mod Cutting
+pub mod Tracing
+pub mod Replaying
+pub mod Program

@@ -1,0 +1,4 @@
+pub mod Stages
+pub mod Strengths
+pub mod Motions
+pub mod Text
