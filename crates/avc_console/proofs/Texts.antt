@@ -8,7 +8,7 @@ Text = List ℕ → (ended : Bool) → List ℕ
 
 -- ---- what comes to the text
 
-open_piece : (s : StreamSoFar) (piece : List ℕ) → s.ended ≡ false → after_piece s piece ≡ record s { bytes = s.bytes ++ piece }
+pub open_piece : (s : StreamSoFar) (piece : List ℕ) → s.ended ≡ false → after_piece s piece ≡ record s { bytes = s.bytes ++ piece }
 open_piece s piece open_end = ap (λ x. if x then s else record s { bytes = s.bytes ++ piece }) open_end
 
 -- where no memory was found nothing was written
@@ -51,7 +51,7 @@ writing_stopped text Memory unread left w0 w' bytes all read off = (bytes, all, 
 writing_stopped text _ unread left w0 w' bytes all read off = absurd off
 
 -- a fault in b, after all of a
-stops_later : (fault : RunFault) (w0 w w' : Option (List ℕ)) (a b : List ℕ) → Appends w0 w a → StopsWriting fault w w' b → StopsWriting fault w0 w' (a ++ b)
+pub stops_later : (fault : RunFault) (w0 w w' : Option (List ℕ)) (a b : List ℕ) → Appends w0 w a → StopsWriting fault w w' b → StopsWriting fault w0 w' (a ++ b)
 stops_later Write w0 w w' a b all some = stopped_after w0 w w' a b all some
 stops_later Memory w0 w w' a b all some = record {
   count = length a + some.count;
@@ -66,6 +66,15 @@ stopped_behind : (text now_text : Text) (fault : RunFault) (n : ℕ) (s now : St
 stopped_behind text now_text fault n s now unread left w0 w w' i same off =
     let defined : text now.bytes now.ended ≡ text s.bytes false ++ off.added = rw (← same, ← i.open_end) off.defined in
     subst (StopsWriting fault w0 w') (sym defined) (stops_later fault w0 w w' (text s.bytes false) off.added i.written off.stopped)
+
+-- a read that failed
+left_still : (unread left left' : Option (List ℕ)) (bytes : List ℕ) → Consumes unread left bytes → Keeps left left' → Consumes unread left' bytes
+left_still unread left left' bytes so_far kept = grind arith
+
+pub stopped_at_read : (text : Text) (fault : RunFault) (n : ℕ) (s : StreamSoFar) (unread left left' w0 w : Option (List ℕ)) → IsWriting text n s unread left w0 w → fault ≡ Read → Keeps left left'
+    → Lists text unread left' w0 w (Err fault)
+stopped_at_read text fault n s unread left left' w0 w i is kept =
+    rw is (s.bytes, record { consumed = left_still unread left left' s.bytes i.consumed kept; whole = λ all. cc }, i.written)
 
 -- at a piece
 pub writing_stopped_in : (text now_text : Text) (fault : RunFault) (n : ℕ) (s : StreamSoFar) (unread left left' w0 w w' : Option (List ℕ)) (piece : List ℕ) → IsWriting text n s unread left w0 w → now_text ≡ text

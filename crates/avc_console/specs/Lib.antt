@@ -6,3 +6,4 @@ pub mod Telling
 pub mod Reporting
 pub mod Program
 pub mod StreamWriting
+pub mod Parts

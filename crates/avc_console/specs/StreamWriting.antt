@@ -24,6 +24,25 @@ pub record IsStopped (fault : RunFault) (text : List ℕ → (ended : Bool) → 
   pub defined : text now.bytes now.ended ≡ text before.bytes before.ended ++ added
   pub stopped : StopsWriting fault held holds added
 
+-- These bytes were written, but for the last of them, which wait.
+pub record AreWrittenBut (bytes waits : List ℕ) (held holds : Option (List ℕ)) : Type 0 where
+  pub written : List ℕ
+  pub whole : bytes ≡ written ++ waits
+  pub appended : Appends held holds written
+
+-- What comes to the text once more of the stream has come was added to what waited, and of all this
+-- what does not wait was written.
+pub record IsTakenIn (text : List ℕ → (ended : Bool) → List ℕ) (before now : StreamSoFar) (waited waits : List ℕ) (held holds : Option (List ℕ)) : Type 0 where
+  pub added : List ℕ
+  pub defined : text now.bytes now.ended ≡ text before.bytes before.ended ++ added
+  pub rest : AreWrittenBut (waited ++ added) waits held holds
+
+-- A fault stopped the writing of all this.
+pub record IsStoppedBehind (fault : RunFault) (text : List ℕ → (ended : Bool) → List ℕ) (before now : StreamSoFar) (waited : List ℕ) (held holds : Option (List ℕ)) : Type 0 where
+  pub added : List ℕ
+  pub defined : text now.bytes now.ended ≡ text before.bytes before.ended ++ added
+  pub stopped : StopsWriting fault held holds (waited ++ added)
+
 -- These bytes were read, by so many reads, and the text that they have is written.
 pub record IsWriting (text : List ℕ → (ended : Bool) → List ℕ) (reads : ℕ) (s : StreamSoFar) (unread left held holds : Option (List ℕ)) : Type 0 where
   pub consumed : Consumes unread left s.bytes

@@ -7,6 +7,7 @@ mod exit;
 mod fault;
 mod listing;
 mod messages;
+mod parts;
 mod program;
 mod read;
 mod report;

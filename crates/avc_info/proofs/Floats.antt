@@ -1,9 +1,9 @@
 -- No number that is told is a float.
-use Rattle.std.proofs.Common.{◌≡◌, ℕ, List, [], ◌∷◌, Bool, false, ◌||◌, Option, Some, None, refl}
+use Rattle.std.proofs.Common.{◌≡◌, ℕ, List, [], ◌∷◌, Bool, false, ◌||◌, Option, Some, None, ap, refl}
 use Rattle.serde_json.specs.Written.{has_float}
 use Rattle.avc_formats.specs.declared.ratio.Ratio.{Ratio}
 use Rattle.avc_params.specs.declared.vui.Colour.{Colour}
-use Rattle.avc_info.specs.Json.{clock_of, colour_data, count_if_given, facts_data, flag_data, ratio_data, refusal_data, sequence_if_given, set_head_data, sizes_data}
+use Rattle.avc_info.specs.Json.{clock_of, colour_data, count_if_given, facts_data, flag_data, ratio_data, refusal_data, sequence_if_given, set_head_data, size_if_given, sizes_data}
 use Rattle.avc_info.specs.Rates.{bit_rate, duration, rate_ratio}
 use Rattle.avc_info.specs.declared.sequence_facts.SequenceFacts.{SequenceFacts}
 use Rattle.avc_info.specs.declared.sequence_facts.Size.{Size}
@@ -32,9 +32,13 @@ in_refusal : (r : Option Refusal) → has_float (refusal_data r) ≡ false
 in_refusal None = refl
 in_refusal (Some r) = refl
 
+in_size : (s : Option Size) → has_float (size_if_given s) ≡ false
+in_size None = refl
+in_size (Some s) = refl
+
 in_set_head : (h : Option SetHead) → has_float (set_head_data h) ≡ false
 in_set_head None = refl
-in_set_head (Some h) = refl
+in_set_head (Some h) = ap (λ b. b || false) (in_size h.coded)
 
 none_of_six : (a b c d e f : Bool) → a ≡ false → b ≡ false → c ≡ false → d ≡ false → e ≡ false → f ≡ false → (a || (b || (c || (d || (e || (f || false)))))) ≡ false
 none_of_six a b c d e f is_a is_b is_c is_d is_e is_f = rw (is_a, is_b, is_c, is_d, is_e, is_f) refl

@@ -48,6 +48,6 @@ refused_text : header_lines_so_far header_json (0 ∷ 0 ∷ 1 ∷ 230 ∷ 66 ∷
 unfolding digits serde_json_on_literals
 refused_text = refl
 
-pieces_text : cut_point_lines_so_far piece_json stream true ≡ codes "{\"first_byte\":21,\"piece\":0,\"unit\":2}\n"
+pieces_text : cut_point_lines_so_far piece_json stream true ≡ codes "{\"first_byte\":21,\"pictures\":1,\"piece\":0,\"unit\":2}\n"
 unfolding digits serde_json_on_literals
 pieces_text = refl

@@ -43,6 +43,11 @@ size_data s =
     object (member (codes "height") (count s.height)
     (member (codes "width") (count s.width) no_members))
 
+-- where it is known
+abbrev pub size_if_given : Option Size → Data
+size_if_given None = null
+size_if_given (Some s) = size_data s
+
 -- what is cropped at each side
 abbrev pub crop_data : Crop → Data
 crop_data c =
@@ -93,8 +98,9 @@ refusal_data (Some r) =
 abbrev pub set_head_data : Option SetHead → Data
 set_head_data None = null
 set_head_data (Some h) =
-    object (member (codes "level_idc") (count h.level_idc)
-    (member (codes "profile_idc") (count h.profile_idc) no_members))
+    object (member (codes "coded_size") (size_if_given h.coded)
+    (member (codes "level_idc") (count h.level_idc)
+    (member (codes "profile_idc") (count h.profile_idc) no_members)))
 
 -- sizes, in their order
 abbrev pub sizes_data : List Size → Data

@@ -1,4 +1,5 @@
 pub mod Sizes
+pub mod RefusedSet
 pub mod Facts
 pub mod Rates
 pub mod Text

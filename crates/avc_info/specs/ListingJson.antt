@@ -20,6 +20,7 @@ use Rattle.avc_units.specs.declared.header_reader.Brought.TheVariants.{Nothing, 
 use Rattle.avc_units.specs.declared.set_reading.ParameterSet.{ParameterSet}
 use Rattle.avc_units.specs.declared.set_reading.ParameterSet.TheVariants.{OfSequence, OfPicture}
 use Rattle.avc_tools.specs.Lines.{flag_number, newline, order_type, shown_height, shown_width, slice_qp_under, type_name}
+use Rattle.avc_tools.specs.declared.piece_facts.PieceFacts.{PieceFacts}
 use Rattle.avc_tools.specs.declared.unit_facts.UnitFacts.{UnitFacts}
 use Rattle.avc_info.specs.Json.{count}
 
@@ -42,16 +43,17 @@ unit_data f =
 abbrev pub unit_json : UnitFacts → List ℕ
 unit_json f = line_of_data (unit_data f)
 
--- of the piece of this number, which begins with this unit
-abbrev pub piece_data : (piece : ℕ) → Unit → Data
-piece_data piece u =
-    object (member (codes "first_byte") (count u.offset)
-    (member (codes "piece") (count piece)
-    (member (codes "unit") (count u.index) no_members)))
+-- of a piece
+abbrev pub piece_data : PieceFacts → Data
+piece_data p =
+    object (member (codes "first_byte") (count p.first_byte)
+    (member (codes "pictures") (count p.pictures)
+    (member (codes "piece") (count p.piece)
+    (member (codes "unit") (count p.unit) no_members))))
 
 -- its line
-abbrev pub piece_json : (piece : ℕ) → Unit → List ℕ
-piece_json piece u = line_of_data (piece_data piece u)
+abbrev pub piece_json : PieceFacts → List ℕ
+piece_json p = line_of_data (piece_data p)
 
 -- ---- headers
 

@@ -12,6 +12,7 @@ use Rattle.avc_units.specs.declared.header_reader.Brought.TheVariants.{Nothing, 
 use Rattle.avc_units.specs.declared.set_reading.ParameterSet.{ParameterSet}
 use Rattle.avc_units.specs.declared.set_reading.ParameterSet.TheVariants.{OfSequence, OfPicture}
 use Rattle.avc_info.specs.Facts.{after_refusal, after_slice, no_facts, said_by, with_set}
+use Rattle.avc_info.specs.RefusedSet.{size_in}
 use Rattle.avc_info.specs.declared.sequence_facts.SequenceFacts.{SequenceFacts}
 use Rattle.avc_info.specs.declared.stream_facts.SetHead.{SetHead}
 use Rattle.avc_info.specs.declared.stream_facts.StreamFacts.{StreamFacts}
@@ -38,11 +39,11 @@ abbrev pub said_in : Brought → Option SequenceFacts
 said_in (Set (OfSequence (Ok s))) = Some (said_by s)
 said_in _ = None
 
--- profile_idc and level_idc, between which are flags (7.3.2.1.1)
+-- profile_idc and level_idc, between which are flags, and the size (7.3.2.1.1)
 abbrev pub set_head : (rbsp : List ℕ) → Option SetHead
 set_head rbsp =
     if nat_lt (length rbsp) 3 then None
-    else Some (record { profile_idc = slice_index rbsp 0; level_idc = slice_index rbsp 2 })
+    else Some (record { profile_idc = slice_index rbsp 0; level_idc = slice_index rbsp 2; coded = size_in rbsp })
 
 -- what a sequence parameter set begins with that is refused
 abbrev pub refused_head : Unit → Brought → Option SetHead

@@ -4,6 +4,7 @@ use Rattle.std.specs.Fmt.{decimal}
 use Rattle.avc_types.specs.Faults.{number_of, name_of}
 use Rattle.avc_params.specs.declared.vui.Timing.{Timing}
 use Rattle.avc_info.specs.declared.sequence_facts.SequenceFacts.{SequenceFacts}
+use Rattle.avc_info.specs.declared.sequence_facts.Size.{Size}
 use Rattle.avc_info.specs.declared.slice_counts.SliceCounts.{SliceCounts}
 use Rattle.avc_info.specs.declared.stream_facts.Refusal.{Refusal}
 use Rattle.avc_info.specs.declared.stream_facts.SetHead.{SetHead}
@@ -107,9 +108,18 @@ abbrev pub refused_line : StreamFacts → List ℕ
 refused_line f = refused_text f.refused ++ refusal_text f.first_refusal ++ newline
 
 -- profile_idc and level_idc of a sequence parameter set that is refused
+abbrev pub set_head_text : SetHead → List ℕ
+set_head_text h =
+    codes "refused sequence: profile_idc " ++ decimal h.profile_idc ++ codes ", level_idc " ++ decimal h.level_idc
+
+-- its size before cropping, where it can be read
+abbrev pub set_size_text : Option Size → List ℕ
+set_size_text None = codes ", size not given"
+set_size_text (Some s) = codes ", " ++ decimal s.width ++ codes "x" ++ decimal s.height
+
+-- all of it
 abbrev pub set_head_line : SetHead → List ℕ
-set_head_line h =
-    codes "refused profile " ++ decimal h.profile_idc ++ codes ", level " ++ decimal h.level_idc ++ newline
+set_head_line h = set_head_text h ++ set_size_text h.coded ++ newline
 
 -- of the first one, where there is one
 abbrev pub refused_set_line : Option SetHead → List ℕ

@@ -1,12 +1,12 @@
 //! A stream's facts as JSON.
 
-ghost use Rattle.std.specs.Prelude.{◌≡◌, IfOk, OnOk, codes, map, string_bytes};
+ghost use Rattle.std.specs.Prelude.{◌≡◌, IfOk, OnOk, Some, codes, map, string_bytes};
 ghost use Rattle.serde_json.specs.Data.{put as with_member, string};
 ghost use Rattle.serde_json.specs.View.{members_view, view};
 ghost use Rattle.avc_info.specs.Json.{clock_of, colour_data, count as count_data, count_if_given};
 ghost use Rattle.avc_info.specs.Json.{crop_data, facts_data, flag_data, json_line};
 ghost use Rattle.avc_info.specs.Json.{ratio_data, refusal_data, sequence_data, sequence_if_given};
-ghost use Rattle.avc_info.specs.Json.{set_head_data, size_data, sizes_data};
+ghost use Rattle.avc_info.specs.Json.{set_head_data, size_data, size_if_given, sizes_data};
 ghost use Rattle.avc_info.specs.Text.{level_name, profile_name};
 
 use crate::rates::{bit_rate, duration, rate_ratio};
@@ -266,10 +266,27 @@ fn set_head_value(alloc: Global, head: Option<SetHead>) -> Result<Value, OutOfMe
     ensures { IfOk result (λ value. view value ≡ set_head_data head) }
 {
     match head {
-        Some(head) => Ok(json!(in alloc; {
-            "level_idc": u64::from(head.level_idc),
-            "profile_idc": u64::from(head.profile_idc)
-        })?),
+        Some(head) => set_value(alloc, head),
+        None => Ok(Value::Null),
+    }
+}
+
+fn set_value(alloc: Global, head: SetHead) -> Result<Value, OutOfMemory>
+    ensures { IfOk result (λ value. view value ≡ set_head_data (Some head)) }
+{
+    let mut map = Map::new(alloc);
+    let coded = size_if_given(alloc, head.coded)?;
+    put(&mut map, alloc, "coded_size", coded)?;
+    put_count(&mut map, alloc, "level_idc", u64::from(head.level_idc))?;
+    put_count(&mut map, alloc, "profile_idc", u64::from(head.profile_idc))?;
+    Ok(Value::Object(map))
+}
+
+fn size_if_given(alloc: Global, size: Option<Size>) -> Result<Value, OutOfMemory>
+    ensures { IfOk result (λ value. view value ≡ size_if_given size) }
+{
+    match size {
+        Some(size) => size_value(alloc, size),
         None => Ok(Value::Null),
     }
 }

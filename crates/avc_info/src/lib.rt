@@ -9,6 +9,7 @@ mod noting;
 mod picture_text;
 mod program;
 mod rates;
+mod refused_set;
 mod sequence_facts;
 mod sizes;
 mod slice_counts;

@@ -19,8 +19,8 @@ use avc_annexb::Unit;
 use avc_params::{Pps, Sps};
 use avc_slice::Header;
 use avc_tools::{
-    ListingForm, UnitFacts, flag_number, order_type, shown_height, shown_width, slice_qp_under,
-    type_name,
+    ListingForm, PieceFacts, UnitFacts, flag_number, order_type, shown_height, shown_width,
+    slice_qp_under, type_name,
 };
 use avc_types::{Fault, OutOfMemory};
 use avc_units::{Brought, HeaderReader, ParameterSet};
@@ -58,10 +58,9 @@ impl ListingForm for ForPrograms {
         &self,
         alloc: Global,
         text: &mut String,
-        number: u64,
-        unit: &Unit,
+        facts: PieceFacts,
     ) -> Result<(), OutOfMemory> {
-        add_value(alloc, text, &piece_value(alloc, number, unit)?)
+        add_value(alloc, text, &piece_value(alloc, facts)?)
     }
 }
 
@@ -88,13 +87,14 @@ fn unit_value(alloc: Global, facts: UnitFacts) -> Result<Value, OutOfMemory>
     Ok(Value::Object(map))
 }
 
-fn piece_value(alloc: Global, number: u64, unit: &Unit) -> Result<Value, OutOfMemory>
-    ensures { IfOk result (λ value. view value ≡ piece_data number unit.now) }
+fn piece_value(alloc: Global, facts: PieceFacts) -> Result<Value, OutOfMemory>
+    ensures { IfOk result (λ value. view value ≡ piece_data facts) }
 {
     let mut map = Map::new(alloc);
-    put_count(&mut map, alloc, "first_byte", unit.offset)?;
-    put_count(&mut map, alloc, "piece", number)?;
-    put_count(&mut map, alloc, "unit", unit.index)?;
+    put_count(&mut map, alloc, "first_byte", facts.first_byte)?;
+    put_count(&mut map, alloc, "pictures", facts.pictures)?;
+    put_count(&mut map, alloc, "piece", facts.piece)?;
+    put_count(&mut map, alloc, "unit", facts.unit)?;
     Ok(Value::Object(map))
 }
 

@@ -6,6 +6,7 @@ ghost use Rattle.avc_units.specs.Grouping.{set_units};
 ghost use Rattle.avc_info.specs.Noting.{after_brought, after_set, after_unit, refused_head};
 ghost use Rattle.avc_info.specs.Noting.{said_in, set_head};
 
+use crate::refused_set::size_in;
 use crate::sequence_facts::SequenceFacts;
 use crate::stream_facts::{SetHead, StreamFacts};
 use avc_annexb::Unit;
@@ -88,5 +89,6 @@ fn set_head(rbsp: &[u8]) -> Option<SetHead>
     Some(SetHead {
         profile_idc: rbsp[0],
         level_idc: rbsp[2],
+        coded: size_in(rbsp),
     })
 }

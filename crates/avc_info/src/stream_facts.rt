@@ -32,6 +32,9 @@ pub struct SetHead {
 
     /// Ten times the level's number.
     pub level_idc: u8,
+
+    /// Before cropping, where the set can be read so far.
+    pub coded: Option<Size>,
 }
 
 /// What a stream's parameter sets and slice headers say of it.

@@ -6,12 +6,12 @@ ghost use Rattle.avc_info.specs.Text.{clock_text, counts_line, frame_rate, frame
 ghost use Rattle.avc_info.specs.Text.{is_level_1b};
 ghost use Rattle.avc_info.specs.Text.{level_name, level_text, profile_name, profile_text, rate_of};
 ghost use Rattle.avc_info.specs.Text.{newline, references_text, refusal_text, refused_line};
-ghost use Rattle.avc_info.specs.Text.{refused_set_line, refused_text, set_head_line};
+ghost use Rattle.avc_info.specs.Text.{refused_set_line, refused_text, set_head_line, set_head_text, set_size_text};
 ghost use Rattle.avc_info.specs.Text.{sequence_text, shape_line, size_text, stream_text};
 ghost use Rattle.avc_info.specs.Text.{thousandths, thousandths_if_given};
 
 use crate::picture_text::add_picture;
-use crate::sequence_facts::SequenceFacts;
+use crate::sequence_facts::{SequenceFacts, Size};
 use crate::sizes::add_sizes;
 use crate::slice_counts::SliceCounts;
 use crate::stream_facts::{Refusal, SetHead, StreamFacts};
@@ -270,9 +270,34 @@ fn add_refused_set(text: &mut String, head: Option<SetHead>) -> Result<(), OutOf
 fn add_set_head(text: &mut String, head: SetHead) -> Result<(), OutOfMemory>
     ensures { OnOk result (string_bytes text.new ≡ string_bytes text.old ++ set_head_line head) }
 {
+    add_set_identity(text, head)?;
+    add_set_size(text, head.coded)?;
+    end_line(text)
+}
+
+fn add_set_identity(text: &mut String, head: SetHead) -> Result<(), OutOfMemory>
+    ensures { OnOk result (string_bytes text.new ≡ string_bytes text.old ++ set_head_text head) }
+{
     let profile_idc = head.profile_idc;
     let level_idc = head.level_idc;
-    writeln!(text, "refused profile {profile_idc}, level {level_idc}")?;
+    write!(
+        text,
+        "refused sequence: profile_idc {profile_idc}, level_idc {level_idc}"
+    )?;
+    Ok(())
+}
+
+fn add_set_size(text: &mut String, size: Option<Size>) -> Result<(), OutOfMemory>
+    ensures { OnOk result (string_bytes text.new ≡ string_bytes text.old ++ set_size_text size) }
+{
+    match size {
+        Some(size) => {
+            let width = size.width;
+            let height = size.height;
+            write!(text, ", {width}x{height}")?;
+        }
+        None => text.push_str(", size not given")?,
+    }
     Ok(())
 }
 

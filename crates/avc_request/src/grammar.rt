@@ -307,7 +307,7 @@ const COMMANDS: &[CommandWords] = &[
         name: PIECES,
         about: concat!(
             "Prints a line for each piece that cut can write: N INDEX OFFSET, of the unit with ",
-            "which it begins"
+            "which it begins, and how many pictures it has"
         ),
         example: "Example: avcdec pieces in.264 | tail -1",
         words: &[JSON_WORD, INPUT_WORD],

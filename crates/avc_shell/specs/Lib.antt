@@ -6,6 +6,8 @@ pub mod LossLines
 pub mod Manners
 pub mod Outcomes
 pub mod Outputs
+pub mod PlaceLines
 pub mod Progress
 pub mod Rates
 pub mod Reasons
+pub mod UnitPlaces

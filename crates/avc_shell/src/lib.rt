@@ -11,11 +11,15 @@ mod misuse;
 mod observer;
 mod other_pictures;
 mod output;
+mod place_line;
 mod progress;
 mod progress_state;
 mod rate;
 mod reason;
+mod refusal_places;
 mod told;
+mod unit_place;
+mod unit_places;
 mod y4m_header;
 
 pub use ending::{absent_picture, ended_status};
@@ -29,6 +33,7 @@ pub use observer::Observer;
 pub use other_pictures::OtherPictures;
 pub use output::{Output, OutputFile, PictureFiles};
 pub use progress::Progress;
+pub use refusal_places::RefusalPlaces;
 pub use told::{
     is_progress_told, is_told_more, tell_absent_picture, tell_container, tell_no_piece,
     tell_outcome, tell_reason,

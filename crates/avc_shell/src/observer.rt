@@ -5,10 +5,12 @@ ghost use Rattle.std.specs.Option.{option_map};
 ghost use Rattle.avc_shell.specs.LossLines.{passed_in, with_bytes, with_end, GoesOn};
 ghost use Rattle.avc_shell.specs.Outcomes.{outcome_after};
 ghost use Rattle.avc_shell.specs.Progress.{IsLast, IsReadOn};
+ghost use Rattle.avc_shell.specs.UnitPlaces.{places_with_bytes, places_with_end, FollowsOn};
 
 use crate::frame_times::FrameTimes;
 use crate::loss_lines::LossLines;
 use crate::progress::Progress;
+use crate::refusal_places::RefusalPlaces;
 use avc_console::{Counts, RunFault, Watch};
 use avc_types::Fault;
 use std::cell::Cell;
@@ -18,6 +20,7 @@ use std::io::ErrorKind;
 #[derive(Drop)]
 pub struct Observer<'a> {
     progress: Progress<'a>,
+    places: RefusalPlaces<'a>,
     losses: LossLines<'a>,
     times: Option<FrameTimes<'a>>,
     pictures: &'a Cell<u64>,
@@ -29,16 +32,19 @@ impl<'a> Observer<'a> {
     /// out.
     pub fn new(
         progress: Progress<'a>,
+        places: RefusalPlaces<'a>,
         losses: LossLines<'a>,
         times: Option<FrameTimes<'a>>,
         pictures: &'a Cell<u64>,
     ) -> Observer<'a>
         ensures outcome { result.outcome ≡ None }
         ensures progress { result.progress ≡ progress.entry }
+        ensures places { result.places ≡ places.entry }
         ensures losses { result.losses ≡ losses.entry }
     {
         Observer {
             progress,
+            places,
             losses,
             times,
             pictures,
@@ -73,14 +79,18 @@ impl<'a> Observer<'a> {
 
 impl Watch for Observer<'_> {
     fn note_bytes(&mut self, piece: &[u8])
-        ensures { self.new.losses.failed ≡ false → GoesOn (with_bytes piece.now) self.old.losses.losses self.new.losses.losses }
+        ensures places { self.new.places.failed ≡ false → FollowsOn (places_with_bytes piece.now) self.old.places.places self.new.places.places }
+        ensures losses { self.new.losses.failed ≡ false → GoesOn (with_bytes piece.now) self.old.losses.losses self.new.losses.losses }
     {
+        self.places.note_bytes(piece);
         self.losses.note_bytes(piece);
     }
 
     fn note_end(&mut self)
-        ensures { self.new.losses.failed ≡ false → GoesOn with_end self.old.losses.losses self.new.losses.losses }
+        ensures places { self.new.places.failed ≡ false → FollowsOn places_with_end self.old.places.places self.new.places.places }
+        ensures losses { self.new.losses.failed ≡ false → GoesOn with_end self.old.losses.losses self.new.losses.losses }
     {
+        self.places.note_end();
         self.losses.note_end();
     }
 
@@ -92,12 +102,14 @@ impl Watch for Observer<'_> {
     }
 
     fn note_refusal(&mut self, unit: u64, fault: Fault) {
+        self.places.note_refusal(unit, fault);
         self.losses.note_refusal(unit, fault);
     }
 
     fn look(&mut self, piece: &[u8], counts: Counts)
         ensures { IsReadOn piece.now counts (option_map (λ m. m.state) self.old.progress.meter) (option_map (λ m. m.state) self.new.progress.meter) }
     {
+        self.places.note_units();
         self.losses.note_units();
         self.progress.look(piece, counts);
     }
@@ -106,6 +118,7 @@ impl Watch for Observer<'_> {
         ensures progress { IsLast counts (option_map (λ m. m.state) self.old.progress.meter) (option_map (λ m. m.state) self.new.progress.meter) }
         ensures outcome { self.new.outcome ≡ outcome_after counts run self.old.outcome }
     {
+        self.places.note_units();
         self.losses.note_units();
         self.progress.end(counts);
         self.outcome = outcome_after(counts, run, self.outcome);

@@ -97,7 +97,7 @@ fn absent_picture_line(alloc: Global, number: u64) -> Result<String, AllocError>
     Ok(line)
 }
 
-// Where the standard error takes no more, nothing is told.
-fn tell(rt: &HostRuntime, text: &str) {
+/// Where the standard error takes no more, nothing is told.
+pub(crate) fn tell(rt: &HostRuntime, text: &str) {
     let _ = rt.stderr().write_all(text.as_bytes());
 }

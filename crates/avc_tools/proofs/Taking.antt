@@ -376,65 +376,115 @@ header_lines_grow form stay bytes more ended short =
 
 -- a form of the lines of pieces
 abbrev pub PieceForm : Type 0
-PieceForm = ℕ → Unit → List ℕ
+PieceForm = PieceFacts → List ℕ
 
-cut_points-append : (form : PieceForm) (number : ℕ) (us vs : List Unit) → cut_point_lines form number (us ++ vs) ≡ cut_point_lines form number us ++ cut_point_lines form (number_behind_all number us) vs
-cut_points-append form number [] vs = refl
-cut_points-append form number (u ∷ us) vs = rw (cut_points-append form (number_behind number u) us vs) (simp append_assoc)
+cut_points-append : (form : PieceForm) (c : CountedPieces) (us vs : List Unit) → cut_point_lines form c (us ++ vs) ≡ cut_point_lines form c us ++ cut_point_lines form (counted_all c us) vs
+cut_points-append form c [] vs = refl
+cut_points-append form c (u ∷ us) vs = rw (cut_points-append form (counted c u) us vs) (simp append_assoc)
 
-number_behind-append : (number : ℕ) (us vs : List Unit) → number_behind_all number (us ++ vs) ≡ number_behind_all (number_behind_all number us) vs
-number_behind-append number [] vs = refl
-number_behind-append number (u ∷ us) vs = number_behind-append (number_behind number u) us vs
+counted-append : (c : CountedPieces) (us vs : List Unit) → counted_all c (us ++ vs) ≡ counted_all (counted_all c us) vs
+counted-append c [] vs = refl
+counted-append c (u ∷ us) vs = counted-append (counted c u) us vs
 
--- The lines of these units are there, and they are counted.
-pub record IsCounted (form : PieceForm) (before now : ℕ) (text : List ℕ) (done : List Unit) : Type 0 where
-  pub number : now ≡ number_behind_all before done
+-- The lines of these units are there, and their pieces are counted.
+pub record IsCounted (form : PieceForm) (before now : CountedPieces) (text : List ℕ) (done : List Unit) : Type 0 where
+  pub counts : now ≡ counted_all before done
   pub lines : text ≡ cut_point_lines form before done
 
-pub counted_more : (form : PieceForm) (before old new : ℕ) (text more : List ℕ) (u : Unit) → new ≡ number_behind old u → more ≡ text ++ line_if_start form old u
+pub counted_more : (form : PieceForm) (before old new : CountedPieces) (text more : List ℕ) (u : Unit) → new ≡ counted old u → more ≡ text ++ line_of_piece form (piece_over old u)
     → (done : List Unit) → IsCounted form before old text done → IsCounted form before new more (done ++ u ∷ [])
-counted_more form before old new text more u counted added done h =
-    let here : line_if_start form old u ≡ cut_point_lines form (number_behind_all before done) (u ∷ []) =
-    ap (λ n. line_if_start form n u) h.number ∙ sym (append-nil (line_if_start form (number_behind_all before done) u)) in
+counted_more form before old new text more u is added done h =
+    let here : line_of_piece form (piece_over old u) ≡ cut_point_lines form (counted_all before done) (u ∷ []) =
+    ap (λ c. line_of_piece form (piece_over c u)) h.counts ∙ sym (append-nil (line_of_piece form (piece_over (counted_all before done) u))) in
     record {
-      number = counted ∙ ap (λ n. number_behind n u) h.number ∙ sym (number_behind-append before done (u ∷ []));
+      counts = is ∙ ap (λ c. counted c u) h.counts ∙ sym (counted-append before done (u ∷ []));
       lines =
-          added ∙ ap (λ l. l ++ line_if_start form old u) h.lines ∙ ap (λ l. cut_point_lines form before done ++ l) here
+          added ∙ ap (λ l. l ++ line_of_piece form (piece_over old u)) h.lines ∙ ap (λ l. cut_point_lines form before done ++ l) here
           ∙ sym (cut_points-append form before done (u ∷ []));
     }
 
-cut_point_lines_are : (form : PieceForm) (max : ℕ) (bytes : List ℕ) (ended : Bool) → length bytes ≤ max → cut_point_lines form 0 (units max bytes ended) ≡ cut_point_lines_so_far form bytes ended
-cut_point_lines_are form max bytes ended short = ap (cut_point_lines form 0) (whole_units max bytes ended short)
+cut_point_lines_are : (form : PieceForm) (max : ℕ) (bytes : List ℕ) (ended : Bool) → length bytes ≤ max → all_cut_point_lines form (units max bytes ended) ended ≡ cut_point_lines_so_far form bytes ended
+cut_point_lines_are form max bytes ended short = ap (λ us. all_cut_point_lines form us ended) (whole_units max bytes ended short)
 
 -- once more has come
-pub counted_again : (max : ℕ) (old mid new : SplitterState) (number now : ℕ) → AreCounted max old number → AreLeft max old mid → new ≡ after_units_left max mid
-    → now ≡ number_behind_all number (units_left max mid) → AreCounted max new now
-counted_again max old mid new number now h left is counted = record {
+counts_again : (max : ℕ) (old mid new : SplitterState) (c now : CountedPieces) → c ≡ counted_all none_counted (units max old.bytes old.ended) → AreLeft max old mid
+    → new ≡ after_units_left max mid → now ≡ counted_all c (units_left max mid) → now ≡ counted_all none_counted (units max new.bytes new.ended)
+counts_again max old mid new c now are left is counted_on =
+    counted_on ∙ ap (λ k. counted_all k (units_left max mid)) are
+    ∙ sym (counted-append none_counted (units max old.bytes old.ended) (units_left max mid))
+    ∙ ap (counted_all none_counted) (sym left.all)
+    ∙ ap (λ s. counted_all none_counted (units max s.bytes s.ended)) (sym is)
+
+pub counted_again : (max : ℕ) (old mid new : SplitterState) (before ended : Bool) (c now : CountedPieces) → AreCounted max old before c → AreLeft max old mid
+    → new ≡ after_units_left max mid → ended ≡ mid.ended → now ≡ counted_all c (units_left max mid) → AreCounted max new ended now
+counted_again max old mid new before ended c now h left is end_is counted_on = record {
   drained = drained max old mid new left is;
-  number_is =
-      counted ∙ ap (λ n. number_behind_all n (units_left max mid)) h.number_is
-      ∙ sym (number_behind-append 0 (units max old.bytes old.ended) (units_left max mid))
-      ∙ ap (number_behind_all 0) (sym left.all)
-      ∙ ap (λ s. number_behind_all 0 (units max s.bytes s.ended)) (sym is);
+  end_is = end_is ∙ ap (λ s. s.ended) (sym is);
+  counts_are = counts_again max old mid new c now h.counts_are left is counted_on;
 }
 
--- The lines of units that come to others come behind theirs.
-cut_point_lines_behind : (form : PieceForm) (max : ℕ) (bytes front : List ℕ) (ended front_ended : Bool) (others : List Unit) → length bytes ≤ max → length front ≤ max
-    → units max bytes ended ≡ units max front front_ended ++ others
-    → cut_point_lines_so_far form bytes ended ≡ cut_point_lines_so_far form front front_ended ++ cut_point_lines form (number_behind_all 0 (units max front front_ended)) others
-cut_point_lines_behind form max bytes front ended front_ended others short front_short is =
-    sym (cut_point_lines_are form max bytes ended short) ∙ ap (cut_point_lines form 0) is ∙ cut_points-append form 0 (units max front front_ended) others
-    ∙ ap (λ l. l ++ cut_point_lines form (number_behind_all 0 (units max front front_ended)) others) (cut_point_lines_are form max front front_ended front_short)
+-- The lines of units that come to others, and that of the last piece, come behind theirs.
+all_behind : (form : PieceForm) (us others : List Unit) (ended : Bool)
+    → all_cut_point_lines form (us ++ others) ended
+    ≡ all_cut_point_lines form us false ++ (cut_point_lines form (counted_all none_counted us) others ++ last_line form (counted_all none_counted (us ++ others)) ended)
+all_behind form us others ended =
+    rw (cut_points-append form none_counted us others, append-nil (cut_point_lines form none_counted us)) (simp append_assoc)
 
-pub cut_point_lines_added : (form : PieceForm) (max : ℕ) (old mid new : SplitterState) (number : ℕ) (added : List ℕ) → AreCounted max old number → AreLeft max old mid
-    → new ≡ after_units_left max mid → added ≡ cut_point_lines form number (units_left max mid) → length new.bytes ≤ max
-    → cut_point_lines_so_far form new.bytes new.ended ≡ cut_point_lines_so_far form old.bytes old.ended ++ added
-cut_point_lines_added form max old mid new number added h left is lines short = search (rules, cut_point_lines_behind)
+cut_point_lines_behind : (form : PieceForm) (max : ℕ) (bytes front : List ℕ) (ended : Bool) (others : List Unit) → length bytes ≤ max → length front ≤ max
+    → units max bytes ended ≡ units max front false ++ others
+    → cut_point_lines_so_far form bytes ended
+    ≡ cut_point_lines_so_far form front false
+    ++ (cut_point_lines form (counted_all none_counted (units max front false)) others ++ last_line form (counted_all none_counted (units max front false ++ others)) ended)
+cut_point_lines_behind form max bytes front ended others short front_short is =
+    let us = units max front false in
+    sym (cut_point_lines_are form max bytes ended short) ∙ ap (λ vs. all_cut_point_lines form vs ended) is ∙ all_behind form us others ended
+    ∙ ap (λ l. l ++ (cut_point_lines form (counted_all none_counted us) others ++ last_line form (counted_all none_counted (us ++ others)) ended))
+    (cut_point_lines_are form max front false front_short)
+
+added_behind : (form : PieceForm) (max : ℕ) (bytes front : List ℕ) (ended front_ended : Bool) (others : List Unit) (c now : CountedPieces) (lines : List ℕ) → front_ended ≡ false
+    → length bytes ≤ max → length front ≤ max → units max bytes ended ≡ units max front front_ended ++ others → c ≡ counted_all none_counted (units max front front_ended)
+    → lines ≡ cut_point_lines form c others → now ≡ counted_all c others
+    → cut_point_lines_so_far form bytes ended ≡ cut_point_lines_so_far form front front_ended ++ (lines ++ last_line form now ended)
+added_behind form max bytes front ended true others c now lines open_end short front_short is c_is lines_are now_is = cc
+added_behind form max bytes front ended false others c now lines open_end short front_short is c_is lines_are now_is =
+    let us = units max front false in
+    let more : cut_point_lines form (counted_all none_counted us) others ++ last_line form (counted_all none_counted (us ++ others)) ended ≡ lines ++ last_line form now ended =
+    rw (lines_are, now_is, c_is) (ap (λ k. cut_point_lines form (counted_all none_counted us) others ++ last_line form k ended) (counted-append none_counted us others)) in
+    cut_point_lines_behind form max bytes front ended others short front_short is ∙ ap (λ l. cut_point_lines_so_far form front false ++ l) more
+
+pub cut_point_lines_added : (form : PieceForm) (max : ℕ) (old mid new : SplitterState) (before : Bool) (c now : CountedPieces) (lines : List ℕ) → AreCounted max old before c
+    → before ≡ false → AreLeft max old mid → new ≡ after_units_left max mid → lines ≡ cut_point_lines form c (units_left max mid) → now ≡ counted_all c (units_left max mid)
+    → length new.bytes ≤ max → cut_point_lines_so_far form new.bytes new.ended ≡ cut_point_lines_so_far form old.bytes old.ended ++ (lines ++ last_line form now mid.ended)
+cut_point_lines_added form max old mid new before c now lines h open_end left is lines_are counted_on short =
+    let fits : length mid.bytes ≤ max = (rw is at short) in
+    rw is
+    (added_behind form max mid.bytes old.bytes mid.ended old.ended (units_left max mid) c now lines (sym h.end_is ∙ open_end) fits (omega (arith, fits, left.no_fewer))
+    left.all h.counts_are lines_are counted_on)
+
+-- by a piece
+pub cut_point_lines_fed : (form : PieceForm) (max : ℕ) (old mid new : SplitterState) (before : Bool) (c now : CountedPieces) (lines : List ℕ) → AreCounted max old before c
+    → before ≡ false → AreLeft max old mid → new ≡ after_units_left max mid → lines ≡ cut_point_lines form c (units_left max mid) → now ≡ counted_all c (units_left max mid)
+    → mid.ended ≡ false → length new.bytes ≤ max → cut_point_lines_so_far form new.bytes new.ended ≡ cut_point_lines_so_far form old.bytes old.ended ++ lines
+cut_point_lines_fed form max old mid new before c now lines h open_end left is lines_are counted_on goes_on short =
+    cut_point_lines_added form max old mid new before c now lines h open_end left is lines_are counted_on short
+    ∙ ap (λ e. cut_point_lines_so_far form old.bytes old.ended ++ (lines ++ last_line form now e)) goes_on
+    ∙ ap (λ l. cut_point_lines_so_far form old.bytes old.ended ++ l) (append-nil lines)
+
+-- at the end
+pub cut_point_lines_ended : (form : PieceForm) (max : ℕ) (old mid new : SplitterState) (before : Bool) (c now : CountedPieces) (lines all : List ℕ) (piece : Option PieceFacts)
+    → AreCounted max old before c → before ≡ false → AreLeft max old mid → new ≡ after_units_left max mid → lines ≡ cut_point_lines form c (units_left max mid)
+    → now ≡ counted_all c (units_left max mid) → mid.ended ≡ true → piece ≡ now.piece → all ≡ lines ++ line_of_piece form piece
+    → length new.bytes ≤ max → cut_point_lines_so_far form new.bytes new.ended ≡ cut_point_lines_so_far form old.bytes old.ended ++ all
+cut_point_lines_ended form max old mid new before c now lines all piece h open_end left is lines_are counted_on at_end piece_is all_is short =
+    cut_point_lines_added form max old mid new before c now lines h open_end left is lines_are counted_on short
+    ∙ ap (λ e. cut_point_lines_so_far form old.bytes old.ended ++ (lines ++ last_line form now e)) at_end
+    ∙ ap (λ p. cut_point_lines_so_far form old.bytes old.ended ++ (lines ++ line_of_piece form p)) (sym piece_is)
+    ∙ ap (λ l. cut_point_lines_so_far form old.bytes old.ended ++ l) (sym all_is)
 
 pub cut_point_lines_grow : (form : PieceForm) → UnitsStay → OnlyGrows (cut_point_lines_so_far form)
 cut_point_lines_grow form stay bytes more ended short =
     let later = stay (2 ^ 64) bytes more ended in
-    (_, cut_point_lines_behind form (2 ^ 64) (bytes ++ more) bytes ended false later.0 (omega (arith, short)) (omega (arith, short, length-append bytes more)) later.1)
+    (_, cut_point_lines_behind form (2 ^ 64) (bytes ++ more) bytes ended later.0 (omega (arith, short)) (omega (arith, short, length-append bytes more)) later.1)
 
 -- a line of three parts, with a number in front and its end
 pub line_put : (old index a b c last s1 s2 s3 s4 s5 : List ℕ) → s1 ≡ old ++ index → s2 ≡ s1 ++ a → s3 ≡ s2 ++ b → s4 ≡ s3 ++ c → s5 ≡ s4 ++ last
@@ -481,9 +531,22 @@ two_pieces = refl
 two_lengths : map length (pieces (stream ++ second_idr)) ≡ 27 ∷ 27 ∷ []
 two_lengths = refl
 
-two_cut_points : cut_point_lines_so_far cut_point_line (stream ++ second_idr) true ≡ codes "0 2 21\n1 3 29\n"
+two_cut_points : cut_point_lines_so_far cut_point_line (stream ++ second_idr) true ≡ codes "0 2 21 pictures 1\n1 3 29 pictures 1\n"
 unfolding digits
 two_cut_points = refl
+
+-- a P picture of one P_Skip macroblock, frame_num 1
+abbrev predicted : List ℕ
+predicted = 0 ∷ 0 ∷ 1 ∷ 65 ∷ 226 ∷ 42 ∷ []
+
+-- the pictures of a piece are all up to the next cut point; the line comes with that, or at the end
+three_pictures : cut_point_lines_so_far cut_point_line (stream ++ predicted ++ second_idr) true ≡ codes "0 2 21 pictures 2\n1 4 35 pictures 1\n"
+unfolding digits
+three_pictures = refl
+
+one_piece_over : cut_point_lines_so_far cut_point_line (stream ++ predicted ++ second_idr ++ predicted) false ≡ codes "0 2 21 pictures 2\n"
+unfolding digits
+one_piece_over = refl
 
 -- a supplemental unit goes with the picture behind it
 abbrev supplemental : List ℕ

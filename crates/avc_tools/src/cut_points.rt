@@ -1,29 +1,30 @@
-//! Where the pieces of a stream begin.
+//! Where the pieces of a stream begin, and how many pictures each has.
 
 ghost use Rattle.std.specs.Prelude.{◌≡◌, ◌++◌, false, length, IfOk, OnOk, string_bytes};
-ghost use Rattle.avc_tools.specs.CutPoints.{cut_point_line, cut_point_lines, line_if_start};
-ghost use Rattle.avc_tools.specs.CutPoints.{number_behind, number_behind_all};
+ghost use Rattle.avc_tools.specs.CutPoints.{counted, counted_all, cut_point_line, cut_point_lines};
+ghost use Rattle.avc_tools.specs.CutPoints.{line_of_piece, piece_over};
 ghost use Rattle.avc_tools.specs.Streams.{after_units_left, max_unit, units_left};
 
 use crate::listing_form::ListingForm;
+use crate::piece_counts::PieceCounts;
+use crate::piece_facts::PieceFacts;
 use crate::stream_text::StreamText;
 use crate::units::MAX_UNIT;
 use avc_annexb::laws::units_stay;
 use avc_annexb::{Splitter, Unit};
 use avc_types::{OutOfMemory, WantOfMemory};
-use avc_units::is_start;
 use std::alloc::Global;
 use std::marker::Model;
 
-/// A line of a form for each unit of a byte stream (Annex B) with which a piece begins, once the
-/// unit has ended. A contract sees what came of the stream.
+/// A line of a form for each piece of a byte stream (Annex B), once the piece is over: the unit has
+/// ended with which the next one begins, or the stream. A contract sees what came of the stream.
 #[derive(Drop)]
 pub struct CutPointLines<F> {
     alloc: Global,
     form: F,
     splitter: Splitter<MAX_UNIT>,
-    // of the next piece
-    number: u64,
+    counts: PieceCounts,
+    ended: bool,
     failed: WantOfMemory,
 }
 
@@ -36,7 +37,7 @@ impl<F> Model for CutPointLines<F> {
 
     ghost view = { λ l. record { bytes = l.splitter.bytes; ended = l.splitter.ended; failed = l.failed } };
 
-    ghost invariant = { λ l. l.failed ≡ false → AreCounted max_unit l.splitter l.number };
+    ghost invariant = { λ l. l.failed ≡ false → AreCounted max_unit l.splitter l.ended l.counts };
 }
 
 impl<F> CutPointLines<F> {
@@ -50,7 +51,8 @@ impl<F> CutPointLines<F> {
             alloc,
             form,
             splitter: Splitter::new(alloc),
-            number: 0,
+            counts: PieceCounts::new(alloc),
+            ended: false,
             failed: WantOfMemory::none(),
         }
     }
@@ -65,18 +67,21 @@ impl<F: ListingForm> StreamText for CutPointLines<F> {
 
     ghost text = { λ _. cut_point_lines_so_far F.of_piece };
 
-    // a further unit may have a line
+    // the next piece may have a line
     ghost over = { λ _ _ _. false };
 
     fn feed(&mut self, piece: &[u8]) -> Result<Vec<u8>, OutOfMemory> {
         units_stay();
         self.failed.check()?;
+        if self.ended {
+            return Ok(Vec::new(self.alloc));
+        }
         self.failed.keep(self.splitter.feed(piece))?;
         let lines = lines_of_units_left(
             self.alloc,
             &self.form,
             &mut self.splitter,
-            &mut self.number,
+            &mut self.counts,
         );
         let lines = self.failed.keep(lines)?;
         Ok(lines.into_bytes())
@@ -85,14 +90,20 @@ impl<F: ListingForm> StreamText for CutPointLines<F> {
     fn finish(&mut self) -> Result<Vec<u8>, OutOfMemory> {
         units_stay();
         self.failed.check()?;
+        if self.ended {
+            return Ok(Vec::new(self.alloc));
+        }
         self.failed.keep(self.splitter.finish())?;
         let lines = lines_of_units_left(
             self.alloc,
             &self.form,
             &mut self.splitter,
-            &mut self.number,
+            &mut self.counts,
         );
-        let lines = self.failed.keep(lines)?;
+        let mut lines = self.failed.keep(lines)?;
+        let last = add_line(self.alloc, &self.form, &mut lines, self.counts.piece());
+        self.failed.keep(last)?;
+        self.ended = true;
         Ok(lines.into_bytes())
     }
 
@@ -105,53 +116,64 @@ impl<F: ListingForm> StreamText for CutPointLines<F> {
     }
 }
 
-// Takes all units whose end has been seen, and makes the lines of those with which a piece begins.
+// Takes all units whose end has been seen, and makes the lines of the pieces that are over by them.
 fn lines_of_units_left<F: ListingForm>(
     alloc: Global,
     form: &F,
     splitter: &mut Splitter<MAX_UNIT>,
-    number: &mut u64,
+    counts: &mut PieceCounts,
 ) -> Result<String, OutOfMemory>
     requires { splitter.old.failed ≡ false }
-    ensures text { IfOk result (λ text. string_bytes text ≡ cut_point_lines F.of_piece number.old (units_left max_unit splitter.old)) }
-    ensures number { OnOk result (number.new ≡ number_behind_all number.old (units_left max_unit splitter.old)) }
+    ensures text { IfOk result (λ text. string_bytes text ≡ cut_point_lines F.of_piece counts.old (units_left max_unit splitter.old)) }
+    ensures counts { OnOk result (counts.new ≡ counted_all counts.old (units_left max_unit splitter.old)) }
     ensures taken { OnOk result (splitter.new ≡ after_units_left max_unit splitter.old) }
 {
     let mut text = String::new(alloc);
     while let Some(unit) = splitter.next_unit() {
-        add_unit(alloc, form, &mut text, number, &unit)?;
+        add_unit(alloc, form, &mut text, counts, &unit)?;
     }
     Ok(text)
 }
 
-// Takes the next unit, and makes its line, where a piece begins with it.
+// Takes the next unit, and makes the line of the piece that is over with it, if one is.
 fn add_unit<F: ListingForm>(
     alloc: Global,
     form: &F,
     text: &mut String,
-    number: &mut u64,
+    counts: &mut PieceCounts,
     unit: &Unit,
 ) -> Result<(), OutOfMemory>
-    ensures text { OnOk result (string_bytes text.new ≡ string_bytes text.old ++ line_if_start F.of_piece number.old unit.now) }
-    ensures number { OnOk result (number.new ≡ number_behind number.old unit.now) }
+    ensures text { OnOk result (string_bytes text.new ≡ string_bytes text.old ++ line_of_piece F.of_piece (piece_over counts.old unit.now)) }
+    ensures counts { OnOk result (counts.new ≡ counted counts.old unit.now) }
 {
-    if is_start(alloc, unit)? {
-        form.add_piece(alloc, text, *number, unit)?;
-        *number = number.saturating_add(1);
+    let over = counts.count(alloc, unit)?;
+    add_line(alloc, form, text, over)?;
+    Ok(())
+}
+
+// Makes the line of a piece, if there is one.
+fn add_line<F: ListingForm>(
+    alloc: Global,
+    form: &F,
+    text: &mut String,
+    piece: Option<PieceFacts>,
+) -> Result<(), OutOfMemory>
+    ensures { OnOk result (string_bytes text.new ≡ string_bytes text.old ++ line_of_piece F.of_piece piece) }
+{
+    if let Some(facts) = piece {
+        form.add_piece(alloc, text, facts)?;
     }
     Ok(())
 }
 
-/// Adds the line of the piece of this number, which begins with this unit, for people.
-pub(crate) fn add_cut_point_line(
-    text: &mut String,
-    number: u64,
-    unit: &Unit,
-) -> Result<(), OutOfMemory>
-    ensures { OnOk result (string_bytes text.new ≡ string_bytes text.old ++ cut_point_line number unit.now) }
+/// Adds the line of a piece for people.
+pub(crate) fn add_cut_point_line(text: &mut String, facts: PieceFacts) -> Result<(), OutOfMemory>
+    ensures { OnOk result (string_bytes text.new ≡ string_bytes text.old ++ cut_point_line facts) }
 {
-    let index = unit.index;
-    let offset = unit.offset;
-    writeln!(text, "{number} {index} {offset}")?;
+    let piece = facts.piece;
+    let unit = facts.unit;
+    let first_byte = facts.first_byte;
+    let pictures = facts.pictures;
+    writeln!(text, "{piece} {unit} {first_byte} pictures {pictures}")?;
     Ok(())
 }

@@ -9,6 +9,8 @@ pub mod laws;
 mod listing_form;
 mod losses;
 mod piece;
+mod piece_counts;
+mod piece_facts;
 mod piece_text;
 mod sets_in_force;
 mod stream_text;
@@ -25,6 +27,7 @@ pub use headers::{
 };
 pub use listing_form::{ForPeople, ListingForm};
 pub use losses::{Losses, SeenUnit};
+pub use piece_facts::PieceFacts;
 pub use piece_text::PieceText;
 pub use stream_text::StreamText;
 pub use tail_text::TailText;

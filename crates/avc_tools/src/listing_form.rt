@@ -6,10 +6,12 @@ ghost use Rattle.avc_params.specs.Tables.{Sets, sets_after};
 ghost use Rattle.avc_units.specs.Grouping.{set_units};
 ghost use Rattle.avc_tools.specs.CutPoints.{cut_point_line};
 ghost use Rattle.avc_tools.specs.Lines.{header_line, unit_line};
+ghost use Rattle.avc_tools.specs.declared.piece_facts.PieceFacts.{PieceFacts};
 ghost use Rattle.avc_tools.specs.declared.unit_facts.UnitFacts.{UnitFacts};
 
 use crate::cut_points::add_cut_point_line;
 use crate::headers::add_header_line;
+use crate::piece_facts::PieceFacts;
 use crate::unit_facts::UnitFacts;
 use crate::units::add_unit_line;
 use avc_annexb::Unit;
@@ -26,8 +28,8 @@ pub trait ListingForm {
     /// before it; of any other nothing.
     ghost of_header: { Sets → Unit → List ℕ };
 
-    /// The line of the piece of this number, counted from 0, which begins with this unit.
-    ghost of_piece: { ℕ → Unit → List ℕ };
+    /// The line of a piece.
+    ghost of_piece: { PieceFacts → List ℕ };
 
     /// Adds the line of a unit.
     fn add_unit(
@@ -49,15 +51,14 @@ pub trait ListingForm {
         ensures text { OnOk result (string_bytes text.new ≡ string_bytes text.old ++ of_header (sets_after reader.old) unit.now) }
         ensures sets { OnOk result (reader.new ≡ reader.old ++ set_units (unit.now ∷ [])) };
 
-    /// Adds the line of the piece of this number, counted from 0, which begins with this unit.
+    /// Adds the line of a piece.
     fn add_piece(
         &self,
         alloc: Global,
         text: &mut String,
-        number: u64,
-        unit: &Unit,
+        facts: PieceFacts,
     ) -> Result<(), OutOfMemory>
-        ensures { OnOk result (string_bytes text.new ≡ string_bytes text.old ++ of_piece number unit.now) };
+        ensures { OnOk result (string_bytes text.new ≡ string_bytes text.old ++ of_piece facts) };
 }
 
 /// Words and numbers in decimal, with spaces between them.
@@ -94,9 +95,8 @@ impl ListingForm for ForPeople {
         &self,
         _alloc: Global,
         text: &mut String,
-        number: u64,
-        unit: &Unit,
+        facts: PieceFacts,
     ) -> Result<(), OutOfMemory> {
-        add_cut_point_line(text, number, unit)
+        add_cut_point_line(text, facts)
     }
 }

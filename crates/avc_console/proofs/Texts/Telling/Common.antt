@@ -27,5 +27,5 @@ pub use Rattle.avc_console.specs.Reading.{WritesFirst, WritesSome, HasRead}
 pub use Rattle.avc_console.specs.Status.{fault_status, run_status}
 pub use Rattle.avc_console.specs.StreamWriting.{IsStopped, IsWhole, IsWriting, IsWrittenOn, StopsWriting}
 pub use Rattle.avc_console.specs.declared.fault.RunFault.{RunFault}
-pub use Rattle.avc_console.specs.declared.fault.RunFault.TheVariants.{Memory, Write}
+pub use Rattle.avc_console.specs.declared.fault.RunFault.TheVariants.{Memory, Read, Write}
 pub use Rattle.avc_console.specs.declared.report.Report.{Report}

@@ -1,4 +1,4 @@
-use Rattle.avc_console.proofs.Texts.{ap, rules, subst, after_piece, IsStopped, by_fault, stopped_at_end, writing_stopped_in, no_piece}
+use Rattle.avc_console.proofs.Texts.{Memory, ap, refl, rules, subst, after_piece, IsStopped, by_fault, stopped_at_end, stopped_at_read, writing_stopped_in, no_piece}
 use Rattle.avc_console.proofs.Texts.{same_front, whole_at_end, whole_by_over}
 use Rattle.avc_console.proofs.streaming.write_stream.Goals as goal
 
@@ -6,6 +6,16 @@ pub returns-in_err-piece-clause-err : goal.returns-in_err-piece-clause-err
 returns-in_err-piece-clause-err g c =
     let fault = c.in_err-piece.field-0.0 in
     by_fault c.from_residual.result fault _ c.from_residual.ensures.1 (no_piece (g.T.StreamText.text (g.T.StreamText.number c.args.text.now)) _ _ fault c.in_err-piece.ensures.err)
+
+pub returns-in_err-waiting-clause-err : goal.returns-in_err-waiting-clause-err
+returns-in_err-waiting-clause-err g c =
+    by_fault c.from_residual-in_err-waiting.result Memory _ c.from_residual-in_err-waiting.ensures.1 (no_piece (g.T.StreamText.text (g.T.StreamText.number c.args.text.now)) _ _ Memory refl)
+
+pub returns-in_err-len-clause-err : goal.returns-in_err-len-clause-err
+returns-in_err-len-clause-err g c =
+    let fault = c.in_err-len.field-0.0 in
+    by_fault c.from_residual-in_err-len.result fault _ c.from_residual-in_err-len.ensures.1
+    (stopped_at_read (g.T.StreamText.text (g.T.StreamText.number c.args.text.now)) fault c.pieces.reads _ _ _ _ _ _ c.pieces.invariant.writes c.in_err-len.ensures.fault c.in_err-len.ensures.err)
 
 pub returns-in_err-finish-clause-err : goal.returns-in_err-finish-clause-err
 returns-in_err-finish-clause-err g c =

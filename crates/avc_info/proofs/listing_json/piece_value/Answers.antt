@@ -6,6 +6,7 @@ unfolding serde_json_on_literals
 returns c =
     let none = ap members_view c.new-map.ensures.empty in
     let first = with_one _ _ _ _ _ _ c.in_ok-put_count.ensures refl none in
-    let number = with_one _ _ _ _ _ _ c.in_ok-put_count-2.ensures refl first in
-    let unit = with_one _ _ _ _ _ _ c.in_ok-put_count-3.ensures refl number in
-    view-Object c.put_count-3.new.map ∙ ap object unit
+    let pictures = with_one _ _ _ _ _ _ c.in_ok-put_count-2.ensures refl first in
+    let number = with_one _ _ _ _ _ _ c.in_ok-put_count-3.ensures refl pictures in
+    let unit = with_one _ _ _ _ _ _ c.in_ok-put_count-4.ensures refl number in
+    view-Object c.put_count-4.new.map ∙ ap object unit

@@ -54,7 +54,8 @@ pub use Rattle.avc_units.specs.Resuming.{sets_in_force, deciding_unit, satisfies
 pub use Rattle.avc_units.specs.declared.step.Next.{Next}
 pub use Rattle.avc_units.specs.declared.step.Next.TheVariants.{Nothing, Refusal, FaultOfOpen, FaultOfOwn}
 pub use Rattle.avc_units.specs.declared.step.Step.{Step}
-pub use Rattle.avc_tools.specs.CutPoints.{AreCounted, cut_point_line, cut_point_lines, cut_point_lines_so_far, line_if_start, number_behind, number_behind_all}
+pub use Rattle.avc_tools.specs.CutPoints.{AreCounted, CountedPieces, all_cut_point_lines, counted, counted_all, cut_point_line, cut_point_lines}
+pub use Rattle.avc_tools.specs.CutPoints.{cut_point_lines_so_far, last_line, line_of_piece, none_counted, piece_over}
 pub use Rattle.avc_tools.specs.Cutting.{AreKept, AreReplaced, HasSets, kept_bytes, pps_unit, replaced, sps_unit, piece_at, piece_in, pieces_at, pieces_in}
 pub use Rattle.avc_tools.specs.Cutting.{piece_units}
 pub use Rattle.avc_tools.specs.Lines.{unit_line, unit_lines_so_far, line_of_unit, header_line, header_lines_from, header_lines_so_far, newline, pps_fields, pps_flags}
@@ -69,5 +70,6 @@ pub use Rattle.avc_tools.specs.Stages.{IsCutting, phase_of, stage_of}
 pub use Rattle.avc_tools.specs.Streams.{OnlyGrows, IsDrained, after_units_left, units_left, max_unit, StreamSoFar, after_end, after_piece}
 pub use Rattle.avc_tools.specs.declared.cutter.CutPhase.{CutPhase}
 pub use Rattle.avc_tools.specs.declared.cutter.Cutter.{Cutter}
+pub use Rattle.avc_tools.specs.declared.piece_facts.PieceFacts.{PieceFacts}
 pub use Rattle.avc_tools.specs.declared.sets_in_force.SetsInForce.{SetsInForce}
 pub use Rattle.avc_tools.specs.declared.unit_facts.UnitFacts.{UnitFacts}

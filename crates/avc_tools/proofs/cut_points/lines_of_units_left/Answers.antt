@@ -5,21 +5,21 @@ pub loop-unit-preserved-in_ok-add_unit : goal.loop-unit-preserved-in_ok-add_unit
 loop-unit-preserved-in_ok-add_unit g c = record {
   draining =
       one_more max_unit _ _ _ _ c.in-Some.unit _ _ c.loop-unit.invariant.draining c.requires c.next_unit.ensures.unit c.next_unit.ensures.taken c.in-Some.is
-      (counted_more g.F.ListingForm.of_piece c.args.number.now _ _ _ _ c.in-Some.unit c.in_ok-add_unit.ensures.number c.in_ok-add_unit.ensures.text);
+      (counted_more g.F.ListingForm.of_piece c.args.counts.now _ _ _ _ c.in-Some.unit c.in_ok-add_unit.ensures.counts c.in_ok-add_unit.ensures.text);
 }
 
 pub loop-unit-preserved : goal.loop-unit-preserved
 loop-unit-preserved g c = record {
   draining =
       one_more max_unit _ _ _ _ c.in-Some.unit _ _ c.loop-unit.invariant.draining c.requires c.next_unit.ensures.unit c.next_unit.ensures.taken c.in-Some.is
-      (counted_more g.F.ListingForm.of_piece c.args.number.now _ _ _ _ c.in-Some.unit c.in_ok-add_unit.ensures.number c.in_ok-add_unit.ensures.text);
+      (counted_more g.F.ListingForm.of_piece c.args.counts.now _ _ _ _ c.in-Some.unit c.in_ok-add_unit.ensures.counts c.in_ok-add_unit.ensures.text);
 }
 
 pub returns-clause-text : goal.returns-clause-text
 returns-clause-text g c = (all_taken max_unit _ _ _ _ _ c.loop-unit.invariant.draining c.requires c.next_unit.ensures.unit c.next_unit.ensures.taken c.in_default.is).0.lines
 
-pub returns-clause-number : goal.returns-clause-number
-returns-clause-number g c = (all_taken max_unit _ _ _ _ _ c.loop-unit.invariant.draining c.requires c.next_unit.ensures.unit c.next_unit.ensures.taken c.in_default.is).0.number
+pub returns-clause-counts : goal.returns-clause-counts
+returns-clause-counts g c = (all_taken max_unit _ _ _ _ _ c.loop-unit.invariant.draining c.requires c.next_unit.ensures.unit c.next_unit.ensures.taken c.in_default.is).0.counts
 
 pub returns-clause-taken : goal.returns-clause-taken
 returns-clause-taken g c = (all_taken max_unit _ _ _ _ _ c.loop-unit.invariant.draining c.requires c.next_unit.ensures.unit c.next_unit.ensures.taken c.in_default.is).1
