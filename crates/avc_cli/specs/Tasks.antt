@@ -26,7 +26,7 @@ use Rattle.avc_info.specs.Info.{info_so_far}
 use Rattle.avc_info.specs.Json.{json_line}
 use Rattle.avc_info.specs.ListingJson.{header_json, piece_json, unit_json}
 use Rattle.avc_info.specs.PictureText.{info_text}
-use Rattle.avc_macroblocks.specs.Listing.{macroblock_lines_so_far}
+use Rattle.avc_macroblocks.specs.Program.{EndsMacroblocks}
 use Rattle.avc_macroblocks.specs.declared.listing.MacroblockListing.{MacroblockListing}
 use Rattle.avc_formats.specs.Formats.{plain, png, Format}
 use Rattle.avc_formats.specs.Headed.{headed}
@@ -79,14 +79,6 @@ drawing_of number = record { mode = mode_of false; skip = number; limit = 1; for
 abbrev Text : Type 0
 Text = List ℕ → (ended : Bool) → List ℕ
 
--- the one of five texts that is on this subject
-abbrev pub text_on : Subject → (of_units of_headers of_pieces : Text) → (of_macroblocks : MacroblockChoice → Text) → (of_all : Text) → Text
-text_on Units of_units of_headers of_pieces of_macroblocks of_all = of_units
-text_on Headers of_units of_headers of_pieces of_macroblocks of_all = of_headers
-text_on Pieces of_units of_headers of_pieces of_macroblocks of_all = of_pieces
-text_on (Macroblocks choice) of_units of_headers of_pieces of_macroblocks of_all = of_macroblocks choice
-text_on Info of_units of_headers of_pieces of_macroblocks of_all = of_all
-
 -- it is told in JSON
 abbrev is_json : Wording → Bool
 is_json Plain = false
@@ -96,14 +88,28 @@ is_json Json = true
 abbrev pub listing_of : MacroblockChoice → Wording → MacroblockListing
 listing_of choice wording = record { is_json = is_json wording; has_coefficients = choice.has_coefficients; picture = choice.picture }
 
+-- One of four texts is written, or the macroblocks that are asked for are listed: what this subject
+-- wants.
+abbrev pub EndsTellingOf : Subject → (of_units of_headers of_pieces of_all : Text) → (listing : MacroblockChoice → MacroblockListing) → Names → (unread left held holds before now : Option (List ℕ)) → Ending → Type 0
+EndsTellingOf Units of_units of_headers of_pieces of_all listing names unread left held holds before now ending =
+    EndsListing names of_units unread left held holds before now ending
+EndsTellingOf Headers of_units of_headers of_pieces of_all listing names unread left held holds before now ending =
+    EndsListing names of_headers unread left held holds before now ending
+EndsTellingOf Pieces of_units of_headers of_pieces of_all listing names unread left held holds before now ending =
+    EndsListing names of_pieces unread left held holds before now ending
+EndsTellingOf (Macroblocks choice) of_units of_headers of_pieces of_all listing names unread left held holds before now ending =
+    EndsMacroblocks names (listing choice) unread left held holds before now ending
+EndsTellingOf Info of_units of_headers of_pieces of_all listing names unread left held holds before now ending =
+    EndsListing names of_all unread left held holds before now ending
+
 -- in a wording
-abbrev pub text_in : Wording → Subject → List ℕ → (ended : Bool) → List ℕ
-text_in Plain subject =
-    text_on subject (unit_lines_so_far unit_line) (header_lines_so_far header_line) (cut_point_lines_so_far cut_point_line)
-    (λ choice. macroblock_lines_so_far (listing_of choice Plain)) (info_so_far info_text)
-text_in Json subject =
-    text_on subject (unit_lines_so_far unit_json) (header_lines_so_far header_json) (cut_point_lines_so_far piece_json)
-    (λ choice. macroblock_lines_so_far (listing_of choice Json)) (info_so_far json_line)
+abbrev pub EndsTelling : Wording → Subject → Names → (unread left held holds before now : Option (List ℕ)) → Ending → Type 0
+EndsTelling Plain subject =
+    EndsTellingOf subject (unit_lines_so_far unit_line) (header_lines_so_far header_line) (cut_point_lines_so_far cut_point_line)
+    (info_so_far info_text) (λ choice. listing_of choice Plain)
+EndsTelling Json subject =
+    EndsTellingOf subject (unit_lines_so_far unit_json) (header_lines_so_far header_json) (cut_point_lines_so_far piece_json)
+    (info_so_far json_line) (λ choice. listing_of choice Json)
 
 -- ---- comparing
 
@@ -117,11 +123,20 @@ pub record IsNotRead (other : Option (Bor (List ℕ))) (before now : Option (Lis
 abbrev pub comparison_of : Comparing → Option PictureSize → Comparison
 comparison_of how size = record { output = mode_of false; most = how.most; has_psnr = how.has_psnr; size = size }
 
+-- What stands behind a comparison that ended so, where it is explained, is told by code that is tested
+-- alone; else there is nothing.
+abbrev pub IsExplained : (explained : Bool) → (wrote holds told now : Option (List ℕ)) → (compared ending : Ending) → Type 0
+IsExplained false wrote holds told now compared ending = (holds ≡ wrote) × (now ≡ told) × (ending ≡ compared)
+IsExplained true wrote holds told now compared ending = Unit {0}
+
 -- The pictures were compared with those of the other's file, with the size that it says, if it says
--- one (that is read by code that is tested alone); or that file can't be read, and nothing is written.
+-- one (that is read by code that is tested alone), and that is explained; or that file can't be read,
+-- and nothing is written.
 abbrev pub EndsComparingFile : Names → (other : Option (Bor (List ℕ))) → (explained : Bool) → Comparing → (unread left held holds before now : Option (List ℕ)) → Ending → Type 0
 EndsComparingFile names other explained how unread left held holds before now ending =
-    ((size : Option PictureSize) × EndsComparing names other explained (comparison_of how size) unread left None None held holds before now ending)
+    ((size : Option PictureSize) × (wrote told : Option (List ℕ)) × (compared : Ending)
+    × EndsComparing names other explained (comparison_of how size) unread left None None held wrote before told compared
+    × IsExplained explained wrote holds told now compared ending)
     ⊎ ((holds ≡ held) × IsNotRead other before now ending)
 
 -- ---- all of them
@@ -135,7 +150,7 @@ EndsTask (tasks.Check mode) other alone names explained unread left held holds b
 EndsTask (tasks.Show s) other alone names explained unread left held holds before now ending =
     EndsShowing s.form s alone names explained unread left held holds before now ending
 EndsTask (tasks.Tell subject wording) other alone names explained unread left held holds before now ending =
-    EndsListing names (text_in wording subject) unread left held holds before now ending
+    EndsTelling wording subject names unread left held holds before now ending
 EndsTask (tasks.Cut number) other alone names explained unread left held holds before now ending =
     EndsCutting names number unread left held holds before now ending
 EndsTask (tasks.Draw number) other alone names explained unread left held holds before now ending =

@@ -1,16 +1,19 @@
 //! The command `compare`, with the file that is compared.
 
 ghost use Rattle.std.specs.Prelude.{◌≡◌};
-ghost use Rattle.avc_cli.specs.Tasks.{comparison_of, EndsComparingFile, IsNotRead};
+ghost use Rattle.avc_cli.specs.Tasks.{comparison_of, EndsComparingFile, IsExplained, IsNotRead};
 
+use crate::explaining::explain_difference;
 use avc_compare::{Comparison, PictureSize, compare};
 use avc_console::{Console, Ending, Names, RunFault, Watch, fail};
 use avc_request::{Comparing, Request};
 use avc_run::Output;
 use avc_shell::{Input, OtherPictures, StatedSize, tell_reason};
-use std::alloc::Global;
 use std::fs::File;
 use std::io::{ErrorKind, Read, Write};
+
+/// The exit status where something differs.
+const DIFFERS: u8 = 1;
 
 /// Compares the stream with the pictures of the other file.
 pub fn compare_files<R: Read, W: Write, E: Write, V: Watch>(
@@ -30,10 +33,7 @@ pub fn compare_files<R: Read, W: Write, E: Write, V: Watch>(
         Some(file) => match File::open(rt, file) {
             Ok(file) => {
                 let mut other = OtherPictures::new(Input::new(file));
-                let alloc = rt.alloc();
-                let ending = compare_with(
-                    alloc, comparing, reader, &mut other, name, writer, console,
-                );
+                let ending = compare_with(rt, comparing, reader, &mut other, name, writer, console);
                 tell_reason(rt, name, fault_of(&other));
                 ending
             }
@@ -45,22 +45,36 @@ pub fn compare_files<R: Read, W: Write, E: Write, V: Watch>(
         },
         None => {
             let mut other = OtherPictures::new(rt.stdin());
-            compare_with(
-                rt.alloc(),
-                comparing,
-                reader,
-                &mut other,
-                name,
-                writer,
-                console,
-            )
+            compare_with(rt, comparing, reader, &mut other, name, writer, console)
         }
+    }
+}
+
+// Tells more of the first difference, where that is wanted.
+fn explain_if_wanted<W: Write, E: Write, V: Watch>(
+    rt: &HostRuntime,
+    is_wanted: bool,
+    how: Comparison,
+    name: Option<&str>,
+    ending: Ending,
+    writer: &mut W,
+    console: &mut Console<'_, E, V>,
+) -> Ending
+    ensures { IsExplained is_wanted (W.contents writer.old) (W.contents writer.new) (E.contents console.old.errors)
+        (E.contents console.new.errors) ending result }
+{
+    if !is_wanted || ending.status != DIFFERS {
+        return ending;
+    }
+    match explain_difference(rt, how, console.names.input, name, writer) {
+        Ok(()) => ending,
+        Err(fault) => fail(fault, &console.names, &mut console.errors),
     }
 }
 
 // Compares the stream with these pictures, once their size was asked.
 fn compare_with<R: Read, S: Read, W: Write, E: Write, V: Watch>(
-    alloc: Global,
+    rt: &HostRuntime,
     comparing: Comparing,
     reader: &mut R,
     other: &mut OtherPictures<S>,
@@ -72,10 +86,12 @@ fn compare_with<R: Read, S: Read, W: Write, E: Write, V: Watch>(
         (R.remaining reader.old) (R.remaining reader.new) (W.contents writer.old) (W.contents writer.new)
         (E.contents console.old.errors) (E.contents console.new.errors) result }
 {
+    let is_explained = console.is_explained;
     match other.size() {
         Ok(size) => {
             let how = comparison_of(comparing, picture_size(size));
-            compare(alloc, how, reader, other, name, writer, console)
+            let ending = compare(rt.alloc(), how, reader, other, name, writer, console);
+            explain_if_wanted(rt, is_explained, how, name, ending, writer, console)
         }
         Err(_) => fail_to_read(name, console),
     }

@@ -5,14 +5,13 @@ ghost use Rattle.std.specs.Prelude.{◌≡◌, is_some};
 ghost use Rattle.avc_tools.specs.CutPoints.{cut_point_lines_so_far};
 ghost use Rattle.avc_tools.specs.Lines.{header_lines_so_far, unit_lines_so_far};
 ghost use Rattle.avc_info.specs.Info.{info_so_far};
-ghost use Rattle.avc_macroblocks.specs.Listing.{macroblock_lines_so_far};
-ghost use Rattle.avc_console.specs.Program.{EndsListing};
 ghost use Rattle.avc_formats.specs.Headed.{headed};
 ghost use Rattle.avc_run.specs.BySet.{EndsDecodingBySet};
 ghost use Rattle.avc_cli.specs.Tasks.{are_losses_told, drawing_of, listing_of, selection_of};
-ghost use Rattle.avc_cli.specs.Tasks.{text_on, y4m_of, EndsShowing, EndsTask};
+ghost use Rattle.avc_cli.specs.Tasks.{y4m_of, EndsShowing, EndsTask, EndsTellingOf};
 
 mod comparing;
+mod explaining;
 
 use avc_console::{
     Answer, Console, Ending, Names, RunFault, Watch, answer_status, cut, cut_status, fail,
@@ -27,8 +26,8 @@ use avc_request::{
 use avc_run::{Output as OutputMode, decode, decode_as, decode_headed, decode_md5, verify};
 use avc_shell::{
     Errors, FrameTimes, FromPiece, Input, LossLines, Observer, Output, OutputFile, PictureFiles,
-    Progress, absent_picture, ended_status, is_output_refused, is_progress_told, is_told_more,
-    tell_absent_picture, tell_container, tell_no_piece, tell_outcome, tell_reason,
+    Progress, RefusalPlaces, absent_picture, ended_status, is_output_refused, is_progress_told,
+    is_told_more, tell_absent_picture, tell_container, tell_no_piece, tell_outcome, tell_reason,
 };
 use avc_tools::{ForPeople, ListingForm};
 use clap::error::ErrorKind;
@@ -104,6 +103,7 @@ fn carry_out_on<R: Read + Drop>(
         errors: Errors::new(rt, manner.is_quiet, &has_left, &progress_stands),
         watch: Observer::new(
             progress,
+            RefusalPlaces::new(rt, manner.is_explained),
             LossLines::new(rt, is_told_more && are_losses_told(&request.task)),
             times,
             &pictures,
@@ -373,9 +373,8 @@ fn tell<F: ListingForm + InfoForm + Drop, R: Read, W: Write, E: Write, V: Watch>
     writer: &mut W,
     console: &mut Console<'_, E, V>,
 ) -> Ending
-    ensures { EndsListing console.old.names
-        (text_on subject (unit_lines_so_far F.of_unit) (header_lines_so_far F.of_header) (cut_point_lines_so_far F.of_piece)
-        (λ choice. macroblock_lines_so_far (listing_of choice wording)) (info_so_far F.text))
+    ensures { EndsTellingOf subject (unit_lines_so_far F.of_unit) (header_lines_so_far F.of_header) (cut_point_lines_so_far F.of_piece)
+        (info_so_far F.text) (λ choice. listing_of choice wording) console.old.names
         (R.remaining reader.old) (R.remaining reader.new) (W.contents writer.old) (W.contents writer.new)
         (E.contents console.old.errors) (E.contents console.new.errors) result }
 {
