@@ -1,11 +1,13 @@
 #!/bin/sh
 # bench/build.sh [--prove] [NAME..]: sees that the benchmarks, or those named, are still programs of this repository: each is built in a copy
 # of it and begins to run, as `rt try` does, which proves nothing; with --prove each is proved, as `rt check` proves any crate, and not run.
-# The last line is 'N passed, M failed'.
+# The last line is 'N passed, M failed'; which one is built stands on standard error.
 set -eu
 top=$(cd "$(dirname "$0")/.." && pwd)
+# shellcheck source=scripts/say.sh
+. "$top/scripts/say.sh"
 copy=$(mktemp -d)
-trap 'rm -rf "$copy"' EXIT
+trap 'hush; rm -rf "$copy"' EXIT
 verb=try
 if [ "${1:-}" = --prove ]; then
     verb=check
@@ -29,7 +31,10 @@ fi
 (cd "$top" && tar cf - --exclude=out crates crates.txt) | tar xf - -C "$copy"
 passed=0
 failed=0
+of=$#
 for name; do
+    say "bench/$name is built, $((passed + failed + 1)) of $of"
+    tell_while echo "bench/$name is built"
     "$top/bench/place.sh" "$name" "$copy"
     if (cd "$copy/crates/bench_$name" && builds) >"$copy/log" 2>&1 </dev/null; then
         passed=$((passed + 1))
@@ -38,6 +43,7 @@ for name; do
         echo "failed: bench/$name"
         cat "$copy/log"
     fi
+    hush
 done
 echo "$passed passed, $failed failed"
 [ "$failed" = 0 ] && [ "$passed" -gt 0 ]

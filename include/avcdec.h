@@ -256,6 +256,31 @@ static inline size_t avcdec_i420_size(const avcdec_event *picture) {
     return luma + 2 * chroma;
 }
 
+/* Whether the unit whose nal_unit_type is this begins a new access unit where it stands behind a slice (7.4.1.2.3). Slices of a picture
+ * come in the order of their macroblocks, so that a slice begins one where its first_mb_in_slice is 0: the first bit behind its header. */
+static inline bool avcdec_begins_access_unit(uint32_t nal_unit_type, uint8_t first_byte) {
+    if (nal_unit_type == 1 || nal_unit_type == 2 || nal_unit_type == 5)
+        return first_byte >= 128;
+    return (nal_unit_type >= 6 && nal_unit_type <= 9) || (nal_unit_type >= 14 && nal_unit_type <= 18);
+}
+
+/* How many of these bytes, which begin with a start code or zeros, are their first access unit (7.4.1.2.3): up to where the start code of
+ * the next one stands. 0 where no next one begins in them: then wait for more bytes, or at the stream's end take all. Of a stream from a
+ * file or a pipe it makes packets, to mark, to feed, and to end by avcdec_end_access_unit. A picture whose first slice is lost is taken
+ * for a part of the one before. */
+static inline size_t avcdec_access_unit_length(const uint8_t *bytes, size_t length) {
+    bool has_slice = false;
+    for (size_t at = 0; at + 4 < length; at++) {
+        if (bytes[at] != 0 || bytes[at + 1] != 0 || bytes[at + 2] != 1)
+            continue;
+        uint32_t type = bytes[at + 3] & 31u;
+        if (has_slice && avcdec_begins_access_unit(type, bytes[at + 4]))
+            return bytes[at - 1] == 0 ? at - 1 : at;
+        has_slice = has_slice || type == 1 || type == 2 || type == 5;
+    }
+    return 0;
+}
+
 /* Says that the bytes so far end with a whole access unit, as a packet of a call or a container does: its last unit ends and its
  * picture is decoded now, and not only once the next unit begins. It feeds an access unit delimiter (7.3.2.4) and a start code, so
  * it adds 1 to the count of units. Answers as avcdec_feed. */

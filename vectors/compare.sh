@@ -1,15 +1,20 @@
 #!/bin/sh
 # Plants differences in pictures, and compares what `avcdec compare` writes of them, its standard error and its status with what must come.
 # The pictures are those of streams whose md5 other decoders gave; what is planted where, and what must be told of it, is worked out by
-# the python below. Wants python3, and for the last rows ffmpeg. The last line is 'N passed, M failed'.
+# the python below. Wants python3, and for the last rows ffmpeg. The last line is 'N passed, M failed'; how far it is stands on standard error.
 set -u
 here=$(cd "$(dirname "$0")" && pwd)
+# shellcheck source=scripts/say.sh
+. "$here/../scripts/say.sh"
 program=$here/../avcdec
 work=$(mktemp -d)
-trap 'rm -rf "$work"' EXIT
+trap 'hush; rm -rf "$work"' EXIT
 trap 'exit 130' INT TERM
 passed=0
 failed=0
+say 'plants differences in pictures, and compares what is told of them, for a minute or two'
+reached 'the start'
+tell_while cat "$work/reached"
 
 # judges the last run: its name, its status, and the one that is wanted; the texts that are wanted stand in two files
 judge() {
@@ -21,10 +26,15 @@ judge() {
         diff "$work/wanted" "$work/written"
         diff "$work/wanted_told" "$work/told"
     fi
+    reached "$1"
 }
 
 cat >"$work/plant.py" <<'END'
+import hashlib
 import sys
+
+# so many of the other's pictures, from the first that differs on, are looked for among as many of ours
+SOUGHT = 17
 
 
 class Pictures:
@@ -76,6 +86,18 @@ class Pictures:
                         marks.setdefault(where, set()).add("L" if component == "luma" else "C")
         return self.text(picture, count, first, marks) if count else ""
 
+    def displaced(self, first, ours, theirs):
+        """A line for each of the other's whole pictures from the first that differs on that is another of ours: of those that were read, which
+        ends at the first that is not whole there."""
+        sums = [[hashlib.md5(data[n:n + self.size]).digest() for n in range(0, len(data) - self.size + 1, self.size)] for data in (ours, theirs)]
+        last = min(first + SOUGHT, len(sums[0]), len(sums[1]) + 1)
+        lines = ""
+        for number in range(first, min(last, len(sums[1]))):
+            here = [own for own in range(first, last) if sums[0][own] == sums[1][number]]
+            if here and number not in here:
+                lines += f"picture {number} is our picture {here[0]}\n"
+        return lines
+
     def text(self, picture, count, first, marks):
         component, column, row, our, their = first
         x, y = self.coded(component, column, row)
@@ -110,6 +132,8 @@ def main():
         a, b = int(words[0]), int(words[1])
         all_bytes[a * size:(a + 1) * size] = ours[b * size:(b + 1) * size]
         all_bytes[b * size:(b + 1) * size] = ours[a * size:(a + 1) * size]
+    elif kind == "order":  # PICTURE..: ours in this order
+        all_bytes[:] = b"".join(ours[int(word) * size:(int(word) + 1) * size] for word in words)
     elif kind == "without":  # PICTURE
         a = int(words[0])
         del all_bytes[a * size:(a + 1) * size]
@@ -131,6 +155,7 @@ def main():
                 break
             text = pictures.text_of(picture, ours[picture * size:(picture + 1) * size], all_bytes[picture * size:(picture + 1) * size], most)
             if text:
+                text += pictures.displaced(picture, ours, bytes(all_bytes))
                 break
     with open(other, "wb") as file:
         file.write(all_bytes)
@@ -207,6 +232,13 @@ row 'a Cb sample' 1 -- change 7 Cb 40 17 1
 row 'a Cr sample' 1 -- change 2 Cr 8 8 255
 row 'the last Cr sample' 1 -- change 9 Cr 74 44 1
 row 'two pictures exchanged' 1 -- exchange 4 6
+row 'the first and the last exchanged' 1 -- exchange 0 9
+row 'a picture too late' 1 -- order 0 1 3 4 5 6 2 7 8 9
+row 'groups that go out from the last on' 1 -- order 3 2 1 0 7 6 5 4 9 8
+row 'a picture twice' 1 -- order 0 1 2 2 3 4 5 6 7 8 9
+row 'a picture in place of the next' 1 -- order 0 1 2 2 4 5 6 7 8 9
+row 'a picture of before' 1 -- order 0 1 2 3 0 5 6 7 8 9
+row 'two exchanged, and the last left out' 1 -- order 0 1 3 2 4 5 6 7 8
 row 'a picture left out' 1 -- without 5
 row 'the last picture left out' 1 -- without 9
 row 'all left out' 1 -- cut 202500
@@ -224,13 +256,11 @@ row 'a luma sample of 10 among the first ten' 1 -- against "$work/low" 0
 # how near they are
 same 10 >"$work/near"
 near_row 'the same, and how near' 0 -- more 0 <"$work/near"
-{ same 3; echo 75.45 inf inf; } >"$work/near"
-near_row 'how near to one luma sample' 1 -- change 3 luma 77 41 5 <"$work/near"
 { same 3; echo 75.45 inf inf; same 6; } >"$work/near"
+near_row 'how near to one luma sample' 1 -- change 3 luma 77 41 5 <"$work/near"
 near_row 'how near, and none differs' 0 --max-diff 5 -- change 3 luma 77 41 5 <"$work/near"
-{ same 4; echo 12.35 16.11 12.66; } >"$work/near"
-near_row 'how near where two are exchanged' 1 -- exchange 4 6 <"$work/near"
 { same 4; echo 12.35 16.11 12.66; same 1; echo 12.35 16.11 12.66; same 3; } >"$work/near"
+near_row 'how near where two are exchanged' 1 -- exchange 4 6 <"$work/near"
 near_row 'how near all are' 0 --max-diff 255 -- exchange 4 6 <"$work/near"
 same 9 >"$work/near"
 near_row 'how near, and the last left out' 1 -- without 9 <"$work/near"
@@ -328,6 +358,8 @@ row 'the first of another' 1 -- change 1 luma 10 6 3
 row 'the last Cb sample of the first macroblock' 1 -- change 4 Cb 4 2 1
 row 'the first Cr sample of another' 1 -- change 19 Cr 5 3 1
 row 'two cropped pictures exchanged' 1 -- exchange 3 11
+row 'the last that is sought' 1 -- exchange 1 17
+row 'one behind it' 1 -- exchange 1 18
 row 'the same, cropped' 0 -- more 0
 
 # a refusal is told, and the pictures around it are compared
@@ -349,15 +381,53 @@ END
 "$program" compare --explain "$work/around" "$refusing.264" >"$work/written" 2>"$work/told"
 judge 'compare --explain' $? 1
 
+# the stage of a Cb sample of picture 5 in column 2 and row 6 of its macroblock: no filter changes it (8.7.2)
+python3 - "$work/ours" "$work/other" <<'PY'
+import sys
+ours, other = sys.argv[1:]
+pictures = bytearray(open(ours, "rb").read())
+size, place = 168 * 130 * 3 // 2, 168 * 130 + (30 - 5) * 84 + (34 - 3)
+pictures[5 * size + place] ^= 4
+open(other, "wb").write(pictures)
+PY
+"$program" compare --explain "$work/other" "$stream" >"$work/all" 2>/dev/null
+sed -n 's/^stage: \([a-z ]*\).*/\1/p; s/^macroblock [0-9]*: \(.* differ, .*\);.*/\1/p' "$work/all" >"$work/written"
+printf '%s\n' '1 of its 384 samples differ, 1 of these are not changed by our deblocking' 'before deblocking' >"$work/wanted"
+: >"$work/wanted_told"
+: >"$work/told"
+judge 'the stage of a sample that no filter changes' 0 0
+"$program" compare --explain "$work/other" - <"$stream" 2>/dev/null | tail -n 1 >"$work/written"
+echo 'the stage of the first difference is told of files with names alone' >"$work/wanted"
+judge 'the stage, the stream by standard input' 0 0
+
+# the stage where two pictures are exchanged: 2 and 5 of it
+python3 - "$work/ours" "$work/other" <<'PY'
+import sys
+ours, other = sys.argv[1:]
+pictures, size = open(ours, "rb").read(), 168 * 130 * 3 // 2
+each = [pictures[at:at + size] for at in range(0, len(pictures), size)]
+each[2], each[5] = each[5], each[2]
+open(other, "wb").write(b"".join(each))
+PY
+"$program" compare --explain "$work/other" "$stream" 2>/dev/null | tail -n 3 >"$work/written"
+printf '%s\n' 'picture 2 is our picture 5' 'picture 5 is our picture 2' "stage: output (C.4): the other's picture is ours of another number" >"$work/wanted"
+judge 'the stage, two pictures exchanged' 0 0
+
 if command -v ffmpeg >/dev/null; then
     # the deblocking filter left out: the first picture has another sample
     ffmpeg -v error -nostdin -skip_loop_filter all -flags unaligned -i "$stream" -fps_mode passthrough -f rawvideo "$work/unfiltered"
     : >"$work/wanted_told"
     row 'without the filter' 1 -- against "$work/unfiltered" 0
     row 'without the filter, at most three apart' 1 --max-diff 3 -- against "$work/unfiltered" 3
-    echo 49.92 51.05 51.29 >"$work/near"
-    near_row 'how near without the filter' 1 -- against "$work/unfiltered" 0 <"$work/near"
-    near_row 'how near all are without the filter' 0 --max-diff 255 -- against "$work/unfiltered" 255 <<'END'
+    # the stage: of all pictures, and of those alone that are no IDR pictures
+    echo "stage: deblocking (8.7): the other's samples are ours before it, so its filter changed none" >"$work/wanted"
+    ffmpeg -v error -nostdin -skip_loop_filter nokey -flags unaligned -i "$stream" -fps_mode passthrough -f rawvideo "$work/some_unfiltered"
+    for other in unfiltered some_unfiltered; do
+        "$program" compare --explain "$work/$other" "$stream" 2>/dev/null | grep '^stage: ' >"$work/written"
+        : >"$work/told"
+        judge "the stage, $other" 0 0
+    done
+    cat >"$work/near" <<'END'
 49.92 51.05 51.29
 48.66 50.55 49.84
 47.77 49.87 49.60
@@ -379,7 +449,9 @@ if command -v ffmpeg >/dev/null; then
 41.19 44.79 45.76
 40.91 44.34 45.01
 END
+    near_row 'how near without the filter' 1 -- against "$work/unfiltered" 0 <"$work/near"
+    near_row 'how near all are without the filter' 0 --max-diff 255 -- against "$work/unfiltered" 255 <"$work/near"
 fi
 
 echo "$passed passed, $failed failed"
-[ "$failed" = 0 ]
+[ "$failed" = 0 ] && [ "$passed" -gt 0 ]

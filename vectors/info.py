@@ -11,6 +11,7 @@ PROFILES = {66: "Baseline", 77: "Main", 88: "Extended"}
 SHAPES = "1:1 12:11 10:11 16:11 40:33 24:11 20:11 32:11 80:33 18:11 15:11 64:33 160:99 4:3 3:2 2:1".split()  # Table E-1 from 1 on
 MOST = 2**64 - 1
 MOST_SIZES = 8
+CHROMA_FORMATS = (100, 110, 122, 244, 44, 83, 86, 118, 128, 138, 139, 134, 135)  # profiles whose sets say one
 
 
 class Refused(Exception):
@@ -126,6 +127,43 @@ def sequence_set(bits):
     return number, s
 
 
+def scaling_list(bits, entries):
+    """7.3.2.1.1.1"""
+    last = 8
+    for _ in range(entries):
+        last = (last + bits.se() + 256) % 256
+        if last == 0:
+            return
+
+
+def any_size(bits):
+    """The size before cropping that a set of any profile says (7.3.2.1.1, 7.4.2.1.1); none where its bits end before."""
+    try:
+        profile = bits.u(8)
+        bits.u(16), bits.ue()
+        if profile in CHROMA_FORMATS:
+            chroma = bits.ue()
+            bits.u(chroma == 3), bits.ue(), bits.ue(), bits.u(1)
+            if bits.u(1):
+                for number in range(12 if chroma == 3 else 8):
+                    if bits.u(1):
+                        scaling_list(bits, 16 if number < 6 else 64)
+        bits.ue()
+        kind = bits.ue()
+        if kind == 0:
+            bits.ue()
+        elif kind == 1:
+            bits.u(1), bits.se(), bits.se()
+            for _ in range(bits.ue()):
+                bits.se()
+        bits.ue(), bits.u(1)
+        width, height = bits.ue() + 1, bits.ue() + 1
+        fields = 2 - bits.u(1)
+    except ValueError:
+        return None
+    return (16 * width, 16 * height * fields) if bits.at <= bits.bits.rindex("1") else None
+
+
 def picture_set(bits):
     """7.3.2.2"""
     number, sequence, cabac = bits.ue(), bits.ue(), bits.u(1)
@@ -192,7 +230,8 @@ class Facts:
             number, s = sequence_set(bits)
         except Refused:
             if self.refused_set is None and len(bits.bits) >= 24:
-                self.refused_set = int(bits.bits[:8], 2), int(bits.bits[16:24], 2)
+                bits.at = 0
+                self.refused_set = int(bits.bits[:8], 2), int(bits.bits[16:24], 2), any_size(bits)
             raise
         self.first_set = self.first_set or s
         return number, s
@@ -262,7 +301,9 @@ def info(f):
     first = ", the first unit {}: {} {}".format(*f.refusals[0]) if f.refusals else ""
     lines.append(f"refused {len(f.refusals)}{first}")
     if f.refused_set:
-        lines.append("refused profile {}, level {}".format(*f.refused_set))
+        number, level_idc, coded = f.refused_set
+        told = f"{coded[0]}x{coded[1]}" if coded else "size not given"
+        lines.append(f"refused sequence: profile_idc {number}, level_idc {level_idc}, {told}")
     if s:
         left, right, top, bottom = s["crop"]
         lines.append(f"coded {s['coded'][0]}x{s['coded'][1]}, crop left {left}, right {right}, top {top}, bottom {bottom}")
@@ -304,6 +345,10 @@ def sequence_object(f):
     }
 
 
+def refused_object(number, level_idc, coded):
+    return {"profile_idc": number, "level_idc": level_idc, "coded_size": coded and dict(zip(("width", "height"), coded))}
+
+
 def told_as_json(f):
     members = {
         "bits_per_second": f.bit_rate(),
@@ -312,7 +357,7 @@ def told_as_json(f):
         "first_refusal": dict(zip(("unit", "number", "name"), f.refusals[0])) if f.refusals else None,
         "more_sizes": len(f.sizes) > MOST_SIZES,
         "pictures": f.pictures,
-        "refused_sequence": f.refused_set and dict(zip(("profile_idc", "level_idc"), f.refused_set)),
+        "refused_sequence": f.refused_set and refused_object(*f.refused_set),
         "refused_units": len(f.refusals),
         "sequence": f.first and sequence_object(f),
         "sizes": [dict(zip(("width", "height"), one)) for one in f.sizes[:MOST_SIZES]],

@@ -21,10 +21,6 @@ say "decodes $(find "$here" -name '*.264' | wc -l) streams and tries the words o
 # builds the program, where that has not been done
 "$program" --help >"$work/help" || exit 1
 
-# how far it is, which stands in a file for whoever tells it
-reached() {
-    echo "$passed passed and $failed failed so far, at '$1'" >"$work/reached"
-}
 reached 'the start'
 tell_while cat "$work/reached"
 
@@ -196,7 +192,7 @@ import json, sys
 
 PLAIN = {
     "units": "{unit} {first_byte} {bytes} {nal_unit_type} {nal_ref_idc}",
-    "pieces": "{piece} {unit} {first_byte}",
+    "pieces": "{piece} {unit} {first_byte} pictures {pictures}",
     "sps": "{unit} sps {seq_parameter_set_id} profile {profile_idc} level {level_idc} size {width}x{height} "
     "refs {max_num_ref_frames} poc {pic_order_cnt_type} dpb {dpb_size}",
     "pps": "{unit} pps {pic_parameter_set_id} sps {seq_parameter_set_id} qp {qp} refs {refs} "
@@ -317,6 +313,10 @@ for stream in "$here"/*/*.264; do
             holds "types of picture 1 of ${name#"$here"/}" cmp -s "$work/written" "$name.types_1"
             "$program" info --json <"$stream" >"$work/facts" 2>"$work/told"
             holds "each picture of ${name#"$here"/} alone" pictures_are_told_alone "$stream"
+            "$program" macroblocks --picture 1000000 <"$stream" >"$work/alone" 2>"$work/told"
+            judge "macroblocks of an absent picture of ${name#"$here"/}" $? 1 'avcdec: no picture 1000000
+'
+            holds "no line of it" cmp -s "$work/alone" /dev/null
         fi
         if command -v python3 >/dev/null; then
             "$program" macroblocks --json <"$stream" >"$work/written" 2>"$work/told"
@@ -429,6 +429,7 @@ done
 "$program" decode --from 1 --explain "$here/cases/gap_and_resumed.264" >"$work/pictures" 2>"$work/told"
 judge 'a refusal behind a cut point' $? 1 'refused unit 3: 3 OutOfRange
 unit 3: 3 OutOfRange: a value is outside the range that its semantics give (7.4)
+unit 3 begins at byte 31, in coded picture 0
 waits for an IDR picture from unit 3 on
 1 pictures, 1 refusals, 0 slices passed over
 '
@@ -474,6 +475,8 @@ for command in units headers pieces macroblocks; do
     "$program" "$command" <"$work/live" >"$work/lines" &
     exec 9>"$work/live"
     cat "$picture" >&9
+    # the line of a piece comes where the next one begins
+    [ "$command" != pieces ] || cat "$picture" "$picture" >&9
     tries=0
     until [ -s "$work/lines" ] || [ "$tries" = 100 ]; do
         sleep 0.1
@@ -498,6 +501,10 @@ done
 holds 'a refusal of a stream that goes on' cmp -s "$work/told" "$refusing.refused"
 exec 9>&-
 wait
+# nor is it lost by Ctrl-C
+{ cat "$refusing.264" "$picture"; sleep 4; } | timeout -s INT 2 "$program" decode >"$work/pictures" 2>"$work/told"
+judge 'a refusal before Ctrl-C' $? 124 "$(cat "$refusing.refused")
+"
 {
     { printf '\000\000\001\346\102' && cat "$here/encoder/pub_o_crop_150x90.264"; } | "$program" decode 2>"$work/told"
     echo $? >"$work/status"
@@ -537,12 +544,20 @@ fi
 
 # a piece ends where the next begins, though the stream goes on
 pieces=$here/encoder/pub_x_keyint3.264
-# each IDR picture of it is one slice: a piece begins with each unit of type 5
-"$program" units "$pieces" | awk '$4 == 5 { print number++, $1, $2 }' >"$work/expected"
+# each IDR picture of it is one slice: a piece begins with each unit of type 5; how many pictures each has is ffprobe's count of packets
+# from one with the flag K to the next
+"$program" units "$pieces" | awk 'BEGIN { split("3 3 3 3 1", pictures) } $4 == 5 { print number + 0, $1, $2, "pictures", pictures[++number] }' >"$work/expected"
 "$program" pieces "$pieces" >"$work/lines" 2>"$work/told"
 judge 'pieces' $? 0 ''
 holds 'lines of pieces' cmp -s "$work/lines" "$work/expected"
 holds 'more than one' [ "$(wc -l <"$work/lines")" -gt 1 ]
+# the same of pictures of several sizes, and of pictures of several slices each
+for counted in 'encoder/pub_c_sizes 10 20 12 3 3 3 3 1' 'encoder/pub_o_idr_listing 5 5 5 5 4' 'generated/pubgen_15 6 5 2 3' 'generated/pubgen_11 12 2 2'; do
+    name=${counted%% *}
+    "$program" pieces "$here/$name.264" >"$work/lines" 2>"$work/told"
+    judge "pieces of $name" $? 0 ''
+    holds "their pictures" [ "$(sed 's/.* pictures //' "$work/lines" | tr '\n' ' ')" = "${counted#* } " ]
+done
 # the JSON of listings says what the plain lines do: of pieces, of refusals, of a pic_init_qp_minus26 of -5
 if command -v python3 >/dev/null; then
     for stream in "$pieces" "$here/cases/gap_and_resumed.264" "$here/cases/sps_truncated.264" "$here/corners/i_pcm_in_p_e0.264"; do
@@ -556,7 +571,7 @@ if command -v python3 >/dev/null; then
     done
 fi
 # a slice of type 5 that is not the first of its picture begins no piece
-"$program" units "$picture" | awk '$4 == 5 { print number++, $1, $2 }' >"$work/expected"
+"$program" units "$picture" | awk '$4 == 5 { print number++, $1, $2, "pictures 1" }' >"$work/expected"
 { cat "$picture" && printf '\000\000\001\145\100\200'; } | "$program" pieces >"$work/lines" 2>"$work/told"
 judge 'pieces of pictures, the last with a second slice' $? 0 ''
 holds 'their lines' cmp -s "$work/lines" "$work/expected"
@@ -604,6 +619,14 @@ done
 "$program" --help </dev/null >/dev/full 2>"$work/told"
 judge 'help to a full device' $? 3 'avcdec: write fault
 '
+# each word of `headers` that has a value behind it, at each second place, stands in the manual with what the value is
+for name in listing/three_units encoder/pub_x_keyint3 cases/gap_and_resumed; do
+    "$program" headers "$here/$name.264"
+done | awk '$2 == "refused" { print $2; next } { for (place = 2; place < NF; place += 2) print $place }' | sort -u >"$work/words"
+holds 'words of headers' [ "$(wc -l <"$work/words")" -ge 16 ]
+while read -r word; do
+    holds "$word, by the manual" grep -q "^$word  *[a-zA-Z0-9]" "$here/../docs/avcdec.1"
+done <"$work/words"
 "$program" --version >"$work/written"
 holds 'version as Cargo has it' grep -qx 'avcdec [0-9]*\.[0-9]*\.[0-9]*' "$work/written"
 "$program" --help >"$work/written"
@@ -612,6 +635,47 @@ for command in decode units headers macroblocks info cut compare; do
     "$program" "$command" --help >"$work/written"
     holds "an example in the help of $command" grep -q "^Example: avcdec $command " "$work/written"
 done
+
+# The script avcdec in a repository of its own, where what proves tells only that it was asked, and makes a program that tells its words. It
+# is started through a symbolic link from elsewhere. Where the stamp stands, the sources are not looked through: no find names their folders.
+if command -v git >/dev/null; then
+    made=$work/made
+    mkdir -p "$made/scripts" "$made/crates/avc_cli/src" "$work/tools"
+    cp "$here/../avcdec" "$made/avcdec"
+    echo 'the first' >"$made/crates/avc_cli/src/main.rt"
+    echo avc_cli >"$made/crates.txt"
+    cat >"$made/scripts/prove.py" <<'END'
+#!/bin/sh
+cd "$(dirname "$0")/.." && echo "$*" >>proved && mkdir -p crates/avc_cli/out &&
+    printf '#!/bin/sh\necho "%s: $*"\n' "$(cat crates/avc_cli/src/main.rt)" >crates/avc_cli/out/avc_cli && chmod 755 crates/avc_cli/out/avc_cli
+END
+    printf '#!/bin/sh\necho "$*" >>"%s"\nexec "%s" "$@"\n' "$work/found" "$(command -v find)" >"$work/tools/find"
+    chmod 755 "$made/scripts/prove.py" "$work/tools/find"
+    in_made() {
+        git -C "$made" -c user.name=a -c user.email=a@example.org "$@" >"$work/git" 2>&1
+    }
+    in_made init && echo out/ >"$made/.gitignore" && in_made add . && in_made commit -m first
+    ln -s "$made/avcdec" "$work/link"
+    # so often were the sources proved, and looked through, since the script was asked for the first time
+    is_told() {
+        : >"$work/found"
+        [ "$(cd "$work/tools" && PATH=$work/tools:$PATH ../link units in.264)" = "$1: units in.264" ] &&
+            [ "$(grep -cx avc_cli "$made/proved")" = "$2" ] && [ "$(grep -c crates.txt "$work/found")" = "$3" ]
+    }
+    holds 'avcdec by a symbolic link: what it stands beside is proved' is_told 'the first' 1 0
+    holds 'and not again' is_told 'the first' 1 0
+    touch -d '10 seconds ago' "$made"/crates/avc_cli/out/*
+    echo 'another' >"$made/crates/avc_cli/src/main.rt"
+    holds 'a change is proved' is_told 'another' 2 1
+    in_made commit -a -m second
+    touch -d '10 seconds ago' "$made/crates.txt" "$made/crates/avc_cli/src/main.rt"
+    holds 'a program that is newer than the sources is theirs' is_told 'another' 2 1
+    holds 'which is not looked at again' is_told 'another' 2 0
+    touch -d '5 seconds ago' "$made/crates/avc_cli/out/proved-from"
+    sed -i 's/another/of other sources/' "$made/crates/avc_cli/out/avc_cli"
+    touch -d '2 seconds' "$made/crates.txt"
+    holds 'a program made behind its stamp is not taken for that of the sources' is_told 'another' 3 1
+fi
 
 # files: the same bytes as by the standard streams, and - is one of these. An output that exists is emptied first.
 "$program" decode <"$picture" >"$work/pictures"
@@ -754,7 +818,9 @@ avcdec: $work: it is a folder
 # an output is made where there is something to write; else an old one stays as it was
 echo old >"$work/old"
 cp "$work/old" "$work/kept"
-for words in "decode /dev/null" "cut 9 $here/listing/two_pieces.264"; do
+for words in "decode /dev/null" 'decode -f y4m /dev/null' 'decode -f framemd5 /dev/null' 'decode -f png /dev/null' "decode $here" \
+    "decode $here/cases/sps_truncated.264" "decode -f y4m $here/cases/sps_truncated.264" "decode -s 9 $here/listing/two_pieces.264" \
+    "decode --from 9 $here/listing/two_pieces.264" "picture 9 $here/listing/two_pieces.264" "cut 9 $here/listing/two_pieces.264"; do
     # shellcheck disable=SC2086
     "$program" $words -o "$work/kept" >"$work/written" 2>"$work/told"
     holds "$words: the old output stays" cmp -s "$work/kept" "$work/old"
@@ -763,11 +829,28 @@ for words in "decode /dev/null" "cut 9 $here/listing/two_pieces.264"; do
     holds "$words: no output is made" [ ! -e "$work/new" ]
 done
 
+# of a stream that goes on no output is made before a picture goes out, though a refusal is told
+: >"$work/told"
+"$program" decode -o "$work/late" <"$work/live" 2>"$work/told" &
+exec 9>"$work/live"
+{ cat "$here/cases/sps_truncated.264" && head -c 4 "$here/listing/two_pieces.264"; } >&9
+tries=0
+until [ -s "$work/told" ] || [ "$tries" = 100 ]; do
+    sleep 0.1
+    tries=$((tries + 1))
+done
+holds 'no output before a picture' [ ! -e "$work/late" ]
+tail -c +5 "$here/listing/two_pieces.264" >&9
+exec 9>&-
+wait
+holds 'the refusal before the pictures' cmp -s "$work/told" "$here/cases/sps_truncated.refused"
+holds 'the pictures behind it' cmp -s "$work/late" "$work/two_grey"
+
 # what is read is not written over, by its name, through a link, or as the standard input
 cp "$picture" "$work/same.264"
 ln -s same.264 "$work/link.264"
 ln "$work/same.264" "$work/hard.264"
-for command in decode 'decode --format md5' 'cut 0'; do
+for command in decode 'decode --format md5' 'decode --format y4m' 'picture 0' 'cut 0'; do
     for output in same link hard; do
         # shellcheck disable=SC2086
         "$program" $command "$work/same.264" -o "$work/$output.264" >"$work/written" 2>"$work/told"
@@ -775,9 +858,12 @@ for command in decode 'decode --format md5' 'cut 0'; do
 "
     done
 done
-"$program" decode -o "$work/same.264" <"$work/same.264" >"$work/written" 2>"$work/told"
-judge 'decode into its standard input' $? 2 "avcdec: $work/same.264 is the file that is read
+for command in decode 'picture 0' 'cut 0'; do
+    # shellcheck disable=SC2086
+    "$program" $command -o "$work/same.264" <"$work/same.264" >"$work/written" 2>"$work/told"
+    judge "$command into its standard input" $? 2 "avcdec: $work/same.264 is the file that is read
 "
+done
 holds 'the input is whole' cmp -s "$work/same.264" "$picture"
 
 # the line of a fault has the name of the file, also where that could be opened, and one more says why
@@ -808,11 +894,21 @@ avcdec: $here: it is a folder
 judge 'a file in what is no folder' $? 3 "avcdec: read fault: $picture/in
 avcdec: $picture/in: a part of its name is no folder
 "
+# root may read all, unless it is root without its capabilities
 if [ "$(id -u)" != 0 ]; then
-    : >"$work/locked"
-    chmod 0 "$work/locked"
-    "$program" decode "$work/locked" 2>"$work/told"
+    bounded='env'
+else
+    bounded='setpriv --inh-caps=-all --bounding-set=-all'
+fi
+: >"$work/locked"
+chmod 0 "$work/locked"
+if $bounded "$program" --version >/dev/null 2>&1 && ! $bounded cat "$work/locked" >/dev/null 2>&1; then
+    $bounded "$program" decode "$work/locked" 2>"$work/told"
     judge 'a file that may not be read' $? 3 "avcdec: read fault: $work/locked
+avcdec: $work/locked: there is no permission
+"
+    $bounded "$program" decode "$picture" -o "$work/locked" 2>"$work/told"
+    judge 'a file that may not be written' $? 3 "avcdec: write fault: $work/locked
 avcdec: $work/locked: there is no permission
 "
 fi
@@ -872,8 +968,10 @@ avcdec: no picture was found; $what
 "
         holds 'nothing is written' [ ! -s "$work/written" ]
     done
-    "$program" decode --strict - <"$work/other" >"$work/written" 2>"$work/told"
-    judge "decode --strict of what begins with $bytes" $? 1 ''
+    for format in i420 y4m framemd5 png null; do
+        "$program" decode --strict --format "$format" - <"$work/other" >"$work/written" 2>"$work/told"
+        judge "decode --strict --format $format of what begins with $bytes" $? 1 ''
+    done
     "$program" info "$work/other" >"$work/written" 2>"$work/told"
     case $what in
     'the first bytes are those of a byte stream' | 'the first bytes are of no '* | 'there is nothing '*) wanted='' ;;
@@ -883,6 +981,8 @@ avcdec: no picture was found; $what
         ;;
     esac
     judge "info of what begins with $bytes" $? 0 "$wanted"
+    "$program" info --json - <"$work/other" >"$work/written" 2>"$work/told"
+    judge "info --json of what begins with $bytes" $? 0 "$wanted"
 done <<END
 \\000\\000\\000\\034ftypisom|the first bytes are those of an MP4 file$pipe
 \\032\\105\\337\\243|the first bytes are those of a Matroska or WebM file$pipe
@@ -902,6 +1002,22 @@ G%188sG|the first bytes are of no known file; a byte stream begins with 00 00 01
 END
 "$program" decode --strict "$picture" >"$work/written" 2>"$work/told"
 judge 'decode --strict of a picture' $? 0 ''
+# an MP4 file in which a unit seems to stand: what is told without more is as ever
+printf '\000\000\000\034ftypisom\000\000\001\346\102' >"$work/other"
+"$program" decode "$work/other" -o "$work/new" 2>"$work/told"
+judge 'decode of an MP4 file with a refusal' $? 1 'refused unit 0: 4 ForbiddenBit
+'
+"$program" decode --explain "$work/other" -o "$work/new" 2>"$work/told"
+judge 'decode --explain of an MP4 file with a refusal' $? 1 "refused unit 0: 4 ForbiddenBit
+unit 0: 4 ForbiddenBit: forbidden_zero_bit is 1; nothing else changes (7.4.1)
+unit 0 begins at byte 15, before coded picture 0
+0 pictures, 1 refusals, 0 slices passed over
+avcdec: no picture was found; the first bytes are those of an MP4 file$pipe
+"
+holds 'no output is made' [ ! -e "$work/new" ]
+"$program" info "$work/other" >"$work/written" 2>"$work/told"
+judge 'info of an MP4 file with a refusal' $? 0 "avcdec: the first bytes are those of an MP4 file$pipe
+"
 
 # no pictures are equal to nothing: some_md5 is the MD5 of no bytes
 "$program" decode --verify "$some_md5" </dev/null >"$work/written" 2>"$work/told"
@@ -911,16 +1027,18 @@ judge 'decode --verify of no picture' $? 1 ''
 "$program" decode --verify "$some_md5" --limit 0 "$moving" >"$work/written" 2>"$work/told"
 judge 'decode --verify --limit 0' $? 1 ''
 
-# What each refusal means is told in the words of docs/behaviour.md, behind its line, and that decoding waits where it is that of a slice
-# whose forbidden_zero_bit is 0; and then how many pictures and refusals there are, and slices with which no piece begins and which are
+# What each refusal means is told in the words of docs/behaviour.md, behind its line, then where its unit stands, by places.py, and that
+# decoding waits where it is that of a slice whose forbidden_zero_bit is 0; and then how many pictures and refusals there are, and slices with which no piece begins and which are
 # passed over: such that come before the first piece begins, or with a loss between them and the last that began before them.
 explained_as() {
     pictures=$("$program" decode --format framemd5 "${1%.refused}.264" 2>"$work/others" | grep -vc '^#')
     "$program" units "${1%.refused}.264" >"$work/its_units"
     "$program" pieces "${1%.refused}.264" >"$work/its_pieces"
-    awk -F '|' -v pictures="$pictures" '
+    "$here/places.py" "${1%.refused}.264" >"$work/its_places"
+    awk -F '|' -v pictures="$pictures" -v placed=0 '
         FILENAME == ARGV[2] { split($0, part, " "); type[part[1]] = part[4]; units++; next }
         FILENAME == ARGV[3] { split($0, part, " "); begins[part[2]] = 1; next }
+        FILENAME == ARGV[4] { place[placed] = $1; profile[placed] = $2; level[placed++] = $3; next }
         FILENAME == ARGV[1] {
             if ($2 ~ /^ [0-9]+ [A-Za-z]+ $/) {
                 split($2, head, " ")
@@ -936,6 +1054,7 @@ explained_as() {
             sub(/^refused /, "")
             split($0, part, /[: ]+/)
             print $0 ": " meaning[part[3]]
+            print place[part[2]] (part[3] == 10 ? profile[part[2]] : part[3] == 11 ? level[part[2]] : "")
             refusals++
             if (part[3] == 4) forbidden[part[2]] = 1
             else if (type[part[2]] >= 1 && type[part[2]] <= 5) {
@@ -955,7 +1074,7 @@ explained_as() {
             }
             printf "%d pictures, %d refusals, %d slices passed over\n", pictures, refusals, passed
         }
-    ' "$here/../docs/behaviour.md" "$work/its_units" "$work/its_pieces" "$1"
+    ' "$here/../docs/behaviour.md" "$work/its_units" "$work/its_pieces" "$work/its_places" "$1"
     if [ "$pictures" = 0 ]; then
         echo 'avcdec: no picture was found; the first bytes are those of a byte stream'
     fi
@@ -978,9 +1097,11 @@ gap=$here/cases/gap_and_resumed.264
 { head -c 33 "$gap"; tail -c +27 "$gap" | head -c 7; tail -c +27 "$gap" | head -c 7; tail -c +34 "$gap"; } | "$program" decode --explain >"$work/written" 2>"$work/told"
 judge 'decode --explain of slices behind a loss' $? 1 'refused unit 3: 32 FrameNumGap
 unit 3: 32 FrameNumGap: a gap in frame_num where gaps are not allowed (7.4.3)
+unit 3 begins at byte 29, in coded picture 1
 waits for an IDR picture from unit 3 on
 refused unit 7: 3 OutOfRange
 unit 7: 3 OutOfRange: a value is outside the range that its semantics give (7.4)
+unit 7 begins at byte 58, in coded picture 4
 waits for an IDR picture from unit 7 on
 2 pictures, 2 refusals, 2 slices passed over
 '
@@ -989,13 +1110,45 @@ for format in i420 null md5 y4m framemd5; do
     "$program" decode --explain --format "$format" "$gap" >"$work/written" 2>"$work/told"
     judge "decode --explain --format $format of slices behind a loss" $? 1 'refused unit 3: 32 FrameNumGap
 unit 3: 32 FrameNumGap: a gap in frame_num where gaps are not allowed (7.4.3)
+unit 3 begins at byte 29, in coded picture 1
 waits for an IDR picture from unit 3 on
 refused unit 5: 3 OutOfRange
 unit 5: 3 OutOfRange: a value is outside the range that its semantics give (7.4)
+unit 5 begins at byte 44, in coded picture 2
 waits for an IDR picture from unit 5 on
 2 pictures, 2 refusals, 0 slices passed over
 '
 done
+# a slice whose forbidden_zero_bit is 1 behind the slices of a picture, whose last one is refused when it is closed, and then the same without it
+closed=$here/cases/closing_names_last_slice.264
+{ head -c 45 "$closed"; printf '\000\000\001\341\232'; tail -c +46 "$closed"; cat "$closed"; } | "$program" decode --explain >"$work/written" 2>"$work/told"
+judge 'decode --explain of a slice refused alone in a refused picture' $? 1 "refused unit 5: 4 ForbiddenBit
+unit 5: 4 ForbiddenBit: forbidden_zero_bit is 1; nothing else changes (7.4.1)
+unit 5 begins at byte 48, in coded picture 1
+refused unit 4: 37 BadMarking
+unit 4: 37 BadMarking: a marking operation that can't be carried out, or more than 64 (8.2.5.4)
+unit 4 begins at byte 40, in coded picture 1
+waits for an IDR picture from unit 4 on
+refused unit 11: 37 BadMarking
+unit 11: 37 BadMarking: a marking operation that can't be carried out, or more than 64 (8.2.5.4)
+unit 11 begins at byte 96, in coded picture 3
+waits for an IDR picture from unit 11 on
+2 pictures, 3 refusals, 0 slices passed over
+"
+# sequence parameter sets of other profiles and levels, and one of a profile without a name, in front of ten pictures and behind them
+{
+    for first in '144\000\036' '156\000\036' '172\000\036' '364\000\036' '054\000\036' '123\000\036' '126\000\036' '166\000\036' '200\000\036' '001\000\036' '102\300\143'; do
+        printf '\000\000\001\147\'"$first"'\254'
+    done
+    cat "$moving"
+    printf '\000\000\001\147\102\300\143\332'
+} >"$work/sets.264"
+"$program" decode "$work/sets.264" 2>"$work/sets.refused" >"$work/written"
+explained_as "$work/sets.refused" >"$work/wanted"
+"$program" decode --explain "$work/sets.264" >"$work/written" 2>"$work/told"
+judge 'decode --explain of other profiles and levels' $? 1 "$(cat "$work/wanted")
+"
+holds 'it names them' [ "$(grep -c 'profile_idc [0-9]* ([A-Za-z0-9: ]*); 66, 77 and 88 are taken\|profile_idc 1; \|level_idc 99$' "$work/told")" = 12 ]
 # two slices of type 1 before the first IDR picture, and a unit between them that is none
 { printf '\000\000\001\101\232\042\240\000\000\001\014\377\000\000\001\101\232\042\240' && cat "$moving"; } |
     "$program" decode --explain >"$work/written" 2>"$work/told"
@@ -1075,12 +1228,12 @@ passed_time=$(($(date +%s%N) - before))
 holds 'ten times' [ "$(grep -cx '[0-9][0-9]*' "$work/times")" = 10 ]
 holds 'no other line' [ "$(wc -l <"$work/times")" = 10 ]
 holds 'they are not above what was measured' [ "$(awk '{ all += $1 } END { print all }' "$work/times")" -le "$passed_time" ]
-# from a reader that waits a second before its last bytes; the program may begin a little later than it
-{ head -c "$(($(wc -c <"$moving") - 1))" "$moving"; sleep 1; tail -c 1 "$moving"; } | "$program" decode --frametimes - >"$work/pictures" 2>"$work/told"
+# from a reader that waits two seconds before its last bytes; the program may begin later than it
+{ head -c "$(($(wc -c <"$moving") - 1))" "$moving"; sleep 2; tail -c 1 "$moving"; } | "$program" decode --frametimes - >"$work/pictures" 2>"$work/told"
 holds 'times of a stream that waits' [ "$(awk '{ all += $1 } END { print (all >= 900000000) }' "$work/told")" = 1 ]
-# from one that waits before its first bytes: that second is the first picture's alone
+# from one that waits before its first bytes: that time is the first picture's alone
 before=$(date +%s%N)
-{ sleep 1; cat "$moving"; } | "$program" decode --frametimes - >"$work/pictures" 2>"$work/told"
+{ sleep 2; cat "$moving"; } | "$program" decode --frametimes - >"$work/pictures" 2>"$work/told"
 passed_time=$(($(date +%s%N) - before))
 holds 'times of a stream that comes late' [ "$(awk '{ all += $1 } END { print all }' "$work/told")" -le "$passed_time" ]
 holds 'the first picture waited' [ "$(head -n 1 "$work/told")" -ge 900000000 ]
@@ -1167,6 +1320,11 @@ if command -v script >/dev/null; then
     holds 'on a terminal it is told where no picture was found' grep -q 'avcdec: no picture was found; there is nothing to read' "$work/told"
     script -qec "'$program' decode --quiet -f null </dev/null" /dev/null </dev/null >"$work/told" 2>&1
     holds 'not with --quiet' [ ! -s "$work/told" ]
+    printf '\000\000\000\034ftypisom' >"$work/other"
+    script -qec "'$program' decode -f null '$work/other'" /dev/null </dev/null >"$work/told" 2>&1
+    holds 'on a terminal a container is named, with the pipe' grep -qF "avcdec: no picture was found; the first bytes are those of an MP4 file$pipe" "$work/told"
+    script -qec "'$program' decode --verify '$some_md5' '$moving'" /dev/null </dev/null >"$work/told" 2>&1
+    holds 'on a terminal the MD5 is told, too' grep -qF "avcdec: the MD5 is $(cut -d ' ' -f 1 <"${moving%.264}.md5")" "$work/told"
     script -qec "'$program' decode -f null '$here/cases/gap_and_resumed.264'" /dev/null </dev/null >"$work/told" 2>&1
     holds 'on a terminal it is told where decoding waits' grep -q 'waits for an IDR picture from unit 3 on' "$work/told"
     holds 'and how many slices are passed over' grep -q '2 pictures, 2 refusals, 0 slices passed over' "$work/told"
@@ -1210,6 +1368,74 @@ END
     for form in $("$program" decode --help | sed -n 's/.*--format.*possible values: \([^]]*\)\].*/\1/p' | tr -d ,); do
         completes avcdec decode --format '' | grep -qx "$form"
         holds "--format $form is completed" [ $? = 0 ]
+    done
+fi
+
+# The commands of README.md and the examples of the manual, as they stand there, on streams of full range and cropped at the left: each
+# ends well, and what compares finds no difference. A player is one that keeps what it is given.
+commands_of_readme() {
+    sed -n 's/^    \(.*\.\/avcdec .*\)$/\1/p' "$here/../README.md" | sed 's/  *# .*$//'
+}
+
+commands_of_manual() {
+    awk '/^\.nf$/ { part = 1; next } part == 1 && /^\.RS$/ { part = 2; next } /^\.(RE|fi)$/ { part = 0 } part == 2' "$here/../docs/avcdec.1" |
+        sed 's/\\-/-/g'
+}
+
+# the command of the manual, in the text on this format, that writes what the program does
+command_of_format() {
+    awk '/^\.EX$/ { on = 1; next } /^\.EE$/ { on = 0 } on' "$here/../docs/avcdec.1" | sed 's/\\-/-/g' | grep -e "-f $1 -"
+}
+
+# whether the last command, of this text, ended well, and without a difference where it compares
+is_used() {
+    [ "$2" = 0 ] || return 1
+    case $1 in
+    *' compare '* | *diff*) [ ! -s "$work/written" ] ;;
+    esac
+}
+
+# uses NAME: runs the commands, which come by standard input, on a stream
+uses() {
+    while read -r command; do
+        case $command in
+        *jq*) command -v jq >/dev/null || continue ;;
+        esac
+        (cd "$work/use" && PATH=$work/tools:$PATH sh -c "$command" </dev/null) >"$work/written" 2>"$work/told"
+        holds "$command, of $1" is_used "$command" $?
+    done
+}
+
+if command -v ffmpeg >/dev/null; then
+    mkdir -p "$work/tools"
+    # shellcheck disable=SC2016
+    printf '#!/bin/sh\n[ "$*" = - ] && cat >played.y4m\n' >"$work/tools/ffplay"
+    chmod 755 "$work/tools/ffplay"
+    ln -s "$program" "$work/tools/avcdec"
+    for used in encoder/pub_f_aud_fullrange encoder/pub_f_cropleft; do
+        rm -rf "$work/use"
+        mkdir "$work/use"
+        ln -s "$program" "$work/use/avcdec"
+        cp "$here/$used.264" "$work/use/in.264"
+        cp "$here/$used.264" "$work/use/stream"
+        ffmpeg -v error -nostdin -i "$here/$used.264" -c copy "$work/use/in.mp4" 2>"$work/told"
+        ffmpeg -v error -nostdin -flags unaligned -i "$here/$used.264" -fps_mode passthrough -f rawvideo "$work/use/other.yuv" 2>"$work/told"
+        commands_of_readme >"$work/commands"
+        holds "commands of README.md" [ "$(wc -l <"$work/commands")" -ge 5 ]
+        uses "$used" <"$work/commands"
+        holds 'the pictures by README.md' [ "$(md5sum <"$work/use/out.yuv" | cut -d ' ' -f 1)" = "$(cut -d ' ' -f 1 <"$here/$used.md5")" ]
+        "$program" decode --format y4m "$here/$used.264" >"$work/whole"
+        holds 'a player is given Y4M' cmp -s "$work/use/played.y4m" "$work/whole"
+        (cd "$work/use" && sh -c "$(command_of_format yuv4mpegpipe)" </dev/null >other.y4m 2>"$work/told")
+        holds "Y4M by the manual's command, of $used" cmp -s "$work/use/other.y4m" "$work/whole"
+        "$program" decode --format framemd5 "$here/$used.264" >"$work/whole"
+        (cd "$work/use" && sh -c "$(command_of_format framemd5)" </dev/null >"$work/written" 2>"$work/told")
+        holds "framemd5 by the manual's command, of $used" cmp -s "$work/written" "$work/whole"
+        rm "$work/use/other.yuv"
+        commands_of_manual >"$work/commands"
+        holds 'examples of the manual' [ "$(wc -l <"$work/commands")" -ge 10 ]
+        uses "$used" <"$work/commands"
+        holds 'the pictures by the manual' [ "$(md5sum <"$work/use/out.yuv" | cut -d ' ' -f 1)" = "$(cut -d ' ' -f 1 <"$here/$used.md5")" ]
     done
 fi
 

@@ -2,13 +2,16 @@
 # Tests the element as it is used: test.sh [--short] [PREFIX], where the library is installed in PREFIX (else it is built and installed in
 # a folder that goes again). --short leaves out what takes minutes or a network: live sources, seeking, RTP, valgrind, WebKit. Wants cc,
 # pkg-config, GStreamer's tools, plugins (base, good, bad, ugly) and development files, and the program of the repository; a part that
-# lacks something says so. The last line is 'N passed, M failed'.
+# lacks something says so. The last line is 'N passed, M failed'; how far it is stands on standard error.
 set -u
 here=$(cd "$(dirname "$0")" && pwd)
 top=$(cd "$here/../.." && pwd)
+# shellcheck source=scripts/say.sh
+. "$top/scripts/say.sh"
 program=$top/crates/avc_cli/out/avc_cli
 work=$(mktemp -d)
-trap 'rm -rf "$work"' EXIT
+trap 'hush; rm -rf "$work"' EXIT
+trap 'exit 130' INT TERM
 passed=0
 failed=0
 short=
@@ -21,6 +24,7 @@ left_out() {
     echo "left out: $1: $2"
 }
 
+say 'what is there of GStreamer is looked for'
 GST_REGISTRY=$work/registry
 export GST_REGISTRY
 
@@ -34,7 +38,7 @@ lacks() {
 package_of() {
     case $1 in
     x264enc) echo gstreamer1.0-plugins-ugly ;;
-    qtmux | qtdemux | rtp* | udp*) echo gstreamer1.0-plugins-good ;;
+    capssetter | qtmux | qtdemux | rtp* | udp*) echo gstreamer1.0-plugins-good ;;
     *) echo gstreamer1.0-plugins-bad ;;
     esac
 }
@@ -61,6 +65,7 @@ if [ -n "$lacking" ] || ! has h264parse; then
     left_out 'the GStreamer element' "not there: $lacking"
     exit 0
 fi
+say 'the element is built and tried'
 "$top/avcdec" --help >/dev/null || exit 1
 prefix=${1:-$work/prefix}
 [ $# -gt 0 ] || LIBRARY_ONLY=1 "$top/scripts/install.sh" "$prefix" || exit 1
@@ -82,7 +87,10 @@ holds() {
         failed=$((failed + 1))
         echo "failed: $name"
     fi
+    reached "$name"
 }
+reached 'the start'
+tell_while cat "$work/reached"
 
 # runs a test of element.c and adds what it counts
 counted() {
@@ -115,6 +123,60 @@ agrees() {
 for stream in encoder/pub_x_aud encoder/pub_x_keyint3 encoder/pub_x_allintra encoder/pub_o_idr_listing speed/cif speed/720p speed/call; do
     holds "pictures of $stream" is_decoded "$top/vectors/$stream"
 done
+
+# The two lines of README.md, as they stand there but for the folders: by them alone the element is known, with the licence and the origin
+# that it has, and no file stands on the list of those that could not be loaded.
+is_built_by_readme() {
+    sed -n 's/^    \(PKG_CONFIG_PATH=PREFIX.*\)/\1/p; s/^    \(GST_PLUGIN_PATH=FOLDER.*\)/\1/p' "$here/README.md" |
+        sed "s|PREFIX|$prefix|; s|FOLDER|$work/by_readme|" >"$work/lines"
+    [ "$(wc -l <"$work/lines")" = 2 ] || return 1
+    (
+        unset GST_PLUGIN_PATH LD_LIBRARY_PATH
+        GST_REGISTRY=$work/fresh
+        export GST_REGISTRY
+        cd "$top" && sh -e "$work/lines" >"$work/told" 2>"$work/noise" || { cat "$work/noise"; exit 1; }
+        GST_PLUGIN_PATH=$work/by_readme gst-inspect-1.0 --print-blacklist >"$work/listed" 2>&1
+        ! grep -q avcdec "$work/listed"
+    ) && grep -q 'License  *unknown' "$work/told" && grep -q 'Origin URL  *Unknown package origin' "$work/told"
+}
+
+holds 'the two lines of README.md' is_built_by_readme
+
+# the first pipeline of README.md, with a file for the screen
+is_played_by_readme() {
+    stream=$top/vectors/encoder/pub_x_keyint3
+    mkdir -p "$work/film"
+    ffmpeg -v error -nostdin -i "$stream.264" -c copy "$work/film/in.mp4" >"$work/told" 2>&1 || return 1
+    line=$(sed -n 's/^    \(gst-launch-1.0 filesrc location=in.mp4 .*\)/\1/p' "$here/README.md" | sed 's/videoconvert ! autovideosink/filesink location=pictures/')
+    (cd "$work/film" && timeout 100 sh -c "$line" >"$work/told" 2>&1)
+    [ "$(md5sum <"$work/film/pictures" | cut -d ' ' -f 1)" = "$(cut -d ' ' -f 1 <"$stream.md5")" ]
+}
+
+has qtdemux
+command -v ffmpeg >/dev/null || lacks ffmpeg ffmpeg
+if [ -z "$lacking" ]; then
+    holds 'the first pipeline of README.md' is_played_by_readme
+else
+    left_out 'the first pipeline of README.md' "not there: $lacking"
+fi
+
+# whether of a stream of profile Main that has none of its tools nothing is negotiated, and all pictures come where it is called Constrained
+# Baseline, as README.md says
+is_main_as_told() {
+    timeout 100 gst-launch-1.0 -q filesrc location="$1.264" ! h264parse ! avcdec ! filesink location="$work/none" >"$work/told" 2>&1 && return 1
+    grep -q 'not-negotiated' "$work/told" && [ ! -s "$work/none" ] || return 1
+    # shellcheck disable=SC2016 # the marks are those of the text
+    words=$(sed -n 's/.*`h264parse ! \(capssetter [^ ]*\) ! avcdec`.*/\1/p' "$here/README.md")
+    # shellcheck disable=SC2086 # they are words
+    timeout 100 gst-launch-1.0 -q filesrc location="$1.264" ! h264parse ! $words ! avcdec ! filesink location="$work/pictures" >"$work/told" 2>&1
+    [ "$(md5sum <"$work/pictures" | cut -d ' ' -f 1)" = "$(cut -d ' ' -f 1 <"$1.md5")" ]
+}
+
+if has capssetter; then
+    holds 'a stream of profile Main' is_main_as_told "$top/vectors/weighted/wgt_fade_in"
+else
+    left_out 'a stream of profile Main' "not there: $lacking"
+fi
 
 # by itself: caps, times, flush, end
 counted caps

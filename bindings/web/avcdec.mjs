@@ -1,10 +1,11 @@
 // avcdec.mjs: the proved decoder for H.264 (Constrained Baseline profile), for pages, workers and Node.
 //
 //     const decoder = new Decoder(await load());
-//     for (const event of decoder.decode(bytes))
-//         if (event.kind === 'picture') draw(event.planes, event.width, event.height);
-//         else console.log(`unit ${event.unit} refused: ${event.name}`);
+//     const take = event => event.kind === 'picture' ? draw(event.planes, event.width, event.height)
+//         : console.log(`unit ${event.unit} refused: ${event.fault} ${event.name}`);
+//     for (const event of decoder.decode(bytes)) take(event);
 //     decoder.flush();
+//     for (const event of decoder.events()) take(event);
 //
 // The contract is that of include/avcdec.h. One call at a time: the memory of a module belongs to one thread, a page's or a worker's.
 

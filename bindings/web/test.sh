@@ -1,12 +1,14 @@
 #!/bin/sh
 # Tests the module for pages as it is used: its heap natively, all streams and the wrapper in Node, and in Chromium without a screen all
 # streams, the worker, the decoder beside Chromium's own VideoDecoder, and the demo by screenshots. Each part ends in a line 'N passed, M failed', or
-# says that it was left out and why. MODULE names a module that is built already; else build.sh makes it. CC is the C compiler.
+# says that it was left out and why; what it is at stands on standard error. MODULE names a module that is built already; else build.sh makes it. CC is the C compiler.
 # Debian's packages: wabt nodejs chromium ffmpeg.
 set -u
 here=$(cd "$(dirname "$0")" && pwd)
+# shellcheck source=scripts/say.sh
+. "$here/../../scripts/say.sh"
 work=$(mktemp -d)
-trap 'rm -rf "$work"' EXIT
+trap 'hush; rm -rf "$work"' EXIT
 trap 'exit 130' INT TERM
 cc=${CC:-cc}
 all_well=true
@@ -23,8 +25,11 @@ has() {
 part() {
     name=$1
     shift
+    say "$name"
+    tell_while echo "$name"
     timeout 900 "$@" >"$work/told" 2>&1
     status=$?
+    hush
     sed '$d' "$work/told"
     last=$(tail -n 1 "$work/told")
     case $last in
@@ -38,6 +43,7 @@ part() {
     [ $status = 0 ] || all_well=false
 }
 
+say 'the module for pages is tested: its heap, in Node, and in Chromium'
 if has "$cc"; then
     sanitizer=
     if echo 'int main(void) { return 0; }' >"$work/try.c" && "$cc" -fsanitize=address,undefined "$work/try.c" -o "$work/try" 2>/dev/null && "$work/try"; then
@@ -69,14 +75,20 @@ if [ -z "$module" ]; then
         exit
     fi
     module=$work/avcdec.wasm
+    say 'the module is built'
+    tell_while echo 'the module is built'
     "$here/build.sh" "$module" || exit 1
+    hush
 fi
 part 'calls in Node' node --expose-gc "$here/tests/node.mjs" "$module" calls
 part 'all streams in Node' node "$here/tests/node.mjs" "$module" streams
 
 if has "${CHROMIUM:-chromium}"; then
     for words in calls streams; do
+        say "Chromium: $words"
+        tell_while echo "Chromium: $words"
         timeout 900 node "$here/tests/pages.mjs" "$module" $words || all_well=false
+        hush
     done
 else
     left_out 'Chromium' 'it is not there'

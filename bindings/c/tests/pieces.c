@@ -100,6 +100,16 @@ static void take_events(avcdec_decoder *decoder, FILE *out) {
     }
 }
 
+/* Each status has a name of its own, and no other number has. */
+static void compare_status_names(void) {
+    const char *none = avcdec_status_name(AVCDEC_NO_VALUE + 1);
+    CHECK(strcmp(none, "no such status") == 0 && strcmp(avcdec_status_name(UINT32_MAX), none) == 0);
+    for (avcdec_status status = AVCDEC_OK; status <= AVCDEC_NO_VALUE; status++)
+        for (avcdec_status other = status + 1; other <= AVCDEC_NO_VALUE + 1; other++)
+            CHECK(strcmp(avcdec_status_name(status), avcdec_status_name(other)) != 0);
+    CHECK(strcmp(avcdec_status_name(AVCDEC_NO_ROOM), "too little room") == 0);
+}
+
 static void closed_calls(avcdec_decoder *decoder) {
     avcdec_event event;
     uint8_t byte = GAP;
@@ -142,7 +152,7 @@ int main(int count, char **words) {
     FILE *in = fopen(words[2], "rb"), *out = fopen(words[3], "wb");
     CHECK(in != NULL && out != NULL);
     CHECK(avcdec_version() == 65536 * AVCDEC_VERSION_MAJOR + 256 * AVCDEC_VERSION_MINOR + AVCDEC_VERSION_PATCH);
-    CHECK(strcmp(avcdec_status_name(AVCDEC_NO_ROOM), "too little room") == 0 && strcmp(avcdec_status_name(99), "no such status") == 0);
+    compare_status_names();
     avcdec_decoder decoder = AVCDEC_DECODER_CLOSED;
     closed_calls(&decoder);
     CHECK(avcdec_open(&decoder, false) == AVCDEC_OK);

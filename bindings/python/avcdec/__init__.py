@@ -22,6 +22,7 @@ import ctypes
 import ctypes.util
 import operator
 import os
+import re
 import sys
 from dataclasses import dataclass
 from typing import TYPE_CHECKING, Any, BinaryIO, Iterable, Iterator, NamedTuple, Optional, Tuple, Union
@@ -33,8 +34,8 @@ if TYPE_CHECKING:
     import numpy.typing
 
 __all__ = [
-    "Closed", "Comparison", "Decoder", "Ended", "Error", "Event", "OutOfMemory", "Picture", "PictureInfo", "Plane", "Refusal", "compare",
-    "decode", "macroblocks", "version",
+    "Closed", "Comparison", "Decoder", "Ended", "Error", "Event", "OutOfMemory", "Picture", "PictureInfo", "Plane", "Refusal",
+    "access_units", "compare", "decode", "macroblocks", "version",
 ]
 
 __version__ = "0.2.0"
@@ -42,6 +43,9 @@ __version__ = "0.2.0"
 _PICTURE, _REFUSED = 1, 2
 _NO_VALUE = 9
 _NAME_SIZE = 32
+# nal_unit_type of slices and partitions A, and of what begins an access unit where it stands behind one (7.4.1.2.3)
+_SLICES = (1, 2, 5)
+_BEFORE_SLICES = (6, 7, 8, 9, 14, 15, 16, 17, 18)
 # the most bytes that `decode` reads at a time
 _PIECE = 65_536
 
@@ -492,6 +496,22 @@ def decode(source: Source, early: bool = False, lend: bool = False) -> Iterator[
             yield from decoder.decode(piece, lend)
         decoder.flush()
         yield from decoder.events(lend)
+
+
+def access_units(data: Data) -> Iterator[bytes]:
+    """The access units (7.4.1.2.3) of a stream that is there as a whole, one after another: a packet each, for `Decoder.mark`, `Decoder.decode`
+    and `Decoder.end_access_unit`. Slices of a picture come in the order of their macroblocks, so one begins an access unit where its
+    first_mb_in_slice is 0; a picture whose first slice is lost is taken for a part of the one before."""
+    stream, begin, has_slice = _bytes(data), 0, False
+    for unit in re.finditer(rb"\x00?\x00\x00\x01(?=(.)(.))", stream, re.DOTALL):
+        nal_unit_type, first_byte = unit[1][0] & 31, unit[2][0]
+        is_slice = nal_unit_type in _SLICES
+        if has_slice and (first_byte >= 128 if is_slice else nal_unit_type in _BEFORE_SLICES):
+            yield stream[begin : unit.start()]
+            begin, has_slice = unit.start(), False
+        has_slice = has_slice or is_slice
+    if begin < len(stream):
+        yield stream[begin:]
 
 
 def version() -> tuple[int, int, int]:

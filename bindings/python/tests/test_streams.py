@@ -1,11 +1,15 @@
 """Streams with what must come out. AVCDEC_VECTORS is the folder of streams, else that of the repository."""
 
+import contextlib
 import hashlib
 import importlib.util
 import io
 import os
 import pathlib
 import random
+import re
+import tempfile
+import textwrap
 import tracemalloc
 import unittest
 
@@ -78,6 +82,54 @@ class Streams(unittest.TestCase):
             self.assertEqual(list(avcdec.decode(pieces)), whole)
         self.assertEqual(list(avcdec.decode(io.BytesIO(data))), whole)
         self.assertEqual(list(avcdec.decode(str(VECTORS / "cases" / "gap.264"))), whole)
+
+
+def example(text: str, words: str) -> str:
+    """The program, which is indented in a text, in which these words stand."""
+    (found,) = [block for block in re.findall(r"^(?:    .*\n)+", text, re.MULTILINE) if words in block]
+    return textwrap.dedent(found)
+
+
+class Examples(unittest.TestCase):
+    """The examples in the documents, as they stand there, give all events."""
+
+    readme = (pathlib.Path(__file__).parents[1] / "README.md").read_text(encoding="utf-8")
+
+    def told(self, program: str) -> str:
+        """What a program prints that decodes in.264, a stream with held pictures and a refusal."""
+        told, before = io.StringIO(), os.getcwd()
+        with tempfile.TemporaryDirectory() as folder, contextlib.redirect_stdout(told):
+            os.chdir(folder)
+            try:
+                pathlib.Path("in.264").write_bytes((VECTORS / "cases" / "held_before_refusal.264").read_bytes())
+                exec(program, {})
+            finally:
+                os.chdir(before)
+        return told.getvalue()
+
+    def test_that_of_the_package(self) -> None:
+        lines = self.told(example(avcdec.__doc__ or "", 'decode("in.264")')).splitlines()
+        events = list(avcdec.decode(VECTORS / "cases" / "held_before_refusal.264"))
+        self.assertEqual(
+            lines,
+            [f"16 16 {bytes(event.luma.row(0))[:8].hex()}" if isinstance(event, avcdec.Picture) else str(event) for event in events],
+        )
+        self.assertEqual(sum(line.startswith("refused") for line in lines), 1)
+
+    @unittest.skipUnless(importlib.util.find_spec("numpy"), "numpy is not installed")
+    def test_that_of_a_test_bench(self) -> None:
+        lines = self.told(example(self.readme, 'decode("in.264")')).splitlines()
+        self.assertEqual(len(lines), len(list(avcdec.decode(VECTORS / "cases" / "held_before_refusal.264"))))
+
+    def test_that_of_a_call(self) -> None:
+        # a stream without refusals and without max_num_reorder_frames, so that pictures are held to the end
+        data = (VECTORS / "cases" / "order_type_0_twice.264").read_bytes()
+        places = [0, 26, 34, 42, 50, 58, len(data)]
+        shown: list[avcdec.Event] = []
+        packets = [data[begin:end] for begin, end in zip(places, places[1:])]
+        words = {"avcdec": avcdec, "packets": packets, "show": lambda event: shown.append(event.copy())}
+        exec(example(self.readme, "for packet in packets"), words)
+        self.assertEqual(shown, list(avcdec.decode(data)))
 
 
 class Calls(unittest.TestCase):
@@ -206,6 +258,19 @@ class Calls(unittest.TestCase):
                     told = "22 MissingMacroblocks" if count == 25 else "1 Truncated"
                     self.assertEqual([str(event) for event in events], [f"refused unit 2: {told}"])
 
+    def test_access_units_are_those_of_another_parser(self) -> None:
+        # by libavcodec's parser
+        lines = (pathlib.Path(__file__).parents[2] / "c" / "tests" / "marks.txt").read_text().splitlines()
+        self.assertGreater(len(lines), 5)
+        for line in lines:
+            name, places, _ = line.split("|")
+            with self.subTest(name):
+                data = (VECTORS / f"{name}.264").read_bytes()
+                units = list(avcdec.access_units(data))
+                ends = [sum(map(len, units[:count])) for count in range(len(units))]
+                self.assertEqual((ends, b"".join(units)), ([int(place) for place in places.split()], data))
+        self.assertEqual(list(avcdec.access_units(b"")), [])
+
     def test_values_come_back_with_their_pictures(self) -> None:
         # where libavcodec's parser cuts the stream, which packet each picture is of by its decoder, and what its trace of the headers tells:
         # unit, nal_unit_type 5, frame_num, PicOrderCnt (type 0)
@@ -262,6 +327,10 @@ class Calls(unittest.TestCase):
         # by libavcodec's trace of the headers; aspect_ratio_idc is 14, which is 4 to 3 (Table E-1)
         with_vui = next(avcdec.decode(VECTORS / "encoder" / "pub_x_hrd_vui.264"))
         self.assertEqual(with_vui.info[4:], (4, 3, True, 1, 1, 1, 2, 1, 50, 0))
+        # each parameter with a number of its own
+        vui = bytes.fromhex("0000000167 42C00ADA73FF002100236E080A0D21200000 0300E000000B41E1108A50")
+        (whole,) = avcdec.decode(vui + bytes.fromhex("0000000168CE3880 00000165888493C0"))
+        self.assertEqual(whole.info, avcdec.PictureInfo(2, True, 0, 0, 33, 35, True, 4, 5, 6, 3, 7, 90, 1))
         (without,) = avcdec.decode(GREY)
         self.assertEqual(without.info, avcdec.PictureInfo(2, True, 0, 0, 0, 0, False, 2, 2, 2, 0, 0, 0, None))
 

@@ -41,11 +41,13 @@ mod events;
 mod fault;
 mod info;
 mod picture;
+mod units;
 
 pub use events::{decode, events, Events};
 pub use fault::{Fault, FaultName, Refusal};
 pub use info::PictureInfo;
 pub use picture::{OwnedPicture, Picture, Plane};
+pub use units::{access_unit_length, access_units, AccessUnits};
 
 use picture::About;
 use std::{fmt, io};
@@ -239,8 +241,8 @@ impl Decoder {
         Ok(())
     }
 
-    /// Says that the bytes so far end with a whole access unit: its picture is decoded now, and not only once the next unit begins.
-    /// It adds 1 to the count of units.
+    /// Says that the bytes so far end with a whole access unit, as [`access_units`] finds them: its picture is decoded now, and not only once
+    /// the next unit begins. It adds 1 to the count of units.
     pub fn end_access_unit(&mut self) -> Result<(), Error> {
         // an access unit delimiter (7.3.2.4), and a start code
         self.feed(&[0, 0, 1, 9, 0xF0, 0, 0, 1])
@@ -383,6 +385,20 @@ fn told(status: u32) -> Result<(), Error> {
         other => unreachable!("status {other} of an open decoder"),
     }
 }
+
+/// A decoder is not made for nothing:
+///
+/// ```compile_fail
+/// #![deny(unused_must_use)]
+/// avcdec::Decoder::new(avcdec::Output::Full).unwrap();
+/// ```
+///
+/// ```
+/// #![deny(unused_must_use)]
+/// drop(avcdec::Decoder::new(avcdec::Output::Full).unwrap());
+/// ```
+#[cfg(doctest)]
+struct MustUse;
 
 // the README's programs are compiled as tests
 #[cfg(doctest)]

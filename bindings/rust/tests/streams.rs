@@ -1,7 +1,9 @@
 //! Streams with what must come out: those of the repository's vectors/cases, of tests/cases where the crate was packed with them, or of the
 //! folder `cases` of AVCDEC_VECTORS.
 
-use avcdec::{Decoder, Error, Event, Output, OwnedEvent, OwnedPicture, Refusal, Taken};
+use avcdec::{
+    Decoder, Error, Event, Output, OwnedEvent, OwnedPicture, PictureInfo, Refusal, Taken,
+};
 use std::fs;
 use std::io::{self, Read};
 use std::path::{Path, PathBuf};
@@ -299,12 +301,60 @@ fn values_come_back_with_their_pictures() {
         Ok::<(), Error>(())
     };
     let mut decoder = Decoder::new(Output::Full).unwrap();
-    for (value, packet) in packets(&bytes, &[0, 26, 34, 42, 50, 58]) {
+    let found: Vec<&[u8]> = avcdec::access_units(&bytes).collect();
+    let packets = packets(&bytes, &[0, 26, 34, 42, 50, 58]);
+    assert!(packets.iter().map(|(_, packet)| packet).eq(&found));
+    for (value, packet) in packets {
         decoder.mark(value).unwrap();
         decoder.decode(packet, &mut add).unwrap();
     }
     decoder.finish(&mut add).unwrap();
     assert_eq!(told, expected);
+}
+
+// a 16x16 picture whose VUI parameters are all given, each with a number of its own, as ffmpeg's trace_headers tells
+const WITH_VUI: [u8; 50] = [
+    0, 0, 0, 1, 0x67, 0x42, 0xC0, 0x0A, 0xDA, 0x73, 0xFF, 0, 0x21, 0, 0x23, 0x6E, 0x08, 0x0A, 0x0D,
+    0x21, 0x20, 0, 0, 3, 0, 0xE0, 0, 0, 0x0B, 0x41, 0xE1, 0x10, 0x8A, 0x50, 0, 0, 0, 1, 0x68, 0xCE,
+    0x38, 0x80, 0, 0, 1, 0x65, 0x88, 0x84, 0x93, 0xC0,
+];
+
+fn info_of(stream: &[u8]) -> PictureInfo {
+    let mut decoder = Decoder::new(Output::Full).unwrap();
+    decoder.feed(stream).unwrap();
+    decoder.flush().unwrap();
+    let Ok(Some(Event::Picture(picture))) = decoder.take() else {
+        panic!("no picture");
+    };
+    picture.info()
+}
+
+#[test]
+fn the_info_has_what_the_stream_says_of_showing() {
+    let given = info_of(&WITH_VUI);
+    assert_eq!((given.unit, given.is_idr), (2, true));
+    assert_eq!((given.sar_width, given.sar_height), (33, 35));
+    assert!(given.video_full_range_flag);
+    assert_eq!(given.colour_primaries, 4);
+    assert_eq!(given.transfer_characteristics, 5);
+    assert_eq!(given.matrix_coefficients, 6);
+    assert_eq!(given.chroma_sample_loc_type, 3);
+    assert_eq!((given.num_units_in_tick, given.time_scale), (7, 90));
+    assert_eq!(given.max_num_reorder_frames, Some(1));
+
+    // without VUI parameters: what the standard infers (E.2.1)
+    let mut without = WITH_VUI[..9].to_vec();
+    without.push(0x71);
+    without.extend(&WITH_VUI[34..]);
+    let inferred = info_of(&without);
+    assert_eq!((inferred.sar_width, inferred.sar_height), (0, 0));
+    assert!(!inferred.video_full_range_flag);
+    assert_eq!(inferred.colour_primaries, 2);
+    assert_eq!(inferred.transfer_characteristics, 2);
+    assert_eq!(inferred.matrix_coefficients, 2);
+    assert_eq!(inferred.chroma_sample_loc_type, 0);
+    assert_eq!((inferred.num_units_in_tick, inferred.time_scale), (0, 0));
+    assert_eq!(inferred.max_num_reorder_frames, None);
 }
 
 #[test]

@@ -86,6 +86,15 @@ function pictures(library, bytes) {
     return got;
 }
 
+/** Runs the first example of a README, but for its line of imports, with these names given. */
+async function runExample(readme, given) {
+    const lines = readFileSync(new URL(readme, import.meta.url), 'utf8').split('\n');
+    const first = lines.findIndex(line => line.includes("from './avcdec.mjs'")) + 1;
+    const body = lines.slice(first, lines.findIndex((line, at) => at > first && !line.startsWith('    '))).join('\n');
+    const AsyncFunction = runExample.constructor;
+    await new AsyncFunction(...Object.keys(given), body)(...Object.values(given));
+}
+
 async function shaped(units, init, config = {}, chunkOf = unit => unit.bytes) {
     const frames = [], errors = [];
     const decoder = new AvcVideoDecoder({ output: frame => frames.push(frame), error: error => errors.push(error), ...init });
@@ -316,6 +325,15 @@ async function calls() {
         await throws(() => decoder.reset(), DOMException, 'closed');
         const taken = async codec => (await AvcVideoDecoder.isConfigSupported({ codec })).supported;
         same(await Promise.all(['avc1.42E01E', 'avc3.42001f', 'avc1.4D401E', 'avc1.4DC01E', 'avc1.640028', 'vp8'].map(taken)), [true, true, false, true, false, false]);
+    });
+    for (const readme of ['../README.md', '../../../README.md']) await test(`the example of ${readme} gives all events`, async () => {
+        const md5 = new Md5(), told = [], { name, md5: whole, refused } = wanted('cases/held_before_refusal');
+        const draw = planes => {
+            for (const { samples, stride, columns, rows } of planes)
+                for (let y = 0; y < rows; y++) md5.update(samples.subarray(y * stride, y * stride + columns));
+        };
+        await runExample(readme, { Decoder, load: async () => library, bytes: bytesOf(name), draw, console: { log: line => told.push(line) } });
+        same([md5.hex(), told.join('\n')], [whole, refused.replace(/refused unit (\d+):/, 'unit $1 refused:')]);
     });
     await test('parameter sets are told of', () => {
         const units = accessUnits(bytesOf('speed/cif')), sets = new ParameterSets();

@@ -261,6 +261,31 @@ fn refusals_are_told_as_long_as_they_are_taken(rt: HostRuntime) -> Result<(), Fa
     Ok(())
 }
 
+// The lines of 16,384 units of one byte are 281,025 bytes. Those that one read brings go out together,
+// at most 65,536 bytes at once, and the last one at the end of the stream. No line goes out behind a
+// write that failed.
+#[test]
+fn listed_lines_go_out_together(rt: HostRuntime) -> Result<(), Fail> {
+    let alloc = rt.alloc();
+    let bytes = forbidden(alloc, 16_384)?;
+    for (failing, reads, writes, taken) in [
+        (None, 2, 6, 281_025),
+        (Some(0), 1, 1, 0),
+        (Some(1), 1, 2, 65_524),
+        (Some(5), 2, 6, 281_007),
+    ] {
+        let mut reader = reader_of(&bytes, 65_536, None);
+        let mut writer = writer_failing(failing, Refusal::Error);
+        let listed = run_units(alloc, ForPeople, &mut reader, &mut writer);
+        assert_eq!(rt; listed.is_ok(), failing.is_none(), "{taken}");
+        assert_eq!(rt;
+            (reader.calls, writer.calls, writer.taken),
+            (reads, writes, taken)
+        );
+    }
+    Ok(())
+}
+
 // The first picture goes out with the last byte, the second at the end. The first read is made also
 // where no picture is wanted.
 #[test]

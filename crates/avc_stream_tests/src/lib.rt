@@ -12,6 +12,8 @@ mod decoder_calls;
 #[cfg(test)]
 mod limited_writer;
 #[cfg(test)]
+mod macroblock_positions;
+#[cfg(test)]
 mod stream_texts;
 #[cfg(test)]
 mod worked_streams;
