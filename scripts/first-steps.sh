@@ -20,8 +20,14 @@ text() {
     cat >>"$page"
 }
 
+# which words are run now
+now_run() {
+    echo "runs '$(cat "$work/words")'"
+}
+
 # runs words of the shell, and shows them with what they tell
 step() {
+    echo "$1" >"$work/words"
     printf '$ %s\n' "$1" >>"$page"
     eval "$1" >"$work/told" 2>&1 </dev/null
     cat "$work/told" >>"$page"
@@ -29,6 +35,7 @@ step() {
 
 # the same where what is told says how long it takes, and is left out; it must end well
 done_quietly() {
+    echo "$1" >"$work/words"
     printf '$ %s\n' "$1" >>"$page"
     eval "$1" >"$work/told" 2>&1 </dev/null || { cat "$work/told" >&2; exit 1; }
 }
@@ -275,10 +282,13 @@ MD
 }
 
 say 'makes the first steps, and installs the program and the library for them'
+: >"$work/words"
+tell_while now_run
 shell_part
 if has cc && has pkg-config; then c_part; else kept 'In C' 'cc and pkg-config'; fi
 if has cargo; then rust_part; else kept 'In Rust' 'cargo'; fi
 if has python3 && python3 -m pip --version >/dev/null 2>&1; then python_part; else kept 'In Python' 'python3 with pip'; fi
+hush
 if [ "${1:-}" = check ]; then
     diff "$document" "$page"
 else

@@ -92,13 +92,14 @@ def rows():
         yield title, f"| {title} | " + " | ".join(cells) + " |"
 
 
-def corrected(document, text):
-    """The text with its numbers as they are; says which words were not found."""
+def corrected(document, text, lacking):
+    """The text with its numbers as they are; says which words were not found, and puts them on a list."""
     for name, words, value in facts():
         if name != document or value is None:
             continue
         if not re.search(words, text):
             print(f"{name}: no words like {words}", file=sys.stderr)
+            lacking.append(words)
             continue
         text = re.sub(words, lambda found, value=value: found[1] + value + found[2], text)
     if document == "README.md" and os.path.exists(f"{TOP}/docs/times.txt"):
@@ -110,9 +111,10 @@ def corrected(document, text):
 
 def main(words):
     status = 0
+    lacking = []
     for document in ("README.md", "docs/speed.md"):
         text = read(document)
-        new = corrected(document, text)
+        new = corrected(document, text, lacking)
         if new == text:
             continue
         if words == ["check"]:
@@ -123,7 +125,7 @@ def main(words):
         else:
             with open(f"{TOP}/{document}", "w", encoding="utf-8") as file:
                 file.write(new)
-    return status
+    return 1 if lacking else status
 
 
 if __name__ == "__main__":

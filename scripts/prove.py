@@ -228,9 +228,9 @@ class Proofs:
 
     def tell(self):
         with self.change:
-            names = ", ".join(sorted(self.running))
+            names = "; now " * bool(self.running) + ", ".join(sorted(self.running))
             minutes = (time.time() - self.started) / 60
-            say(f"{len(self.done)} of {len(self.wanted)} crates proved after {minutes:.0f} min, about {self.left():.0f} min left; now {names}")
+            say(f"{len(self.done)} of {len(self.wanted)} crates proved after {minutes:.0f} min, about {self.left():.0f} min left{names}")
 
     def run(self):
         workers = [threading.Thread(target=self.work) for _ in range(self.jobs)]
@@ -244,7 +244,7 @@ class Proofs:
 
 
 class Spoken:
-    """A line every half minute while something goes on."""
+    """A line at once, and every half minute while something goes on: so none is missing where one thing follows another."""
 
     def __init__(self, tell):
         self.ends, self.tell = threading.Event(), tell
@@ -253,6 +253,7 @@ class Spoken:
         threading.Thread(target=self.speak, daemon=True).start()
 
     def speak(self):
+        self.tell()
         while not self.ends.wait(EVERY):
             self.tell()
 

@@ -18,6 +18,8 @@ avc_c/src/status.rt: Status::OutOfMemory
 # the words of the command line: clap tells of a refusal by its kind
 avc_cli/src/main.rt: if error.kind() == ErrorKind::OutOfMemory {
 avc_cli/src/main.rt: return Err(RunFault::Memory);
+# a text that found no memory
+avc_macroblocks/src/program.rt: Err(_) => fail(RunFault::Memory, &console.names, &mut console.errors),
 # of OutOfMemory, through what reads a stream and what writes it
 avc_shell/src/from_piece.rt: Err(io::Error::from(ErrorKind::OutOfMemory))
 avc_cli/src/main.rt: fault_status(RunFault::Memory)
@@ -26,6 +28,8 @@ avc_shell/src/output.rt: Err(_) => return Err(io::Error::from(ErrorKind::OutOfMe
 avc_console/src/fault.rt: RunFault::Memory
 avc_console/src/fault.rt: RunFault::Memory
 avc_console/src/fault.rt: RunFault::Memory
+# a decoder that is fed and not at its end refuses for want of memory alone
+avc_replay/src/feeding.rt: Err(_) => Err(RunFault::Memory),
 # of OutOfMemory
 avc_decoder/src/error.rt: DecodeError::OutOfMemory
 # of what the decoder answered, which is fed nothing after the end
@@ -37,6 +41,7 @@ avc_request/src/reading.rt: Err(error) if error.kind() == io::ErrorKind::OutOfMe
 # a read answered an error
 avc_console/src/read.rt: Err(_) => Err(RunFault::Read),
 # the input, or the other's, is no file that can be opened
+avc_cli/src/explaining.rt: Err(_) => Err(RunFault::Read),
 avc_cli/src/comparing.rt: fail(RunFault::Read, &names, &mut console.errors)
 avc_cli/src/main.rt: let ending = fail(RunFault::Read, &names_of(request), &mut rt.stderr());
 # the file of frame times can't be made or written
@@ -50,6 +55,9 @@ avc_console/src/streaming.rt: Err(RunFault::Endless)
 avc_run/src/decoding.rt: Err(RunFault::Endless)
 avc_compare/src/stream.rt: Err(RunFault::Endless)
 avc_compare/src/comparison.rt: Err(CompareFault::Ours(RunFault::Endless))
+avc_compare/src/looking.rt: Err(CompareFault::Ours(RunFault::Endless))
+avc_replay/src/feeding.rt: Err(RunFault::Endless)
+avc_replay/src/replay.rt: Err(RunFault::Endless)
 # a picture has not the size that the head says
 avc_formats/src/headed.rt: return Err(RunFault::Size);
 # nothing is shown of a picture, or more columns or rows than PNG has
@@ -59,6 +67,8 @@ avc_compare/src/picture.rt: Err(_) => return Err(CompareFault::Theirs),
 avc_compare/src/program.rt: tell(Err(RunFault::Read), tally, &named, errors)
 # of a fault of the run itself
 avc_compare/src/verdict.rt: CompareFault::Ours(fault)
+# of what could not be written
+avc_compare/src/program.rt: (Err(fault), _) => Err(CompareFault::Ours(fault)),
 LINES
 
 # without the tests, the file that makes OutOfMemory, imports under their own names, types, and what stands in patterns

@@ -25,6 +25,12 @@ hush() {
     teller=
 }
 
+# A script that counts in `passed` and `failed` notes by this how far it is, in a file of its folder $work: `tell_while cat "$work/reached"`.
+reached() {
+    # shellcheck disable=SC2154 # they are the script's
+    echo "$passed passed and $failed failed so far, at '$1'" >"$work/reached"
+}
+
 # during WHAT COMMAND..: says what is done. What the command prints is shown where it fails alone.
 during() {
     doing=$1

@@ -5,6 +5,8 @@
 # and CROSS_OBJCOPY name another cross compiler, SYSROOT its C library.
 set -u
 top=$(cd "$(dirname "$0")/.." && pwd)
+# shellcheck source=scripts/say.sh
+. "$top/scripts/say.sh"
 cc=${CROSS_CC:-aarch64-linux-gnu-gcc}
 ar=${CROSS_AR:-aarch64-linux-gnu-ar}
 objcopy=${CROSS_OBJCOPY:-aarch64-linux-gnu-objcopy}
@@ -17,7 +19,7 @@ for tool in "$cc" "$ar" "$objcopy" qemu-aarch64; do
     fi
 done
 work=$(mktemp -d)
-trap 'rm -rf "$work"' EXIT
+trap 'hush; rm -rf "$work"' EXIT
 trap 'exit 130' INT TERM
 passed=0
 failed=0
@@ -32,6 +34,7 @@ holds() {
         failed=$((failed + 1))
         echo "failed: ARM64: $what"
     fi
+    reached "$what"
 }
 
 # ends where nothing more can be tried
@@ -41,6 +44,7 @@ stop() {
     exit 1
 }
 
+say 'the library for ARM64 is built, and decodes all streams under qemu-aarch64, for some minutes'
 TARGET=aarch64-unknown-linux-gnu CC=$cc AR=$ar OBJCOPY=$objcopy "$top/scripts/install.sh" "$work/usr" || stop 'the library is not built'
 library=$work/usr/lib/libavcdec.a
 
@@ -65,6 +69,8 @@ is_decoded() {
 
 "$cc" -std=c99 -O2 -Wall -Wextra -Wpedantic -Werror -I"$work/usr/include" "$top/examples/c/decode.c" -o "$work/decode" "$library" ||
     stop 'examples/c/decode.c is not compiled'
+reached 'the start'
+tell_while cat "$work/reached"
 for md5 in "$vectors"/*/*.md5; do
     base=${md5%.md5}
     [ -e "$base.264" ] || continue

@@ -1,12 +1,16 @@
 #!/bin/sh
 # Tests the library as its callers have it: installed, and through the examples, the C tests, and the bindings. Each part ends in a
-# line 'N passed, M failed', or says that it was left out and why. Built is what is not built yet. CC and CXX are the compilers.
+# line 'N passed, M failed', or says that it was left out and why; how far it is stands on standard error. Built is what is not built yet.
+# CC and CXX are the compilers.
 set -u
 top=$(cd "$(dirname "$0")/.." && pwd)
+# shellcheck source=scripts/say.sh
+. "$top/scripts/say.sh"
 cc=${CC:-cc}
 cxx=${CXX:-c++}
 work=$(mktemp -d)
-trap 'rm -rf "$work"' EXIT
+trap 'hush; rm -rf "$work"' EXIT
+trap 'exit 130' INT TERM
 vectors=$top/vectors
 all_well=true
 
@@ -15,10 +19,14 @@ part() {
     name=$1
     passed=0
     failed=0
+    reached 'the start'
+    say "tests $name"
+    tell_while cat "$work/reached"
 }
 
 # ends it
 told() {
+    hush
     echo "library, $name: $passed passed, $failed failed"
     [ "$failed" = 0 ] || all_well=false
 }
@@ -37,6 +45,7 @@ holds() {
         failed=$((failed + 1))
         echo "failed: $name: $what"
     fi
+    reached "$what"
 }
 
 has() {
@@ -47,12 +56,18 @@ if ! has "$cc"; then
     left_out 'all of it' 'there is no C compiler'
     exit 0
 fi
-"$top/scripts/install.sh" "$work/usr" || exit 1
+{ "$top/scripts/install.sh" "$work/usr" 2>&1 || : >"$work/not_installed"; } | tee "$work/installing" >&2
+[ ! -e "$work/not_installed" ] || exit 1
 flags="-std=c99 -O2 -Wall -Wextra -Wpedantic -Werror -I$work/usr/include"
 library=$work/usr/lib/libavcdec.a
 sanitizer=
 if echo 'int main(void) { return 0; }' >"$work/try.c" && "$cc" -fsanitize=address,undefined "$work/try.c" -o "$work/try" 2>/dev/null && "$work/try"; then
     sanitizer='-g -fsanitize=address,undefined'
+fi
+
+threads_sanitizer=
+if [ -e "$work/try.c" ] && "$cc" -fsanitize=thread "$work/try.c" -o "$work/try" 2>/dev/null && "$work/try"; then
+    threads_sanitizer='-g -fsanitize=thread'
 fi
 
 # compiles a C file with the static library
@@ -82,11 +97,22 @@ for file in decode call; do
     holds "$file" compile "$top/examples/c/$file.c" "$file" "$sanitizer"
     holds "$file for C++" "$cxx" -x c++ -std=c++11 -Wall -Wextra -Wpedantic -Werror -I"$work/usr/include" -c "$top/examples/c/$file.c" -o "$work/$file.o"
 done
-for file in pieces growths packets faults marks; do
+for file in pieces growths packets faults marks access_units; do
     holds "$file" compile "$top/bindings/c/tests/$file.c" "$file" "$sanitizer"
 done
+holds threads compile "$top/bindings/c/tests/threads.c" threads "-pthread $threads_sanitizer"
 told
+[ -n "$threads_sanitizer" ] || left_out 'ThreadSanitizer' "$cc has none"
 [ -n "$sanitizer" ] || left_out 'AddressSanitizer' "$cc has none"
+
+# The installation said what it was at, by lines of its own and of what proves, and nothing else: not what the prover told of each crate.
+is_said_short() {
+    grep -q '^install.sh: to ' "$work/installing" && ! grep -v -e '^install.sh: ' -e '^avcdec: ' "$work/installing"
+}
+
+part 'what install.sh says'
+holds 'its own lines' is_said_short
+told
 
 # whether the static library shows the names of the header and no others
 shows_its_names() {
@@ -247,6 +273,13 @@ for stream in "$vectors"/*/*.264; do
 done
 told
 
+part 'a decoder that goes from thread to thread and from place to place'
+for stream in cases/gap cases/held_before_refusal corners/five_g121 encoder/pub_x_crop_18x34 encoder/pub_x_keyint3 speed/cif; do
+    "$work/threads" "$vectors/$stream.264" "$work/out" 2>"$work/told"
+    holds "$stream" is_decoded "$vectors/$stream" $? "$vectors/$stream.md5"
+done
+told
+
 # whether the values of a stream's packets come back with its pictures as a line of marks.txt says
 has_values() {
     # places are words
@@ -254,14 +287,20 @@ has_values() {
     "$work/marks" "$vectors/$1.264" $2 >"$work/told" && [ "$(cat "$work/told")" = " $3" ]
 }
 
+# whether a stream is cut into access units at the places of a line of marks.txt, which are those where libavcodec's parser cuts it
+has_access_units() {
+    "$work/access_units" "$vectors/$1.264" >"$work/told" && [ "$(cat "$work/told")" = "$2" ]
+}
+
 # whether the events' values are those of marks at random places, by the units that the program counts itself
 has_random_values() {
     "$work/marks" "$2" "$1" >/dev/null
 }
 
-part 'values of marks'
+part 'values of marks, and access units'
 while IFS='|' read -r stream places wanted; do
     holds "$stream" has_values "$stream" "$places" "$wanted"
+    holds "access units of $stream" has_access_units "$stream" "$places"
 done <"$top/bindings/c/tests/marks.txt"
 seed=1
 for stream in "$vectors"/cases/*.264 "$vectors"/corners/*.264 "$vectors"/foreign/*.264; do

@@ -19,9 +19,13 @@ part() {
     name=$1
     passed=0
     failed=0
+    reached 'the start'
+    say "tests $name"
+    tell_while cat "$work/reached"
 }
 
 told() {
+    hush
     echo "package, $name: $passed passed, $failed failed"
     [ "$failed" = 0 ] || all_well=false
 }
@@ -40,6 +44,7 @@ holds() {
         failed=$((failed + 1))
         echo "failed: $name: $what"
     fi
+    reached "$what"
 }
 
 has() {
