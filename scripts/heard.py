@@ -10,7 +10,7 @@ import time
 
 FIRST = 10  # seconds
 EVERY = 30
-SLACK = 30  # for a machine that is busy elsewhere
+SLACK = 60  # for a machine that is busy elsewhere
 
 
 def pass_on(run, told):
