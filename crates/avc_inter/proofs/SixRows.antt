@@ -78,6 +78,24 @@ module _ (columns stride : ℕ) (lanes : AreLanes columns) where
       let some = lanes.some in
       omega (arith, all (columns * y + (columns - 1)) (omega (arith, line_ends columns lanes y low)), place_at y (columns - 1) (omega arith))
 
+  pub place_here : (at y r x : ℕ) → x < columns → at + y * lines + place_of columns stride (columns * r + x) ≡ at + ((16 / columns * y + r) * stride + x)
+  place_here at y r x low = omega (arith, place_in at 0 y r x low)
+
+  -- a block's sixteen samples of number y, and five rows more, are there
+  pub window_there : (n at y : ℕ) (p : List ℕ) → HasRoom columns stride n at p → y < n → HasPlaces columns stride (16 * ((5 * columns + 15) / 16 + 1)) (at + y * lines + 5) p
+  window_there n at y p room less k low = omega (arith, room (16 * y + k) (omega arith), place_row y k)
+
+  pub samples_there : (n at : ℕ) (p : List ℕ) → HasRoom columns stride n at p → HasPlaces columns stride (16 * n) at p
+  samples_there n at p room k low = omega (arith, room k (omega arith))
+
+  -- a window that moved on
+  pub window_moved : (n at y : ℕ) (p : List ℕ) (old new : List ℤ) → AreSumsOf columns stride (16 * (n + 1)) (at + y * lines) p old →
+      ((k : ℕ) → k < 16 * n → slice_index_or new k (pos 0) ≡ slice_index_or old (16 + k) (pos 0)) → AreSumsOf columns stride (16 * n) (at + (y + 1) * lines) p new
+  window_moved n at y p old new sums moved = record {
+    value = λ k low. moved k low ∙ sums.value (16 + k) (omega arith) ∙ ap (λ i. taps_along p i 1) (omega (arith, place_row 1 k, add-mul y 1 lines));
+    small = λ k low. subst (λ (z : ℤ). IsSum z) (sym (moved k low)) (sums.small (16 + k) (omega arith));
+  }
+
   -- where the block begins up to five rows further down and columns further right, all of it is there
   pub room_for : (n at first : ℕ) (p : List ℕ) → HasRoom columns stride n at p → first ≤ at + 5 * stride + 5 → HasPlaces columns stride (16 * n) first p
   room_for n at first p room near k low = omega (arith, room (5 * columns + k) (omega arith), place_further 5 k)
@@ -150,19 +168,16 @@ sum_there columns stride p e f g h i j at k low se sf sg sh si sj =
 pub mean_turned : (a b : ℕ) → mean_of_two a b ≡ mean_of_two b a
 mean_turned a b = omega arith
 
--- ---- sums of a block and of five rows more
+-- ---- a window of sums: those of sixteen samples of a block and of five rows more
 
-module _ (columns stride : ℕ) (lanes : AreLanes columns) (p : List ℕ) (m : List ℤ) (at count : ℕ)
-    (sums : (k : ℕ) → k < 16 * count + 5 * columns → slice_index_or m k (pos 0) ≡ taps_along p (at + place_of columns stride k) 1)
-    (x y : ℕ) (column : x < columns) (low : y < 16 / columns * count) where
-  -- the sum n rows further down
-  sum_at : (n q v : ℕ) → n ≤ 5 → q ≡ n * columns + (columns * y + x) → v ≡ n * stride + (at + (y * stride + x)) → slice_index_or m q (pos 0) ≡ taps_along p v 1
-  sum_at n q v few e f =
-      let below : n * columns ≤ 5 * columns = mul-le-mul_right columns few in
-      rw e (sums _ (omega (arith, row_below columns lanes count y low, mul_comm columns y))
-      ∙ ap (λ i. taps_along p i 1) (omega (arith, f, place_further columns stride lanes n (columns * y + x), place_at columns stride lanes y x column)))
+module _ (columns stride : ℕ) (lanes : AreLanes columns) (at k n : ℕ) (p : List ℕ) (m : List ℤ) (sums : AreSumsOf columns stride n at p m) (all : 5 * columns + 16 ≤ n) (low : k < 16) where
+  -- the sum so many rows further down
+  sum_at : (down q v : ℕ) → down ≤ 5 → q ≡ down * columns + k → v ≡ down * stride + (at + place_of columns stride k) → slice_index_or m q (pos 0) ≡ taps_along p v 1
+  sum_at down q v few e f =
+      let below : down * columns ≤ 5 * columns = mul-le-mul_right columns few in
+      rw e (sums.value _ (omega (arith, below)) ∙ ap (λ i. taps_along p i 1) (omega (arith, f, place_further columns stride lanes down k)))
 
-  pub middle_at : centre_along m (columns * y + x) columns ≡ j_of p stride (at + (y * stride + x))
+  pub middle_at : centre_along m (0 + k) columns ≡ j_of p stride (at + place_of columns stride k)
   middle_at =
       same_centre _ _ _ _ _ _ _ _ _ _ _ _
       (sum_at 0 _ _ (omega arith) (omega arith) (omega arith))
@@ -172,9 +187,21 @@ module _ (columns stride : ℕ) (lanes : AreLanes columns) (p : List ℕ) (m : L
       (sum_at 4 _ _ (omega arith) (omega arith) (omega arith))
       (sum_at 5 _ _ (omega arith) (omega arith) (omega arith))
 
-  -- b or s of its sum, n rows further down
-  pub rounded_at : (n : ℕ) → n ≤ 5 → rounded_sum (slice_index_or m (n * columns + (columns * y + x)) (pos 0)) ≡ half_along p (n * stride + (at + (y * stride + x))) 1
-  rounded_at n few = ap rounded_sum (sum_at n _ _ few refl refl)
+  -- b or s of its sum
+  pub rounded_at : (down : ℕ) → down ≤ 5 → rounded_sum (slice_index_or m (down * columns + k) (pos 0)) ≡ half_along p (down * stride + (at + place_of columns stride k)) 1
+  rounded_at down few = ap rounded_sum (sum_at down _ _ few refl refl)
+
+-- the same sums by another word for their place
+pub sums_from : {columns stride n at first : ℕ} {p : List ℕ} {m : List ℤ} → at ≡ first → AreSumsOf columns stride n at p m → AreSumsOf columns stride n first p m
+sums_from e sums = rw (← e) sums
+
+-- numbers that were moved are sums
+pub sums_left : (n row : ℕ) (old new : List ℤ) → AreSums (16 * (n + 1)) old → row < n →
+    ((k : ℕ) → k < 16 * row → slice_index_or new k (pos 0) ≡ slice_index_or old (16 + k) (pos 0)) → ((k : ℕ) → 16 * row ≤ k → slice_index_or new k (pos 0) ≡ slice_index_or old k (pos 0)) →
+    AreSums (16 * (row + 1) + 16) new
+sums_left n row old new small less moved left k low =
+    ⊎_elim (λ before. subst (λ (z : ℤ). IsSum z) (sym (moved k before)) (small (16 + k) (omega arith)))
+    (λ behind. subst (λ (z : ℤ). IsSum z) (sym (left k behind)) (small k (omega arith))) (cases_lt k (16 * row))
 
 by_fractions : (p : List ℕ) (stride k : ℕ) (s : Wide) (u v : ℤ) →
     whole p stride k ≡ s u v → whole_right p stride k ≡ s (u +ℤ pos 1) v → whole_below p stride k ≡ s u (v +ℤ pos 1) →

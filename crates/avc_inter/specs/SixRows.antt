@@ -3,6 +3,7 @@ use Rattle.std.specs.Prelude.{ℕ, ◌+◌, ◌*◌, ◌/◌, ◌%◌, ◌<◌, 
 use Rattle.avc_types.specs.Arithmetic.{◌>>ℤ◌, clip1}
 use Rattle.avc_inter.specs.Bounds.{IsSum}
 use Rattle.avc_inter.specs.Luma.{six_taps}
+use Rattle.avc_inter.specs.Patch.{taps_along}
 
 -- where sample k of a block of so many columns is behind its first one, in rows that begin a stride
 -- apart
@@ -44,12 +45,13 @@ centre_of e f g h i j k =
 abbrev pub AreSums : ℕ → List ℤ → Type 0
 AreSums n m = (k : ℕ) → k < n → IsSum (slice_index_or m k (pos 0))
 
--- u is t with the sixteen samples r as its row of this number
-pub record IsRowPut (row : ℕ) (r t u : List ℕ) : Type 0 where
-  pub inside : (i : ℕ) → i < 16 → slice_index u (16 * row + i) ≡ slice_index r i
-  pub before : (k : ℕ) → k < 16 * row → slice_index u k ≡ slice_index t k
+-- they are those of the first n samples of a block whose first one is at this place (8.4.2.2.1)
+pub record AreSumsOf (columns stride n at : ℕ) (p : List ℕ) (m : List ℤ) : Type 0 where
+  pub value : (k : ℕ) → k < n → slice_index_or m k (pos 0) ≡ taps_along p (at + place_of columns stride k) 1
+  pub small : AreSums n m
 
--- the same of unrounded sums
+-- u is t with the sixteen sums r as its sixteen of this number
 pub record AreSumsPut (row : ℕ) (r t u : List ℤ) : Type 0 where
   pub inside : (i : ℕ) → i < 16 → slice_index_or u (16 * row + i) (pos 0) ≡ slice_index_or r i (pos 0)
   pub before : (k : ℕ) → k < 16 * row → slice_index_or u k (pos 0) ≡ slice_index_or t k (pos 0)
+  pub behind : (k : ℕ) → 16 * row + 16 ≤ k → slice_index_or u k (pos 0) ≡ slice_index_or t k (pos 0)

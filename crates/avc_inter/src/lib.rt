@@ -3,6 +3,7 @@
 
 mod between;
 mod bilinear;
+mod centres;
 mod chroma_between;
 mod chroma_prediction;
 mod lines;

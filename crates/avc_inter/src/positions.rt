@@ -5,17 +5,13 @@
 //! sixteen samples. What is read is in the `count_around` rows of sixteen from there on. W columns
 //! of the block are written into rows, from the place `to` on.
 
-ghost use Rattle.std.specs.Prelude.{◌≡◌, ℕ, ◌+◌, ◌*◌, ◌/◌, ◌<◌, ◌≤◌, ◌^◌, pos, length, slice_index};
-ghost use Rattle.std.specs.Prelude.{slice_index_or};
+ghost use Rattle.std.specs.Prelude.{◌≡◌, ℕ, ◌+◌, ◌*◌, ◌/◌, ◌<◌, ◌≤◌, ◌^◌, length};
 ghost use Rattle.avc_plane.specs.Strided.{IsRoom, IsStridedSet};
-ghost use Rattle.avc_inter.specs.Patch.{taps_along, row_0_of, row_1_of, row_2_of, row_3_of};
-ghost use Rattle.avc_inter.specs.Patch.{quarter_of};
-ghost use Rattle.avc_inter.specs.SixRows.{place_of, AreLanes, AreSums, HasRoom};
+ghost use Rattle.avc_inter.specs.Patch.{row_0_of, row_1_of, row_2_of, row_3_of, quarter_of};
+ghost use Rattle.avc_inter.specs.SixRows.{AreLanes, HasRoom};
 
-use crate::rows::{
-    centre_rows, centre_rows_across, centre_rows_down, diagonal_rows, half_rows, quarter_rows,
-    sum_rows, whole_rows,
-};
+use crate::centres::{centre_rows, centre_rows_across, centre_rows_down};
+use crate::rows::{diagonal_rows, half_rows, quarter_rows, whole_rows};
 use avc_plane::RowsPlace;
 
 /// How many times sixteen samples a block has with the five rows more that the six taps ask for.
@@ -27,26 +23,6 @@ pub fn count_around(columns: usize, count: usize) -> usize
     ensures few { result ≤ 21 }
 {
     count + (5 * columns + 15) / 16
-}
-
-/// The unrounded sums of a block and of five rows more.
-#[inline(always)]
-fn sums_around<const L: usize>(
-    p: &[u8],
-    at: usize,
-    stride: usize,
-    count: usize,
-    sums: &mut [i16; 336],
-)
-    requires lanes { AreLanes L }
-    requires narrow { stride < 2 ^ 32 }
-    requires few { count ≤ 16 }
-    requires room { HasRoom L stride count at p.now }
-    ensures value { (k : ℕ) → k < 16 * count + 5 * L → slice_index_or sums.new k (pos 0) ≡ taps_along p.now (at + place_of L stride k) 1 }
-    ensures small { AreSums (16 * count + 5 * L) sums.new }
-    ensures within { 16 * count + 5 * L ≤ 336 }
-{
-    sum_rows::<L>(p, at, stride, count_around(L, count), sums);
 }
 
 /// The positions at a whole row.
@@ -104,11 +80,7 @@ fn row_1<const L: usize, const W: usize>(
     match fx {
         0 => quarter_rows::<L, W>(p, at, 2, b + 2, stride, stride, count, out, to),
         1 => diagonal_rows::<L, W>(p, at, b, 2, stride, count, out, to),
-        2 => {
-            let mut sums = [0; 336];
-            sums_around::<L>(p, at, stride, count, &mut sums);
-            centre_rows_across::<L, W>(&sums, 2 * L, count, out, to);
-        }
+        2 => centre_rows_across::<L, W>(p, at, 2, stride, count, out, to),
         _ => diagonal_rows::<L, W>(p, at, b, 3, stride, count, out, to),
     }
 }
@@ -134,16 +106,11 @@ fn row_2<const L: usize, const W: usize>(
     requires fraction { fx < 4 }
     ensures { IsStridedSet W (16 / L * count) to.first to.stride (λ x y. row_2_of p.now stride (at + (y * stride + x)) fx) out.old out.new }
 {
-    if fx == 0 {
-        half_rows::<L, W>(p, at, 2, stride, stride, count, out, to);
-    } else {
-        let mut sums = [0; 336];
-        sums_around::<L>(p, at, stride, count, &mut sums);
-        match fx {
-            1 => centre_rows_down::<L, W>(&sums, p, at, 2, stride, count, out, to),
-            2 => centre_rows::<L, W>(&sums, count, out, to),
-            _ => centre_rows_down::<L, W>(&sums, p, at, 3, stride, count, out, to),
-        }
+    match fx {
+        0 => half_rows::<L, W>(p, at, 2, stride, stride, count, out, to),
+        1 => centre_rows_down::<L, W>(p, at, 2, stride, count, out, to),
+        2 => centre_rows::<L, W>(p, at, stride, count, out, to),
+        _ => centre_rows_down::<L, W>(p, at, 3, stride, count, out, to),
     }
 }
 
@@ -172,11 +139,7 @@ fn row_3<const L: usize, const W: usize>(
     match fx {
         0 => quarter_rows::<L, W>(p, at, 2, s + 2, stride, stride, count, out, to),
         1 => diagonal_rows::<L, W>(p, at, s, 2, stride, count, out, to),
-        2 => {
-            let mut sums = [0; 336];
-            sums_around::<L>(p, at, stride, count, &mut sums);
-            centre_rows_across::<L, W>(&sums, 3 * L, count, out, to);
-        }
+        2 => centre_rows_across::<L, W>(p, at, 3, stride, count, out, to),
         _ => diagonal_rows::<L, W>(p, at, s, 3, stride, count, out, to),
     }
 }

@@ -5,17 +5,13 @@
 //! they are read from, and at the place `to` in the rows that they are written into. `count` is how
 //! many times sixteen samples the block has.
 
-ghost use Rattle.std.specs.Prelude.{◌≡◌, ℕ, ◌+◌, ◌*◌, ◌/◌, ◌<◌, ◌≤◌, ◌^◌, pos, length, slice_index};
-ghost use Rattle.std.specs.Prelude.{slice_index_or};
+ghost use Rattle.std.specs.Prelude.{◌≡◌, ℕ, ◌+◌, ◌*◌, ◌/◌, ◌<◌, ◌≤◌, ◌^◌, length, slice_index};
 ghost use Rattle.avc_types.specs.Arithmetic.{mean_of_two};
 ghost use Rattle.avc_plane.specs.Strided.{IsRoom, IsStridedSet};
-ghost use Rattle.avc_inter.specs.Bounds.{IsSum};
-ghost use Rattle.avc_inter.specs.Patch.{taps_along, half_along, centre_along, rounded_sum};
-ghost use Rattle.avc_inter.specs.SixRows.{place_of, HasPlaces, AreLanes, half_of, taps_of};
-ghost use Rattle.avc_inter.specs.SixRows.{centre_of, AreSums, AreSumsPut};
+ghost use Rattle.avc_inter.specs.Patch.{half_along};
+ghost use Rattle.avc_inter.specs.SixRows.{place_of, HasPlaces, AreLanes, half_of};
 
-use crate::row::{multiples, narrow_differences, sums, widened};
-use crate::taps::{centre, half, mean, rounded_half};
+use crate::taps::{half, mean};
 use avc_plane::RowsPlace;
 
 /// Reads L samples of a row.
@@ -67,7 +63,7 @@ fn halves_of(
 
 /// The half samples between each third and fourth of six samples a step apart.
 #[inline(always)]
-fn half_row<const L: usize>(p: &[u8], at: usize, stride: usize, step: usize) -> [u8; 16]
+pub fn half_row<const L: usize>(p: &[u8], at: usize, stride: usize, step: usize) -> [u8; 16]
     requires lanes { AreLanes L }
     requires samples { HasPlaces L stride 16 (at + 5 * step) p.now }
     ensures { (k : ℕ) → k < 16 → slice_index result k ≡ half_along p.now (at + place_of L stride k) step }
@@ -171,7 +167,7 @@ pub fn half_rows<const L: usize, const W: usize>(
 }
 
 #[inline(always)]
-fn means_of(a: &[u8; 16], b: &[u8; 16]) -> [u8; 16]
+pub fn means_of(a: &[u8; 16], b: &[u8; 16]) -> [u8; 16]
     ensures { (k : ℕ) → k < 16 → slice_index result k ≡ mean_of_two (slice_index a.now k) (slice_index b.now k) }
 {
     let (a, b) = (*a, *b);
@@ -180,6 +176,54 @@ fn means_of(a: &[u8; 16], b: &[u8; 16]) -> [u8; 16]
         out[k] = mean(a[k], b[k]);
     }
     out
+}
+
+/// The means of sixteen whole samples and the half samples of six rows.
+#[inline(always)]
+fn quarters_of(
+    whole: &[u8; 16],
+    e: &[u8; 16],
+    f: &[u8; 16],
+    g: &[u8; 16],
+    h: &[u8; 16],
+    i: &[u8; 16],
+    j: &[u8; 16],
+) -> [u8; 16]
+    ensures { (k : ℕ) → k < 16 → slice_index result k ≡ mean_of_two (slice_index whole.now k) (half_of e.now f.now g.now h.now i.now j.now k) }
+{
+    let (whole, e, f, g, h, i, j) = (*whole, *e, *f, *g, *h, *i, *j);
+    let mut out = [0; 16];
+    // one loop: the compiler takes a loop of means alone apart
+    for k in 0..16 {
+        out[k] = mean(whole[k], half(e[k], f[k], g[k], h[k], i[k], j[k]));
+    }
+    out
+}
+
+/// The means of whole samples, from place `whole` on, and the half samples between each third and
+/// fourth of six samples a step apart.
+#[inline(always)]
+fn quarter_row<const L: usize>(
+    p: &[u8],
+    at: usize,
+    whole: usize,
+    stride: usize,
+    step: usize,
+) -> [u8; 16]
+    requires lanes { AreLanes L }
+    requires samples { HasPlaces L stride 16 (at + 5 * step) p.now }
+    requires whole { HasPlaces L stride 16 whole p.now }
+    ensures { (k : ℕ) → k < 16 → slice_index result k
+        ≡ mean_of_two (slice_index p.now (whole + place_of L stride k)) (half_along p.now (at + place_of L stride k) step) }
+{
+    let e = sixteen::<L>(p, at, stride);
+    let f = sixteen::<L>(p, at + step, stride);
+    let g = sixteen::<L>(p, at + 2 * step, stride);
+    let h = sixteen::<L>(p, at + 3 * step, stride);
+    let i = sixteen::<L>(p, at + 4 * step, stride);
+    let j = sixteen::<L>(p, at + 5 * step, stride);
+    let whole = sixteen::<L>(p, whole, stride);
+    quarters_of(&whole, &e, &f, &g, &h, &i, &j)
 }
 
 /// Half samples, each with its mean with a whole sample, which is `whole` behind place `at`.
@@ -208,9 +252,7 @@ pub fn quarter_rows<const L: usize, const W: usize>(
     let lines = 16 / L * stride;
     let rows = 16 / L * to.stride;
     for y in 0..count {
-        let half = half_row::<L>(p, at + by + y * lines, stride, step);
-        let whole = sixteen::<L>(p, at + whole + y * lines, stride);
-        let row = means_of(&whole, &half);
+        let row = quarter_row::<L>(p, at + by + y * lines, at + whole + y * lines, stride, step);
         put_rows::<L, W>(out, to.first + y * rows, to.stride, &row);
     }
 }
@@ -245,245 +287,6 @@ pub fn diagonal_rows<const L: usize, const W: usize>(
         let b = half_row::<L>(p, at + across + y * lines, stride, 1);
         let h = half_row::<L>(p, at + down + y * lines, stride, stride);
         let row = means_of(&b, &h);
-        put_rows::<L, W>(out, to.first + y * rows, to.stride, &row);
-    }
-}
-
-/// The unrounded sums of six rows.
-#[inline(always)]
-fn sums_of(
-    e: &[u8; 16],
-    f: &[u8; 16],
-    g: &[u8; 16],
-    h: &[u8; 16],
-    i: &[u8; 16],
-    j: &[u8; 16],
-) -> [i16; 16]
-    ensures value { (k : ℕ) → k < 16 → slice_index_or result k (pos 0) ≡ taps_of e.now f.now g.now h.now i.now j.now k }
-    ensures small { (k : ℕ) → k < 16 → IsSum (slice_index_or result k (pos 0)) }
-{
-    let outer = sums(widened(e.as_slice(), 0), widened(j.as_slice(), 0));
-    let middle = sums(widened(f.as_slice(), 0), widened(i.as_slice(), 0));
-    let inner = sums(widened(g.as_slice(), 0), widened(h.as_slice(), 0));
-    narrow_differences(sums(outer, multiples(inner, 20)), multiples(middle, 5)).to_array()
-}
-
-/// The unrounded taps over each six neighbours.
-#[inline(always)]
-fn sum_row<const L: usize>(p: &[u8], at: usize, stride: usize) -> [i16; 16]
-    requires lanes { AreLanes L }
-    requires samples { HasPlaces L stride 16 (at + 5 * 1) p.now }
-    ensures value { (k : ℕ) → k < 16 → slice_index_or result k (pos 0) ≡ taps_along p.now (at + place_of L stride k) 1 }
-    ensures small { (k : ℕ) → k < 16 → IsSum (slice_index_or result k (pos 0)) }
-{
-    let e = sixteen::<L>(p, at, stride);
-    let f = sixteen::<L>(p, at + 1, stride);
-    let g = sixteen::<L>(p, at + 2, stride);
-    let h = sixteen::<L>(p, at + 3, stride);
-    let i = sixteen::<L>(p, at + 4, stride);
-    let j = sixteen::<L>(p, at + 5, stride);
-    sums_of(&e, &f, &g, &h, &i, &j)
-}
-
-#[inline(always)]
-fn put_sums(out: &mut [i16; 336], row: usize, r: &[i16; 16])
-    requires { row < 21 }
-    ensures { AreSumsPut row r.now out.old out.new }
-{
-    let from = 16 * row;
-    for k in 0..16 {
-        out[from + k] = r[k];
-    }
-}
-
-/// Puts the unrounded taps over each six neighbours into their place.
-#[inline(always)]
-fn put_sum_row<const L: usize>(p: &[u8], at: usize, stride: usize, out: &mut [i16; 336], row: usize)
-    requires lanes { AreLanes L }
-    requires samples { HasPlaces L stride 16 (at + 5 * 1) p.now }
-    requires row { row < 21 }
-    ensures value { (k : ℕ) → k < 16 → slice_index_or out.new (16 * row + k) (pos 0) ≡ taps_along p.now (at + place_of L stride k) 1 }
-    ensures small { (k : ℕ) → k < 16 → IsSum (slice_index_or out.new (16 * row + k) (pos 0)) }
-    ensures before { (k : ℕ) → k < 16 * row → slice_index_or out.new k (pos 0) ≡ slice_index_or out.old k (pos 0) }
-{
-    let sums = sum_row::<L>(p, at, stride);
-    put_sums(out, row, &sums);
-}
-
-/// Unrounded sums.
-#[inline(always)]
-pub fn sum_rows<const L: usize>(
-    p: &[u8],
-    at: usize,
-    stride: usize,
-    count: usize,
-    out: &mut [i16; 336],
-)
-    requires lanes { AreLanes L }
-    requires narrow { stride < 2 ^ 32 }
-    requires few { count ≤ 21 }
-    requires samples { HasPlaces L stride (16 * count) (at + 5 * 1) p.now }
-    ensures value { (k : ℕ) → k < 16 * count → slice_index_or out.new k (pos 0) ≡ taps_along p.now (at + place_of L stride k) 1 }
-    ensures small { AreSums (16 * count) out.new }
-{
-    let lines = 16 / L * stride;
-    for y in 0..count {
-        put_sum_row::<L>(p, at + y * lines, stride, out, y);
-    }
-}
-
-/// Sixteen sums.
-#[inline(always)]
-fn sixteen_sums(m: &[i16; 336], at: usize) -> [i16; 16]
-    requires few { at + 16 ≤ 336 }
-    requires small { AreSums (at + 16) m.now }
-    ensures value { (k : ℕ) → k < 16 → slice_index_or result k (pos 0) ≡ slice_index_or m.now (at + k) (pos 0) }
-    ensures small { AreSums 16 result }
-{
-    let mut out = [0; 16];
-    for k in 0..16 {
-        out[k] = m[at + k];
-    }
-    out
-}
-
-/// The half samples j of six rows of sums.
-#[inline(always)]
-fn centres_of(
-    e: &[i16; 16],
-    f: &[i16; 16],
-    g: &[i16; 16],
-    h: &[i16; 16],
-    i: &[i16; 16],
-    j: &[i16; 16],
-) -> [u8; 16]
-    requires e { AreSums 16 e.now }
-    requires f { AreSums 16 f.now }
-    requires g { AreSums 16 g.now }
-    requires h { AreSums 16 h.now }
-    requires i { AreSums 16 i.now }
-    requires j { AreSums 16 j.now }
-    ensures { (k : ℕ) → k < 16 → slice_index result k ≡ centre_of e.now f.now g.now h.now i.now j.now k }
-{
-    let (e, f, g, h, i, j) = (*e, *f, *g, *h, *i, *j);
-    let mut out = [0; 16];
-    for k in 0..16 {
-        out[k] = centre(e[k], f[k], g[k], h[k], i[k], j[k]);
-    }
-    out
-}
-
-/// The half samples j of sums, six a step apart.
-#[inline(always)]
-fn centre_row(m: &[i16; 336], at: usize, step: usize) -> [u8; 16]
-    requires few { at + 5 * step + 16 ≤ 336 }
-    requires small { AreSums (at + 5 * step + 16) m.now }
-    ensures { (k : ℕ) → k < 16 → slice_index result k ≡ centre_along m.now (at + k) step }
-{
-    let e = sixteen_sums(m, at);
-    let f = sixteen_sums(m, at + step);
-    let g = sixteen_sums(m, at + 2 * step);
-    let h = sixteen_sums(m, at + 3 * step);
-    let i = sixteen_sums(m, at + 4 * step);
-    let j = sixteen_sums(m, at + 5 * step);
-    centres_of(&e, &f, &g, &h, &i, &j)
-}
-
-/// The half samples j.
-#[inline(always)]
-pub fn centre_rows<const L: usize, const W: usize>(
-    m: &[i16; 336],
-    count: usize,
-    out: &mut [u8],
-    to: RowsPlace,
-)
-    requires lanes { AreLanes L }
-    requires columns { W ≤ L }
-    requires apart { W ≤ to.stride }
-    requires room { IsRoom W (16 / L * count) to.first to.stride (length out.old) }
-    requires few { 16 * count + 5 * L ≤ 336 }
-    requires small { AreSums (16 * count + 5 * L) m.now }
-    ensures { IsStridedSet W (16 / L * count) to.first to.stride (λ x y. centre_along m.now (L * y + x) L) out.old out.new }
-{
-    let rows = 16 / L * to.stride;
-    for y in 0..count {
-        let row = centre_row(m, 16 * y, L);
-        put_rows::<L, W>(out, to.first + y * rows, to.stride, &row);
-    }
-}
-
-/// The half samples b or s of their sums.
-#[inline(always)]
-fn rounded_row(m: &[i16; 336], at: usize) -> [u8; 16]
-    requires few { at + 16 ≤ 336 }
-    requires small { AreSums (at + 16) m.now }
-    ensures { (k : ℕ) → k < 16 → slice_index result k ≡ rounded_sum (slice_index_or m.now (at + k) (pos 0)) }
-{
-    let sums = sixteen_sums(m, at);
-    let mut out = [0; 16];
-    for k in 0..16 {
-        out[k] = rounded_half(sums[k]);
-    }
-    out
-}
-
-/// The means of j and of b or s, whose sums begin at `from`.
-#[inline(always)]
-pub fn centre_rows_across<const L: usize, const W: usize>(
-    m: &[i16; 336],
-    from: usize,
-    count: usize,
-    out: &mut [u8],
-    to: RowsPlace,
-)
-    requires lanes { AreLanes L }
-    requires columns { W ≤ L }
-    requires apart { W ≤ to.stride }
-    requires room { IsRoom W (16 / L * count) to.first to.stride (length out.old) }
-    requires from { from ≤ 5 * L }
-    requires few { 16 * count + 5 * L ≤ 336 }
-    requires small { AreSums (16 * count + 5 * L) m.now }
-    ensures { IsStridedSet W (16 / L * count) to.first to.stride
-        (λ x y. mean_of_two (centre_along m.now (L * y + x) L) (rounded_sum (slice_index_or m.now (from + (L * y + x)) (pos 0)))) out.old out.new }
-{
-    let rows = 16 / L * to.stride;
-    for y in 0..count {
-        let middle = centre_row(m, 16 * y, L);
-        let half = rounded_row(m, from + 16 * y);
-        let row = means_of(&middle, &half);
-        put_rows::<L, W>(out, to.first + y * rows, to.stride, &row);
-    }
-}
-
-/// The means of j and of h or m, whose six samples begin `by` behind place `at`.
-#[inline(always)]
-pub fn centre_rows_down<const L: usize, const W: usize>(
-    m: &[i16; 336],
-    p: &[u8],
-    at: usize,
-    by: usize,
-    stride: usize,
-    count: usize,
-    out: &mut [u8],
-    to: RowsPlace,
-)
-    requires lanes { AreLanes L }
-    requires narrow { stride < 2 ^ 32 }
-    requires columns { W ≤ L }
-    requires apart { W ≤ to.stride }
-    requires room { IsRoom W (16 / L * count) to.first to.stride (length out.old) }
-    requires samples { HasPlaces L stride (16 * count) (at + by + 5 * stride) p.now }
-    requires few { 16 * count + 5 * L ≤ 336 }
-    requires small { AreSums (16 * count + 5 * L) m.now }
-    ensures { IsStridedSet W (16 / L * count) to.first to.stride
-        (λ x y. mean_of_two (centre_along m.now (L * y + x) L) (half_along p.now (by + (at + (y * stride + x))) stride)) out.old out.new }
-{
-    let lines = 16 / L * stride;
-    let rows = 16 / L * to.stride;
-    for y in 0..count {
-        let middle = centre_row(m, 16 * y, L);
-        let half = half_row::<L>(p, at + by + y * lines, stride, stride);
-        let row = means_of(&middle, &half);
         put_rows::<L, W>(out, to.first + y * rows, to.stride, &row);
     }
 }

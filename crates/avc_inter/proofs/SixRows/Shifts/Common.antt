@@ -33,7 +33,7 @@ pub use Rattle.avc_inter.specs.Chroma.{bilinear, inter_chroma}
 pub use Rattle.avc_inter.specs.Luma.{six_taps, Wide, across, down, half_b, half_h, half_j, half_m, half_s, quarter, inter_luma}
 pub use Rattle.avc_inter.specs.Patch.{IsThere, blend_of, half_along, taps_along, centre_along, j_of, rounded_sum, whole, whole_right, whole_below, b_of, s_of}
 pub use Rattle.avc_inter.specs.Patch.{h_of, m_of, quarter_of, IsPatch}
-pub use Rattle.avc_inter.specs.SixRows.{place_of, HasPlaces, HasRoom, AreLanes, taps_of, half_of, centre_of}
+pub use Rattle.avc_inter.specs.SixRows.{place_of, HasPlaces, HasRoom, AreLanes, taps_of, half_of, centre_of, AreSums, AreSumsOf}
 pub use Rattle.avc_inter.specs.SixTapRow.{taps_at}
 pub use Rattle.avc_inter.specs.Weight.{weighted}
 pub use Rattle.avc_inter.specs.declared.bilinear.BilinearWeights.{BilinearWeights}

@@ -1,5 +1,4 @@
-use Rattle.std.proofs.Common.{ap₂}
-use Rattle.avc_inter.proofs.SixRows.{mean_of_two, arith, room_for, refl, strided_as, middle_at, rounded_at}
+use Rattle.avc_inter.proofs.SixRows.{arith, room_for}
 use Rattle.avc_inter.proofs.positions.row_3.Goals as goal
 
 pub quarter_rows-requires-clause-samples : goal.quarter_rows-requires-clause-samples
@@ -21,7 +20,4 @@ pub diagonal_rows-requires-in_default-clause-down : goal.diagonal_rows-requires-
 diagonal_rows-requires-in_default-clause-down g c = room_for _ _ c.requires.lanes _ c.args.at _ _ c.requires.room (omega arith)
 
 pub returns-in-2 : goal.returns-in-2
-returns-in-2 g c =
-    rw (c.in-2.is) (strided_as c.centre_rows_across.ensures refl (λ x y column low. ap₂ mean_of_two
-    (middle_at _ c.args.stride c.requires.lanes c.args.p.now c.sums_around.new.sums c.args.at c.args.count c.sums_around.ensures.value x y (omega (arith, column, c.requires.columns)) low)
-    (rounded_at _ c.args.stride c.requires.lanes c.args.p.now c.sums_around.new.sums c.args.at c.args.count c.sums_around.ensures.value x y (omega (arith, column, c.requires.columns)) low 3 (omega arith))))
+returns-in-2 g c = rw (c.in-2.is) c.centre_rows_across.ensures

@@ -13,11 +13,11 @@ overflow_mul-y-in-loop-y g c = omega (arith, row_begins _ _ c.requires.lanes _ (
 pub overflow_add-at-in-loop-y-3 : goal.overflow_add-at-in-loop-y-3
 overflow_add-at-in-loop-y-3 g c = omega (arith, row_begins _ _ c.requires.lanes _ (c.args.at + c.args.whole) _ _ c.requires.whole c.loop-y-test.true)
 
-pub half_row-half-requires-clause-samples : goal.half_row-half-requires-clause-samples
-half_row-half-requires-clause-samples g c k low = row_within _ _ c.requires.lanes _ (c.args.at + c.args.by) (5 * c.args.step) _ k _ c.requires.samples c.loop-y-test.true low
+pub quarter_row-row-requires-clause-samples : goal.quarter_row-row-requires-clause-samples
+quarter_row-row-requires-clause-samples g c k low = row_within _ _ c.requires.lanes _ (c.args.at + c.args.by) (5 * c.args.step) _ k _ c.requires.samples c.loop-y-test.true low
 
-pub sixteen-whole-requires-clause-samples : goal.sixteen-whole-requires-clause-samples
-sixteen-whole-requires-clause-samples g c k low = row_there _ _ c.requires.lanes _ (c.args.at + c.args.whole) _ k _ c.requires.whole c.loop-y-test.true low
+pub quarter_row-row-requires-clause-whole : goal.quarter_row-row-requires-clause-whole
+quarter_row-row-requires-clause-whole g c k low = row_there _ _ c.requires.lanes _ (c.args.at + c.args.whole) _ k _ c.requires.whole c.loop-y-test.true low
 
 pub overflow_mul-y-in-loop-y-2 : goal.overflow_mul-y-in-loop-y-2
 overflow_mul-y-in-loop-y-2 g c = omega (arith, row_first _ _ _ c.requires.lanes c.loop-y-test.true c.requires.room c.loop-y.invariant)
@@ -30,11 +30,9 @@ put_rows-requires-clause-room g c r low = row_room _ _ _ _ c.requires.lanes c.lo
 
 pub loop-y-preserved : goal.loop-y-preserved
 loop-y-preserved g c =
-    sixteen_more c.loop-y.y c.means_of-row.result c.requires.lanes c.requires.columns c.requires.apart c.loop-y.invariant c.put_rows.ensures
+    sixteen_more c.loop-y.y c.quarter_row-row.result c.requires.lanes c.requires.columns c.requires.apart c.loop-y.invariant c.put_rows.ensures
     (λ r x low column. cc (
-      c.means_of-row.ensures (g.row.L * r + x) low,
-      c.sixteen-whole.ensures (g.row.L * r + x) low,
-      c.half_row-half.ensures (g.row.L * r + x) low,
+      c.quarter_row-row.ensures (g.row.L * r + x) low,
       place_in _ c.args.stride c.requires.lanes c.args.at c.args.whole c.loop-y.y r x column,
       place_in _ c.args.stride c.requires.lanes c.args.at c.args.by c.loop-y.y r x column,
     ))

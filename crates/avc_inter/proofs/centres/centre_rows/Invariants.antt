@@ -1,0 +1,8 @@
+use Rattle.avc_inter.proofs.SixRows.{◌+◌, ◌*◌, ◌/◌, IsStridedSet, AreSumsOf, j_of}
+use Rattle.avc_inter.proofs.centres.centre_rows.Given as goal
+
+abbrev pub invariant-loop-y : goal.invariant-loop-y
+invariant-loop-y g l = record {
+  sums : AreSumsOf g.row.L l.stride (16 * ((5 * g.row.L + 15) / 16)) (l.at + l.y * (16 / g.row.L * l.stride)) l.p l.window;
+  set : IsStridedSet g.row.W (16 / g.row.L * l.y) l.to.first l.to.stride (λ x y. j_of l.p l.stride (l.at + (y * l.stride + x))) l.fn.out l.out;
+}

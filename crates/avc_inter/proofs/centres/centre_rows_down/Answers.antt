@@ -1,0 +1,52 @@
+use Rattle.std.proofs.Common.{ap₂}
+use Rattle.avc_inter.proofs.SixRows.{◌+◌, ◌*◌, arith, rules, ap, ◌∙◌, row_first, row_room, rows_done, sixteen_more, row_begins, samples_there, window_there, window_moved, sums_from, place_here, j_of, mean_of_two, half_along, place_in, row_within}
+use Rattle.avc_inter.proofs.centres.centre_rows_down.Goals as goal
+
+pub overflow_mul-y : goal.overflow_mul-y
+overflow_mul-y g c = omega (arith, row_begins _ _ c.requires.lanes _ c.args.at _ _ (samples_there _ _ c.requires.lanes _ c.args.at _ c.requires.samples) c.loop-y-test.true)
+
+pub overflow_add-at : goal.overflow_add-at
+overflow_add-at g c = omega (arith, row_begins _ _ c.requires.lanes _ c.args.at _ _ (samples_there _ _ c.requires.lanes _ c.args.at _ c.requires.samples) c.loop-y-test.true)
+
+pub overflow_mul-y-in-loop-y : goal.overflow_mul-y-in-loop-y
+overflow_mul-y-in-loop-y g c = omega (arith, row_begins _ _ c.requires.lanes _ (c.args.at + c.args.by + 5 * c.args.stride) _ _ c.requires.down c.loop-y-test.true)
+
+pub overflow_add-at-in-loop-y-2 : goal.overflow_add-at-in-loop-y-2
+overflow_add-at-in-loop-y-2 g c = omega (arith, row_begins _ _ c.requires.lanes _ (c.args.at + c.args.by + 5 * c.args.stride) _ _ c.requires.down c.loop-y-test.true)
+
+pub overflow_mul-y-in-loop-y-2 : goal.overflow_mul-y-in-loop-y-2
+overflow_mul-y-in-loop-y-2 g c = omega (arith, row_first _ _ _ c.requires.lanes c.loop-y-test.true c.requires.room c.loop-y.invariant.set)
+
+pub overflow_add-to : goal.overflow_add-to
+overflow_add-to g c = omega (arith, row_first _ _ _ c.requires.lanes c.loop-y-test.true c.requires.room c.loop-y.invariant.set)
+
+pub begin-requires-clause-samples : goal.begin-requires-clause-samples
+begin-requires-clause-samples g c k low = c.requires.samples k (omega arith)
+
+pub middle_row-middle-requires-clause-samples : goal.middle_row-middle-requires-clause-samples
+middle_row-middle-requires-clause-samples g c = window_there _ _ c.requires.lanes _ c.args.at _ _ c.requires.samples c.loop-y-test.true
+
+pub put_rows-requires-clause-room : goal.put_rows-requires-clause-room
+put_rows-requires-clause-room g c r low = row_room _ _ _ _ c.requires.lanes c.loop-y-test.true c.requires.room c.loop-y.invariant.set low
+
+pub half_row-half-requires-clause-samples : goal.half_row-half-requires-clause-samples
+half_row-half-requires-clause-samples g c k low = row_within _ _ c.requires.lanes _ (c.args.at + c.args.by) (5 * c.args.stride) _ k _ c.requires.down c.loop-y-test.true low
+
+pub loop-y-preserved : goal.loop-y-preserved
+loop-y-preserved g c = record {
+  sums = window_moved g.row.L c.args.stride c.requires.lanes _ c.args.at c.loop-y.y c.args.p.now _ _ c.middle_row-middle.ensures.sums c.move_on.ensures;
+  set = sixteen_more c.loop-y.y c.means_of-row.result c.requires.lanes c.requires.columns c.requires.apart c.loop-y.invariant.set c.put_rows.ensures
+      (λ r x low column. c.means_of-row.ensures (g.row.L * r + x) low ∙ ap₂ mean_of_two
+      (c.middle_row-middle.ensures.row (g.row.L * r + x) low ∙ ap (j_of c.args.p.now c.args.stride) (place_here _ c.args.stride c.requires.lanes c.args.at c.loop-y.y r x column))
+      (c.half_row-half.ensures (g.row.L * r + x) low
+      ∙ ap (λ i. half_along c.args.p.now i c.args.stride) (place_in _ c.args.stride c.requires.lanes c.args.at c.args.by c.loop-y.y r x column)));
+}
+
+pub loop-y-init : goal.loop-y-init
+loop-y-init g c = record {
+  sums = sums_from (omega arith) c.begin.ensures;
+  set = search rules;
+}
+
+pub returns : goal.returns
+returns g c = rows_done _ _ _ c.loop-y.invariant.set c.loop-y-test.false c.loop-y.auto.y-end

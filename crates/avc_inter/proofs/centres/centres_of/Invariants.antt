@@ -1,0 +1,8 @@
+use Rattle.avc_inter.proofs.SixRows.{◌≡◌, ◌<◌, ℕ, length, slice_index, centre_of}
+use Rattle.avc_inter.proofs.centres.centres_of.Given as goal
+
+abbrev pub invariant-loop-k : goal.invariant-loop-k
+invariant-loop-k l = record {
+  long : length l.out ≡ 16;
+  done : (k : ℕ) → k < l.k → slice_index l.out k ≡ centre_of l.e l.f l.g l.h l.i l.j k;
+}

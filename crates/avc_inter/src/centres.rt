@@ -1,0 +1,304 @@
+//! The half samples j, in the middle of four samples, and their means with others (8.4.2.2.1).
+//!
+//! Sixteen of them ask for six rows of unrounded sums. These lie one behind the other in a window,
+//! which moves on by sixteen sums at a time: it is small enough for the registers of a processor, so
+//! the sums of a block are stored nowhere. L, W, `stride`, `count` and `to` are as in `rows`; `at` is
+//! the place two rows above the block's first sample and two columns left of it.
+
+ghost use Rattle.std.specs.Prelude.{◌≡◌, ℕ, ◌+◌, ◌*◌, ◌/◌, ◌<◌, ◌≤◌, ◌^◌, pos, length, slice_index};
+ghost use Rattle.std.specs.Prelude.{slice_index_or};
+ghost use Rattle.avc_types.specs.Arithmetic.{mean_of_two};
+ghost use Rattle.avc_plane.specs.Strided.{IsRoom, IsStridedSet};
+ghost use Rattle.avc_inter.specs.Bounds.{IsSum};
+ghost use Rattle.avc_inter.specs.Patch.{taps_along, half_along, centre_along, rounded_sum, j_of};
+ghost use Rattle.avc_inter.specs.SixRows.{place_of, HasPlaces, HasRoom, AreLanes, taps_of};
+ghost use Rattle.avc_inter.specs.SixRows.{centre_of, AreSums, AreSumsOf, AreSumsPut};
+
+use crate::row::{multiples, narrow_differences, sums, widened};
+use crate::rows::{half_row, means_of, put_rows, sixteen};
+use crate::taps::{centre, rounded_half};
+use avc_plane::RowsPlace;
+
+/// The unrounded sums of six rows.
+#[inline(always)]
+fn sums_of(
+    e: &[u8; 16],
+    f: &[u8; 16],
+    g: &[u8; 16],
+    h: &[u8; 16],
+    i: &[u8; 16],
+    j: &[u8; 16],
+) -> [i16; 16]
+    ensures value { (k : ℕ) → k < 16 → slice_index_or result k (pos 0) ≡ taps_of e.now f.now g.now h.now i.now j.now k }
+    ensures small { (k : ℕ) → k < 16 → IsSum (slice_index_or result k (pos 0)) }
+{
+    let outer = sums(widened(e.as_slice(), 0), widened(j.as_slice(), 0));
+    let middle = sums(widened(f.as_slice(), 0), widened(i.as_slice(), 0));
+    let inner = sums(widened(g.as_slice(), 0), widened(h.as_slice(), 0));
+    narrow_differences(sums(outer, multiples(inner, 20)), multiples(middle, 5)).to_array()
+}
+
+/// The unrounded taps over each six neighbours.
+#[inline(always)]
+fn sum_row<const L: usize>(p: &[u8], at: usize, stride: usize) -> [i16; 16]
+    requires lanes { AreLanes L }
+    requires samples { HasPlaces L stride 16 (at + 5 * 1) p.now }
+    ensures value { (k : ℕ) → k < 16 → slice_index_or result k (pos 0) ≡ taps_along p.now (at + place_of L stride k) 1 }
+    ensures small { (k : ℕ) → k < 16 → IsSum (slice_index_or result k (pos 0)) }
+{
+    let e = sixteen::<L>(p, at, stride);
+    let f = sixteen::<L>(p, at + 1, stride);
+    let g = sixteen::<L>(p, at + 2, stride);
+    let h = sixteen::<L>(p, at + 3, stride);
+    let i = sixteen::<L>(p, at + 4, stride);
+    let j = sixteen::<L>(p, at + 5, stride);
+    sums_of(&e, &f, &g, &h, &i, &j)
+}
+
+/// Puts sixteen sums into the window, as its sixteen of this number.
+#[inline(always)]
+fn put_sums(window: &mut [i16; 96], row: usize, r: &[i16; 16])
+    requires { row < 6 }
+    ensures { AreSumsPut row r.now window.old window.new }
+{
+    let from = 16 * row;
+    for k in 0..16 {
+        window[from + k] = r[k];
+    }
+}
+
+/// Puts the next sixteen sums behind those that the window has.
+#[inline(always)]
+fn put_sum_row<const L: usize>(
+    p: &[u8],
+    at: usize,
+    stride: usize,
+    window: &mut [i16; 96],
+    row: usize,
+)
+    requires lanes { AreLanes L }
+    requires narrow { stride < 2 ^ 32 }
+    requires row { row < 6 }
+    requires samples { HasPlaces L stride (16 * (row + 1)) (at + 5) p.now }
+    requires sums { AreSumsOf L stride (16 * row) at p.now window.old }
+    ensures { AreSumsOf L stride (16 * (row + 1)) at p.now window.new }
+{
+    let lines = 16 / L * stride;
+    let next = sum_row::<L>(p, at + row * lines, stride);
+    put_sums(window, row, &next);
+}
+
+/// Puts the sums of a block's first five rows into the window.
+#[inline(always)]
+fn begin<const L: usize>(p: &[u8], at: usize, stride: usize, window: &mut [i16; 96])
+    requires lanes { AreLanes L }
+    requires narrow { stride < 2 ^ 32 }
+    requires samples { HasPlaces L stride (16 * ((5 * L + 15) / 16)) (at + 5) p.now }
+    ensures { AreSumsOf L stride (16 * ((5 * L + 15) / 16)) at p.now window.new }
+{
+    for row in 0..(5 * L + 15) / 16 {
+        put_sum_row::<L>(p, at, stride, window, row);
+    }
+}
+
+/// Sixteen sums of the window.
+#[inline(always)]
+fn sixteen_sums(window: &[i16; 96], at: usize) -> [i16; 16]
+    requires few { at + 16 ≤ 96 }
+    requires small { AreSums (at + 16) window.now }
+    ensures value { (k : ℕ) → k < 16 → slice_index_or result k (pos 0) ≡ slice_index_or window.now (at + k) (pos 0) }
+    ensures small { AreSums 16 result }
+{
+    let mut out = [0; 16];
+    for k in 0..16 {
+        out[k] = window[at + k];
+    }
+    out
+}
+
+/// The half samples j of six rows of sums.
+#[inline(always)]
+fn centres_of(
+    e: &[i16; 16],
+    f: &[i16; 16],
+    g: &[i16; 16],
+    h: &[i16; 16],
+    i: &[i16; 16],
+    j: &[i16; 16],
+) -> [u8; 16]
+    requires e { AreSums 16 e.now }
+    requires f { AreSums 16 f.now }
+    requires g { AreSums 16 g.now }
+    requires h { AreSums 16 h.now }
+    requires i { AreSums 16 i.now }
+    requires j { AreSums 16 j.now }
+    ensures { (k : ℕ) → k < 16 → slice_index result k ≡ centre_of e.now f.now g.now h.now i.now j.now k }
+{
+    let (e, f, g, h, i, j) = (*e, *f, *g, *h, *i, *j);
+    let mut out = [0; 16];
+    for k in 0..16 {
+        out[k] = centre(e[k], f[k], g[k], h[k], i[k], j[k]);
+    }
+    out
+}
+
+/// The half samples j of sums, six a step apart.
+#[inline(always)]
+fn centre_row(window: &[i16; 96], at: usize, step: usize) -> [u8; 16]
+    requires few { at + 5 * step + 16 ≤ 96 }
+    requires small { AreSums (at + 5 * step + 16) window.now }
+    ensures { (k : ℕ) → k < 16 → slice_index result k ≡ centre_along window.now (at + k) step }
+{
+    let e = sixteen_sums(window, at);
+    let f = sixteen_sums(window, at + step);
+    let g = sixteen_sums(window, at + 2 * step);
+    let h = sixteen_sums(window, at + 3 * step);
+    let i = sixteen_sums(window, at + 4 * step);
+    let j = sixteen_sums(window, at + 5 * step);
+    centres_of(&e, &f, &g, &h, &i, &j)
+}
+
+/// Sixteen half samples j, whose first one is at this place. The window has the sums of five rows, and
+/// gets the next sixteen.
+#[inline(always)]
+fn middle_row<const L: usize>(
+    p: &[u8],
+    at: usize,
+    stride: usize,
+    window: &mut [i16; 96],
+) -> [u8; 16]
+    requires lanes { AreLanes L }
+    requires narrow { stride < 2 ^ 32 }
+    requires samples { HasPlaces L stride (16 * ((5 * L + 15) / 16 + 1)) (at + 5) p.now }
+    requires sums { AreSumsOf L stride (16 * ((5 * L + 15) / 16)) at p.now window.old }
+    ensures row { (k : ℕ) → k < 16 → slice_index result k ≡ j_of p.now stride (at + place_of L stride k) }
+    ensures sums { AreSumsOf L stride (16 * ((5 * L + 15) / 16 + 1)) at p.now window.new }
+{
+    put_sum_row::<L>(p, at, stride, window, (5 * L + 15) / 16);
+    centre_row(window, 0, L)
+}
+
+/// The half samples b or s of their sums.
+#[inline(always)]
+fn rounded_row(window: &[i16; 96], at: usize) -> [u8; 16]
+    requires few { at + 16 ≤ 96 }
+    requires small { AreSums (at + 16) window.now }
+    ensures { (k : ℕ) → k < 16 → slice_index result k ≡ rounded_sum (slice_index_or window.now (at + k) (pos 0)) }
+{
+    let sums = sixteen_sums(window, at);
+    let mut out = [0; 16];
+    for k in 0..16 {
+        out[k] = rounded_half(sums[k]);
+    }
+    out
+}
+
+/// Moves the window on: its first sixteen sums go.
+#[inline(always)]
+fn move_on<const L: usize>(window: &mut [i16; 96])
+    requires columns { L ≤ 16 }
+    requires small { AreSums (16 * ((5 * L + 15) / 16 + 1)) window.old }
+    ensures { (k : ℕ) → k < 16 * ((5 * L + 15) / 16) → slice_index_or window.new k (pos 0) ≡ slice_index_or window.old (16 + k) (pos 0) }
+{
+    for row in 0..(5 * L + 15) / 16 {
+        let next = sixteen_sums(window, 16 * (row + 1));
+        put_sums(window, row, &next);
+    }
+}
+
+/// The half samples j.
+#[inline(always)]
+pub fn centre_rows<const L: usize, const W: usize>(
+    p: &[u8],
+    at: usize,
+    stride: usize,
+    count: usize,
+    out: &mut [u8],
+    to: RowsPlace,
+)
+    requires lanes { AreLanes L }
+    requires narrow { stride < 2 ^ 32 }
+    requires columns { W ≤ L }
+    requires apart { W ≤ to.stride }
+    requires room { IsRoom W (16 / L * count) to.first to.stride (length out.old) }
+    requires samples { HasRoom L stride count at p.now }
+    ensures { IsStridedSet W (16 / L * count) to.first to.stride (λ x y. j_of p.now stride (at + (y * stride + x))) out.old out.new }
+{
+    let lines = 16 / L * stride;
+    let rows = 16 / L * to.stride;
+    let mut window = [0; 96];
+    begin::<L>(p, at, stride, &mut window);
+    for y in 0..count {
+        let row = middle_row::<L>(p, at + y * lines, stride, &mut window);
+        put_rows::<L, W>(out, to.first + y * rows, to.stride, &row);
+        move_on::<L>(&mut window);
+    }
+}
+
+/// The means of j and of b or s, whose samples are `down` rows further down than `at`.
+#[inline(always)]
+pub fn centre_rows_across<const L: usize, const W: usize>(
+    p: &[u8],
+    at: usize,
+    down: usize,
+    stride: usize,
+    count: usize,
+    out: &mut [u8],
+    to: RowsPlace,
+)
+    requires lanes { AreLanes L }
+    requires narrow { stride < 2 ^ 32 }
+    requires columns { W ≤ L }
+    requires apart { W ≤ to.stride }
+    requires room { IsRoom W (16 / L * count) to.first to.stride (length out.old) }
+    requires samples { HasRoom L stride count at p.now }
+    requires down { down ≤ 5 }
+    ensures { IsStridedSet W (16 / L * count) to.first to.stride
+        (λ x y. mean_of_two (j_of p.now stride (at + (y * stride + x))) (half_along p.now (down * stride + (at + (y * stride + x))) 1)) out.old out.new }
+{
+    let lines = 16 / L * stride;
+    let rows = 16 / L * to.stride;
+    let mut window = [0; 96];
+    begin::<L>(p, at, stride, &mut window);
+    for y in 0..count {
+        let middle = middle_row::<L>(p, at + y * lines, stride, &mut window);
+        let half = rounded_row(&window, down * L);
+        let row = means_of(&middle, &half);
+        put_rows::<L, W>(out, to.first + y * rows, to.stride, &row);
+        move_on::<L>(&mut window);
+    }
+}
+
+/// The means of j and of h or m, whose six samples begin `by` behind place `at`.
+#[inline(always)]
+pub fn centre_rows_down<const L: usize, const W: usize>(
+    p: &[u8],
+    at: usize,
+    by: usize,
+    stride: usize,
+    count: usize,
+    out: &mut [u8],
+    to: RowsPlace,
+)
+    requires lanes { AreLanes L }
+    requires narrow { stride < 2 ^ 32 }
+    requires columns { W ≤ L }
+    requires apart { W ≤ to.stride }
+    requires room { IsRoom W (16 / L * count) to.first to.stride (length out.old) }
+    requires samples { HasRoom L stride count at p.now }
+    requires down { HasPlaces L stride (16 * count) (at + by + 5 * stride) p.now }
+    ensures { IsStridedSet W (16 / L * count) to.first to.stride
+        (λ x y. mean_of_two (j_of p.now stride (at + (y * stride + x))) (half_along p.now (by + (at + (y * stride + x))) stride)) out.old out.new }
+{
+    let lines = 16 / L * stride;
+    let rows = 16 / L * to.stride;
+    let mut window = [0; 96];
+    begin::<L>(p, at, stride, &mut window);
+    for y in 0..count {
+        let middle = middle_row::<L>(p, at + y * lines, stride, &mut window);
+        let half = half_row::<L>(p, at + by + y * lines, stride, stride);
+        let row = means_of(&middle, &half);
+        put_rows::<L, W>(out, to.first + y * rows, to.stride, &row);
+        move_on::<L>(&mut window);
+    }
+}
