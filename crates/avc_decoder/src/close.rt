@@ -2,7 +2,7 @@
 
 ghost use Rattle.std.specs.Prelude.{◌≡◌, None, OnOk, Some};
 ghost use Rattle.avc_decoder.specs.Events.{failed_at, pictures};
-ghost use Rattle.avc_decoder.specs.SpareMemory.{KeepsClosed, LeavesCurrent, LeavesOpenPicture};
+ghost use Rattle.avc_decoder.specs.SpareMemory.{ClosesCurrent, LeavesCurrent, LeavesOpenPicture};
 ghost use Rattle.avc_decoder.specs.States.{closed_in, current_in, phase_of, HasOutcome, IsOpenIn};
 ghost use Rattle.avc_decoder.specs.States.{IsPhase, WaitsAfter};
 ghost use Rattle.avc_decoder.specs.declared.phase.Phase.TheVariants.{Running, Waiting};
@@ -21,7 +21,7 @@ pub fn close(stream: &mut Stream) -> Result<(), OutOfMemory>
     requires { IsPhase stream.old.sequence stream.old.phase }
     ensures state { OnOk result (HasOutcome stream.old
         (closed_in stream.old.sequence.output (phase_of stream.old.sequence stream.old.phase)) stream.new) }
-    ensures memory { OnOk result (KeepsClosed stream.old stream.new) }
+    ensures memory { OnOk result (ClosesCurrent (current_in stream.old.phase) stream.old.memory stream.new.memory) }
 {
     // so that the room for one is not copied and cleared at each end of a picture
     if !stream.phase.is_open() {
@@ -40,7 +40,7 @@ fn close_picture(stream: &mut Stream, current: CurrentPicture) -> Result<(), Out
     requires rest { stream.old.phase ≡ Running None }
     ensures state { OnOk result (HasOutcome stream.old
         (closed_in stream.old.sequence.output (phase_of stream.old.sequence (Running (Some current)))) stream.new) }
-    ensures memory { OnOk result (KeepsClosed stream.old stream.new) }
+    ensures memory { OnOk result (ClosesCurrent (Some current) stream.old.memory stream.new.memory) }
 {
     let last_unit = current.last_unit;
     let planes = match current.decoder.finish(&mut stream.memory) {

@@ -3,7 +3,7 @@
 ghost use Rattle.std.specs.Prelude.{◌≡◌, false, None, IfSome, OnOk, Some};
 ghost use Rattle.avc_decoder.specs.Events.{after_first_slice, after_next_slice, base_in};
 ghost use Rattle.avc_decoder.specs.Events.{sets_named};
-ghost use Rattle.avc_decoder.specs.SpareMemory.{AddsClosed};
+ghost use Rattle.avc_decoder.specs.SpareMemory.{AddsClosed, KeepsMemory, UsesOneForFirst};
 ghost use Rattle.avc_decoder.specs.PictureFrames.{frames_for, CanHave};
 ghost use Rattle.avc_decoder.specs.States.{current_in, more_read, phase_of, picture_answer};
 ghost use Rattle.avc_decoder.specs.States.{DecodesIn, HasAnswered, HasOutcome, IsAnswerIn, IsPhase};
@@ -54,9 +54,10 @@ pub fn first_slice(stream: &mut Stream, slice: &Slice) -> Result<(), OutOfMemory
     requires phase { IsPhase stream.old.sequence stream.old.phase }
     requires rest { current_in stream.old.phase ≡ None }
     requires within { IsSliceUnder (sets_after stream.old.table) slice.now }
-    ensures { OnOk result (HasOutcome stream.old
+    ensures state { OnOk result (HasOutcome stream.old
         (after_first_slice stream.old.sequence.output (sets_named (sets_after stream.old.table) slice.now.header)
         (base_in (phase_of stream.old.sequence stream.old.phase)) slice.now) stream.new) }
+    ensures memory { OnOk result (UsesOneForFirst stream.old slice.now stream.new) }
 {
     if slice.header.first_mb_in_slice.get() != 0 {
         fail(stream, slice.unit, Fault::MissingMacroblocks)?;
@@ -128,8 +129,9 @@ pub fn next_slice(stream: &mut Stream, slice: &Slice) -> Result<(), OutOfMemory>
     requires works { IsStream stream.old }
     requires within { IsSliceUnder (sets_after stream.old.table) slice.now }
     requires continues { IfSome (current_in stream.old.phase) (λ c. begins c.last_header slice.now.header ≡ false) }
-    ensures { OnOk result (HasOutcome stream.old
+    ensures state { OnOk result (HasOutcome stream.old
         (after_next_slice stream.old.sequence.output (phase_of stream.old.sequence stream.old.phase) slice.now) stream.new) }
+    ensures memory { OnOk result (KeepsMemory stream.old stream.new) }
 {
     decode_slice(stream, slice)?;
     Ok(())
@@ -153,7 +155,8 @@ fn frames_for<'a>(sequence: &'a Sequence, header: &Header) -> &'a [Frame<PADDING
 fn decode_slice(stream: &mut Stream, slice: &Slice) -> Result<(), OutOfMemory>
     requires can { IfSome (current_in stream.old.phase) (λ c. CanHave stream.old.sequence c.decoder slice.now) }
     requires well { IfSome (current_in stream.old.phase) (λ c. HasNoFault c.decoder) }
-    ensures { OnOk result (DecodesIn stream.old slice.now stream.new) }
+    ensures state { OnOk result (DecodesIn stream.old slice.now stream.new) }
+    ensures memory { OnOk result (KeepsMemory stream.old stream.new) }
 {
     let answered = answer_if_open(&stream.sequence, &mut stream.phase, slice);
     stream.read = count_more(stream.read, answered.read);

@@ -1,8 +1,9 @@
 -- The memory of pictures that are over, in which later ones are decoded.
-use Rattle.std.specs.Prelude.{◌≡◌, ℕ, Option, Some, None, Result, Ok, Err}
+use Rattle.std.specs.Prelude.{◌≡◌, ◌⊎◌, ℕ, ◌+◌, Option, Some, None, Result, Ok, Err}
 use Rattle.avc_plane.specs.Planes.{Planes}
-use Rattle.avc_plane.specs.Spare.{Spare, no_spare, with_closed, with_open, HasOpen}
+use Rattle.avc_plane.specs.Spare.{Spare, no_spare, with_closed, with_open, left_over, HasOpen}
 use Rattle.avc_plane.specs.declared.frame.PaddedPlanes.{PaddedPlanes}
+use Rattle.avc_types.specs.declared.memory.OutOfMemory.{OutOfMemory}
 use Rattle.avc_types.specs.declared.picture_error.PictureError.{PictureError}
 
 -- The planes that are left over, and the rows of info of one picture, if there are such: how many
@@ -35,6 +36,23 @@ without_info m = record m { info_width = None }
 pub record HasMemoryFor (width height : ℕ) (m : MemoryState) : Type 0 where
   pub open_planes : HasOpen width height m.planes
   pub info : m.info_width ≡ Some width
+
+-- So many of the planes of this size that were left over are used, all others of it are left over
+-- still, and the rows of info are taken.
+pub record AreTaken (used width height : ℕ) (old new : MemoryState) : Type 0 where
+  pub planes : left_over width height old.planes ≡ left_over width height new.planes + used
+  pub info : new.info_width ≡ None
+
+-- Nothing of this size that was left over is lost.
+pub record LosesNone (width height : ℕ) (old new : MemoryState) : Type 0 where
+  pub planes : left_over width height old.planes ≡ left_over width height new.planes
+  pub info : old.info_width ≡ Some width → new.info_width ≡ Some width
+
+-- A picture of this size was to begin: it uses planes that were left over or new ones, and where
+-- memory is refused, all that is left over of its size stays.
+abbrev pub TakesMemory : {P : Type 0} → (width height : ℕ) → MemoryState → Result P OutOfMemory → MemoryState → Type 0
+TakesMemory width height old (Ok picture) new = AreTaken 0 width height old new ⊎ AreTaken 1 width height old new
+TakesMemory width height old (Err refusal) new = LosesNone width height old new
 
 -- A picture of this size is over and became no frame: all that it was decoded in is left over.
 pub record LeavesAll (width height : ℕ) (old new : MemoryState) : Type 0 where

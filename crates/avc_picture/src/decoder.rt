@@ -9,7 +9,7 @@ ghost use Rattle.avc_picture_core.specs.Built.{size_of};
 ghost use Rattle.avc_picture.specs.Decoding.{no_slice_yet, AreFramesOf, HasNoFault, HasRead};
 ghost use Rattle.avc_picture.specs.Decoding.{IsFinishAnswer, IsFull, IsSliceAnswer};
 ghost use Rattle.avc_picture.specs.DecoderState.{number_after};
-ghost use Rattle.avc_picture.specs.Memory.{HasMemoryFor, LeavesMemory, LeavesAll};
+ghost use Rattle.avc_picture.specs.Memory.{HasMemoryFor, LeavesMemory, LeavesAll, TakesMemory};
 ghost use Rattle.avc_picture.specs.OpenPicture.{HasFiltered, HasFilterInfo, HasSample, IsCovered};
 ghost use Rattle.avc_picture.specs.OpenPicture.{IsKept, NamesPlaces};
 
@@ -66,7 +66,7 @@ fn number_after(number: u32, before: u32, after: u32) -> u32
 impl<const PAD: usize> PictureDecoder<PAD> {
     /// A picture with these parameter sets, and no slice yet. `frames` are those of the buffer in
     /// decoding order. It asks for no memory where all that a picture of this size is decoded in is
-    /// left over.
+    /// left over, and what it doesn't use of that size stays left over.
     pub fn begin(
         alloc: Global,
         sps: &Sps,
@@ -80,6 +80,7 @@ impl<const PAD: usize> PictureDecoder<PAD> {
         requires frames { AreFramesOf sps.now frames.now }
         ensures begun { IfOk result (λ d. d ≡ no_slice_yet sps.now pps.now frames.now) }
         ensures memory { HasMemoryFor (width_in_mbs sps.now) (height_in_mbs sps.now) memory.old → IsOk result }
+        ensures kept { TakesMemory (width_in_mbs sps.now) (height_in_mbs sps.now) memory.old result memory.new }
     {
         let macroblocks = Macroblocks::new(alloc, sps, pps, memory)?;
         Ok(PictureDecoder {

@@ -18,7 +18,7 @@ ghost use Rattle.avc_picture.specs.Decoded.{deblocked};
 ghost use Rattle.avc_picture.specs.FilterRows.{kept_info};
 ghost use Rattle.avc_picture.specs.FirstMbs.{HasSameSize, HasSets, HoldsFirst, IsDecoded, IsSlice};
 ghost use Rattle.avc_picture.specs.MacroblockInfo.{IsRead};
-ghost use Rattle.avc_picture.specs.Memory.{with_info, HasMemoryFor, LeavesAll};
+ghost use Rattle.avc_picture.specs.Memory.{with_info, HasMemoryFor, LeavesAll, TakesMemory};
 ghost use Rattle.avc_picture.specs.RowLate.{covering_address, row_late};
 ghost use Rattle.avc_picture.specs.StillRuns.{AreCopiedFrom};
 
@@ -103,7 +103,7 @@ fn sample_of<const PAD: usize>(planes: &Planes<PAD>, component: usize, x: usize,
 
 impl<const PAD: usize> Macroblocks<PAD> {
     /// Before the first macroblock of a picture of these sets. Only this call takes memory, where
-    /// there is none of this size.
+    /// there is none of this size. What is left over of this size beside that stays left over.
     pub(crate) fn new(
         alloc: Global,
         sps: &Sps,
@@ -118,15 +118,22 @@ impl<const PAD: usize> Macroblocks<PAD> {
         ensures width { IfOk result (λ m. m.canvas.width ≡ width_in_mbs sps.now) }
         ensures height { IfOk result (λ m. m.canvas.height ≡ height_in_mbs sps.now) }
         ensures memory { HasMemoryFor (width_in_mbs sps.now) (height_in_mbs sps.now) memory.old → IsOk result }
+        ensures kept { TakesMemory (width_in_mbs sps.now) (height_in_mbs sps.now) memory.old result memory.new }
     {
         let columns = sps.width_in_mbs();
         let width = columns as usize;
         let height = sps.height_in_mbs() as usize;
-        let planes = memory.planes(alloc, width, height)?;
+        let info = memory.info(alloc, columns)?;
+        let planes = match memory.planes(alloc, width, height) {
+            Ok(planes) => planes,
+            Err(refusal) => {
+                memory.keep_info(info);
+                return Err(refusal);
+            }
+        };
         planes.luma.holds_bytes();
         planes.cb.holds_bytes();
         planes.cr.holds_bytes();
-        let info = memory.info(alloc, columns)?;
         Ok(Macroblocks {
             canvas: Canvas {
                 width,

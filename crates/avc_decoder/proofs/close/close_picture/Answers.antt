@@ -1,4 +1,6 @@
 use Rattle.avc_decoder.proofs.Events.{is_some, ap, arith, padded_planes_of, subsampled_of_size, closes_done, closes_short, closes_unmarked, sized_as}
+use Rattle.std.proofs.Common.{inl, ◌∙◌}
+use Rattle.avc_decoder.proofs.SpareMemory.{closed_with_fault, left_so}
 use Rattle.avc_decoder.proofs.close.close_picture.Goals as goal
 
 -- macroblocks are missing
@@ -29,3 +31,16 @@ returns-in_ok-fail-in-Err-Fault-close-clause-state c =
     closes_unmarked c.args.stream.now c.fail-in-Err-Fault-close.new.stream c.close.new.self c.args.current c.in-Ok.planes
     c.in_ok-shared.shared c.requires.picture c.in-Ok.ensures.answer c.in_ok-shared.ensures c.in-Err-Fault-close.ensures.err
     c.in-Err-Fault-close.field-0-is c.in_ok-fail-in-Err-Fault-close.ensures.state
+
+pub returns-in-Err-Fault-clause-memory : goal.returns-in-Err-Fault-clause-memory
+returns-in-Err-Fault-clause-memory c =
+    closed_with_fault c.args.current c.args.stream.now.phase c.args.stream.now.memory c.finish.new.memory c.fail.new.stream.memory
+    c.requires.rest c.in-Err-Fault.ensures.memory c.in_ok-fail-in-Err-Fault.ensures.memory
+
+pub returns-in_ok-show-in-Ok-close-clause-memory : goal.returns-in_ok-show-in-Ok-close-clause-memory
+returns-in_ok-show-in-Ok-close-clause-memory c = inl c.in-Ok.ensures.memory
+
+pub returns-in_ok-fail-in-Err-Fault-close-clause-memory : goal.returns-in_ok-fail-in-Err-Fault-close-clause-memory
+returns-in_ok-fail-in-Err-Fault-close-clause-memory c =
+    inl (left_so c.args.stream.now.phase c.finish.new.memory c.fail-in-Err-Fault-close.new.stream.memory c.requires.rest
+    c.in_ok-fail-in-Err-Fault-close.ensures.memory ∙ c.in-Ok.ensures.memory)

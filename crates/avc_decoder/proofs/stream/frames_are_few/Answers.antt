@@ -1,4 +1,4 @@
-use Rattle.avc_decoder.proofs.Events.{length, few_in, goes_on}
+use Rattle.avc_decoder.proofs.Events.{few_in, goes_on}
 use Rattle.avc_decoder.proofs.stream.frames_are_few.Goals as goal
 
 pub returns : goal.returns

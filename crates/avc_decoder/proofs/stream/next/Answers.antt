@@ -9,4 +9,4 @@ returns-in_ok-first_slice-in-Begins c =
     (subst (λ (s : Slice). ComesTo t.sequence.output t.queue t.read t.table
     (after_first_slice t.sequence.output (sets_named (sets_after t.table) s.header)
     (base_in (phase_of t.sequence t.phase)) s) t'.sequence t'.phase t'.queue t'.read t'.table)
-    c.get.ensures c.in_ok-first_slice-in-Begins.ensures)
+    c.get.ensures c.in_ok-first_slice-in-Begins.ensures.state)
