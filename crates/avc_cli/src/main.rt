@@ -20,14 +20,15 @@ use avc_console::{
 use avc_formats::{HeadedFormat, I420, Png, Selected};
 use avc_info::{ForPrograms, InfoForm, info};
 use avc_macroblocks::{MacroblockListing, macroblocks};
+use avc_progress::{Observer, Progress};
 use avc_request::{
     Form, MacroblockChoice, Request, Showing, Subject, Task, Wording, requested, words_of,
 };
 use avc_run::{Output as OutputMode, decode, decode_as, decode_headed, decode_md5, verify};
 use avc_shell::{
-    Errors, FrameTimes, FromPiece, Input, LossLines, Observer, Output, OutputFile, PictureFiles,
-    Progress, RefusalPlaces, absent_picture, ended_status, is_output_refused, is_progress_told,
-    is_told_more, tell_absent_picture, tell_container, tell_no_piece, tell_outcome, tell_reason,
+    Errors, FrameTimes, FromPiece, Input, LossLines, Output, OutputFile, PictureFiles,
+    RefusalPlaces, absent_picture, ended_status, is_output_refused, is_progress_told, is_told_more,
+    tell_absent_picture, tell_container, tell_no_piece, tell_outcome, tell_reason,
 };
 use avc_tools::{ForPeople, ListingForm};
 use clap::error::ErrorKind;

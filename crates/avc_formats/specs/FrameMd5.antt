@@ -6,8 +6,8 @@ use Rattle.hex.specs.Hex.{encode_lower}
 use Rattle.avc_types.specs.declared.picture.Picture.{Picture}
 use Rattle.avc_yuv.specs.I420.{i420}
 use Rattle.avc_formats.specs.Text.{newline}
-use Rattle.avc_formats.specs.declared.presentation.Presentation.{Presentation}
-use Rattle.avc_formats.specs.declared.ratio.Ratio.{Ratio}
+use Rattle.avc_presentation.specs.declared.presentation.Presentation.{Presentation}
+use Rattle.avc_presentation.specs.declared.ratio.Ratio.{Ratio}
 
 -- ---- the head
 

@@ -15,8 +15,8 @@ use Rattle.avc_tools.specs.Streams.{IsDrained, after_units_left, units_left}
 use Rattle.avc_console.specs.Reading.{max_unit, HasRead}
 use Rattle.avc_console.specs.declared.fault.RunFault.{RunFault}
 use Rattle.avc_console.specs.declared.fault.RunFault.TheVariants.{Read, Memory}
-use Rattle.avc_formats.specs.Presenting.{IsPresented, Says}
-use Rattle.avc_formats.specs.declared.presentation.Presentation.{Presentation}
+use Rattle.avc_presentation.specs.Presenting.{IsPresented, Says}
+use Rattle.avc_presentation.specs.declared.presentation.Presentation.{Presentation}
 
 -- the set of a slice that is brought
 abbrev pub sps_named : Sets → Brought → Option Sps

@@ -7,7 +7,7 @@ use Rattle.avc_formats.specs.FrameMd5.{framemd5_head, framemd5_line}
 use Rattle.avc_formats.specs.Y4m.{y4m_frame, y4m_header}
 use Rattle.avc_formats.specs.declared.headed.HeadedFormat.{HeadedFormat}
 use Rattle.avc_formats.specs.declared.headed.HeadedFormat.TheVariants.{FrameMd5, Y4m, Y4mEach}
-use Rattle.avc_formats.specs.declared.presentation.Presentation.{Presentation}
+use Rattle.avc_presentation.specs.declared.presentation.Presentation.{Presentation}
 
 -- the head
 abbrev pub head_of : HeadedFormat → Presentation → List ℕ

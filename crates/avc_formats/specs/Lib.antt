@@ -1,8 +1,6 @@
 pub mod Formats
 pub mod Selecting
 pub mod Md5Line
-pub mod Ratios
-pub mod Presenting
 pub mod Front
 pub mod Text
 pub mod Y4m

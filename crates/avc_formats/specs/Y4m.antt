@@ -5,14 +5,10 @@ use Rattle.std.specs.Fmt.{decimal}
 use Rattle.avc_types.specs.declared.picture.Picture.{Picture}
 use Rattle.avc_yuv.specs.I420.{i420}
 use Rattle.avc_formats.specs.Text.{newline}
-use Rattle.avc_formats.specs.declared.presentation.ChromaSite.{ChromaSite}
-use Rattle.avc_formats.specs.declared.presentation.ChromaSite.TheVariants.{Left, Centre, TopLeft}
-use Rattle.avc_formats.specs.declared.presentation.Presentation.{Presentation}
-use Rattle.avc_formats.specs.declared.ratio.Ratio.{Ratio}
-
--- n:d
-abbrev pub ratio_word : Ratio → List ℕ
-ratio_word r = decimal r.numerator ++ codes ":" ++ decimal r.denominator
+use Rattle.avc_presentation.specs.Ratios.{ratio_word}
+use Rattle.avc_presentation.specs.declared.presentation.ChromaSite.{ChromaSite}
+use Rattle.avc_presentation.specs.declared.presentation.ChromaSite.TheVariants.{Left, Centre, TopLeft}
+use Rattle.avc_presentation.specs.declared.presentation.Presentation.{Presentation}
 
 -- 4:2:0, and where chroma samples lie
 abbrev pub chroma_words : ChromaSite → List ℕ

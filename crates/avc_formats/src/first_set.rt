@@ -6,9 +6,9 @@ ghost use Rattle.avc_units.specs.Bringing.{sps_under};
 ghost use Rattle.avc_units.specs.Grouping.{set_units};
 ghost use Rattle.avc_formats.specs.Front.{starting_sps, IsFound, IsSaid};
 
-use crate::presentation::Presentation;
 use avc_annexb::{Splitter, Unit};
 use avc_console::MAX_UNIT;
+use avc_presentation::Presentation;
 use avc_slice::Header;
 use avc_types::OutOfMemory;
 use avc_units::{Brought, HeaderReader, is_start};

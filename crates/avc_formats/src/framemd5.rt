@@ -13,10 +13,9 @@ ghost use Rattle.avc_formats.specs.FrameMd5.{framemd5_head, framemd5_line};
 ghost use Rattle.avc_formats.specs.FrameMd5.{size_text, time_base_line, times_text};
 
 use crate::md5_writer::Md5Writer;
-use crate::presentation::Presentation;
-use crate::ratio::Ratio;
 use avc_console::{RunFault, write_text};
 use avc_plane::SharedPicture;
+use avc_presentation::{Presentation, Ratio};
 use avc_types::OutOfMemory;
 use avc_yuv::{i420_len, write_i420_through};
 use std::alloc::Global;

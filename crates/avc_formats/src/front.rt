@@ -4,10 +4,10 @@ ghost use Rattle.std.specs.Prelude.{◌≡◌, false, IfErr, IfOk};
 ghost use Rattle.avc_formats.specs.Front.{IsFront, NoFront};
 
 use crate::first_set::find_set;
-use crate::presentation::Presentation;
 use avc_annexb::Splitter;
 use avc_annexb::laws::units_stay;
 use avc_console::{MAX_UNIT, PIECE, RunFault, read_once};
+use avc_presentation::Presentation;
 use avc_units::HeaderReader;
 use std::alloc::Global;
 use std::io::Read;

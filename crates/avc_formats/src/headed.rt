@@ -10,10 +10,10 @@ ghost use Rattle.avc_formats.specs.Headed.{picture_text};
 
 use crate::format::PictureFormat;
 use crate::framemd5::{add_framemd5_head, write_line};
-use crate::presentation::Presentation;
 use crate::y4m::{add_y4m_header, write_frame};
 use avc_console::RunFault;
 use avc_plane::{PictureRows, SharedPicture};
+use avc_presentation::Presentation;
 use avc_types::OutOfMemory;
 use std::alloc::Global;
 use std::io::Write;

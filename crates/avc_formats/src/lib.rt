@@ -9,17 +9,14 @@ mod headed;
 mod md5_line;
 mod md5_writer;
 mod png;
-mod presentation;
-mod ratio;
 mod selected;
 mod y4m;
 
+pub use avc_presentation::{ChromaSite, Presentation, Ratio, lowest_terms};
 pub use format::{I420, PictureFormat};
 pub use front::{Front, read_front};
 pub use headed::{Headed, HeadedFormat};
 pub use md5_line::write_digest;
 pub use md5_writer::Md5Writer;
 pub use png::Png;
-pub use presentation::{ChromaSite, Presentation};
-pub use ratio::{Ratio, lowest_terms};
 pub use selected::Selected;

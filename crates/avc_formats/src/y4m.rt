@@ -7,13 +7,13 @@ ghost use Rattle.avc_yuv.specs.I420.{i420};
 ghost use Rattle.avc_formats.specs.Formats.{StopsPicture};
 ghost use Rattle.avc_console.specs.Reading.{WritesFirst};
 ghost use Rattle.avc_console.specs.declared.fault.RunFault.TheVariants as faults;
-ghost use Rattle.avc_formats.specs.Y4m.{chroma_words, range_words, ratio_word, shape_words};
+ghost use Rattle.avc_presentation.specs.Ratios.{ratio_word};
+ghost use Rattle.avc_formats.specs.Y4m.{chroma_words, range_words, shape_words};
 ghost use Rattle.avc_formats.specs.Y4m.{y4m_frame, y4m_header};
 
-use crate::presentation::{ChromaSite, Presentation};
-use crate::ratio::Ratio;
 use avc_console::{RunFault, write_text};
 use avc_plane::SharedPicture;
+use avc_presentation::{ChromaSite, Presentation, Ratio};
 use avc_types::OutOfMemory;
 use avc_yuv::write_i420_through;
 use std::io::Write;

@@ -1,13 +1,15 @@
 -- No number that is told is a float.
 use Rattle.std.proofs.Common.{◌≡◌, ℕ, List, [], ◌∷◌, Bool, false, ◌||◌, Option, Some, None, ap, refl}
 use Rattle.serde_json.specs.Written.{has_float}
-use Rattle.avc_formats.specs.declared.ratio.Ratio.{Ratio}
+use Rattle.avc_presentation.specs.declared.ratio.Ratio.{Ratio}
 use Rattle.avc_params.specs.declared.vui.Colour.{Colour}
-use Rattle.avc_info.specs.Json.{clock_of, colour_data, count_if_given, facts_data, flag_data, ratio_data, refusal_data, sequence_if_given, set_head_data, size_if_given, sizes_data}
+use Rattle.avc_info.specs.Json.{clock_of, colour_data, count_if_given, facts_data, flag_data, kinds_data, ratio_data, refusal_data, sequence_if_given, set_head_data, size_if_given, sizes_data}
 use Rattle.avc_info.specs.Rates.{bit_rate, duration, rate_ratio}
+use Rattle.avc_info.specs.Refusals.{kinds_of}
 use Rattle.avc_info.specs.declared.sequence_facts.SequenceFacts.{SequenceFacts}
 use Rattle.avc_info.specs.declared.sequence_facts.Size.{Size}
-use Rattle.avc_info.specs.declared.stream_facts.Refusal.{Refusal}
+use Rattle.avc_info.specs.declared.refusals.Refusal.{Refusal}
+use Rattle.avc_info.specs.declared.refusals.RefusalKind.{RefusalKind}
 use Rattle.avc_info.specs.Text.{sequence_of}
 use Rattle.avc_info.specs.declared.stream_facts.SetHead.{SetHead}
 use Rattle.avc_info.specs.declared.stream_facts.StreamFacts.{StreamFacts}
@@ -32,6 +34,10 @@ in_refusal : (r : Option Refusal) → has_float (refusal_data r) ≡ false
 in_refusal None = refl
 in_refusal (Some r) = refl
 
+in_kinds : (kinds : List RefusalKind) → has_float (kinds_data kinds) ≡ false
+in_kinds [] = refl
+in_kinds (k ∷ kinds) = in_kinds kinds
+
 in_size : (s : Option Size) → has_float (size_if_given s) ≡ false
 in_size None = refl
 in_size (Some s) = refl
@@ -42,6 +48,10 @@ in_set_head (Some h) = ap (λ b. b || false) (in_size h.coded)
 
 none_of_six : (a b c d e f : Bool) → a ≡ false → b ≡ false → c ≡ false → d ≡ false → e ≡ false → f ≡ false → (a || (b || (c || (d || (e || (f || false)))))) ≡ false
 none_of_six a b c d e f is_a is_b is_c is_d is_e is_f = rw (is_a, is_b, is_c, is_d, is_e, is_f) refl
+
+none_of_seven : (a b c d e f g : Bool) → a ≡ false → b ≡ false → c ≡ false → d ≡ false → e ≡ false → f ≡ false → g ≡ false
+    → (a || (b || (c || (d || (e || (f || (g || false))))))) ≡ false
+none_of_seven a b c d e f g is_a is_b is_c is_d is_e is_f is_g = rw (is_a, is_b, is_c, is_d, is_e, is_f, is_g) refl
 
 in_sizes : (sizes : List Size) → has_float (sizes_data sizes) ≡ false
 in_sizes [] = refl
@@ -60,6 +70,7 @@ none_is_float f bytes =
     let said = sequence_of f in
     let bits = bit_rate (clock_of said) bytes f.counts.pictures in
     let lasts = duration (clock_of said) f.counts.pictures in
-    none_of_six (has_float (count_if_given bits)) (has_float (count_if_given lasts)) (has_float (refusal_data f.first_refusal))
-    (has_float (set_head_data f.refused_set)) (has_float (sequence_if_given said)) (has_float (sizes_data f.sizes.first))
-    (in_count bits) (in_count lasts) (in_refusal f.first_refusal) (in_set_head f.refused_set) (in_sequence said) (in_sizes f.sizes.first)
+    let kinds = kinds_of f.refusals in
+    none_of_seven (has_float (count_if_given bits)) (has_float (count_if_given lasts)) (has_float (refusal_data f.first_refusal))
+    (has_float (kinds_data kinds)) (has_float (set_head_data f.refused_set)) (has_float (sequence_if_given said)) (has_float (sizes_data f.sizes.first))
+    (in_count bits) (in_count lasts) (in_refusal f.first_refusal) (in_kinds kinds) (in_set_head f.refused_set) (in_sequence said) (in_sizes f.sizes.first)

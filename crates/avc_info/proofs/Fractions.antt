@@ -4,9 +4,9 @@ use Rattle.std.proofs.Common.{◌≡◌, ℕ, zero, suc, ◌<◌, ◌≤◌, ◌
 use Rattle.std.proofs.lemmas.Bool.Decides.{nat_tests}
 use Rattle.std.proofs.lemmas.Nat.Gcd.{dvd_of_mod-eq-zero, le_from_IsGcd, le_of_dvd, mod-eq-zero_of_dvd}
 use Rattle.std.specs.Int.{IsGcd}
-use Rattle.avc_formats.specs.Presenting.{ratio}
-use Rattle.avc_formats.specs.Ratios.{IsLowest}
-use Rattle.avc_formats.specs.declared.ratio.Ratio.{Ratio}
+use Rattle.avc_presentation.specs.Presenting.{ratio}
+use Rattle.avc_presentation.specs.Ratios.{IsLowest}
+use Rattle.avc_presentation.specs.declared.ratio.Ratio.{Ratio}
 use Rattle.avc_info.specs.Rates.{divides_both, greatest_divisor, lowest}
 
 -- what the test says

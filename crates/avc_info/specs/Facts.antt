@@ -1,10 +1,10 @@
 -- What parameter sets and slice headers say of a stream.
-use Rattle.std.specs.Prelude.{ℕ, ◌+◌, ◌*◌, max, Bool, true, ◌==◌, ◌&&◌, if◌then◌else◌, Option, Some, None}
+use Rattle.std.specs.Prelude.{ℕ, ◌+◌, ◌*◌, max, Bool, true, ◌==◌, ◌&&◌, if◌then◌else◌, [], ◌∷◌, ◌++◌, Option, Some, None}
 use Rattle.std.specs.Option.{option_map}
 use Rattle.avc_types.specs.declared.fault.Fault.{Fault}
 use Rattle.avc_annexb.specs.Units.{saturated}
-use Rattle.avc_formats.specs.Presenting.{full_range, sample_aspect}
-use Rattle.avc_formats.specs.declared.ratio.Ratio.{Ratio}
+use Rattle.avc_presentation.specs.Presenting.{full_range, sample_aspect}
+use Rattle.avc_presentation.specs.declared.ratio.Ratio.{Ratio}
 use Rattle.avc_params.specs.Limits.{height_in_mbs, restriction_of, width_in_mbs}
 use Rattle.avc_params.specs.Tables.{Sets}
 use Rattle.avc_params.specs.VideoUsability.{colour_in, in_vui}
@@ -110,6 +110,7 @@ no_facts = record {
   counts = no_slices;
   refused = 0;
   first_refusal = None;
+  refusals = [];
   refused_set = None;
 }
 
@@ -132,6 +133,7 @@ abbrev pub after_refusal : (unit : ℕ) → Fault → StreamFacts → StreamFact
 after_refusal unit fault f = record f {
   refused = saturated (f.refused + 1);
   first_refusal = first_of f.first_refusal (Some (record { unit = unit; fault = fault }));
+  refusals = f.refusals ++ record { unit = unit; fault = fault } ∷ [];
 }
 
 -- with a sequence parameter set: what it says, or what it begins with where it is refused

@@ -4,15 +4,17 @@ use Rattle.serde_json.specs.Data.{Data, array, boolean, member, no_members, null
 use Rattle.serde_json.specs.View.{items_of}
 use Rattle.serde_json.specs.Written.{compact_text}
 use Rattle.avc_types.specs.Faults.{number_of, name_of}
-use Rattle.avc_formats.specs.declared.ratio.Ratio.{Ratio}
+use Rattle.avc_presentation.specs.declared.ratio.Ratio.{Ratio}
 use Rattle.avc_params.specs.declared.vui.Colour.{Colour}
 use Rattle.avc_params.specs.declared.vui.Timing.{Timing}
 use Rattle.avc_info.specs.Rates.{bit_rate, duration, rate_ratio}
+use Rattle.avc_info.specs.Refusals.{kinds_of}
 use Rattle.avc_info.specs.Text.{level_name, newline, profile_name, sequence_of}
 use Rattle.avc_info.specs.declared.sequence_facts.Crop.{Crop}
 use Rattle.avc_info.specs.declared.sequence_facts.SequenceFacts.{SequenceFacts}
 use Rattle.avc_info.specs.declared.sequence_facts.Size.{Size}
-use Rattle.avc_info.specs.declared.stream_facts.Refusal.{Refusal}
+use Rattle.avc_info.specs.declared.refusals.Refusal.{Refusal}
+use Rattle.avc_info.specs.declared.refusals.RefusalKind.{RefusalKind}
 use Rattle.avc_info.specs.declared.stream_facts.SetHead.{SetHead}
 use Rattle.avc_info.specs.declared.stream_facts.StreamFacts.{StreamFacts}
 
@@ -94,6 +96,18 @@ refusal_data (Some r) =
     (member (codes "number") (count (number_of r.fault))
     (member (codes "unit") (count r.unit) no_members)))
 
+-- a kind of refusals
+abbrev pub kind_data : RefusalKind → Data
+kind_data k =
+    object (member (codes "count") (count k.count)
+    (member (codes "first_unit") (count k.first_unit)
+    (member (codes "name") (string (name_of k.fault))
+    (member (codes "number") (count (number_of k.fault)) no_members))))
+
+-- all kinds, in their order
+abbrev pub kinds_data : List RefusalKind → Data
+kinds_data kinds = array (items_of (map kind_data kinds))
+
 -- what a sequence parameter set begins with
 abbrev pub set_head_data : Option SetHead → Data
 set_head_data None = null
@@ -119,11 +133,12 @@ facts_data f bytes =
     (member (codes "first_refusal") (refusal_data f.first_refusal)
     (member (codes "more_sizes") (boolean f.sizes.others)
     (member (codes "pictures") (count f.counts.pictures)
+    (member (codes "refusals") (kinds_data (kinds_of f.refusals))
     (member (codes "refused_sequence") (set_head_data f.refused_set)
     (member (codes "refused_units") (count f.refused)
     (member (codes "sequence") (sequence_if_given (sequence_of f))
     (member (codes "sizes") (sizes_data f.sizes.first)
-    (member (codes "slices_per_picture") (count f.counts.most_slices) no_members)))))))))))
+    (member (codes "slices_per_picture") (count f.counts.most_slices) no_members))))))))))))
 
 -- in one line
 abbrev pub json_line : StreamFacts → (bytes : ℕ) → List ℕ

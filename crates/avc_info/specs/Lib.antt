@@ -1,5 +1,6 @@
 pub mod Sizes
 pub mod RefusedSet
+pub mod Refusals
 pub mod Facts
 pub mod Rates
 pub mod Text

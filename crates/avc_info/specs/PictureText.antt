@@ -1,8 +1,8 @@
 -- The text that tells people how a stream's pictures are coded and shown, and how many bits and seconds they take.
 use Rattle.std.specs.Prelude.{ℕ, Bool, true, false, List, [], ◌++◌, Option, Some, None, codes}
 use Rattle.std.specs.Fmt.{decimal}
-use Rattle.avc_formats.specs.Y4m.{ratio_word}
-use Rattle.avc_formats.specs.declared.ratio.Ratio.{Ratio}
+use Rattle.avc_presentation.specs.Ratios.{ratio_word}
+use Rattle.avc_presentation.specs.declared.ratio.Ratio.{Ratio}
 use Rattle.avc_params.specs.declared.vui.Colour.{Colour}
 use Rattle.avc_params.specs.declared.vui.Timing.{Timing}
 use Rattle.avc_info.specs.Rates.{bit_rate, duration}

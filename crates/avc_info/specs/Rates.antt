@@ -1,8 +1,8 @@
 -- What follows from a stream's clock: its frame rate, its bit rate and how long it lasts.
 use Rattle.std.specs.Prelude.{ℕ, zero, suc, ◌*◌, ◌/◌, ◌%◌, Bool, ◌==◌, ◌&&◌, ◌||◌, if◌then◌else◌, Option, Some, None, option_and_then}
 use Rattle.avc_annexb.specs.Units.{saturated}
-use Rattle.avc_formats.specs.Presenting.{ratio}
-use Rattle.avc_formats.specs.declared.ratio.Ratio.{Ratio}
+use Rattle.avc_presentation.specs.Presenting.{ratio}
+use Rattle.avc_presentation.specs.declared.ratio.Ratio.{Ratio}
 use Rattle.avc_params.specs.declared.vui.Timing.{Timing}
 
 -- ---- fractions

@@ -1,12 +1,15 @@
 -- The text that tells people of a stream.
-use Rattle.std.specs.Prelude.{ℕ, ◌*◌, ◌/◌, ◌%◌, Bool, ◌==◌, ◌&&◌, ◌||◌, if◌then◌else◌, List, [], ◌∷◌, ◌++◌, Option, Some, None, codes}
+use Rattle.std.specs.Prelude.{ℕ, ◌*◌, ◌/◌, ◌%◌, Bool, ◌==◌, ◌&&◌, ◌||◌, if◌then◌else◌, nat_lt, List, [], ◌∷◌, ◌++◌, length, Option, Some, None, codes}
 use Rattle.std.specs.Fmt.{decimal}
+use Rattle.std.specs.List.{flat_map}
 use Rattle.avc_types.specs.Faults.{number_of, name_of}
 use Rattle.avc_params.specs.declared.vui.Timing.{Timing}
 use Rattle.avc_info.specs.declared.sequence_facts.SequenceFacts.{SequenceFacts}
 use Rattle.avc_info.specs.declared.sequence_facts.Size.{Size}
 use Rattle.avc_info.specs.declared.slice_counts.SliceCounts.{SliceCounts}
-use Rattle.avc_info.specs.declared.stream_facts.Refusal.{Refusal}
+use Rattle.avc_info.specs.Refusals.{kinds_of}
+use Rattle.avc_info.specs.declared.refusals.Refusal.{Refusal}
+use Rattle.avc_info.specs.declared.refusals.RefusalKind.{RefusalKind}
 use Rattle.avc_info.specs.declared.stream_facts.SetHead.{SetHead}
 use Rattle.avc_info.specs.declared.stream_facts.StreamFacts.{StreamFacts}
 
@@ -107,6 +110,16 @@ refusal_text (Some r) = codes ", the first unit " ++ decimal r.unit ++ codes ": 
 abbrev pub refused_line : StreamFacts → List ℕ
 refused_line f = refused_text f.refused ++ refusal_text f.first_refusal ++ newline
 
+-- a kind of refusals: its fault, how many units, and the first of them
+abbrev pub kind_line : RefusalKind → List ℕ
+kind_line k =
+    codes "refused as " ++ decimal (number_of k.fault) ++ codes " " ++ name_of k.fault ++ codes ": " ++ decimal k.count
+    ++ codes ", the first unit " ++ decimal k.first_unit ++ newline
+
+-- a line for each kind, where there are more than one: of one alone the line before says it all
+abbrev pub kind_lines : List RefusalKind → List ℕ
+kind_lines kinds = if nat_lt (length kinds) 2 then [] else flat_map kind_line kinds
+
 -- profile_idc and level_idc of a sequence parameter set that is refused
 abbrev pub set_head_text : SetHead → List ℕ
 set_head_text h =
@@ -133,4 +146,6 @@ sequence_of f = elim f.sequence [ Some s ↦ Some s | None ↦ f.first_set ]
 
 -- the lines that say what a stream is
 abbrev pub stream_text : StreamFacts → List ℕ
-stream_text f = sequence_text (sequence_of f) ++ counts_line f.counts ++ refused_line f ++ refused_set_line f.refused_set
+stream_text f =
+    sequence_text (sequence_of f) ++ counts_line f.counts ++ refused_line f ++ kind_lines (kinds_of f.refusals)
+    ++ refused_set_line f.refused_set

@@ -5,16 +5,18 @@ ghost use Rattle.serde_json.specs.Data.{put as with_member, string};
 ghost use Rattle.serde_json.specs.View.{members_view, view};
 ghost use Rattle.avc_info.specs.Json.{clock_of, colour_data, count as count_data, count_if_given};
 ghost use Rattle.avc_info.specs.Json.{crop_data, facts_data, flag_data, json_line};
+ghost use Rattle.avc_info.specs.Json.{kind_data, kinds_data};
 ghost use Rattle.avc_info.specs.Json.{ratio_data, refusal_data, sequence_data, sequence_if_given};
 ghost use Rattle.avc_info.specs.Json.{set_head_data, size_data, size_if_given, sizes_data};
 ghost use Rattle.avc_info.specs.Text.{level_name, profile_name};
 
 use crate::rates::{bit_rate, duration, rate_ratio};
+use crate::refusals::{Refusal, RefusalKind};
 use crate::sequence_facts::{Crop, SequenceFacts, Size};
-use crate::stream_facts::{Refusal, SetHead, StreamFacts};
+use crate::stream_facts::{SetHead, StreamFacts};
 use crate::text::{add_level_name, profile_name};
-use avc_formats::Ratio;
 use avc_params::{Colour, Timing};
+use avc_presentation::Ratio;
 use avc_types::OutOfMemory;
 use serde_json::{Map, Value, json, put};
 use std::alloc::Global;
@@ -50,6 +52,8 @@ fn facts_value(alloc: Global, facts: &StreamFacts, bytes: u64) -> Result<Value, 
     let others = Value::from(facts.sizes.others);
     put(&mut map, alloc, "more_sizes", others)?;
     put_count(&mut map, alloc, "pictures", pictures)?;
+    let kinds = kinds_value(alloc, facts.refusals.kinds())?;
+    put(&mut map, alloc, "refusals", kinds)?;
     let refused_set = set_head_value(alloc, facts.refused_set)?;
     put(&mut map, alloc, "refused_sequence", refused_set)?;
     put_count(&mut map, alloc, "refused_units", facts.refused)?;
@@ -260,6 +264,34 @@ fn refusal_value(alloc: Global, refusal: Option<Refusal>) -> Result<Value, OutOf
         })?),
         None => Ok(Value::Null),
     }
+}
+
+fn kinds_value(alloc: Global, kinds: &[RefusalKind]) -> Result<Value, OutOfMemory>
+    ensures { IfOk result (λ value. view value ≡ kinds_data kinds.now) }
+{
+    let values = kind_values(alloc, kinds)?;
+    Ok(Value::from(values))
+}
+
+fn kind_values(alloc: Global, kinds: &[RefusalKind]) -> Result<Vec<Value>, OutOfMemory>
+    ensures { IfOk result (λ values. map view values.items ≡ map kind_data kinds.now) }
+{
+    let mut values = Vec::new(alloc);
+    for kind in kinds {
+        values.push(kind_value(alloc, *kind)?)?;
+    }
+    Ok(values)
+}
+
+fn kind_value(alloc: Global, kind: RefusalKind) -> Result<Value, OutOfMemory>
+    ensures { IfOk result (λ value. view value ≡ kind_data kind) }
+{
+    Ok(json!(in alloc; {
+        "count": kind.count,
+        "first_unit": kind.first_unit,
+        "name": kind.fault.name(),
+        "number": u64::from(kind.fault.number())
+    })?)
 }
 
 fn set_head_value(alloc: Global, head: Option<SetHead>) -> Result<Value, OutOfMemory>

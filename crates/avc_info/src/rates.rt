@@ -5,8 +5,8 @@ ghost use Rattle.avc_annexb.specs.Units.{saturated};
 ghost use Rattle.avc_info.specs.Rates.{bit_rate, bit_rate_by, duration, duration_by, lowest};
 ghost use Rattle.avc_info.specs.Rates.{rate_by, rate_ratio, stands_still};
 
-use avc_formats::{Ratio, lowest_terms};
 use avc_params::Timing;
+use avc_presentation::{Ratio, lowest_terms};
 
 /// Frames in a second, in lowest terms, where there is a clock.
 pub fn rate_ratio(timing: Option<Timing>) -> Option<Ratio>

@@ -4,8 +4,8 @@ ghost use Rattle.std.specs.Prelude.{◌≡◌};
 ghost use Rattle.avc_info.specs.Facts.{chroma_place, coded_size, crop_of, ratio_given};
 ghost use Rattle.avc_info.specs.Facts.{reorder_number, said_by};
 
-use avc_formats::{Presentation, Ratio};
 use avc_params::{Colour, Cropping, Sps, Timing};
+use avc_presentation::{Presentation, Ratio};
 
 /// A width and a height, in luma samples.
 #[derive(Clone, Copy, Debug, Default, PartialEq, Eq)]

@@ -8,6 +8,7 @@ ghost use Rattle.avc_info.specs.Facts.{after_refusal, after_slice, no_facts, sai
 ghost use Rattle.avc_info.specs.Sizes.{shown_size};
 ghost use Rattle.avc_info.specs.Text.{sequence_of};
 
+use crate::refusals::{Refusal, Refusals};
 use crate::sequence_facts::{SequenceFacts, Size};
 use crate::sizes::Sizes;
 use crate::slice_counts::SliceCounts;
@@ -15,15 +16,6 @@ use avc_slice::Header;
 use avc_tools::{shown_height, shown_width};
 use avc_types::Fault;
 use avc_units::HeaderReader;
-
-/// A unit that is refused.
-#[derive(Clone, Copy, Debug, PartialEq, Eq)]
-pub struct Refusal {
-    /// Its place among the stream's units, from 0.
-    pub unit: u64,
-
-    pub fault: Fault,
-}
 
 /// What a sequence parameter set begins with (7.3.2.1.1), also one of a profile that is not taken.
 #[derive(Clone, Copy, Debug, PartialEq, Eq)]
@@ -57,6 +49,9 @@ pub struct StreamFacts {
     /// The first of them.
     pub first_refusal: Option<Refusal>,
 
+    /// All of them, by their kinds.
+    pub refusals: Refusals,
+
     /// What the first sequence parameter set begins with that is refused.
     pub refused_set: Option<SetHead>,
 }
@@ -73,6 +68,7 @@ impl StreamFacts {
             counts: SliceCounts::new(),
             refused: 0,
             first_refusal: None,
+            refusals: Refusals::new(),
             refused_set: None,
         }
     }
@@ -104,10 +100,12 @@ impl StreamFacts {
     pub(crate) fn add_refusal(&mut self, unit: u64, fault: Fault)
         ensures { self.new ≡ after_refusal unit fault self.old }
     {
+        let refusal = Refusal { unit, fault };
         self.refused = self.refused.saturating_add(1);
         if self.first_refusal.is_none() {
-            self.first_refusal = Some(Refusal { unit, fault });
+            self.first_refusal = Some(refusal);
         }
+        self.refusals.add(refusal);
     }
 
     /// Takes what a sequence parameter set says, or what it begins with where it is refused.

@@ -1,9 +1,10 @@
 //! A stream's facts for people: the lines of its sequence, its counts and its refusals.
 
 ghost use Rattle.std.specs.Prelude.{◌≡◌, ◌++◌, IfOk, OnOk, codes, string_bytes};
+ghost use Rattle.std.specs.List.{flat_map};
 ghost use Rattle.avc_info.specs.PictureText.{info_text};
 ghost use Rattle.avc_info.specs.Text.{clock_text, counts_line, frame_rate, frames_line, if_given};
-ghost use Rattle.avc_info.specs.Text.{is_level_1b};
+ghost use Rattle.avc_info.specs.Text.{is_level_1b, kind_line, kind_lines};
 ghost use Rattle.avc_info.specs.Text.{level_name, level_text, profile_name, profile_text, rate_of};
 ghost use Rattle.avc_info.specs.Text.{newline, references_text, refusal_text, refused_line};
 ghost use Rattle.avc_info.specs.Text.{refused_set_line, refused_text, set_head_line, set_head_text, set_size_text};
@@ -11,10 +12,11 @@ ghost use Rattle.avc_info.specs.Text.{sequence_text, shape_line, size_text, stre
 ghost use Rattle.avc_info.specs.Text.{thousandths, thousandths_if_given};
 
 use crate::picture_text::add_picture;
+use crate::refusals::{Refusal, RefusalKind};
 use crate::sequence_facts::{SequenceFacts, Size};
 use crate::sizes::add_sizes;
 use crate::slice_counts::SliceCounts;
-use crate::stream_facts::{Refusal, SetHead, StreamFacts};
+use crate::stream_facts::{SetHead, StreamFacts};
 use avc_params::Timing;
 use avc_types::OutOfMemory;
 use std::alloc::Global;
@@ -36,6 +38,7 @@ fn add_stream(text: &mut String, facts: &StreamFacts) -> Result<(), OutOfMemory>
     add_sequence(text, facts.sequence())?;
     add_counts(text, &facts.counts)?;
     add_refused(text, facts)?;
+    add_kinds(text, facts.refusals.kinds())?;
     add_refused_set(text, facts.refused_set)
 }
 
@@ -255,6 +258,39 @@ fn add_first_refusal(text: &mut String, refusal: Option<Refusal>) -> Result<(), 
         }
         None => Ok(()),
     }
+}
+
+// Where there are more than one.
+fn add_kinds(text: &mut String, kinds: &[RefusalKind]) -> Result<(), OutOfMemory>
+    ensures { OnOk result (string_bytes text.new ≡ string_bytes text.old ++ kind_lines kinds.now) }
+{
+    if kinds.len() < 2 {
+        return Ok(());
+    }
+    add_kind_lines(text, kinds)
+}
+
+fn add_kind_lines(text: &mut String, kinds: &[RefusalKind]) -> Result<(), OutOfMemory>
+    ensures { OnOk result (string_bytes text.new ≡ string_bytes text.old ++ flat_map kind_line kinds.now) }
+{
+    for kind in kinds {
+        add_kind_line(text, *kind)?;
+    }
+    Ok(())
+}
+
+fn add_kind_line(text: &mut String, kind: RefusalKind) -> Result<(), OutOfMemory>
+    ensures { OnOk result (string_bytes text.new ≡ string_bytes text.old ++ kind_line kind) }
+{
+    let number = kind.fault.number();
+    let name = kind.fault.name();
+    let count = kind.count;
+    let unit = kind.first_unit;
+    writeln!(
+        text,
+        "refused as {number} {name}: {count}, the first unit {unit}"
+    )?;
+    Ok(())
 }
 
 // What the first sequence parameter set begins with that is refused.

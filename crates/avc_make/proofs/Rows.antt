@@ -1,24 +1,15 @@
 -- Worked examples of what is written.
-use Rattle.avc_make.proofs.Slices.{◌≡◌, pos, negsuc, true, false, [], ◌∷◌, refl, arith, count_leading_zeros, byte_bits, block_bits, escaped, escaped_after}
+use Rattle.avc_make.proofs.Slices.{◌≡◌, pos, negsuc, true, false, [], ◌∷◌, refl, arith, count_leading_zeros, byte_bits, block_bits, escaped_after}
 use Rattle.avc_make.proofs.Slices.{pps_bits, IsUnit, pps_header, sps_header, se_word, ue_word, plain, small, take, replicate, None, Residual, i_16x16, Context}
 use Rattle.avc_make.proofs.Slices.{mb_bits, ◌++◌, Some, Type0, Header, i_type, zeros_to_byte, sps_bits, header_bits, slice_unit_header}
 use Rattle.avc_params.specs.declared.sps.OrderCount.TheVariants as orders
 use Rattle.avc_slice.specs.declared.header.SliceType.TheVariants.{AllI}
 use Rattle.avc_slice.proofs.ReadUnder as Read
 
-codewords : (ue_word 0 ≡ true ∷ []) × (ue_word 4 ≡ false ∷ false ∷ true ∷ false ∷ true ∷ []) × (se_word (negsuc 0) ≡ false ∷ true ∷ true ∷ [])
-unfolding se_word ue_word count_leading_zeros
-codewords = (refl, refl, refl)
-
 -- the unit of a plain picture parameter set
 writes_plain : IsUnit pps_header (pps_bits plain) (0x68 ∷ 0xCE ∷ 0x38 ∷ 0x80 ∷ [])
 unfolding escaped_after se_word ue_word count_leading_zeros
 writes_plain = record { raw = 0xCE ∷ 0x38 ∷ 0x80 ∷ []; padding = 7; filled = record { few = omega arith; filled = refl }; body = refl }
-
--- a 03 is put in after two zeros, and the count of zeros starts anew
-escapes_zeros : escaped (0 ∷ 0 ∷ 0 ∷ 0 ∷ 0 ∷ 1 ∷ 0 ∷ 0 ∷ 4 ∷ []) ≡ 0 ∷ 0 ∷ 3 ∷ 0 ∷ 0 ∷ 3 ∷ 0 ∷ 1 ∷ 0 ∷ 0 ∷ 4 ∷ []
-unfolding escaped_after
-escapes_zeros = refl
 
 -- the unit of a set of 16x16 samples, order count type 2, one reference frame
 writes_small : IsUnit sps_header (sps_bits small) (0x67 ∷ 0x42 ∷ 0xC0 ∷ 0x0A ∷ 0xDA ∷ 0x71 ∷ [])

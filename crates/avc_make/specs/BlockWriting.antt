@@ -3,9 +3,9 @@ use Rattle.std.specs.Prelude.{◌≡◌, ℕ, zero, suc, ◌+◌, ◌-◌, ◌*�
 use Rattle.std.specs.List.{All, sum}
 use Rattle.avc_bits.specs.Bits.{Bits, bits_of, or_none}
 use Rattle.avc_cavlc.specs.Block.{level_code, next_suffix_length, residual_block, suffix_size}
-use Rattle.avc_make.specs.Words.{ReadsBack, joined}
 use Rattle.avc_vlc.specs.Reading.{token}
 use Rattle.avc_vlc.specs.Writing.{run_word, token_word, zeros_word}
+use Rattle.avc_rbsp.specs.Words.{ReadsBack, joined}
 
 -- ---- what is coded
 

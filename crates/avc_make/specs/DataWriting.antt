@@ -5,8 +5,8 @@ use Rattle.avc_types.specs.Pictures.{PicMb}
 use Rattle.avc_neigh.specs.Blocks.{available}
 use Rattle.avc_mbsyntax.specs.declared.context.Context.{Context}
 use Rattle.avc_mbsyntax.specs.SliceData.{SliceStart, context, placed, slice_data}
+use Rattle.avc_rbsp.specs.Words.{ue_word}
 use Rattle.avc_make.specs.MbWriting.{HasRanges, mb_bits, qp_of}
-use Rattle.avc_make.specs.Words.{ue_word}
 
 -- the macroblock has no syntax of its own: mb_skip_run counts it
 abbrev pub is_skip : MbSyntax → Bool

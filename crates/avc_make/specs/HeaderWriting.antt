@@ -10,10 +10,10 @@ use Rattle.avc_types.specs.declared.references.Modification.TheVariants.{Subtrac
 use Rattle.avc_types.specs.declared.references.Operation.{Operation}
 use Rattle.avc_types.specs.declared.references.Operation.TheVariants.{UnmarkShortTerm, UnmarkLongTerm, AssignLongTerm, MaxLongTermFrameIdx, UnmarkAll, CurrentToLongTerm}
 use Rattle.avc_bits.specs.Bits.{bits_of}
+use Rattle.avc_rbsp.specs.Words.{joined, se_word, ue_word}
 use Rattle.avc_make.specs.SpsWriting.{IsSeValue}
 use Rattle.avc_make.specs.VuiWriting.{Each, IsUeValue, flag_bits, optional_bits, where_bits}
 use Rattle.avc_make.specs.WeightsWriting.{pred_weight_table_bits}
-use Rattle.avc_make.specs.Words.{joined, se_word, ue_word}
 use Rattle.avc_params.specs.Limits.{max_frame_num, size_in_mbs}
 use Rattle.avc_params.specs.Within.{IsPps, IsSps}
 use Rattle.avc_params.specs.declared.pps.Pps.{Pps}

@@ -1,15 +1,10 @@
-pub mod Escaping
 pub mod HeaderWriting
-pub mod Made
-pub mod Making
 pub mod PpsWriting
 pub mod SliceUnits
 pub mod SliceSteps
-pub mod Cutting
 pub mod SpsWriting
 pub mod Units
 pub mod VuiWriting
-pub mod Words
 pub mod BlockWriting
 pub mod WeightsWriting
 pub mod MbWriting

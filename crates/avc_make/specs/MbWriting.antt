@@ -12,9 +12,9 @@ use Rattle.avc_vlc.specs.Tables.{cbp_intra, cbp_inter}
 use Rattle.avc_neigh.specs.TotalCoeffs.{nc}
 use Rattle.avc_mbsyntax.specs.declared.context.Context.{Context}
 use Rattle.avc_mbsyntax.specs.Reading.{cb_side, cr_side, is_coded, luma_side, macroblock, qp_after}
+use Rattle.avc_rbsp.specs.Words.{joined, se_word, te_word, ue_word}
 use Rattle.avc_make.specs.BlockWriting.{IsWritable, block_bits}
 use Rattle.avc_make.specs.VuiWriting.{Each}
-use Rattle.avc_make.specs.Words.{joined, se_word, te_word, ue_word}
 
 -- ---- residual (7.3.5.3)
 

@@ -1,8 +1,8 @@
 -- Picture parameter sets as bits (7.3.2.2): the elements in their order.
 use Rattle.std.specs.Prelude.{false, Bool, List, [], ◌∷◌}
 use Rattle.avc_bits.specs.Bits.{bits_of}
+use Rattle.avc_rbsp.specs.Words.{joined, se_word, ue_word}
 use Rattle.avc_make.specs.VuiWriting.{flag_bits}
-use Rattle.avc_make.specs.Words.{joined, se_word, ue_word}
 use Rattle.avc_params.specs.declared.pps.Pps.{Pps}
 
 -- the default numbers of reference indices, each less one

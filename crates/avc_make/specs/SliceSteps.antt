@@ -6,9 +6,9 @@ use Rattle.avc_neigh.specs.Around.{PictureInfo}
 use Rattle.avc_neigh.specs.TotalCoeffs.{total_coeffs_of}
 use Rattle.avc_mbsyntax.specs.declared.context.Context.{Context}
 use Rattle.avc_mbsyntax.specs.SliceData.{SliceStart}
+use Rattle.avc_rbsp.specs.Words.{ue_word}
 use Rattle.avc_make.specs.DataWriting.{i_data_bits, is_skip, last_run_bits, p_data_bits}
 use Rattle.avc_make.specs.MbWriting.{mb_bits}
-use Rattle.avc_make.specs.Words.{ue_word}
 
 -- The info is that of the macroblocks so far, as far as nC asks for them.
 pub record AreInfoOf (width : ℕ) (before : List PicMb) (p : PictureInfo) : Type 0 where

@@ -1,8 +1,8 @@
 -- Units of slices that are written: their headers.
 use Rattle.std.specs.Prelude.{◌≡◌, List, ℕ, Bool, ◌++◌, length, drop, Some, Ok}
 use Rattle.avc_annexb.specs.Escapes.{rbsp}
+use Rattle.avc_rbsp.specs.Rbsps.{IsUnit}
 use Rattle.avc_make.specs.HeaderWriting.{IsHeader, header_bits, slice_unit_header}
-use Rattle.avc_make.specs.Units.{IsUnit}
 use Rattle.avc_params.specs.Tables.{Sets}
 use Rattle.avc_params.specs.declared.pps.Pps.{Pps}
 use Rattle.avc_params.specs.declared.sps.Sps.{Sps}

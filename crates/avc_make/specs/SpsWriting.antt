@@ -2,8 +2,8 @@
 use Rattle.std.specs.Prelude.{◌≡◌, ℕ, ◌*◌, ◌<◌, ◌≤◌, ◌==◌, ◌||◌, ℤ, pos, neg_ℤ, ◌<ℤ◌, Bool, true, List, [], ◌∷◌, length, IfSome, IsSome}
 use Rattle.std.specs.List.{flat_map}
 use Rattle.avc_bits.specs.Bits.{bits_of}
+use Rattle.avc_rbsp.specs.Words.{joined, se_word, ue_word}
 use Rattle.avc_make.specs.VuiWriting.{Each, IsVui, flag_bits, optional_bits, vui_bits}
-use Rattle.avc_make.specs.Words.{joined, se_word, ue_word}
 use Rattle.avc_params.specs.Limits.{height_in_mbs, max_dpb_mbs, width_in_mbs}
 use Rattle.avc_params.specs.Within.{IsCropping, IsOrderCount}
 use Rattle.avc_params.specs.declared.sps.ConstraintFlags.{ConstraintFlags}

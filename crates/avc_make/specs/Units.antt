@@ -1,8 +1,7 @@
--- Units that are written.
-use Rattle.std.specs.Prelude.{◌≡◌, ℕ, true, Bool, List, [], ◌∷◌, ◌++◌, drop, Ok}
+-- The units of parameter sets (7.3.1, 7.3.2).
+use Rattle.std.specs.Prelude.{◌≡◌, ℕ, List, drop, Ok}
 use Rattle.avc_annexb.specs.Escapes.{rbsp}
-use Rattle.avc_make.specs.Escaping.{escaped}
-use Rattle.avc_make.specs.Made.{IsFilled}
+use Rattle.avc_rbsp.specs.Rbsps.{IsUnit}
 use Rattle.avc_make.specs.PpsWriting.{pps_bits}
 use Rattle.avc_make.specs.SpsWriting.{IsWritable, sps_bits}
 use Rattle.avc_params.specs.Reading.{pps_of, sps_of}
@@ -17,14 +16,6 @@ sps_header = 0x67
 -- nal_ref_idc 3 and nal_unit_type 8 (7.3.1)
 abbrev pub pps_header : ℕ
 pps_header = 0x68
-
--- A unit: its header byte, and the body of an RBSP that has these bits, the stop bit and 0 bits to
--- the end of its last byte (7.3.1, 7.3.2.11).
-pub record IsUnit (header : ℕ) (bits : List Bool) (unit : List ℕ) : Type 0 where
-  pub raw : List ℕ
-  pub padding : ℕ
-  pub filled : IsFilled raw (bits ++ true ∷ []) padding
-  pub body : unit ≡ header ∷ escaped raw
 
 -- The unit of a picture parameter set in its ranges is read as that set.
 abbrev pub PpsIsRead : Type 0

@@ -2,7 +2,6 @@
 use Rattle.std.specs.Prelude.{◌≡◌, ℕ, ◌-◌, ◌<◌, ◌≤◌, ◌==◌, ◌||◌, Bool, true, false, List, [], ◌∷◌, length, Option, Some, None, is_some, IfSome}
 use Rattle.std.specs.List.{flat_map}
 use Rattle.avc_bits.specs.Bits.{bits_of}
-use Rattle.avc_make.specs.Words.{joined, ue_word}
 use Rattle.avc_params.specs.declared.vui.ChromaLocation.{ChromaLocation}
 use Rattle.avc_params.specs.declared.vui.Colour.{Colour}
 use Rattle.avc_params.specs.declared.vui.Hrd.{Hrd}
@@ -13,6 +12,7 @@ use Rattle.avc_params.specs.declared.vui.SampleSize.{SampleSize}
 use Rattle.avc_params.specs.declared.vui.Timing.{Timing}
 use Rattle.avc_params.specs.declared.vui.VideoSignal.{VideoSignal}
 use Rattle.avc_params.specs.declared.vui.Vui.{Vui}
+use Rattle.avc_rbsp.specs.Words.{joined, ue_word}
 
 -- a flag and, where it is 1, the part
 abbrev pub optional_bits : {A : Type 0} → (A → List Bool) → Option A → List Bool

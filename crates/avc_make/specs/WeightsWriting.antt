@@ -1,8 +1,8 @@
 -- The table of explicit weights as bits (7.3.3.2): the elements in their order.
 use Rattle.std.specs.Prelude.{Bool, List, [], ◌∷◌}
 use Rattle.std.specs.List.{flat_map}
+use Rattle.avc_rbsp.specs.Words.{joined, se_word, ue_word}
 use Rattle.avc_make.specs.VuiWriting.{optional_bits}
-use Rattle.avc_make.specs.Words.{joined, se_word, ue_word}
 use Rattle.avc_slice.specs.declared.weights.ChromaWeights.{ChromaWeights}
 use Rattle.avc_slice.specs.declared.weights.CodedWeight.{CodedWeight}
 use Rattle.avc_slice.specs.declared.weights.EntryWeights.{EntryWeights}

@@ -4,13 +4,13 @@ ghost use Rattle.std.specs.Option.{IsSome, option_map};
 ghost use Rattle.avc_bits.specs.Bits.{or_none};
 ghost use Rattle.avc_vlc.specs.Reading.{token};
 ghost use Rattle.avc_vlc.specs.Writing.{token_word, word_bits};
+ghost use Rattle.avc_rbsp.specs.Made.{Puts};
 ghost use Rattle.avc_make.specs.BlockWriting.{IsWritable, block_bits, sign_bits, values_of};
-ghost use Rattle.avc_make.specs.Made.{Puts};
 
 use crate::coefficients::Coefficients;
 use crate::level_writing::put_levels;
-use crate::maker::BitMaker;
 use crate::run_writing::{put_runs, put_zeros};
+use avc_rbsp::BitMaker;
 use avc_types::{Levels, OutOfMemory};
 use avc_vlc::{Codeword, Token, coeff_token_word};
 

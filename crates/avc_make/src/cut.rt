@@ -1,11 +1,11 @@
 //! Parts of an RBSP (7.2).
 ghost use Rattle.std.specs.Prelude.{◌≡◌, ◌++◌, false, length, take, IfOk};
 ghost use Rattle.avc_bits.specs.Bits.{bits_before_stop};
-ghost use Rattle.avc_make.specs.Cutting.{IsRbsp};
-ghost use Rattle.avc_make.specs.Made.{Puts};
+ghost use Rattle.avc_rbsp.specs.Made.{Puts};
+ghost use Rattle.avc_rbsp.specs.Rbsps.{IsRbsp};
 
-use crate::maker::BitMaker;
 use avc_bits::BitReader;
+use avc_rbsp::BitMaker;
 use avc_types::OutOfMemory;
 use std::alloc::Global;
 

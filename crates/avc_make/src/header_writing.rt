@@ -1,6 +1,8 @@
 //! Slice headers, written (7.3.3).
 
 ghost use Rattle.std.specs.Prelude.{◌≡◌, ◌<◌, ◌≤◌, ◌++◌, false, IfSome};
+ghost use Rattle.avc_rbsp.specs.Made.{Puts};
+ghost use Rattle.avc_rbsp.specs.Words.{se_word, ue_word};
 ghost use Rattle.avc_make.specs.HeaderWriting.{IsDeblocking, IsHeader, IsModification, IsOffset};
 ghost use Rattle.avc_make.specs.HeaderWriting.{IsOrderOf};
 ghost use Rattle.avc_make.specs.HeaderWriting.{IsSeWhere, coded_order_bits, deblocking_bits};
@@ -8,17 +10,15 @@ ghost use Rattle.avc_make.specs.HeaderWriting.{filtering_bits};
 ghost use Rattle.avc_make.specs.HeaderWriting.{front_bits, header_bits, list_bits_where};
 ghost use Rattle.avc_make.specs.HeaderWriting.{numbers_bits};
 ghost use Rattle.avc_make.specs.HeaderWriting.{se_where, slice_type_number, slice_unit_header};
-ghost use Rattle.avc_make.specs.Made.{Puts};
 ghost use Rattle.avc_make.specs.SpsWriting.{IsSeValue};
 ghost use Rattle.avc_make.specs.VuiWriting.{Each, IsUeValue};
-ghost use Rattle.avc_make.specs.Words.{se_word, ue_word};
 ghost use Rattle.avc_params.specs.Within.{IsOrderCount};
 ghost use Rattle.avc_slice.specs.Header.{is_p};
 ghost use Rattle.avc_slice.specs.Within.{IsPredWeightTable};
 
-use crate::maker::BitMaker;
 use crate::part::{Part, put_optional, put_where};
 use avc_params::{OrderCount, Pps, Sps};
+use avc_rbsp::BitMaker;
 use avc_slice::{CodedOrder, Deblocking, Header, SliceType};
 use avc_types::{FilteredEdges, OutOfMemory};
 

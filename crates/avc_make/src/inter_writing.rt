@@ -3,18 +3,18 @@ ghost use Rattle.std.specs.Prelude.{◌≡◌, ◌≤◌, ◌<◌, ◌++◌, Boo
 ghost use Rattle.std.specs.List.{flat_map};
 ghost use Rattle.avc_types.specs.Macroblock.{parts_of, partitions};
 ghost use Rattle.avc_types.specs.MacroblockFields.{residual_of};
-ghost use Rattle.avc_make.specs.Made.{Puts};
+ghost use Rattle.avc_rbsp.specs.Made.{Puts};
+ghost use Rattle.avc_rbsp.specs.Words.{te_word, ue_word};
 ghost use Rattle.avc_make.specs.MbWriting.{IsMvd, IsPInter, IsRefIdx, has_ref_idx, mvd_bits};
 ghost use Rattle.avc_make.specs.MbWriting.{p_inter_bits};
 ghost use Rattle.avc_make.specs.MbWriting.{p_mb_number, ref_idx_bits, sub_mb_number};
 ghost use Rattle.avc_make.specs.MbWriting.{sub_mb_types_bits};
 ghost use Rattle.avc_make.specs.VuiWriting.{Each};
-ghost use Rattle.avc_make.specs.Words.{te_word, ue_word};
 
 use crate::macroblock_writing::put_pattern;
-use crate::maker::BitMaker;
 use crate::part::{Part, put_each};
 use avc_mbsyntax::{Context, part_count, partitions};
+use avc_rbsp::BitMaker;
 use avc_types::{BlockLevels, Mvd, OutOfMemory, PMbType, SubMbType};
 
 /// Puts mb_type and what follows it.

@@ -1,13 +1,13 @@
 //! Levels that are no trailing ones (9.2.2).
 ghost use Rattle.std.specs.Prelude.{◌≡◌, ◌≤◌, nat_abs, nat_lt, false, drop, length, All};
+ghost use Rattle.avc_rbsp.specs.Made.{Puts};
 ghost use Rattle.avc_make.specs.BlockWriting.{HasCodes, IsCode, code_of_level, first_length};
 ghost use Rattle.avc_make.specs.BlockWriting.{level_bits, levels_bits, ones_first, prefix_of};
 ghost use Rattle.avc_make.specs.BlockWriting.{values_of};
-ghost use Rattle.avc_make.specs.Made.{Puts};
 
 use crate::coefficients::Coefficients;
-use crate::maker::BitMaker;
 use avc_cavlc::{level_code, next_suffix_length, suffix_size};
+use avc_rbsp::BitMaker;
 use avc_types::OutOfMemory;
 
 /// The levels after so many trailing ones.

@@ -1,16 +1,14 @@
-//! Writing the syntax of H.264 (7.3): bits and codes, parameter sets, and their units with escapes.
+//! Writing the syntax of H.264 (7.3): parameter sets, slices and their macroblocks, and their units.
 #![tactic(auto)]
 
 mod block_writing;
 mod coefficients;
 mod cut;
-mod escapes;
 mod header_writing;
 mod inter_writing;
 pub mod laws;
 mod level_writing;
 mod macroblock_writing;
-mod maker;
 mod part;
 mod pcm_writing;
 mod pps_writing;
@@ -25,11 +23,10 @@ mod units;
 mod vui_writing;
 mod weights_writing;
 
+pub use avc_rbsp::{BitMaker, escape};
 pub use block_writing::write_block;
 pub use cut::cut_bits;
-pub use escapes::escape;
 pub use macroblock_writing::write_macroblock;
-pub use maker::BitMaker;
 pub use pps_writing::write_pps;
 pub use slice::{CodedSlice, Macroblocks};
 pub use slice_context::total_coeffs_of;

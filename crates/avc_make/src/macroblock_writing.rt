@@ -1,20 +1,20 @@
 //! Macroblocks (7.3.5).
 ghost use Rattle.std.specs.Prelude.{◌≡◌, ◌≤◌, ◌<◌, ◌+◌, ◌++◌, true, false, [], length};
 ghost use Rattle.avc_types.specs.MacroblockFields.{residual_of, syntax_of};
-ghost use Rattle.avc_make.specs.Made.{Puts};
+ghost use Rattle.avc_rbsp.specs.Made.{Puts};
+ghost use Rattle.avc_rbsp.specs.Words.{se_word, ue_word};
 ghost use Rattle.avc_make.specs.MbWriting.{HasRanges, IsCodedMode, IsI16x16, IsINxN, IsPattern};
 ghost use Rattle.avc_make.specs.MbWriting.{i_16x16_bits};
 ghost use Rattle.avc_make.specs.MbWriting.{i_nxn_bits, i_pcm_bits, i_type, mb_bits, mode_bits};
 ghost use Rattle.avc_make.specs.MbWriting.{pattern_bits};
 ghost use Rattle.avc_make.specs.MbWriting.{pattern_number, pattern_of, qp_delta_bits, type_16x16};
-ghost use Rattle.avc_make.specs.Words.{se_word, ue_word};
 
 use crate::inter_writing::put_p_inter;
-use crate::maker::BitMaker;
 use crate::part::{Part, put_each};
 use crate::pcm_writing::put_pcm_samples;
 use crate::residual_writing::{put_residual, put_residual_16x16};
 use avc_mbsyntax::Context;
+use avc_rbsp::BitMaker;
 use avc_types::{BlockLevels, Levels, OutOfMemory, Syntax};
 use avc_vlc::cbp_of;
 

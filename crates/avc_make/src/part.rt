@@ -3,12 +3,12 @@
 ghost use Rattle.std.specs.Prelude.{◌≡◌, Bool, List, false, IfSome};
 ghost use Rattle.std.specs.List.{flat_map};
 ghost use Rattle.avc_bits.specs.Bits.{bits_of};
-ghost use Rattle.avc_make.specs.Made.{Puts};
+ghost use Rattle.avc_rbsp.specs.Made.{Puts};
+ghost use Rattle.avc_rbsp.specs.Words.{se_word, ue_word};
 ghost use Rattle.avc_make.specs.SpsWriting.{IsSeValue};
 ghost use Rattle.avc_make.specs.VuiWriting.{Each, IsUeValue, flag_bits, optional_bits, where_bits};
-ghost use Rattle.avc_make.specs.Words.{se_word, ue_word};
 
-use crate::maker::BitMaker;
+use avc_rbsp::BitMaker;
 use avc_types::OutOfMemory;
 
 /// A part of the syntax: its bits, and when it can be written.

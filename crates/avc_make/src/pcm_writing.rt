@@ -1,11 +1,11 @@
 //! The samples of I_PCM macroblocks (7.3.5).
 ghost use Rattle.std.specs.Prelude.{◌≡◌, false, length};
 ghost use Rattle.avc_bits.specs.Bits.{byte_bits};
-ghost use Rattle.avc_make.specs.Made.{Puts};
+ghost use Rattle.avc_rbsp.specs.Made.{Puts};
 ghost use Rattle.avc_make.specs.MbWriting.{i_pcm_bits, zeros_to_byte};
 
-use crate::maker::BitMaker;
 use crate::part::put_each;
+use avc_rbsp::BitMaker;
 use avc_types::OutOfMemory;
 
 /// pcm_alignment_zero_bit, pcm_sample_luma and pcm_sample_chroma.

@@ -2,16 +2,17 @@
 
 ghost use Rattle.std.specs.Prelude.{◌≡◌, Ok, IfOk, drop};
 ghost use Rattle.avc_annexb.specs.Escapes.{rbsp};
-ghost use Rattle.avc_make.specs.Made.{Puts};
+ghost use Rattle.avc_rbsp.specs.Made.{Puts};
+ghost use Rattle.avc_rbsp.specs.Rbsps.{IsUnit};
 ghost use Rattle.avc_make.specs.PpsWriting.{default_counts_bits, pps_bits, quantisation_bits};
 ghost use Rattle.avc_make.specs.PpsWriting.{switches_bits};
-ghost use Rattle.avc_make.specs.Units.{IsUnit, pps_header};
+ghost use Rattle.avc_make.specs.Units.{pps_header};
 ghost use Rattle.avc_params.specs.Reading.{pps_of};
 ghost use Rattle.avc_params.specs.Within.{IsPps};
 
-use crate::maker::BitMaker;
 use crate::units::unit_of;
 use avc_params::Pps;
+use avc_rbsp::BitMaker;
 use avc_types::OutOfMemory;
 use std::alloc::Global;
 

@@ -6,8 +6,8 @@ ghost use Rattle.avc_make.specs.HeaderWriting.{marking_bits, modification_bits, 
 ghost use Rattle.avc_make.specs.HeaderWriting.{operation_bits};
 ghost use Rattle.avc_make.specs.VuiWriting.{Each};
 
-use crate::maker::BitMaker;
 use crate::part::{Part, put_each};
+use avc_rbsp::BitMaker;
 use avc_types::{Marking, Modification, Operation, OutOfMemory, UpTo};
 
 // one entry (7.3.3.1)

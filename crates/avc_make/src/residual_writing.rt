@@ -4,16 +4,16 @@ ghost use Rattle.std.specs.List.{range_with_len};
 ghost use Rattle.std.specs.Option.{option_copied};
 ghost use Rattle.avc_types.specs.MacroblockFields.{residual_of};
 ghost use Rattle.avc_mbsyntax.specs.Reading.{cb_side, cr_side, is_coded};
-ghost use Rattle.avc_make.specs.Made.{Puts};
+ghost use Rattle.avc_rbsp.specs.Made.{Puts};
 ghost use Rattle.avc_make.specs.MbWriting.{AreBlocks, IsBlock, IsChromaDc, IsResidual, ac_words};
 ghost use Rattle.avc_make.specs.MbWriting.{bits_where_coded, blocks_bits, chroma_dc_bits};
 ghost use Rattle.avc_make.specs.MbWriting.{chroma_words};
 ghost use Rattle.avc_make.specs.MbWriting.{luma_dc_bits, luma_words, residual_bits};
 
 use crate::block_writing::write_block;
-use crate::maker::BitMaker;
 use avc_mbsyntax::{Context, cb_side, cr_side, luma_side};
 use avc_neigh::{nc_chroma, nc_luma};
+use avc_rbsp::BitMaker;
 use avc_types::{BlockLevels, Levels, OutOfMemory};
 
 /// The residual of a macroblock that is not Intra 16x16.

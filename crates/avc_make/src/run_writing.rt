@@ -1,12 +1,12 @@
 //! The zeros between levels (9.2.3).
 ghost use Rattle.std.specs.Prelude.{◌≡◌, ◌+◌, ◌≤◌, false, length};
 ghost use Rattle.std.specs.List.{sum};
+ghost use Rattle.avc_rbsp.specs.Made.{Puts};
 ghost use Rattle.avc_make.specs.BlockWriting.{run_bits, runs_bits, runs_of, zeros_bits};
-ghost use Rattle.avc_make.specs.Made.{Puts};
 
 use crate::block_writing::put_word;
 use crate::coefficients::Coefficients;
-use crate::maker::BitMaker;
+use avc_rbsp::BitMaker;
 use avc_types::OutOfMemory;
 use avc_vlc::{run_before_word, total_zeros_word};
 

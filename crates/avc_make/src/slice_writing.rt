@@ -1,23 +1,23 @@
 //! Slices (7.3.2.8, 7.3.4).
 ghost use Rattle.std.specs.Prelude.{◌≡◌, ◌+◌, ◌<◌, ◌≤◌, false, length, IfOk};
 ghost use Rattle.avc_types.specs.MacroblockFields.{syntax_of};
+ghost use Rattle.avc_rbsp.specs.Made.{Puts};
+ghost use Rattle.avc_rbsp.specs.Rbsps.{IsUnit};
 ghost use Rattle.avc_make.specs.DataWriting.{CanStand, data_bits, is_skip};
 ghost use Rattle.avc_make.specs.HeaderWriting.{slice_unit_header};
-ghost use Rattle.avc_make.specs.Made.{Puts};
 ghost use Rattle.avc_make.specs.SliceMbs.{IsCodedSlice, IsReadBack, coded_slice_bits, earlier_mbs};
 ghost use Rattle.avc_make.specs.SliceMbs.{own_start};
 ghost use Rattle.avc_make.specs.SliceSteps.{AreInfoOf, coded_bits, last_run_bits_where, own_bits};
 ghost use Rattle.avc_make.specs.SliceSteps.{run_after, run_bits, some_bits};
-ghost use Rattle.avc_make.specs.Units.{IsUnit};
 
 use crate::header_writing::{header_byte, put_header};
 use crate::macroblock_writing::write_macroblock;
-use crate::maker::BitMaker;
 use crate::slice::CodedSlice;
 use crate::slice_context::{context_beside, first_context, put_info, row_before};
 use crate::units::unit_of;
 use avc_mbsyntax::Context;
 use avc_neigh::Row;
+use avc_rbsp::BitMaker;
 use avc_types::{OutOfMemory, Syntax};
 use std::alloc::Global;
 

@@ -2,18 +2,19 @@
 
 ghost use Rattle.std.specs.Prelude.{◌≡◌, Ok, IfOk, drop};
 ghost use Rattle.avc_annexb.specs.Escapes.{rbsp};
-ghost use Rattle.avc_make.specs.Made.{Puts};
+ghost use Rattle.avc_rbsp.specs.Made.{Puts};
+ghost use Rattle.avc_rbsp.specs.Rbsps.{IsUnit};
 ghost use Rattle.avc_make.specs.SpsWriting.{HasSeValues, IsWritable, constraint_bits};
 ghost use Rattle.avc_make.specs.SpsWriting.{cropping_bits, identity_bits, order_bits, size_bits};
 ghost use Rattle.avc_make.specs.SpsWriting.{sps_bits};
-ghost use Rattle.avc_make.specs.Units.{IsUnit, sps_header};
+ghost use Rattle.avc_make.specs.Units.{sps_header};
 ghost use Rattle.avc_params.specs.Reading.{sps_of};
 ghost use Rattle.avc_params.specs.Within.{IsOrderCount, IsSps};
 
-use crate::maker::BitMaker;
 use crate::part::{Part, put_each, put_optional};
 use crate::units::unit_of;
 use avc_params::{ConstraintFlags, Cropping, OrderCount, Sps};
+use avc_rbsp::BitMaker;
 use avc_types::OutOfMemory;
 use std::alloc::Global;
 

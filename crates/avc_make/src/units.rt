@@ -1,10 +1,9 @@
 //! A unit by its header byte and its RBSP (7.3.1).
 
 ghost use Rattle.std.specs.Prelude.{◌≡◌, false, IfOk};
-ghost use Rattle.avc_make.specs.Units.{IsUnit};
+ghost use Rattle.avc_rbsp.specs.Rbsps.{IsUnit};
 
-use crate::escapes::escape;
-use crate::maker::BitMaker;
+use avc_rbsp::{BitMaker, escape};
 use avc_types::OutOfMemory;
 use std::alloc::Global;
 

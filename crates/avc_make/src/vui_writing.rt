@@ -10,12 +10,12 @@ ghost use Rattle.avc_make.specs.VuiWriting.{hrd_entry_bits, restriction_bits, sa
 ghost use Rattle.avc_make.specs.VuiWriting.{timing_bits};
 ghost use Rattle.avc_make.specs.VuiWriting.{video_signal_bits, vui_bits};
 
-use crate::maker::BitMaker;
 use crate::part::{Part, put_each, put_optional, put_where};
 use avc_params::{
     ChromaLocation, Colour, Hrd, HrdEntry, Restriction, SampleAspect, SampleSize, Timing,
     VideoSignal, Vui,
 };
+use avc_rbsp::BitMaker;
 use avc_types::OutOfMemory;
 
 impl Part for SampleSize {

@@ -6,8 +6,8 @@ ghost use Rattle.avc_make.specs.WeightsWriting.{entry_weights_bits, pred_weight_
 ghost use Rattle.avc_slice.specs.Within.{IsChromaWeights, IsCodedWeight, IsEntryWeights};
 ghost use Rattle.avc_slice.specs.Within.{IsPredWeightTable};
 
-use crate::maker::BitMaker;
 use crate::part::{Part, put_each, put_optional};
+use avc_rbsp::BitMaker;
 use avc_slice::{ChromaWeights, CodedWeight, EntryWeights, PredWeightTable};
 use avc_types::OutOfMemory;
 

@@ -5,10 +5,10 @@ use Rattle.std.specs.Prelude.{Option}
 use Rattle.avc_annexb.specs.Escapes.{rbsp}
 use Rattle.avc_bits.specs.Bits.{Bits, bits_before_stop}
 use Rattle.avc_bits.specs.Codes.{flag}
-use Rattle.avc_make.specs.Cutting.{RbspsAreRead}
-use Rattle.avc_make.specs.Escaping.{escaped}
-use Rattle.avc_make.specs.Made.{Made, IsFilled, nothing, with_bits}
-use Rattle.avc_make.specs.Units.{IsUnit}
+use Rattle.avc_rbsp.specs.Escaping.{escaped}
+use Rattle.avc_rbsp.specs.Made.{Made, IsFilled, nothing, with_bits}
+use Rattle.avc_rbsp.specs.Rbsps.{RbspsAreRead}
+use Rattle.avc_rbsp.specs.Rbsps.{IsUnit}
 use Rattle.avc_replay.specs.Cutting.{run_bits, IsCutUnit}
 
 -- the bit that is read

@@ -2,8 +2,8 @@
 use Rattle.std.specs.Prelude.{ℕ, Bool, List, [], ◌++◌, take, Option, Some, None}
 use Rattle.avc_annexb.specs.Escapes.{rbsp}
 use Rattle.avc_bits.specs.Bits.{bits_before_stop}
-use Rattle.avc_make.specs.Units.{IsUnit}
-use Rattle.avc_make.specs.Words.{ue_word}
+use Rattle.avc_rbsp.specs.Rbsps.{IsUnit}
+use Rattle.avc_rbsp.specs.Words.{ue_word}
 
 -- mb_skip_run, if there is one (7.3.4)
 abbrev pub run_bits : (run : Option ℕ) → List Bool

@@ -3,13 +3,13 @@
 ghost use Rattle.std.specs.Prelude.{◌≡◌, ◌-◌, ◌<◌, ◌^◌, drop, false, take, IfOk, IfSome};
 ghost use Rattle.avc_annexb.specs.Escapes.{rbsp};
 ghost use Rattle.avc_bits.specs.Bits.{bits_before_stop};
-ghost use Rattle.avc_make.specs.Made.{Puts};
+ghost use Rattle.avc_rbsp.specs.Made.{Puts};
 ghost use Rattle.avc_replay.specs.Cutting.{first_bits, run_bits, IsCutUnit};
 
 use avc_annexb::unescape;
 use avc_bits::BitReader;
-use avc_make::laws::{escapes_are_removed, rbsps_are_read};
-use avc_make::{BitMaker, escape};
+use avc_rbsp::laws::{escapes_are_removed, rbsps_are_read};
+use avc_rbsp::{BitMaker, escape};
 use avc_types::OutOfMemory;
 use std::alloc::Global;
 

@@ -10,7 +10,7 @@ use Rattle.avc_console.specs.declared.fault.RunFault.{RunFault}
 use Rattle.avc_console.specs.declared.report.Report.{Report}
 use Rattle.avc_formats.specs.Formats.{Format}
 use Rattle.avc_formats.specs.Front.{IsFront, NoFront}
-use Rattle.avc_formats.specs.declared.presentation.Presentation.{Presentation}
+use Rattle.avc_presentation.specs.declared.presentation.Presentation.{Presentation}
 use Rattle.avc_run.specs.Formats.{DecodesAs}
 
 -- A stream is decoded in the format that this set decides.

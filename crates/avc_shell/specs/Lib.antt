@@ -4,10 +4,7 @@ pub mod FromPieces
 pub mod Inputs
 pub mod LossLines
 pub mod Manners
-pub mod Outcomes
 pub mod Outputs
 pub mod PlaceLines
-pub mod Progress
-pub mod Rates
 pub mod Reasons
 pub mod UnitPlaces

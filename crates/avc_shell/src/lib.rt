@@ -8,13 +8,9 @@ mod from_piece;
 mod input;
 mod loss_lines;
 mod misuse;
-mod observer;
 mod other_pictures;
 mod output;
 mod place_line;
-mod progress;
-mod progress_state;
-mod rate;
 mod reason;
 mod refusal_places;
 mod told;
@@ -29,10 +25,8 @@ pub use from_piece::FromPiece;
 pub use input::Input;
 pub use loss_lines::LossLines;
 pub use misuse::is_output_refused;
-pub use observer::Observer;
 pub use other_pictures::OtherPictures;
 pub use output::{Output, OutputFile, PictureFiles};
-pub use progress::Progress;
 pub use refusal_places::RefusalPlaces;
 pub use told::{
     is_progress_told, is_told_more, tell_absent_picture, tell_container, tell_no_piece,

@@ -3,10 +3,8 @@ pub use Rattle.std.proofs.Common.{◌≡◌, true, false, List, [], ◌∷◌, �
 pub use Rattle.std.proofs.Common.{take, Result, ◌+◌, ◌<◌, ◌≤◌, length, Ok, Err, IfErr, length-append, length-take, suc, zero, ◌-◌, ◌^◌, replicate, string_bytes, rules}
 pub use Rattle.std.proofs.KnownBytes.{Appends-nil, Consumes-kept, Consumes-trans, Appends-trans}
 pub use Rattle.std.proofs.lemmas.List.{take-append-le}
-pub use Rattle.std.proofs.lemmas.Nat.Gcd.{IsGcd-from_zero, IsGcd-from_mod}
 pub use Rattle.std.specs.Fmt.{decimal, format_spec, styled_decimal}
 unfoldable pub use Rattle.std.specs.Fmt.{char_count, padded_integral}
-pub use Rattle.std.specs.Int.{IsGcd}
 pub use Rattle.std.specs.Io.KnownBytes.{Consumes, IsAtEnd, Keeps, Appends}
 pub use Rattle.std.specs.List.{repeat}
 pub use Rattle.std.specs.Prelude.{is_some, if◌then◌else◌, unwrap_or, IsErrAnd, codes}
@@ -22,6 +20,9 @@ pub use Rattle.avc_console.proofs.Texts.{nothing_more}
 pub use Rattle.avc_console.specs.Reading.{max_unit, WritesFirst}
 pub use Rattle.avc_console.specs.declared.fault.RunFault.{RunFault}
 pub use Rattle.avc_console.specs.declared.fault.RunFault.TheVariants.{Read, Memory, Write}
+pub use Rattle.avc_presentation.specs.Presenting.{no_presentation, Says}
+pub use Rattle.avc_presentation.specs.Ratios.{ratio_word}
+pub use Rattle.avc_presentation.specs.declared.presentation.Presentation.{Presentation}
 pub use Rattle.avc_tools.proofs.Taking.{IsDraining, one_more, all_taken}
 pub use Rattle.avc_tools.proofs.Taking.Stages.{AreLeft, drained, left_by_feed, left_by_finish}
 pub use Rattle.avc_units.proofs.SetUnits.{set_units-append, set_units_more, sets_then}
@@ -35,7 +36,5 @@ pub use Rattle.avc_formats.specs.FrameMd5.{column, aspect_line, codec_lines, col
 pub use Rattle.avc_formats.specs.FrameMd5.{size_text, times_text}
 pub use Rattle.avc_formats.specs.Front.{first_of, first_sps, starting_sps, IsFound, IsSaid, stream_sps, IsFront, IsLooking, NoFront, ReadsFront}
 pub use Rattle.avc_formats.specs.Front.{front_length}
-pub use Rattle.avc_formats.specs.Presenting.{no_presentation, Says}
 pub use Rattle.avc_formats.specs.Text.{newline}
-pub use Rattle.avc_formats.specs.Y4m.{chroma_words, range_words, shape_words, ratio_word}
-pub use Rattle.avc_formats.specs.declared.presentation.Presentation.{Presentation}
+pub use Rattle.avc_formats.specs.Y4m.{chroma_words, range_words, shape_words}

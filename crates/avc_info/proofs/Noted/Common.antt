@@ -18,7 +18,7 @@ pub use Rattle.serde_json.specs.Data.{Data, Members, put, object, string}
 pub use Rattle.serde_json.specs.View.{members_view}
 pub use Rattle.avc_info.specs.Facts.{no_facts}
 pub use Rattle.avc_info.specs.Info.{AreNoted, info_so_far}
-pub use Rattle.avc_info.specs.Json.{count, count_if_given, ratio_data, sizes_data}
+pub use Rattle.avc_info.specs.Json.{count, count_if_given, kinds_data, ratio_data, sizes_data}
 pub use Rattle.avc_info.specs.Noting.{after_unit, facts_after}
 pub use Rattle.avc_info.specs.PictureText.{colour_text}
 pub use Rattle.avc_info.specs.Rates.{bit_rate, duration}

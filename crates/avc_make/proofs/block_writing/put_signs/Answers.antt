@@ -1,4 +1,4 @@
-use Rattle.avc_make.proofs.Slices.{◌≡◌, ◌+◌, ◌∷◌, pos, drop, to_z, of_z, w16, ap, ◌∙◌, sym, arith, append_assoc, int_lt, ints, length-map, sign_bits, values_of}
+use Rattle.avc_make.proofs.Slices.{◌≡◌, to_z, of_z, w16, ap, arith, append_assoc, ints, length-map, values_of}
 use Rattle.avc_make.proofs.Slices.{sign_at, ◌≤◌, length}
 use Rattle.avc_make.proofs.block_writing.put_signs.Goals as goal
 

@@ -1,4 +1,4 @@
-use Rattle.avc_make.proofs.Slices.{pair, ◌≡◌, ◌≤◌, ◌<ℤ◌, ℤ, pos, w8, to_z, of_z, subst, sym, arith, append_assoc, ints, nat_abs, values_of, All, coded_some}
+use Rattle.avc_make.proofs.Slices.{pair, ◌≡◌, ◌≤◌, w8, to_z, of_z, subst, sym, arith, append_assoc, ints, nat_abs, values_of, All, coded_some}
 use Rattle.avc_make.proofs.block_writing.write_block.Goals as goal
 
 pub put_token-requires-clause-chroma_dc : goal.put_token-requires-clause-chroma_dc

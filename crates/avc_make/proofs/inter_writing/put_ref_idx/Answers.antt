@@ -1,4 +1,4 @@
-use Rattle.avc_make.proofs.Slices.{ℕ, ◌-◌, ◌<◌, ◌≤◌, take, ◌∙◌, sym, subst, arith, partitions, has_ref_idx, Each}
+use Rattle.avc_make.proofs.Slices.{ℕ, ◌-◌, ◌<◌, ◌≤◌, take, ◌∙◌, sym, subst, arith, Each}
 use Rattle.avc_make.proofs.inter_writing.put_ref_idx.Goals as goal
 
 pub put_indices-requires : goal.put_indices-requires

@@ -1,5 +1,5 @@
-use Rattle.avc_make.proofs.Slices.{◌≡◌, ◌≤◌, ◌<◌, pos, length, nat_abs, to_z, of_z, w16, ap, subst, ◌∙◌, sym, arith, append_assoc, ints, length-map}
-use Rattle.avc_make.proofs.Slices.{code_of_level, values_of, IsLevel, next_suffix_length, level_most, levels_at}
+use Rattle.avc_make.proofs.Slices.{◌≡◌, ◌≤◌, pos, nat_abs, to_z, of_z, w16, ap, ◌∙◌, arith, append_assoc, ints, length-map}
+use Rattle.avc_make.proofs.Slices.{code_of_level, next_suffix_length, level_most, levels_at}
 use Rattle.avc_make.proofs.level_writing.put_levels.Goals as goal
 
 pub put_level-requires-clause-code : goal.put_level-requires-clause-code

@@ -1,4 +1,4 @@
-use Rattle.avc_make.proofs.Slices.{◌≡◌, pos, min, arith, rules, to_z, w8, ints, block_bits, bits_where_coded, coded_block, puts_same, writable_of}
+use Rattle.avc_make.proofs.Slices.{min, rules, to_z, w8, coded_block, puts_same, writable_of}
 use Rattle.avc_make.proofs.residual_writing.put_block_where.Goals as goal
 
 pub write_block-requires : goal.write_block-requires

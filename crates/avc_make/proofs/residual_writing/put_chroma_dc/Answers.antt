@@ -1,4 +1,4 @@
-use Rattle.avc_make.proofs.Slices.{negsuc, arith, block_bits, chroma_dc_bits, puts_same, some_dc, writable_dc}
+use Rattle.avc_make.proofs.Slices.{negsuc, arith, puts_same, some_dc, writable_dc}
 use Rattle.avc_make.proofs.residual_writing.put_chroma_dc.Goals as goal
 
 pub write_block-requires : goal.write_block-requires

@@ -1,4 +1,4 @@
-use Rattle.avc_make.proofs.Slices.{◌≡◌, [], drop, refl, ap, ◌∙◌, sym, subst, drop_of_length-le, syntax_of, own_start, IsAt, before_of, is_at, put_end, put_next}
+use Rattle.avc_make.proofs.Slices.{drop, refl, ap, ◌∙◌, sym, subst, drop_of_length-le, own_start, IsAt, is_at, put_end, put_next}
 use Rattle.avc_make.proofs.Slices.{put_none, stands_at}
 use Rattle.avc_make.proofs.slice_writing.put_macroblocks.Goals as goal
 

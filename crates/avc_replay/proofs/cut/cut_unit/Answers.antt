@@ -1,5 +1,5 @@
 use Rattle.std.proofs.Common.{◌≡◌, List, [], ◌∷◌, ◌++◌, ℕ, ap, ◌∙◌}
-use Rattle.avc_make.specs.Escaping.{escaped}
+use Rattle.avc_rbsp.specs.Escaping.{escaped}
 use Rattle.avc_replay.specs.Cutting.{first_bits}
 use Rattle.avc_replay.proofs.CutUnits.{unit_cut, unit_read}
 use Rattle.avc_replay.proofs.cut.cut_unit.Goals as goal

@@ -43,5 +43,5 @@ pub use Rattle.avc_console.proofs.Texts.Telling.{by_fault, err_is, told_both}
 pub use Rattle.avc_formats.specs.Front.{IsFront, NoFront}
 pub use Rattle.avc_formats.specs.Headed.{headed}
 pub use Rattle.avc_formats.specs.Selecting.{selected}
-pub use Rattle.avc_formats.specs.declared.presentation.Presentation.{Presentation}
+pub use Rattle.avc_presentation.specs.declared.presentation.Presentation.{Presentation}
 pub use Rattle.avc_run.specs.BySet.{Decodes as DecodesBySetOrNot, by_set, in_front}

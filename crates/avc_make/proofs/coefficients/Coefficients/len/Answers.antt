@@ -1,4 +1,4 @@
-use Rattle.avc_make.proofs.Slices.{length, take, ap, ◌∙◌, sym, arith, length-reverse, length-take-le}
+use Rattle.avc_make.proofs.Slices.{arith, length-reverse, length-take-le}
 use Rattle.avc_make.proofs.coefficients.Coefficients.len.Goals as goal
 
 pub returns-clause-value : goal.returns-clause-value

@@ -1,5 +1,5 @@
-use Rattle.avc_make.proofs.Slices.{◌≡◌, ◌≢◌, ◌+◌, ◌-◌, ◌<◌, suc, pos, [], length, drop, nat_abs, to_z, of_z, w16, ap, arith, ints, drop_all, length-map}
-use Rattle.avc_make.proofs.Slices.{ones_first, values_of, ones_at, ones_end, eq-eqb, ne_eqb}
+use Rattle.avc_make.proofs.Slices.{◌≡◌, ◌≢◌, ◌-◌, nat_abs, to_z, of_z, w16, ap, arith, ints, drop_all, length-map}
+use Rattle.avc_make.proofs.Slices.{values_of, ones_at, ones_end, eq-eqb, ne_eqb}
 use Rattle.avc_make.proofs.coefficients.Coefficients.trailing_ones.Goals.{then-k-len-via-then-k-len, then-k-len-via-else-k-len+then-unsigned_abs-ne1}
 use Rattle.avc_make.proofs.coefficients.Coefficients.trailing_ones.Goals as goal
 

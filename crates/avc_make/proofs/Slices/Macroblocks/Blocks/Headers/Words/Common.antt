@@ -1,10 +1,10 @@
 -- The names that the proofs cite of std, of the crates below and of the definitions here, passed on from one place. Declares nothing.
 pub use Rattle.std.proofs.Common.{◌≡◌, ◌≢◌, ℕ, zero, suc, ◌+◌, ◌-◌, ◌<◌, ◌≤◌, ◌<ℤ◌, ℤ, pos, negsuc, neg_ℤ, nat_abs, List, [], ◌∷◌, ◌++◌, length, take, drop}
 pub use Rattle.std.proofs.Common.{reverse, Bool, true, false, refl, ap, subst, ◌∙◌, sym, arith, inl, inr, append_assoc, append-nil, length-append, Option, Some}
-pub use Rattle.std.proofs.Common.{None, ◌||◌, nat_lt, ◌^◌, map, Result, Ok, Err, get_or, ◌*◌, ◌%◌, not, IfSome, lit<, w8, min, to_z, of_z, w16, w32, rules, eqb}
+pub use Rattle.std.proofs.Common.{None, ◌||◌, nat_lt, ◌^◌, map, Result, Ok, Err, get_or, ◌*◌, ◌%◌, not, IfSome, lit<, w8, min, to_z, of_z, w16, rules, eqb}
 pub use Rattle.std.proofs.Common.{is_some, nat_le, ◌/◌, ◌&&◌, ◌≤ℤ◌, length-set, set}
 pub use Rattle.std.proofs.Math.ListN.{drop_of_length-le}
-pub use Rattle.std.proofs.Math.Nat.{pow-succ', mod-eq_of_lt, pow-le-pow_right, div-lt_iff_lt-mul, mod-add-div, mod-lt}
+pub use Rattle.std.proofs.Math.Nat.{pow-succ', pow-le-pow_right, div-lt_iff_lt-mul, mod-add-div, mod-lt}
 pub use Rattle.std.proofs.Math.Seq.{drop-append_seam, take-append_seam}
 pub use Rattle.std.proofs.lemmas.Bool.{cases_eq, cases_lt, eq-eqb, ne_eqb, le-leb, le-ltb, lt-ltb, cases_order, ltb-true, agree_below, agree_below_at}
 pub use Rattle.std.proofs.lemmas.Bool.{and_parts}
@@ -12,26 +12,25 @@ pub use Rattle.std.proofs.lemmas.Bool.Decides.{nat_tests}
 pub use Rattle.std.proofs.lemmas.Grind.{common_steps}
 pub use Rattle.std.proofs.lemmas.Int.{ints}
 pub use Rattle.std.proofs.lemmas.List.{length-drop, length-map, length-replicate, reverse-reverse, take-append-drop, get_or-map, get_or-take, length-reverse}
-pub use Rattle.std.proofs.lemmas.List.{length-take-le, drop_more, take-append-le, drop-append-le, map-append, take_more, take_more_set}
+pub use Rattle.std.proofs.lemmas.List.{length-take-le, drop_more, map-append, take_more, take_more_set}
 pub use Rattle.std.proofs.lemmas.List.{replicate-append-replicate, drop_all}
 pub use Rattle.std.proofs.lemmas.List.Elements.{All-drop, All-head, All-tail, All-append, All-cons, All-nil, All-weaker, All-map}
 pub use Rattle.std.proofs.lemmas.List.Sorted.{All-permutation, IsPermutation-reverse, IsPermutation-map, sum_by-IsPermutation}
 pub use Rattle.std.proofs.lemmas.List.Sums.{sum_by-cons}
-pub use Rattle.std.proofs.lemmas.Nat.{one_shl, or_shifted, pow_pos, leading_length, mod-mul-add}
+pub use Rattle.std.proofs.lemmas.Nat.{pow_pos}
 pub use Rattle.std.proofs.lemmas.Option.{slice_get_past, slice_get_within, get_or_from_slice_get}
 pub use Rattle.std.proofs.lemmas.Slice.Zip.{firsts-zip, seconds-zip}
 unfoldable pub use Rattle.std.specs.Int.Count.{count_leading_zeros}
 pub use Rattle.std.specs.List.{flat_map, sum, zip, range_with_len, All}
 pub use Rattle.std.specs.Option.{option_map, option_copied}
-pub use Rattle.std.specs.Prelude.{◌==◌, if◌then◌else◌, int_lt, replicate, bit_or, IsTrue, slice_get, int_le}
+pub use Rattle.std.specs.Prelude.{◌==◌, if◌then◌else◌, int_lt, replicate, IsTrue, slice_get, int_le}
 pub use Rattle.avc_annexb.specs.Escapes.{rbsp}
 pub use Rattle.avc_bits.proofs.Reading.{u_reads, before_found, before_many, before_short}
-pub use Rattle.avc_bits.proofs.Reading.Numbers.{bits_of-number, byte_bits-append, length-bits_of, length-byte_bits, number-append, number-bits_of, number-zeros}
-pub use Rattle.avc_bits.proofs.Reading.Numbers.{bits_of-zero, number-inj, before_one}
-pub use Rattle.avc_bits.specs.Bits.{Read, ◌>>=◌, bits_of, give, or_none, times, Bits, ◌>>◌, check, bits_before_stop, byte_bits, number_of, refuse, start, more}
-pub use Rattle.avc_bits.specs.Bits.{where_set, more_data, before_last_one, passed}
-pub use Rattle.avc_bits.specs.Codes.{u, IsReadBy, IsU, Takes, flag, zeros, zeros_before_one, se_within, ue_to, align, skip, te_to, bits, se, signed_value, te}
-pub use Rattle.avc_bits.specs.Codes.{u_to, ue, IsSe, IsTe, IsUe}
+pub use Rattle.avc_bits.proofs.Reading.Numbers.{bits_of-zero}
+pub use Rattle.avc_bits.specs.Bits.{Read, ◌>>=◌, bits_of, give, or_none, times, Bits, ◌>>◌, check, bits_before_stop, byte_bits, refuse, start, more}
+pub use Rattle.avc_bits.specs.Bits.{where_set, more_data, passed}
+pub use Rattle.avc_bits.specs.Codes.{u, IsReadBy, IsU, Takes, flag, zeros, zeros_before_one, se_within, ue_to, align, skip, te_to, bits, se}
+pub use Rattle.avc_bits.specs.Codes.{u_to, ue}
 pub use Rattle.avc_bits.specs.Reader.{reader_bits}
 unfoldable pub use Rattle.avc_bits.specs.Reader.{leading}
 pub use Rattle.avc_cavlc.proofs.Levels.TrailingOnes.{before, run_last, run_most}
@@ -65,6 +64,15 @@ pub use Rattle.avc_params.specs.declared.pps.Pps.{Pps}
 pub use Rattle.avc_params.specs.declared.sps.ConstraintFlags.{ConstraintFlags}
 pub use Rattle.avc_params.specs.declared.sps.OrderCount.{OrderCount}
 pub use Rattle.avc_params.specs.declared.sps.Sps.{Sps}
+pub use Rattle.avc_rbsp.proofs.Reading.{ReadsAt, GivesBack, reads_back, with_word, with_value, at-give, at-bind, at-then, back-give, back-bind, back-then, back-last}
+pub use Rattle.avc_rbsp.proofs.Reading.{back-bits, back-u, back-flag, back-zeros, back-ue, back-se, back-te}
+pub use Rattle.avc_rbsp.proofs.Reading.Written.{rbsp_is_read, removed}
+pub use Rattle.avc_rbsp.specs.Escaping.{escaped}
+unfoldable pub use Rattle.avc_rbsp.specs.Escaping.{escaped_after}
+pub use Rattle.avc_rbsp.specs.Made.{Made, with_bits, Puts, nothing}
+pub use Rattle.avc_rbsp.specs.Rbsps.{IsUnit}
+pub use Rattle.avc_rbsp.specs.Words.{joined, te_word, bits_after_one}
+unfoldable pub use Rattle.avc_rbsp.specs.Words.{ue_word, se_word}
 pub use Rattle.avc_slice.specs.Header.{is_idr, is_p, is_p_type, is_reference, slice_qp}
 pub use Rattle.avc_slice.specs.Reading.{num_ref_idx_active, active_override, coded_order, deblocking, front, header_in_rbsp, header_of, is_qp, list_part}
 pub use Rattle.avc_slice.specs.Reading.{marking, modification, modifications, most_operations, numbers, operation, optional_se, position_here}
@@ -97,25 +105,20 @@ pub use Rattle.avc_types.specs.declared.references.Operation.TheVariants.{Unmark
 pub use Rattle.avc_types.specs.declared.references.Operation.TheVariants.{CurrentToLongTerm}
 pub use Rattle.avc_vlc.proofs.Entries.Codes.{table_read, run_own, token_own, zeros_own, run_back, run_whole, token_back, token_whole, zeros_back}
 pub use Rattle.avc_vlc.proofs.Entries.Codes.{chroma_zeros_whole, zeros_whole, all_in, is_token, token_tested, tokens_tested}
-pub use Rattle.avc_vlc.proofs.Entries.{split-append}
 pub use Rattle.avc_vlc.specs.Laws.{IsReadBack, IsRead}
 pub use Rattle.avc_vlc.specs.Reading.{IsToken, coeff_token, run_before, token, total_zeros, IsIn, token_table, coded_block_pattern, pattern_at}
 pub use Rattle.avc_vlc.specs.Tables.{cbp_intra, cbp_inter}
-pub use Rattle.avc_vlc.specs.Writing.{run_word, token_word, zeros_word, is_token_same, word_of, word_bits}
+pub use Rattle.avc_vlc.specs.Writing.{run_word, token_word, zeros_word, word_bits}
 pub use Rattle.avc_vlc.specs.declared.coeff_token.Token.{Token}
 pub use Rattle.avc_make.specs.BlockWriting.{AreCodes, BlocksAreRead, HasCodes, IsCode, after_zeros, block_bits, code_of_level, coded, first_length, least_code}
 pub use Rattle.avc_make.specs.BlockWriting.{level_bits, levels_bits, ones_first, prefix_of, run_bits, runs_bits, runs_of, sign_bits, values_of, zeros_bits}
 pub use Rattle.avc_make.specs.BlockWriting.{BlocksAreWritable, SmallAreWritable}
-pub use Rattle.avc_make.specs.Cutting.{RbspsAreRead}
 pub use Rattle.avc_make.specs.DataWriting.{data_bits, CanFollow, DataStandsAlone, IsLike, CanStand, DataIsRead, is_skip}
 unfoldable pub use Rattle.avc_make.specs.DataWriting.{i_data_bits, p_data_bits}
-pub use Rattle.avc_make.specs.Escaping.{HasNoStart, escaped_byte, zeros_with, escaped}
-unfoldable pub use Rattle.avc_make.specs.Escaping.{escaped_after}
 pub use Rattle.avc_make.specs.HeaderWriting.{header_bits, slice_unit_header, IsDeblocking, IsDeblockingOf, IsHeader, IsIdr, IsListWhere, IsMarkingOf}
 pub use Rattle.avc_make.specs.HeaderWriting.{IsModification, IsModificationList, IsOffset, IsOperation, IsOrderOf, IsOverride, IsQp, IsSeWhere}
 pub use Rattle.avc_make.specs.HeaderWriting.{coded_order_bits, deblocking_bits, deblocking_bits_of, filtering_bits, front_bits, list_bits_where, marking_bits}
 pub use Rattle.avc_make.specs.HeaderWriting.{modification_bits, modifications_bits, numbers_bits, operation_bits, se_where, slice_type_number}
-pub use Rattle.avc_make.specs.Made.{IsFilled, Made, with_bits, Puts, nothing}
 pub use Rattle.avc_make.specs.MbWriting.{mb_bits, MbIsRead, type_16x16, AreSamples, HasQuarters, HasRanges, IsIPcm, IsMvd, IsPInter, IsRefIdx, has_ref_idx}
 pub use Rattle.avc_make.specs.MbWriting.{i_pcm_bits, i_type, mvd_bits, p_inter_bits, p_mb_number, qp_of, ref_idx_bits, sub_mb_number, sub_mb_types_bits}
 pub use Rattle.avc_make.specs.MbWriting.{zeros_to_byte, IsCodedMode, IsI16x16, IsINxN, IsPattern, i_16x16_bits, i_nxn_bits, mode_bits, pattern_number}
@@ -126,13 +129,11 @@ pub use Rattle.avc_make.specs.SliceMbs.{CodedSlicesAreRead, earlier_mbs, own_sta
 pub use Rattle.avc_make.specs.SliceSteps.{rest_bits, IsOf, AreInfoOf, last_run_bits_where, own_bits, run_after, some_bits}
 pub use Rattle.avc_make.specs.SliceUnits.{AreInForce, placed_header}
 pub use Rattle.avc_make.specs.SpsWriting.{IsSeValue, size_bits, HasSeValues, constraint_bits, cropping_bits, order_bits, sps_bits}
-pub use Rattle.avc_make.specs.Units.{IsUnit, pps_header, sps_header}
+pub use Rattle.avc_make.specs.Units.{pps_header, sps_header}
 pub use Rattle.avc_make.specs.VuiWriting.{Each, optional_bits, where_bits, IsAspect, IsChromaLocation, IsColour, IsHrd, IsHrdEntry, IsRestriction, IsSampleSize}
 pub use Rattle.avc_make.specs.VuiWriting.{IsTiming, IsVideoSignal, IsVui, aspect_bits, chroma_location_bits, colour_bits, flag_bits, hrd_bits, hrd_entry_bits}
 pub use Rattle.avc_make.specs.VuiWriting.{restriction_bits, sample_size_bits, timing_bits, video_signal_bits, vui_bits}
 pub use Rattle.avc_make.specs.WeightsWriting.{chroma_weights_bits, coded_weight_bits, entry_weights_bits, pred_weight_table_bits}
-pub use Rattle.avc_make.specs.Words.{joined, te_word, bits_after_one, signed_index}
-unfoldable pub use Rattle.avc_make.specs.Words.{ue_word, se_word, ReadsBack}
 pub use Rattle.avc_make.specs.declared.slice.CodedSlice.{CodedSlice}
 pub use Rattle.avc_types.specs.declared.fault.Fault.TheVariants as faults
 pub use Rattle.avc_types.specs.declared.edges.FilteredEdges.TheVariants as edges

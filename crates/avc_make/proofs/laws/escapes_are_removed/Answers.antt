@@ -1,5 +1,0 @@
-use Rattle.avc_make.proofs.Slices.{arith, no_start, removed}
-use Rattle.avc_make.proofs.laws.escapes_are_removed.Goals as goal
-
-pub returns : goal.returns
-returns c = record { rbsp = λ bytes. removed 0 bytes (omega arith); start = no_start }

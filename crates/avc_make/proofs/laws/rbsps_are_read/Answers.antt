@@ -1,5 +1,0 @@
-use Rattle.avc_make.proofs.Slices.{rbsp_is_read}
-use Rattle.avc_make.proofs.laws.rbsps_are_read.Goals as goal
-
-pub returns : goal.returns
-returns c = rbsp_is_read

@@ -1,7 +1,0 @@
-use Rattle.avc_make.proofs.Slices.{ap, ◌∙◌}
-use Rattle.avc_make.proofs.maker.BitMaker.bytes.Goals as goal
-
-pub returns : goal.returns
-returns c =
-    let going = ap (λ v. v.failed) c.self.view_is ∙ c.requires in
-    (c.self.inside.free, rw (c.as_slice.ensures, ← c.self.view_is) (c.self.invariant going))

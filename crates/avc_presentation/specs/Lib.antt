@@ -1,0 +1,2 @@
+pub mod Ratios
+pub mod Presenting
