@@ -453,26 +453,72 @@ line_of told number p picture ours theirs bytes line compared whole read is =
     by false is' = is'
 
 -- the samples that were compared are the picture's and those that were read
-pub judged : (how : Comparison) (number count : ℕ) (p : Decoded) (old new held holds : Option (List ℕ)) (picture : ComparedPicture) (ours theirs bytes : List ℕ) (found : Option Verdict)
-    → picture ≡ compared_picture number p → ours ≡ i420 p → theirs ≡ bytes → Consumes old new (take count bytes) → length bytes ≤ count → length bytes ≡ length (i420 p)
+pub judged : (how : Comparison) (number : ℕ) (p : Decoded) (old new held holds : Option (List ℕ)) (picture : ComparedPicture) (ours theirs bytes : List ℕ) (found : Option Verdict)
+    → picture ≡ compared_picture number p → ours ≡ i420 p → theirs ≡ bytes → Consumes old new bytes → length bytes ≡ length (i420 p)
     → other_size how.size p ≡ None → FindsIn how.most picture ours theirs found → TellsLine how.has_psnr picture ours theirs held holds (Ok tt) → ComparesPicture how number p old new held holds (Ok found)
-judged how number count p old new held holds picture ours theirs bytes found compared whole read consumed all long fits finds told =
+judged how number p old new held holds picture ours theirs bytes found compared whole read consumed long fits finds told =
     by found (subst (λ s. FindsIn how.most s (i420 p) bytes found) compared (subst (λ o. FindsIn how.most picture o bytes found) whole (subst (λ t. FindsIn how.most picture ours t found) read finds)))
   where
-    here : Consumes old new bytes
-    here = subst (Consumes old new) (take_all count bytes all) consumed
-
     is : IsLine how.has_psnr number p bytes told.0
     is = line_of how.has_psnr number p picture ours theirs bytes told.0 compared whole read told.1
 
     by : (f : Option Verdict) → FindsIn how.most (compared_picture number p) (i420 p) bytes f → ComparesPicture how number p old new held holds (Ok f)
-    by None same = (bytes, told.0, here, long, same, is, told.2, fits)
+    by None same = (bytes, told.0, consumed, long, same, is, told.2, fits)
     by (Some (Differs d)) found' =
-        (bytes, here, (told.0, record { long = long; fits = fits; which = found'.0; differs = found'.1; ours = found'.2; theirs = found'.3 }, is, told.2))
+        (bytes, consumed, (told.0, record { long = long; fits = fits; which = found'.0; differs = found'.1; ours = found'.2; theirs = found'.3 }, is, told.2))
     by (Some Same) found' = absurd found'
     by (Some (Fewer n)) found' = absurd found'
     by (Some (More n)) found' = absurd found'
     by (Some (OtherSize sizes)) found' = absurd found'
+
+-- samples are no further apart than any from themselves
+same_sample : (most x : ℕ) → differs most x x ≡ false
+same_sample most x = grind (arith, nat_tests)
+
+-- the other's bytes are the picture's, and no line is told
+pub passed : (how : Comparison) (number : ℕ) (p : Decoded) (old new held : Option (List ℕ)) (bytes : List ℕ) → bytes ≡ i420 p → how.has_psnr ≡ false → Consumes old new bytes
+    → other_size how.size p ≡ None → ComparesPicture how number p old new held held (Ok None)
+passed how number p old new held bytes is lineless consumed fits = (
+  bytes,
+  [],
+  consumed,
+  ap length is,
+  λ k inside. ap (λ l. differs_at how.most (i420 p) l k) is ∙ same_sample how.most (slice_index (i420 p) k),
+  subst (λ b. IsLine b number p bytes []) (sym lineless) refl,
+  Appends-nil held,
+  fits,
+)
+
+-- the other has not so many bytes left
+pub lacking : (how : Comparison) (number : ℕ) (p : Decoded) (old new held : Option (List ℕ)) (theirs : List ℕ) → ReadsBeside p old new theirs (Ok false)
+    → other_size how.size p ≡ None → ComparesPicture how number p old new held held (Ok (Some (Fewer number)))
+lacking how number p old new held theirs read fits = (read.0, read.1, (read.3, read.2, refl, Appends-nil held, fits))
+
+-- the other could not be read
+pub not_met : (how : Comparison) (number : ℕ) (p : Decoded) (old new held : Option (List ℕ)) (fault : CompareFault) (result : Result (Option Verdict) CompareFault)
+    → IsErrAnd result (λ e. e ≡ fault) → fault ≡ Theirs → (here : List ℕ) × Consumes old new here → ComparesPicture how number p old new held held result
+not_met how number p old new held fault result is theirs rest =
+    subst (ComparesPicture how number p old new held held) (sym (err_is result fault is ∙ ap (λ f. Err f) theirs)) (rest.0, rest.1, Appends-nil held)
+
+-- memory to tell where they differ was refused
+pub not_judged : (how : Comparison) (number : ℕ) (p : Decoded) (old new held : Option (List ℕ)) (theirs : List ℕ) (fault : RunFault) (result : Result (Option Verdict) CompareFault)
+    → IsErrAnd result (λ e. e ≡ Ours fault) → fault ≡ Memory → Consumes old new theirs → ComparesPicture how number p old new held held result
+not_judged how number p old new held theirs fault result is memory consumed =
+    subst (ComparesPicture how number p old new held held) (sym (err_is result (Ours fault) is ∙ ap (λ f. Err (Ours f)) memory)) (theirs, consumed, Appends-nil held)
+
+-- why no more could be read
+pub unread : (fault : CompareFault) (how : Comparison) (number : ℕ) (event : Event) (here : List ℕ) (held : Option (List ℕ)) → IsUnread fault → StopsAt fault how number event here held held
+unread (Ours Memory) how number event here held why = Appends-nil held
+unread (Ours Write) how number event here held why = absurd why
+unread (Ours Read) how number event here held why = absurd why
+unread (Ours Endless) how number event here held why = absurd why
+unread (Ours Size) how number event here held why = absurd why
+unread Theirs how number event here held why = Appends-nil held
+
+pub not_read : (how : Comparison) (number : ℕ) (p : Decoded) (old new held : Option (List ℕ)) (theirs : List ℕ) (fault : CompareFault) (result : Result (Option Verdict) CompareFault)
+    → IsErrAnd result (λ e. e ≡ fault) → ReadsBeside p old new theirs (Err fault) → ComparesPicture how number p old new held held result
+not_read how number p old new held theirs fault result is read =
+    subst (ComparesPicture how number p old new held held) (sym (err_is result fault is)) (read.0, read.1, unread fault how number (Picture p) read.0 held read.2)
 
 -- ---- one event
 
@@ -501,11 +547,11 @@ refused_passed how event unit f o h before now is more =
     subst (λ e. ComparesEvent how e o o h h before now (Ok None)) (sym is) ([], [], Consumes-nil o, Appends-nil h, nothing_same how.most unit f, (refl, refl), more)
 
 -- a line that could not be written
-pub untold : (how : Comparison) (number count : ℕ) (p : Decoded) (old new held holds : Option (List ℕ)) (picture : ComparedPicture) (ours theirs bytes : List ℕ) (fault : RunFault)
-    (result : Result (Option Verdict) CompareFault) → IsErrAnd result (λ e. e ≡ Ours fault) → picture ≡ compared_picture number p → ours ≡ i420 p → theirs ≡ bytes → Consumes old new (take count bytes)
-    → length bytes ≤ count → TellsLine how.has_psnr picture ours theirs held holds (Err fault) → ComparesPicture how number p old new held holds result
-untold how number count p old new held holds picture ours theirs bytes fault result is compared whole read consumed all told =
-    subst (ComparesPicture how number p old new held holds) (sym (err_is result (Ours fault) is)) (bytes, subst (Consumes old new) (take_all count bytes all) consumed, by fault told)
+pub untold : (how : Comparison) (number : ℕ) (p : Decoded) (old new held holds : Option (List ℕ)) (picture : ComparedPicture) (ours theirs bytes : List ℕ) (fault : RunFault)
+    (result : Result (Option Verdict) CompareFault) → IsErrAnd result (λ e. e ≡ Ours fault) → picture ≡ compared_picture number p → ours ≡ i420 p → theirs ≡ bytes → Consumes old new bytes
+    → TellsLine how.has_psnr picture ours theirs held holds (Err fault) → ComparesPicture how number p old new held holds result
+untold how number p old new held holds picture ours theirs bytes fault result is compared whole read consumed told =
+    subst (ComparesPicture how number p old new held holds) (sym (err_is result (Ours fault) is)) (bytes, consumed, by fault told)
   where
     by : (f : RunFault) → TellsLine how.has_psnr picture ours theirs held holds (Err f) → StopsAt (Ours f) how number (Picture p) bytes held holds
     by Write told' = record { line = told'.0; is = line_of how.has_psnr number p picture ours theirs bytes told'.0 compared whole read told'.1; first = told'.2 }
@@ -543,10 +589,6 @@ read_behind old mid new xs ys a k n within fits before more =
     let part = slice_range-put_mid a k n xs ys within fits in
     let joined = take_split a (a + n) xs (put_mid a k xs ys) (omega arith) (take-put_mid_below _ _ _ _ _ (le_refl _) within) in
     subst (Consumes old new) (ap (λ l. take a xs ++ l) (sym part) ∙ joined) (Consumes-trans old mid new (take a xs) (take n ys) before more)
-
--- a vector whose items are all written anew
-pub all_written : (len : ℕ) (new items : List ℕ) → length new ≡ len → take len (new ++ drop (length new) items) ≡ new
-all_written len new items full = ap (λ n. take n (new ++ drop (length new) items)) (sym full) ∙ take-append_seam new (drop (length new) items)
 
 -- ---- texts
 

@@ -6,7 +6,7 @@ use Rattle.avc_compare.proofs.Comparisons.{Memory, Endless, Ours, EventsOnlyGrow
 use Rattle.avc_compare.proofs.Comparisons.{events, max_unit, shown, i420, pictures_in, report_with, other_size, digests_of, most_sought, kept, with_ours, with_theirs, is_enough}
 use Rattle.avc_compare.proofs.Comparisons.{pictures-append, shown-append, looking_more, up_to, reading_stopped, no_part, stopped, stopped_part, left_over, picture_line}
 use Rattle.avc_compare.proofs.Comparisons.{AreLines, BreaksReading, TakesNext, IsDisplaced, IsLookedOn, Lacks, Sees, WritesPart, GoesOn, IsFurther, IsLooking, LacksLeft, LooksAt, LooksAtEvent, LooksOn, Seeks, StopsAt}
-use Rattle.avc_compare.proofs.Comparisons.{compared_picture, line_of, untold, ComparedPicture, TellsLine}
+use Rattle.avc_compare.proofs.Comparisons.{compared_picture, line_of, unread, untold, ComparedPicture, ReadsBeside, TellsLine}
 use Rattle.avc_compare.proofs.Comparisons.{TellsOn}
 use Rattle.avc_console.specs.Reporting.{with_picture, Reported}
 use Rattle.md5.specs.Md5.{md5}
@@ -306,13 +306,13 @@ sought how d s t u seen result counted looks displaced = record {
 -- ---- one picture
 
 -- a picture and the other's bytes beside it
-pub looked_at : (how : Comparison) (number count : ℕ) (p : Decoded) (old new held holds : Option (List ℕ)) (picture : ComparedPicture) (ours theirs bytes a b : List ℕ) (d e f : Digested) → picture ≡ compared_picture number p
-    → ours ≡ i420 p → theirs ≡ bytes → Consumes old new (take count bytes) → length bytes ≤ count → length bytes ≡ length (i420 p) → other_size how.size p ≡ None
+pub looked_at : (how : Comparison) (number : ℕ) (p : Decoded) (old new held holds : Option (List ℕ)) (picture : ComparedPicture) (ours theirs bytes a b : List ℕ) (d e f : Digested) → picture ≡ compared_picture number p
+    → ours ≡ i420 p → theirs ≡ bytes → Consumes old new bytes → length bytes ≡ length (i420 p) → other_size how.size p ≡ None
     → TellsLine how.has_psnr picture ours theirs held holds (Ok tt) → e ≡ with_ours a d → a ≡ md5 (i420 p) → f ≡ with_theirs b e → b ≡ md5 bytes → LooksAt how number p old new held holds d f (Ok true)
-looked_at how number count p old new held holds picture ours theirs bytes a b d e f compared whole read consumed all long fits told first ours_are second theirs_are = (
+looked_at how number p old new held holds picture ours theirs bytes a b d e f compared whole read consumed long fits told first ours_are second theirs_are = (
   bytes,
   told.0,
-  subst (Consumes old new) (take_all count bytes all) consumed,
+  consumed,
   long,
   line_of how.has_psnr number p picture ours theirs bytes told.0 compared whole read told.1,
   told.2,
@@ -321,12 +321,29 @@ looked_at how number count p old new held holds picture ours theirs bytes a b d 
 )
 
 -- a line that could not be written
-pub not_told : (how : Comparison) (number count : ℕ) (p : Decoded) (old new held holds : Option (List ℕ)) (picture : ComparedPicture) (ours theirs bytes : List ℕ) (fault : RunFault)
-    (result : Result Bool CompareFault) (d e : Digested) → IsErrAnd result (λ e. e ≡ Ours fault) → picture ≡ compared_picture number p → ours ≡ i420 p → theirs ≡ bytes → Consumes old new (take count bytes)
-    → length bytes ≤ count → TellsLine how.has_psnr picture ours theirs held holds (Err fault) → LooksAt how number p old new held holds d e result
-not_told how number count p old new held holds picture ours theirs bytes fault result d e is compared whole read consumed all told =
+pub not_told : (how : Comparison) (number : ℕ) (p : Decoded) (old new held holds : Option (List ℕ)) (picture : ComparedPicture) (ours theirs bytes : List ℕ) (fault : RunFault)
+    (result : Result Bool CompareFault) (d e : Digested) → IsErrAnd result (λ e. e ≡ Ours fault) → picture ≡ compared_picture number p → ours ≡ i420 p → theirs ≡ bytes → Consumes old new bytes
+    → TellsLine how.has_psnr picture ours theirs held holds (Err fault) → LooksAt how number p old new held holds d e result
+not_told how number p old new held holds picture ours theirs bytes fault result d e is compared whole read consumed told =
     subst (LooksAt how number p old new held holds d e) (sym (err_is result (Ours fault) is))
-    (untold how number count p old new held holds picture ours theirs bytes fault (Err (Ours fault)) refl compared whole read consumed all told)
+    (untold how number p old new held holds picture ours theirs bytes fault (Err (Ours fault)) refl compared whole read consumed told)
+
+-- the other has not so many bytes left
+pub lacks_left : (how : Comparison) (number : ℕ) (p : Decoded) (old new held : Option (List ℕ)) (theirs a : List ℕ) (d e : Digested) → ReadsBeside p old new theirs (Ok false)
+    → other_size how.size p ≡ None → e ≡ with_ours a d → a ≡ md5 (i420 p) → LooksAt how number p old new held held d e (Ok false)
+lacks_left how number p old new held theirs a d e read fits first ours_are = (
+  read.0,
+  read.1,
+  subst (λ s. LacksLeft s new read.0 p) (sym fits) (read.2, read.3),
+  Appends-nil held,
+  first ∙ ap (λ x. with_ours x d) ours_are,
+)
+
+-- no more could be read
+pub not_read_beside : (how : Comparison) (number : ℕ) (p : Decoded) (old new held : Option (List ℕ)) (theirs : List ℕ) (fault : CompareFault) (result : Result Bool CompareFault) (d e : Digested)
+    → IsErrAnd result (λ f. f ≡ fault) → ReadsBeside p old new theirs (Err fault) → LooksAt how number p old new held held d e result
+not_read_beside how number p old new held theirs fault result d e is read =
+    subst (LooksAt how number p old new held held d e) (sym (err_is result fault is)) (read.0, read.1, unread fault how number (Picture p) read.0 held read.2)
 
 -- ---- one event
 

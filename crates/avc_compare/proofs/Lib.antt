@@ -1,3 +1,4 @@
 pub mod Comparisons
 pub mod Seeking
 pub mod Further
+pub mod Meetings

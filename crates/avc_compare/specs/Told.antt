@@ -1,9 +1,10 @@
 -- What is told of a comparison, and how the command ends.
-use Rattle.std.specs.Prelude.{◌≡◌, ℕ, Bool, true, false, if◌then◌else◌, List, [], ◌++◌, length, Option, Result, Ok, Err, codes}
+use Rattle.std.specs.Prelude.{◌≡◌, ℕ, ◌+◌, Bool, true, false, if◌then◌else◌, List, [], ◌++◌, length, Option, Result, Ok, Err, codes}
 use Rattle.std.specs.Fmt.{decimal, signed_decimal}
 use Rattle.std.specs.List.{flat_map}
 use Rattle.std.specs.Borrow.{Bor}
 use Rattle.std.specs.Io.KnownBytes.{Appends}
+use Rattle.avc_annexb.specs.Units.{saturated}
 use Rattle.avc_difference.specs.Places.{macroblocks}
 use Rattle.avc_difference.specs.Text.{difference_text, newline}
 use Rattle.avc_console.specs.Program.{TellsRun}
@@ -82,6 +83,13 @@ WritesText text held holds (Err fault) = StopsPicture fault true held holds text
 abbrev pub is_same : Verdict → Bool
 is_same Same = true
 is_same _ = false
+
+-- how many pictures of ours were found, where so many were reported: one more where the comparison ended at a
+-- picture beside which the other has none, or none of its size
+abbrev pub found_pictures : (reported : ℕ) → Verdict → ℕ
+found_pictures reported (Fewer number) = saturated (reported + 1)
+found_pictures reported (OtherSize sizes) = saturated (reported + 1)
+found_pictures reported _ = reported
 
 -- the exit status, by that of the run: 1 in place of 0 where something differs
 abbrev pub verdict_status : Verdict → (status : ℕ) → ℕ

@@ -1,6 +1,6 @@
 //! Bytes of a stream that were read and not yet fed.
 
-ghost use Rattle.std.specs.Prelude.{◌≡◌, ◌≤◌, [], drop, length, true, IfErr, IfOk, OnErr, OnOk};
+ghost use Rattle.std.specs.Prelude.{◌≡◌, ◌<◌, ◌≤◌, [], drop, length, take, true, IfErr, IfOk, OnErr, OnOk};
 ghost use Rattle.std.specs.Io.KnownBytes.{Consumes, IsAtEnd, Keeps};
 ghost use Rattle.avc_compare.specs.Kept.{nothing_read};
 ghost use Rattle.avc_console.specs.declared.fault.RunFault.TheVariants as faults;
@@ -74,18 +74,42 @@ impl Ahead {
         self.start += used;
     }
 
-    /// Reads on, where none waits: once.
-    pub(crate) fn read_on<R: Read>(&mut self, reader: &mut R) -> Result<(), RunFault>
-        requires { self.old.bytes ≡ [] }
+    /// Lets go of all bytes.
+    pub(crate) fn clear(&mut self)
+        ensures { self.new ≡ record self.old { bytes = [] } }
+    {
+        self.start = 0;
+        self.end = 0;
+    }
+
+    /// Reads on, where none waits: once, and at most so many bytes.
+    pub(crate) fn read_on<R: Read>(&mut self, most: u128, reader: &mut R) -> Result<(), RunFault>
+        requires none { self.old.bytes ≡ [] }
+        requires some { 0 < most }
         ensures ok { OnOk result (Consumes (R.remaining reader.old) (R.remaining reader.new) self.new.bytes) }
         ensures last { OnOk result (self.new.bytes ≡ [] → IsAtEnd (R.remaining reader.new)) }
+        ensures few { OnOk result (length self.new.bytes ≤ most) }
         ensures ended { self.new.ended ≡ self.old.ended }
         ensures fault { IfErr result (λ fault. fault ≡ faults.Read) }
         ensures err { OnErr result (Keeps (R.remaining reader.old) (R.remaining reader.new)) }
     {
         self.start = 0;
         self.end = 0;
-        self.end = read_once(reader, &mut self.piece)?;
+        self.end = read_front(&mut self.piece, most, reader)?;
         Ok(())
     }
+}
+
+// Reads to the front of a piece, once, and at most so many bytes.
+fn read_front<R: Read>(piece: &mut [u8], most: u128, reader: &mut R) -> Result<usize, RunFault>
+    ensures length { length piece.new ≡ length piece.old }
+    ensures within { IfOk result (λ len. len ≤ length piece.new) }
+    ensures few { IfOk result (λ len. len ≤ most) }
+    ensures bytes { IfOk result (λ len. Consumes (R.remaining reader.old) (R.remaining reader.new) (take len piece.new)) }
+    ensures last { IfOk result (λ len. len ≡ 0 → 0 < length piece.old → 0 < most → IsAtEnd (R.remaining reader.new)) }
+    ensures fault { IfErr result (λ fault. fault ≡ faults.Read) }
+    ensures err { OnErr result (Keeps (R.remaining reader.old) (R.remaining reader.new)) }
+{
+    let room = most.min(piece.len() as u128) as usize;
+    read_once(reader, &mut piece[..room])
 }

@@ -10,7 +10,8 @@ ghost use Rattle.avc_compare.specs.Running.{stand, ComparesEvent, EndsAll, Finds
 use crate::ahead::Ahead;
 use crate::displaced::DisplacedPictures;
 use crate::looking::seek_displaced;
-use crate::picture::{compare_picture, read_other};
+use crate::picture::compare_picture;
+use crate::samples::{Samples, read_other};
 use crate::stream::next_of;
 use crate::verdict::{CompareFault, PictureSize, Verdict};
 use avc_console::{MAX_UNIT, Reporter, RunFault};
@@ -72,11 +73,23 @@ pub fn run_comparison<T: Reporter, E: Write, R: Read, O: Read, W: Write>(
     events_only_grow();
     let mut decoder = Decoder::<MAX_UNIT, SharedPicture>::sharing(alloc, how.output);
     let mut ahead = Ahead::new(alloc)?;
+    let mut samples = Samples::new(alloc)?;
     'events: for _event in 0..EVENTS {
         match next_of(&mut decoder, &mut ahead, reader)? {
             Some(event) => {
-                let ended = compare_event(alloc, how, event, report, errors, other, writer)?;
+                let ended = compare_event(
+                    alloc,
+                    how,
+                    event,
+                    &mut samples,
+                    report,
+                    errors,
+                    other,
+                    writer,
+                )?;
                 if let Some(verdict) = ended {
+                    // looking on has its own
+                    drop(samples);
                     return Ok(find_behind(
                         alloc,
                         how,
@@ -162,6 +175,7 @@ fn compare_event<T: Reporter, E: Write, O: Read, W: Write>(
     alloc: Global,
     how: Comparison,
     event: Event<SharedPicture>,
+    samples: &mut Samples,
     report: &mut T,
     errors: &mut E,
     other: &mut O,
@@ -175,7 +189,7 @@ fn compare_event<T: Reporter, E: Write, O: Read, W: Write>(
     match event {
         Event::Picture(picture) => {
             let number = report.counts().pictures;
-            match compare_picture(alloc, how, number, &picture, other, writer)? {
+            match compare_picture(alloc, how, number, &picture, samples, other, writer)? {
                 Some(verdict) => Ok(Some(verdict)),
                 None => {
                     report.count_picture();

@@ -11,6 +11,7 @@ use crate::comparison::{Comparison, EVENTS};
 use crate::digests::{Digests, MOST_SOUGHT};
 use crate::displaced::{DisplacedPictures, find_displaced};
 use crate::picture::look_at_picture;
+use crate::samples::Samples;
 use crate::stream::next_of;
 use crate::verdict::{CompareFault, Differing};
 use avc_console::{MAX_UNIT, Reporter, RunFault};
@@ -81,6 +82,7 @@ fn look_on<T: Reporter, E: Write, R: Read, O: Read, W: Write>(
 {
     events_only_grow();
     let mut digests = Digests::of_both(alloc, ours, theirs)?;
+    let mut samples = Samples::new(alloc)?;
     'events: for _event in 0..EVENTS {
         if is_enough(how, digests.ours().len()) {
             return Ok(digests);
@@ -91,6 +93,7 @@ fn look_on<T: Reporter, E: Write, R: Read, O: Read, W: Write>(
                     alloc,
                     how,
                     event,
+                    &mut samples,
                     &mut digests,
                     report,
                     errors,
@@ -119,6 +122,7 @@ fn look_at_event<T: Reporter, E: Write, O: Read, W: Write>(
     alloc: Global,
     how: Comparison,
     event: Event<SharedPicture>,
+    samples: &mut Samples,
     digests: &mut Digests,
     report: &mut T,
     errors: &mut E,
@@ -133,7 +137,9 @@ fn look_at_event<T: Reporter, E: Write, O: Read, W: Write>(
     match event {
         Event::Picture(picture) => {
             let number = report.counts().pictures;
-            if look_at_picture(alloc, how, number, &picture, digests, other, writer)? {
+            if look_at_picture(
+                alloc, how, number, &picture, samples, digests, other, writer,
+            )? {
                 report.count_picture();
                 Ok(true)
             } else {

@@ -1,22 +1,21 @@
 //! One picture beside the other's.
 
-ghost use Rattle.std.specs.Prelude.{◌≡◌, ℕ, ◌<◌, ◌≤◌, List, length, take, IfErr, IfOk, OnErr, OnOk};
-ghost use Rattle.std.specs.Io.KnownBytes.{Consumes, IsAtEnd};
+ghost use Rattle.std.specs.Prelude.{◌≡◌, false, true, length, IfErr, IfOk};
 ghost use Rattle.avc_types.specs.Whole.{IsWhole};
 ghost use Rattle.avc_yuv.specs.I420.{i420};
 ghost use Rattle.avc_difference.specs.Places.{sample_count};
 ghost use Rattle.avc_console.specs.declared.fault.RunFault.TheVariants as faults;
 ghost use Rattle.avc_compare.specs.Comparing.{compared_picture, other_size, size_of};
 ghost use Rattle.avc_compare.specs.Running.{ComparesPicture, FindsIn, LooksAt, TellsLine};
-ghost use Rattle.avc_compare.specs.declared.verdict.CompareFault.TheVariants as ends;
 
 use crate::comparison::Comparison;
 use crate::digests::{Digests, digest_of};
+use crate::samples::Samples;
 use crate::verdict::{CompareFault, ComparedPicture, Differing, PictureSize, Sizes, Verdict};
-use avc_console::{RunFault, read_once, write_text};
+use avc_console::{RunFault, write_text};
 use avc_difference::{Shape, add_psnr, find_difference, measure};
 use avc_plane::{PictureRows, SharedPicture};
-use avc_yuv::{copy_i420, i420_len};
+use avc_yuv::i420_len;
 use std::alloc::Global;
 use std::io::{Read, Write};
 
@@ -27,6 +26,7 @@ pub(crate) fn compare_picture<O: Read, W: Write>(
     how: Comparison,
     number: u64,
     picture: &SharedPicture,
+    samples: &mut Samples,
     other: &mut O,
     writer: &mut W,
 ) -> Result<Option<Verdict>, CompareFault>
@@ -36,16 +36,29 @@ pub(crate) fn compare_picture<O: Read, W: Write>(
     if let Some(sizes) = other_size(how.size, picture) {
         return Ok(Some(Verdict::OtherSize(sizes)));
     }
-    let ours = i420_of(alloc, picture)?;
-    let mut theirs = zeros(alloc, ours.len())?;
-    let count = read_other(&mut theirs, other)?;
-    if count < ours.len() {
+    let met = samples.meet(picture, other)?;
+    if is_passed(how, picture, met) {
+        return Ok(None);
+    }
+    if !samples.complete(alloc, picture, met, other)? {
         return Ok(Some(Verdict::Fewer(number)));
     }
     let compared = compared_picture(number, picture);
-    let found = judge(alloc, how.most, compared, &ours, &theirs)?;
-    tell_line(alloc, how.has_psnr, compared, &ours, &theirs, writer)?;
+    let ours = samples.ours();
+    let theirs = samples.theirs();
+    let found = judge(alloc, how.most, compared, ours, theirs)?;
+    tell_line(alloc, how.has_psnr, compared, ours, theirs, writer)?;
     Ok(found)
+}
+
+// Whether nothing is to be told of a picture of which so many bytes are the other's: all are, and no line
+// is wanted. Where not all are, they may be near enough all the same.
+fn is_passed(how: Comparison, picture: &SharedPicture, met: u128) -> bool
+    requires whole { IsWhole picture.now }
+    ensures all { result ≡ true → met ≡ length (i420 picture.now) }
+    ensures lineless { result ≡ true → how.has_psnr ≡ false }
+{
+    !how.has_psnr && met == i420_len(picture)
 }
 
 /// Looks at a picture behind the first that differs, beside the other's next bytes, as many as it has
@@ -56,6 +69,7 @@ pub(crate) fn look_at_picture<O: Read, W: Write>(
     how: Comparison,
     number: u64,
     picture: &SharedPicture,
+    samples: &mut Samples,
     digests: &mut Digests,
     other: &mut O,
     writer: &mut W,
@@ -64,19 +78,19 @@ pub(crate) fn look_at_picture<O: Read, W: Write>(
     ensures { LooksAt how number picture.now (O.remaining other.old) (O.remaining other.new) (W.contents writer.old) (W.contents writer.new)
         digests.old digests.new result }
 {
-    let ours = i420_of(alloc, picture)?;
-    digests.add_ours(digest_of(&ours))?;
+    samples.copy(alloc, picture)?;
+    digests.add_ours(digest_of(samples.ours()))?;
     if let Some(_sizes) = other_size(how.size, picture) {
         return Ok(false);
     }
-    let mut theirs = zeros(alloc, ours.len())?;
-    let count = read_other(&mut theirs, other)?;
-    if ours.len() > count {
+    if !samples.read(alloc, picture, other)? {
         return Ok(false);
     }
-    digests.add_theirs(digest_of(&theirs))?;
+    let ours = samples.ours();
+    let theirs = samples.theirs();
+    digests.add_theirs(digest_of(theirs))?;
     let about = compared_picture(number, picture);
-    tell_line(alloc, how.has_psnr, about, &ours, &theirs, writer)?;
+    tell_line(alloc, how.has_psnr, about, ours, theirs, writer)?;
     Ok(true)
 }
 
@@ -128,26 +142,6 @@ fn size_of(picture: &SharedPicture) -> PictureSize
     }
 }
 
-// What is shown of a picture, as I420.
-fn i420_of(alloc: Global, picture: &SharedPicture) -> Result<Vec<u8>, RunFault>
-    requires { IsWhole picture.now }
-    ensures ok { IfOk result (λ samples. samples.items ≡ i420 picture.now) }
-    ensures err { IfErr result (λ fault. fault ≡ faults.Memory) }
-{
-    // no room has more bytes than the greatest number
-    let len = i420_len(picture).min(usize::MAX as u128) as usize;
-    let mut samples = zeros(alloc, len)?;
-    copy_i420(picture, &mut samples);
-    Ok(samples)
-}
-
-fn zeros(alloc: Global, count: usize) -> Result<Vec<u8>, RunFault>
-    ensures ok { IfOk result (λ bytes. length bytes.items ≡ count) }
-    ensures err { IfErr result (λ fault. fault ≡ faults.Memory) }
-{
-    Ok(vec![in alloc; 0; count]?)
-}
-
 fn compared_picture(number: u64, picture: &SharedPicture) -> ComparedPicture
     ensures { result ≡ compared_picture number picture.now }
 {
@@ -160,26 +154,6 @@ fn compared_picture(number: u64, picture: &SharedPicture) -> ComparedPicture
             crop: picture.crop(),
         },
     }
-}
-
-// Reads until all is filled, or the other ends. Answers how many bytes came.
-pub(crate) fn read_other<O: Read>(bytes: &mut [u8], other: &mut O) -> Result<usize, CompareFault>
-    ensures length { length bytes.new ≡ length bytes.old }
-    ensures within { IfOk result (λ count. count ≤ length bytes.new) }
-    ensures ok { IfOk result (λ count. Consumes (O.remaining other.old) (O.remaining other.new) (take count bytes.new)) }
-    ensures last { IfOk result (λ count. count < length bytes.new → IsAtEnd (O.remaining other.new)) }
-    ensures fault { IfErr result (λ fault. fault ≡ ends.Theirs) }
-    ensures err { OnErr result ((here : List ℕ) × Consumes (O.remaining other.old) (O.remaining other.new) here) }
-{
-    let mut count = 0;
-    'reads: while count < bytes.len() {
-        match read_once(other, &mut bytes[count..]) {
-            Ok(0) => return Ok(count),
-            Ok(len) => count += len,
-            Err(_) => return Err(CompareFault::Theirs),
-        }
-    }
-    Ok(count)
 }
 
 // Where the samples of two pictures differ.

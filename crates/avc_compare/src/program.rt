@@ -6,14 +6,16 @@ ghost use Rattle.avc_console.specs.Program.{TellsRun};
 ghost use Rattle.avc_console.specs.Reporting.{report_in, reported_by, IsTold};
 ghost use Rattle.avc_formats.specs.Formats.{StopsPicture};
 ghost use Rattle.avc_console.specs.Status.{other_status};
-ghost use Rattle.avc_compare.specs.Told.{ended_by, fault_names, findings_text, is_same, names_of, run_fault};
-ghost use Rattle.avc_compare.specs.Told.{run_of, verdict_status, EndsComparing, HasMarks};
+ghost use Rattle.avc_compare.specs.Told.{ended_by, fault_names, findings_text, found_pictures, is_same, names_of};
+ghost use Rattle.avc_compare.specs.Told.{run_fault, run_of, verdict_status, EndsComparing, HasMarks};
 
 use crate::comparison::{Comparison, Findings, run_comparison};
 use crate::displaced::DisplacedPictures;
 use crate::text::add_findings;
 use crate::verdict::{CompareFault, Verdict};
-use avc_console::{Console, Ending, Names, Reporter, RunFault, Tally, Watch, tell, write_text};
+use avc_console::{
+    Console, Counts, Ending, Names, Reporter, RunFault, Tally, Watch, tell, write_text,
+};
 use std::alloc::Global;
 use std::io::{Read, Write};
 
@@ -48,7 +50,8 @@ pub fn compare<R: Read, O: Read, W: Write, E: Write, V: Watch>(
     match run {
         Ok(findings) => {
             let written = write_findings(alloc, &findings, writer);
-            console.watch.end(tally.counts(), written);
+            let found = found_with(tally.counts(), &findings.verdict);
+            console.watch.end(found, written);
             let ended = ended_by(written, &findings.displaced);
             let decoded = tell_end(
                 ended,
@@ -66,6 +69,20 @@ pub fn compare<R: Read, O: Read, W: Write, E: Write, V: Watch>(
             &console.names,
             &mut console.errors,
         ),
+    }
+}
+
+// What was found of the stream: beside what was reported, the picture at which the comparison ended.
+fn found_with(reported: Counts, verdict: &Verdict) -> Counts
+    ensures pictures { result.pictures ≡ found_pictures reported.pictures verdict.now }
+    ensures refused { result.refused ≡ reported.refused }
+{
+    match verdict {
+        Verdict::Fewer(_) | Verdict::OtherSize(_) => Counts {
+            pictures: reported.pictures.saturating_add(1),
+            refused: reported.refused,
+        },
+        Verdict::Same | Verdict::Differs(_) | Verdict::More(_) => reported,
     }
 }
 

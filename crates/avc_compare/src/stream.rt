@@ -9,7 +9,7 @@ ghost use Rattle.avc_decoder.specs.Machine.{next_event};
 ghost use Rattle.avc_compare.specs.Reading.{BreaksReading, Fills, IsWholeIfAny, ReadsOn, TakesNext};
 
 use crate::ahead::Ahead;
-use avc_console::{MAX_UNIT, READS, RunFault};
+use avc_console::{MAX_UNIT, PIECE, READS, RunFault};
 use avc_decoder::laws::{events_only_grow, pictures_are_whole};
 use avc_decoder::{Decoder, Event};
 use avc_events::{feed_unit, flush, next_event};
@@ -76,7 +76,7 @@ fn fill<R: Read>(ahead: &mut Ahead, reader: &mut R) -> Result<(), RunFault>
     ensures none { OnErr result (ahead.old.bytes ≡ []) }
 {
     if ahead.as_slice().is_empty() {
-        ahead.read_on(reader)?;
+        ahead.read_on(PIECE as u128, reader)?;
     }
     Ok(())
 }

@@ -7,6 +7,7 @@ pub use lib.Seq.{drop-drop, take-add, take-append-le}
 pub use Rattle.std.proofs.BufReadLemmas.{drop-take_min}
 pub use Rattle.std.proofs.KnownBytes.{Appends-nil, Appends-trans, Consumes-nil, Consumes-trans, Consumes-kept, Keeps-refl}
 pub use Rattle.std.proofs.lemmas.Bool.{cases_lt}
+pub use Rattle.std.proofs.lemmas.Bool.Decides.{nat_tests}
 pub use Rattle.std.proofs.lemmas.Grind.{common_steps, flat_map-append}
 pub use Rattle.std.proofs.lemmas.List.{length-take, take-append-drop}
 pub use Rattle.std.specs.Io.KnownBytes.{Appends, Keeps, Consumes, IsAtEnd}
@@ -54,6 +55,7 @@ pub use Rattle.avc_compare.specs.declared.comparison.Comparison.{Comparison}
 pub use Rattle.avc_compare.specs.declared.verdict.ComparedPicture.{ComparedPicture}
 pub use Rattle.avc_compare.specs.Running.{kept, stand, with_ours, with_theirs, ComparesEvent, ComparesPicture, EndsAll, EndsAt, EndsAtEvent, FindsBehind, FindsIn, GoesOn, IsComparing, IsCounted, IsFurther, IsLineOf}
 pub use Rattle.avc_compare.specs.Running.{is_enough, IsLooking, LacksLeft, LooksAt, LooksAtEvent, LooksOn, PassesRefusal, Seeks, Stand, StopsAt, TellsLine}
+pub use Rattle.avc_compare.specs.Samples.{IsUnread, ReadsBeside}
 pub use Rattle.avc_compare.specs.Told.{ended_by, fault_names, findings_text, names_of, run_fault, run_of, verdict_text, WritesText}
 pub use Rattle.avc_console.specs.Reporting.{report_in}
 pub use Rattle.avc_compare.specs.declared.verdict.CompareFault.{CompareFault}

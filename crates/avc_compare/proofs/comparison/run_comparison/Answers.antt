@@ -83,3 +83,7 @@ returns-clause-compares g c =
 pub returns-in_err-ahead-clause-compares : goal.returns-in_err-ahead-clause-compares
 returns-in_err-ahead-clause-compares g c =
     none_read c.args.how _ _ _ (g.T.Reporter.reported c.args.report.now).report c.in_err-ahead.field-0.0 c.from_residual.result c.from_residual.ensures.1 c.in_err-ahead.ensures.err c.requires
+
+pub returns-in_err-samples-clause-compares : goal.returns-in_err-samples-clause-compares
+returns-in_err-samples-clause-compares g c =
+    none_read c.args.how _ _ _ (g.T.Reporter.reported c.args.report.now).report c.in_err-samples.field-0.0 c.from_residual-in_err-samples.result c.from_residual-in_err-samples.ensures.1 c.in_err-samples.ensures.err c.requires

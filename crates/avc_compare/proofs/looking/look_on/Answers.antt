@@ -8,6 +8,12 @@ returns-in_err-digests-clause-looks g c =
     (stand (g.R.Read.remaining c.args.reader.now) (g.O.Read.remaining c.args.other.now) (g.W.Write.contents c.args.writer.now) c.args.decoder.now c.args.ahead.now (g.T.Reporter.reported c.args.report.now).report)
     c.in_err-digests.field-0.0 c.from_residual.result c.from_residual.ensures.1 c.in_err-digests.ensures.err
 
+pub returns-in_err-samples-clause-looks : goal.returns-in_err-samples-clause-looks
+returns-in_err-samples-clause-looks g c =
+    no_digests c.events_only_grow.ensures c.args.how c.args.ours c.args.theirs
+    (stand (g.R.Read.remaining c.args.reader.now) (g.O.Read.remaining c.args.other.now) (g.W.Write.contents c.args.writer.now) c.args.decoder.now c.args.ahead.now (g.T.Reporter.reported c.args.report.now).report)
+    c.in_err-samples.field-0.0 c.from_residual-in_err-samples.result c.from_residual-in_err-samples.ensures.1 c.in_err-samples.ensures.err
+
 pub events-init : goal.events-init
 events-init g c = record {
   looking = further_begins c.args.how c.args.ours c.args.theirs _ c.in_ok-digests.digests c.in_ok-digests.ensures.ok;

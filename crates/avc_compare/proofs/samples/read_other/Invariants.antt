@@ -1,5 +1,5 @@
 use Rattle.avc_compare.proofs.Comparisons.{◌≡◌, ◌≤◌, ◌-◌, length, take, Consumes}
-use Rattle.avc_compare.proofs.picture.read_other.Given as goal
+use Rattle.avc_compare.proofs.samples.read_other.Given as goal
 
 abbrev pub invariant-reads : goal.invariant-reads
 invariant-reads g l = record {

@@ -1,5 +1,5 @@
 use Rattle.avc_compare.proofs.Comparisons.{◌-◌, length, rules, read_behind}
-use Rattle.avc_compare.proofs.picture.read_other.Goals as goal
+use Rattle.avc_compare.proofs.samples.read_other.Goals as goal
 
 pub reads-preserved : goal.reads-preserved
 reads-preserved g c = record {
