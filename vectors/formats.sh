@@ -34,7 +34,8 @@ done
 
 # NAME.types: the md5 of QP_Y and type of each macroblock that ffmpeg decodes, one a line, in decoding order: i is I_NxN, I Intra 16x16, P I_PCM
 # (without its QP, for which ffmpeg shows that of deblocking), S P_Skip, > another inter macroblock, with -, | or + where it is 16x8, 8x16 or
-# 8x8. What its first reading of the stream shows, by another decoder, is left out.
+# 8x8. What its first reading of the stream shows, by another decoder, is left out. It shows each picture as it goes out: no stream is here
+# whose pictures go out in another order than they are decoded in.
 types() { # of the picture of this number alone, counted from 0; all where it is -1
     ffmpeg -hide_banner -nostdin -threads 1 -debug qp+mb_type -i "$here/$1.264" -f null - 2>&1 | awk -v only="$2" '
         /^\[h264 @ [0-9a-fx]*\] New frame/ { rows = 1; if ($3 != decoder) { decoder = $3; count = 0; frame = -1 }; frame++; next }
@@ -55,12 +56,14 @@ types() { # of the picture of this number alone, counted from 0; all where it is
 }
 for name in \
     corners/i_pcm_in_p_e0 encoder/pub_o_qp12 encoder/pub_o_rc_quality encoder/pub_o_rowslices encoder/pub_x_aud encoder/pub_x_tiny16 \
-    generated/pubgen_28 pcm/pcm_3; do
+    encoder/pub_o_crop_150x90 encoder/pub_o_deblock2 encoder/pub_o_screen encoder/pub_o_tl2 encoder/pub_x_cintra_slices \
+    encoder/pub_x_cqpoff_m12 encoder/pub_x_gradient encoder/pub_x_ipcm_deblock encoder/pub_x_main_ref5_sl encoder/pub_x_nonidr_i \
+    encoder/pub_x_ref4 generated/pubgen_24 generated/pubgen_29 pcm/pcm_3; do
     types "$name" -1 >"$here/$name.types"
 done
 
 # NAME.types_1: the same of the second picture alone
-for name in encoder/pub_o_qp12 encoder/pub_o_rowslices generated/pubgen_28; do
+for name in encoder/pub_o_qp12 encoder/pub_o_rowslices generated/pubgen_29; do
     types "$name" 1 >"$here/$name.types_1"
 done
 
@@ -69,6 +72,9 @@ program=$(mktemp)
 trap 'rm -f "$program"' EXIT
 cc -o "$program" "$here/vectors.c" -lavcodec -lavutil
 for name in \
-    corners/i_pcm_in_p_e0 encoder/pub_o_qp12 encoder/pub_o_rc_quality encoder/pub_o_rowslices encoder/pub_x_aud generated/pubgen_28; do
+    corners/i_pcm_in_p_e0 encoder/pub_o_qp12 encoder/pub_o_rc_quality encoder/pub_o_rowslices encoder/pub_x_aud \
+    encoder/pub_o_crop_150x90 encoder/pub_o_deblock2 encoder/pub_o_screen encoder/pub_o_tl2 encoder/pub_x_cintra_slices \
+    encoder/pub_x_cqpoff_m12 encoder/pub_x_gradient encoder/pub_x_ipcm_deblock encoder/pub_x_main_ref5_sl encoder/pub_x_nonidr_i \
+    encoder/pub_x_ref4 generated/pubgen_24; do
     "$program" <"$here/$name.264" 2>/dev/null | md5sum >"$here/$name.vectors"
 done

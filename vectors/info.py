@@ -179,13 +179,14 @@ def picture_set(bits):
 
 
 def slice_header(header, bits, sequences, pictures):
-    """What tells where a picture begins (7.3.3, 7.4.1.2.4), and the set that it is read under."""
-    bits.ue()
-    kind, number = bits.ue() % 5, bits.ue()
+    """What tells where a picture begins (7.3.3, 7.4.1.2.4), whether it is the slice with a picture's first macroblock, before which no
+    other of its slices comes in this profile (7.4.3), and the set that it is read under."""
+    is_first = bits.ue() == 0
+    if bits.ue() % 5 not in (0, 2):
+        raise Refused(19, "SliceType")
+    number = bits.ue()
     if number not in pictures or pictures[number]["sequence"] not in sequences:
         raise Refused(30, "NoParameterSet")
-    if kind not in (0, 2):
-        raise Refused(19, "SliceType")
     s = sequences[pictures[number]["sequence"]]
     idr = header % 32 == 5
     fields = [number, bits.u(s["frame_num_bits"]), header // 32 % 4 == 0, idr]
@@ -194,7 +195,7 @@ def slice_header(header, bits, sequences, pictures):
         fields += [bits.u(s["order_bits"]), bits.se() if pictures[number]["bottom"] else 0]
     elif s["order_type"] == 1 and not s["no_deltas"]:
         fields += [bits.se(), bits.se() if pictures[number]["bottom"] else 0]
-    return fields, s
+    return fields, is_first, s
 
 
 class Facts:
@@ -225,6 +226,13 @@ class Facts:
 
         self.first = self.first or self.first_set
 
+    def kinds(self):
+        """Of each fault, in the order in which they came first: its number and name, how many units have it, and the first of them."""
+        units = {}
+        for unit, *fault in self.refusals:
+            units.setdefault(tuple(fault), []).append(unit)
+        return [(*fault, len(of_it), min(of_it)) for fault, of_it in units.items()]
+
     def note_set(self, bits):
         try:
             number, s = sequence_set(bits)
@@ -236,11 +244,11 @@ class Facts:
         self.first_set = self.first_set or s
         return number, s
 
-    def take(self, fields, s):
+    def take(self, fields, is_first, s):
         self.first = self.first or s
         if size(s) not in self.sizes:
             self.sizes.append(size(s))
-        begins = fields != self.last
+        begins = is_first or fields != self.last
         self.pictures += begins
         self.sequences += begins and fields[3]
         self.slices = 1 if begins else self.slices + 1
@@ -300,6 +308,8 @@ def info(f):
     lines.append(f"pictures {f.pictures}, sequences {f.sequences}, slices a picture {f.most}")
     first = ", the first unit {}: {} {}".format(*f.refusals[0]) if f.refusals else ""
     lines.append(f"refused {len(f.refusals)}{first}")
+    if len(f.kinds()) > 1:
+        lines += ["refused as {} {}: {}, the first unit {}".format(*kind) for kind in f.kinds()]
     if f.refused_set:
         number, level_idc, coded = f.refused_set
         told = f"{coded[0]}x{coded[1]}" if coded else "size not given"
@@ -357,6 +367,7 @@ def told_as_json(f):
         "first_refusal": dict(zip(("unit", "number", "name"), f.refusals[0])) if f.refusals else None,
         "more_sizes": len(f.sizes) > MOST_SIZES,
         "pictures": f.pictures,
+        "refusals": [dict(zip(("number", "name", "count", "first_unit"), kind)) for kind in f.kinds()],
         "refused_sequence": f.refused_set and refused_object(*f.refused_set),
         "refused_units": len(f.refusals),
         "sequence": f.first and sequence_object(f),

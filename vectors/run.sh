@@ -38,15 +38,15 @@ judge() {
 
 # counts a test by its name, where the command after it says so
 holds() {
-    name=$1
+    row=$1
     shift
     if "$@"; then
         passed=$((passed + 1))
     else
         failed=$((failed + 1))
-        echo "failed: $name"
+        echo "failed: $row"
     fi
-    reached "$name"
+    reached "$row"
 }
 
 # whether the pictures have this md5, the status is the wanted one, and this was told
@@ -341,12 +341,12 @@ for stream in "$here"/*/*.264; do
         holds "framemd5 of ${name#"$here"/}" [ $? = 0 ]
     fi
     if [ -f "$name.rgb" ] && command -v python3 >/dev/null; then
-        "$program" decode --format png <"$stream" >"$work/files" 2>"$work/told"
+        "$program" decode --format png <"$stream" >"$work/png" 2>"$work/told"
         judge "png of ${name#"$here"/}" $? 0 ''
-        python3 "$here/png.py" --read <"$work/files" >"$work/pictures" 2>"$work/told"
+        python3 "$here/png.py" --read <"$work/png" >"$work/pictures" 2>"$work/told"
         holds "pixels of ${name#"$here"/}" is_decoded "$name.rgb" $? 0 /dev/null
         if command -v ffmpeg >/dev/null; then
-            ffmpeg -v error -nostdin -f png_pipe -i "$work/files" -fps_mode passthrough -f rawvideo -pix_fmt rgb24 - \
+            ffmpeg -v error -nostdin -f png_pipe -i "$work/png" -fps_mode passthrough -f rawvideo -pix_fmt rgb24 - \
                 >"$work/pictures" 2>"$work/told"
             holds "pixels that ffmpeg reads of ${name#"$here"/}" is_decoded "$name.rgb" $? 0 /dev/null
         fi
