@@ -63,7 +63,8 @@ avc_formats/src/headed.rt: return Err(RunFault::Size);
 # nothing is shown of a picture, or more columns or rows than PNG has
 avc_formats/src/png.rt: return Err(RunFault::Size);
 # a read of the other's pictures answered an error, which is told as a read fault
-avc_compare/src/picture.rt: Err(_) => return Err(CompareFault::Theirs),
+avc_compare/src/meeting.rt: Err(_) => Err(CompareFault::Theirs),
+avc_compare/src/samples.rt: Err(_) => return Err(CompareFault::Theirs),
 avc_compare/src/program.rt: tell(Err(RunFault::Read), tally, &named, errors)
 # of a fault of the run itself
 avc_compare/src/verdict.rt: CompareFault::Ours(fault)
