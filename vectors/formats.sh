@@ -58,7 +58,7 @@ for name in \
     corners/i_pcm_in_p_e0 encoder/pub_o_qp12 encoder/pub_o_rc_quality encoder/pub_o_rowslices encoder/pub_x_aud encoder/pub_x_tiny16 \
     encoder/pub_o_crop_150x90 encoder/pub_o_deblock2 encoder/pub_o_screen encoder/pub_o_tl2 encoder/pub_x_cintra_slices \
     encoder/pub_x_cqpoff_m12 encoder/pub_x_gradient encoder/pub_x_ipcm_deblock encoder/pub_x_main_ref5_sl encoder/pub_x_nonidr_i \
-    encoder/pub_x_ref4 generated/pubgen_24 generated/pubgen_29 pcm/pcm_3; do
+    encoder/pub_x_crop_130x98 encoder/pub_x_deblock_p6p6 encoder/pub_x_hrd_vui encoder/pub_x_ref4 generated/pubgen_24 generated/pubgen_29 pcm/pcm_3; do
     types "$name" -1 >"$here/$name.types"
 done
 
@@ -75,6 +75,6 @@ for name in \
     corners/i_pcm_in_p_e0 encoder/pub_o_qp12 encoder/pub_o_rc_quality encoder/pub_o_rowslices encoder/pub_x_aud \
     encoder/pub_o_crop_150x90 encoder/pub_o_deblock2 encoder/pub_o_screen encoder/pub_o_tl2 encoder/pub_x_cintra_slices \
     encoder/pub_x_cqpoff_m12 encoder/pub_x_gradient encoder/pub_x_ipcm_deblock encoder/pub_x_main_ref5_sl encoder/pub_x_nonidr_i \
-    encoder/pub_x_ref4 generated/pubgen_24; do
+    encoder/pub_x_crop_130x98 encoder/pub_x_deblock_p6p6 encoder/pub_x_hrd_vui encoder/pub_x_ref4 generated/pubgen_24; do
     "$program" <"$here/$name.264" 2>/dev/null | md5sum >"$here/$name.vectors"
 done
