@@ -12,6 +12,7 @@ pub mod laws;
 mod macroblocks;
 mod memory;
 mod reference_places;
+mod rows_ahead;
 mod slice_context;
 mod slice_decoding;
 mod still_run;

@@ -25,6 +25,7 @@ ghost use Rattle.avc_picture.specs.StillRuns.{AreCopiedFrom};
 use crate::current_info::CurrentInfo;
 use crate::filter_rows::FilterRows;
 use crate::memory::{FactRows, PictureMemory};
+use crate::rows_ahead::read_ahead;
 use crate::slice_context::SliceContext;
 use crate::still_run::StillRun;
 use avc_deblock::MbInfo;
@@ -49,6 +50,9 @@ pub(crate) struct Macroblocks<const PAD: usize> {
 
     /// The address of the macroblock that comes next.
     next: usize,
+
+    /// Something of the rows that were read ahead, so that they are read.
+    mixture: u8,
 }
 
 impl<const PAD: usize> Model for Macroblocks<PAD> {
@@ -145,6 +149,7 @@ impl<const PAD: usize> Macroblocks<PAD> {
             row: info.row,
             filter_rows: info.filter_rows,
             next: 0,
+            mixture: 0,
         })
     }
 
@@ -194,6 +199,7 @@ impl<const PAD: usize> Macroblocks<PAD> {
             self.canvas.constrained_intra_pred,
         )?;
         let place = self.filter_rows.place();
+        self.mixture = read_ahead(place, &slice.references);
         run.build(&self.canvas, &mut self.planes, place, mb, info, &sources)?;
         let info = info.info();
         self.filter_rows
