@@ -38,7 +38,7 @@ __attribute__((destructor)) static void tell(void) {
 }
 C
 ${CC:-cc} -O2 -shared -fPIC -o "$work/watch.so" "$work/watch.c" -ldl
-"$top/avcdec" --help >/dev/null
+"$top/avcdec" compare --help >/dev/null
 program=$top/crates/avc_cli/out/avc_cli
 printf '%-28s %18s %14s %8s\n' stream 'million instructions' 'resident MiB' writes
 for stream in "$top"/vectors/hostile/*.264; do

@@ -6,7 +6,7 @@ top=$(cd "$(dirname "$0")/.." && pwd)
 counts=$(mktemp)
 table=$(mktemp)
 trap 'rm -f "$counts" "$table"' EXIT
-"$top/avcdec" --help >/dev/null
+"$top/avcdec" compare --help >/dev/null
 program=$top/crates/avc_cli/out/avc_cli
 for stream in still:391680 call:36800 cif:11880 720p:21600 1080i:16320; do
     name=${stream%:*}

@@ -32,7 +32,7 @@ stream() {
 }
 
 for n in 1 3 300; do stream "$n" >"$work/$n.264"; done
-"$top/avcdec" --help >/dev/null
+"$top/avcdec" compare --help >/dev/null
 program=$top/crates/avc_cli/out/avc_cli
 
 count() {

@@ -20,7 +20,7 @@ if [ $# -eq 0 ]; then
         set -- "$@" "$top/vectors/speed/$name.264"
     done
 fi
-"$top/avcdec" --help >/dev/null
+"$top/avcdec" compare --help >/dev/null
 LIBRARY_ONLY=1 "$top/scripts/install.sh" "$work/prefix" >/dev/null 2>&1
 cc -O2 -o "$work/decode" "$top/examples/c/decode.c" -I "$work/prefix/include" "$work/prefix/lib/libavcdec.a"
 

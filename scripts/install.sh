@@ -74,7 +74,8 @@ program=$top/crates/avc_cli/out/avc_cli
 library_v3=$out/x86-64-v3/libavc_c.a
 program_v3=$top/crates/avc_cli/out/x86-64-v3/avc_cli
 say "to $to"
-if [ -z "${LIBRARY_ONLY:-}" ]; then "$top/avcdec" --help >/dev/null; fi
+# the whole program, which alone has `compare`
+if [ -z "${LIBRARY_ONLY:-}" ]; then "$top/avcdec" compare --help >/dev/null; fi
 if [ "$target" = x86_64-unknown-linux-gnu ]; then
     library=$out/libavc_c.a
     build_if_old "$library" avc_c

@@ -16,13 +16,13 @@ avc_c/src/status.rt: Err(DecodeError::OutOfMemory) => Status::OutOfMemory,
 avc_c/src/status.rt: Err(DecodeError::OutOfMemory) => Status::OutOfMemory,
 avc_c/src/status.rt: Status::OutOfMemory
 # the words of the command line: clap tells of a refusal by its kind
-avc_cli/src/main.rt: if error.kind() == ErrorKind::OutOfMemory {
-avc_cli/src/main.rt: return Err(RunFault::Memory);
+avc_program/src/words.rt: if error.kind() == ErrorKind::OutOfMemory {
+avc_program/src/words.rt: return Err(RunFault::Memory);
 # a text that found no memory
 avc_macroblocks/src/program.rt: Err(_) => fail(RunFault::Memory, &console.names, &mut console.errors),
 # of OutOfMemory, through what reads a stream and what writes it
 avc_shell/src/from_piece.rt: Err(io::Error::from(ErrorKind::OutOfMemory))
-avc_cli/src/main.rt: fault_status(RunFault::Memory)
+avc_program/src/writing.rt: fault_status(RunFault::Memory)
 avc_shell/src/output.rt: Err(_) => return Err(io::Error::from(ErrorKind::OutOfMemory)),
 # of OutOfMemory, and of what an allocator answers
 avc_console/src/fault.rt: RunFault::Memory
@@ -43,11 +43,11 @@ avc_console/src/read.rt: Err(_) => Err(RunFault::Read),
 # the input, or the other's, is no file that can be opened
 avc_cli/src/explaining.rt: Err(_) => Err(RunFault::Read),
 avc_cli/src/comparing.rt: fail(RunFault::Read, &names, &mut console.errors)
-avc_cli/src/main.rt: let ending = fail(RunFault::Read, &names_of(request), &mut rt.stderr());
+avc_program/src/running.rt: let ending = fail(RunFault::Read, &names_of(request), &mut rt.stderr());
 # the file of frame times can't be made or written
-avc_cli/src/main.rt: let ending = fail(RunFault::Write, &names, &mut rt.stderr());
+avc_program/src/running.rt: let ending = fail(RunFault::Write, &names, &mut rt.stderr());
 # the system did not take the words of the help
-avc_cli/src/main.rt: Err(_) => Err(RunFault::Write),
+avc_program/src/words.rt: Err(_) => Err(RunFault::Write),
 # a write answered an error, or took no byte
 avc_console/src/fault.rt: RunFault::Write
 # more reads, or events, than a run may take

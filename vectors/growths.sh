@@ -200,7 +200,7 @@ planes_at_most() {
 }
 
 say 'refuses each growth of memory once: of the program, of the library, of tests'
-"$top/avcdec" --help >/dev/null || exit 1
+"$top/avcdec" compare --help >/dev/null || exit 1
 program=$top/crates/avc_cli/out/avc_cli
 library=$top/crates/avc_c/out/libavc_c.a
 [ -e "$library" ] || "$top/scripts/prove.py" avc_c || exit 1

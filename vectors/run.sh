@@ -18,8 +18,8 @@ passed=0
 failed=0
 say "decodes $(find "$here" -name '*.264' | wc -l) streams and tries the words of the command line, for some minutes"
 
-# builds the program, where that has not been done
-"$program" --help >"$work/help" || exit 1
+# builds the whole program, where that has not been done
+"$program" compare --help >"$work/help" || exit 1
 
 reached 'the start'
 tell_while cat "$work/reached"
@@ -636,8 +636,9 @@ for command in decode units headers macroblocks info cut compare; do
     holds "an example in the help of $command" grep -q "^Example: avcdec $command " "$work/written"
 done
 
-# The script avcdec in a repository of its own, where what proves tells only that it was asked, and makes a program that tells its words. It
-# is started through a symbolic link from elsewhere. Where the stamp stands, the sources are not looked through: no find names their folders.
+# The script avcdec in a repository of its own, where what proves tells only that it was asked, and makes a program that tells its name and
+# its words. It is started through a symbolic link from elsewhere. Where the stamp stands, the sources are not looked through: no find names
+# their folders.
 if command -v git >/dev/null; then
     made=$work/made
     mkdir -p "$made/scripts" "$made/crates/avc_cli/src" "$work/tools"
@@ -646,8 +647,8 @@ if command -v git >/dev/null; then
     echo avc_cli >"$made/crates.txt"
     cat >"$made/scripts/prove.py" <<'END'
 #!/bin/sh
-cd "$(dirname "$0")/.." && echo "$*" >>proved && mkdir -p crates/avc_cli/out &&
-    printf '#!/bin/sh\necho "%s: $*"\n' "$(cat crates/avc_cli/src/main.rt)" >crates/avc_cli/out/avc_cli && chmod 755 crates/avc_cli/out/avc_cli
+cd "$(dirname "$0")/.." && echo "$*" >>proved && mkdir -p "crates/$1/out" &&
+    printf '#!/bin/sh\necho "%s of %s: $*"\n' "$1" "$(cat crates/avc_cli/src/main.rt)" >"crates/$1/out/$1" && chmod 755 "crates/$1/out/$1"
 END
     printf '#!/bin/sh\necho "$*" >>"%s"\nexec "%s" "$@"\n' "$work/found" "$(command -v find)" >"$work/tools/find"
     chmod 755 "$made/scripts/prove.py" "$work/tools/find"
@@ -656,25 +657,33 @@ END
     }
     in_made init && echo out/ >"$made/.gitignore" && in_made add . && in_made commit -m first
     ln -s "$made/avcdec" "$work/link"
-    # so often were the sources proved, and looked through, since the script was asked for the first time
+    # is_told COMMAND PROGRAM SOURCES PROVED FOUND: the command is that program's of these sources, which so often was proved since the script
+    # was asked for the first time, and so often are the sources looked through
     is_told() {
         : >"$work/found"
-        [ "$(cd "$work/tools" && PATH=$work/tools:$PATH ../link units in.264)" = "$1: units in.264" ] &&
-            [ "$(grep -cx avc_cli "$made/proved")" = "$2" ] && [ "$(grep -c crates.txt "$work/found")" = "$3" ]
+        [ "$(cd "$work/tools" && PATH=$work/tools:$PATH ../link "$1" in.264)" = "$2 of $3: $1 in.264" ] &&
+            [ "$(grep -cx "$2" "$made/proved")" = "$4" ] && [ "$(grep -c crates.txt "$work/found")" = "$5" ]
     }
-    holds 'avcdec by a symbolic link: what it stands beside is proved' is_told 'the first' 1 0
-    holds 'and not again' is_told 'the first' 1 0
-    touch -d '10 seconds ago' "$made"/crates/avc_cli/out/*
+    holds 'avcdec by a symbolic link: what it stands beside is proved' is_told units avc_decode 'the first' 1 0
+    holds 'and not again' is_told units avc_decode 'the first' 1 0
+    holds 'the whole program for what the other has not' is_told compare avc_cli 'the first' 1 0
+    holds 'which does the rest too' is_told units avc_cli 'the first' 1 0
+    touch -d '10 seconds ago' "$made"/crates/*/out/*
     echo 'another' >"$made/crates/avc_cli/src/main.rt"
-    holds 'a change is proved' is_told 'another' 2 1
+    holds 'a change is proved' is_told units avc_decode 'another' 2 2
+    holds 'and where it is wanted for the whole' is_told macroblocks avc_cli 'another' 2 1
     in_made commit -a -m second
     touch -d '10 seconds ago' "$made/crates.txt" "$made/crates/avc_cli/src/main.rt"
-    holds 'a program that is newer than the sources is theirs' is_told 'another' 2 1
-    holds 'which is not looked at again' is_told 'another' 2 0
-    touch -d '5 seconds ago' "$made/crates/avc_cli/out/proved-from"
-    sed -i 's/another/of other sources/' "$made/crates/avc_cli/out/avc_cli"
+    holds 'a program that is newer than the sources is theirs' is_told units avc_cli 'another' 2 1
+    holds 'which is not looked at again' is_told units avc_cli 'another' 2 0
+    rm "$made/crates/avc_cli/out/avc_cli"
+    holds 'the same of the other program' is_told units avc_decode 'another' 2 1
+    holds 'which is not looked at again' is_told units avc_decode 'another' 2 0
+    touch -d '5 seconds ago' "$made/crates/avc_decode/out/proved-from"
+    sed -i 's/another/of other sources/' "$made/crates/avc_decode/out/avc_decode"
     touch -d '2 seconds' "$made/crates.txt"
-    holds 'a program made behind its stamp is not taken for that of the sources' is_told 'another' 3 1
+    holds 'a program made behind its stamp is not taken for that of the sources' is_told units avc_decode 'another' 3 1
+    holds 'nor is one taken that is not there' is_told compare avc_cli 'another' 3 0
 fi
 
 # files: the same bytes as by the standard streams, and - is one of these. An output that exists is emptied first.
@@ -693,6 +702,32 @@ holds 'nothing is written' [ ! -s "$work/written" ]
 
 # ten pictures of 150x90, cropped
 moving=$here/encoder/pub_o_crop_150x90.264
+
+# the program without what is for test benches: it does what the whole one does, and tells of the two commands that it has not that alone
+small=$here/../crates/avc_decode/out/avc_decode
+if [ ! -x "$small" ] || [ -n "$(find "$here/../crates.txt" "$here"/../crates/*/src "$here"/../crates/*/specs -newer "$small" -print -quit)" ]; then
+    "$here/../scripts/prove.py" avc_decode </dev/null || exit 1
+fi
+is_same() {
+    "$program" "$@" >"$work/written" 2>"$work/told"
+    whole=$?
+    "$small" "$@" >"$work/out" 2>"$work/lines"
+    [ $? = "$whole" ] && cmp -s "$work/written" "$work/out" && cmp -s "$work/told" "$work/lines"
+}
+holds 'both decode alike' is_same decode "$moving"
+holds 'and to pictures of their own form' is_same decode --early --format framemd5 "$moving"
+holds 'and list alike' is_same headers --json "$moving"
+holds 'and tell alike of a file that is not there' is_same units "$work/nothing"
+holds 'and have the same help' is_same compare --help
+holds 'and know the same words' is_same macroblocks --nothing
+for words in "compare $work/pictures $moving" "macroblocks $moving" 'macroblocks --json nothing'; do
+    # shellcheck disable=SC2086
+    "$small" $words >"$work/written" 2>"$work/told"
+    # shellcheck disable=SC2016
+    judge "not in the small program: $words" $? 2 'avcdec: the commands `compare` and `macroblocks` are not in this program
+'
+    holds 'nothing is written' [ ! -s "$work/written" ]
+done
 
 # checksums: the line that md5sum writes of the same pictures
 "$program" decode "$moving" | md5sum >"$work/sum"

@@ -66,7 +66,7 @@ if [ -n "$lacking" ] || ! has h264parse; then
     exit 0
 fi
 say 'the element is built and tried'
-"$top/avcdec" --help >/dev/null || exit 1
+"$top/avcdec" compare --help >/dev/null || exit 1
 prefix=${1:-$work/prefix}
 [ $# -gt 0 ] || LIBRARY_ONLY=1 "$top/scripts/install.sh" "$prefix" || exit 1
 PKG_CONFIG_PATH=$prefix/lib/pkgconfig${PKG_CONFIG_PATH:+:$PKG_CONFIG_PATH}

@@ -4,4 +4,5 @@ pub mod Program
 pub mod BySet
 pub mod Digesting
 pub mod Draining
+pub mod Showing
 pub use Rattle.avc_decoder.specs.Output

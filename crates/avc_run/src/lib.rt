@@ -1,10 +1,11 @@
-//! What the program does with a byte stream: its pictures decoded and written in a format, and how that ends.
+//! What the program does with a byte stream: its pictures decoded and written in a format, all or those asked for, and how that ends.
 #![tactic(auto)]
 
 mod by_set;
 mod decoding;
 mod digest;
 mod program;
+mod showing;
 
 pub use avc_console::{
     Answer, Console, Counts, Ending, MAX_UNIT, Names, PIECE, Refusals, Report, Reporter, RunFault,
@@ -19,3 +20,4 @@ pub use by_set::decode_headed;
 pub use decoding::{run, run_behind, run_watched};
 pub use digest::{decode_md5, verify};
 pub use program::{decode, decode_as};
+pub use showing::{drawing_of, show};

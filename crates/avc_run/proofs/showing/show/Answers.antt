@@ -2,8 +2,8 @@ use Rattle.std.proofs.Common.{subst}
 use Rattle.avc_formats.specs.Headed.{headed}
 use Rattle.avc_formats.specs.declared.headed.HeadedFormat.{HeadedFormat}
 use Rattle.avc_run.specs.BySet.{EndsDecodingBySet}
-use Rattle.avc_cli.specs.Tasks.{selection_of}
-use Rattle.avc_cli.proofs.show.Goals as goal
+use Rattle.avc_run.specs.Showing.{selection_of}
+use Rattle.avc_run.proofs.showing.show.Goals as goal
 
 pub returns-in-Y4m : goal.returns-in-Y4m
 returns-in-Y4m g c =

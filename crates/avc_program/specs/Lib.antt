@@ -1,0 +1,3 @@
+pub mod Absent
+pub mod Tasks
+pub mod Telling
