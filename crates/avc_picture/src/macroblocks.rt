@@ -199,7 +199,8 @@ impl<const PAD: usize> Macroblocks<PAD> {
             self.canvas.constrained_intra_pred,
         )?;
         let place = self.filter_rows.place();
-        self.mixture = read_ahead(place, &slice.references);
+        let width = self.canvas.width;
+        self.mixture = read_ahead(place, width, run.is_long(), &slice.references);
         run.build(&self.canvas, &mut self.planes, place, mb, info, &sources)?;
         let info = info.info();
         self.filter_rows

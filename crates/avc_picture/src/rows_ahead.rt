@@ -8,6 +8,9 @@ use avc_plane::{PaddedPlane, PaddedPlanes};
 /// How many samples a processor takes from memory at once.
 const CACHE_LINE: usize = 64;
 
+/// Narrower pictures, in macroblocks, stay in its cache from one to the next.
+const WIDE: usize = 60;
+
 /// Reads a sample of each cache line of a row. Answers something of all of them, since what nobody
 /// uses is not read.
 fn read_row(row: &[u8]) -> u8 {
@@ -37,15 +40,17 @@ fn read_macroblock_row<const PAD: usize>(planes: &PaddedPlanes<PAD>, row: usize)
         ^ read_rows(&planes.cr, row.saturating_mul(8), 8)
 }
 
-/// Where a row of macroblocks begins at this place, reads the row below it in the picture that
-/// reference index 0 names: the rows above that were read ahead before. Answers something of what
-/// was read.
+/// Where a row of so many macroblocks begins at this place, reads the row below it in the picture
+/// that reference index 0 names: the rows above that were read ahead before. Where macroblocks stand
+/// still, rows are copied from left to right anyway. Answers something of what was read.
 #[inline(always)]
 pub(crate) fn read_ahead<const PAD: usize>(
     place: MbPlace,
+    width: usize,
+    stands_still: bool,
     references: &[Option<ReferencePicture<'_, PAD>>],
 ) -> u8 {
-    if place.column > 0 {
+    if place.column > 0 || width < WIDE || stands_still {
         return 0;
     }
     match references.first() {

@@ -85,6 +85,11 @@ impl StillRun {
         }
     }
 
+    /// Whether so many stood still just now that others are copied ahead.
+    pub(crate) fn is_long(&self) -> bool {
+        self.streak / STREAK_FOR_ONE >= FEWEST_AHEAD
+    }
+
     /// How many macroblocks are to be copied ahead from this column on.
     fn count_ahead(&self, column: usize, width: usize) -> usize
         requires { column ≤ width }
