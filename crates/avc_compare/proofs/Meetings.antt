@@ -1,18 +1,17 @@
 -- The other's bytes, read as long as they are a picture's.
-use Rattle.std.proofs.Common.{◌≡◌, ℕ, suc, ◌+◌, ◌-◌, ◌*◌, ◌<◌, ◌≤◌, List, [], ◌∷◌, ◌++◌, length, take, drop, Option, Bool, true, false, Result, Ok, Err, refl, sym, ap, ◌∙◌, subst, arith, append_assoc, append-nil, length-append, length-drop, length-take-le, rules, take_all, take-append-drop}
+use Rattle.std.proofs.Common.{◌≡◌, ℕ, suc, ◌+◌, ◌-◌, ◌*◌, ◌<◌, ◌≤◌, List, [], ◌∷◌, ◌++◌, length, take, drop, Option, Bool, true, false, Result, Ok, Err, refl, sym, ap, ◌∙◌, subst, arith, append_assoc, append-nil, length-append, length-drop, rules, take_all, take-append-drop}
 use Rattle.std.proofs.KnownBytes.{Consumes-nil, Consumes-trans}
 use Rattle.std.proofs.Math.Nat.{mul-le-mul_right}
 use Rattle.std.proofs.Math.Seq.{take-add, take-append-add}
 use Rattle.std.proofs.lemmas.Grind.{flat_map-append}
 use Rattle.std.proofs.lemmas.List.{take-append-le, take_rest}
 use Rattle.std.specs.Io.KnownBytes.{Consumes}
-use Rattle.std.specs.Prelude.{slice_range, OnErr, OnOk}
-use Rattle.avc_types.specs.Whole.{IsWhole}
+use Rattle.std.specs.Prelude.{OnErr, OnOk}
 use Rattle.avc_types.specs.declared.picture.Picture.{Picture as Decoded}
-use Rattle.avc_plane.specs.Shown.{columns_of, rows_of, samples_of}
+use Rattle.avc_plane.specs.Shown.{columns_of, samples_of}
 use Rattle.avc_plane.specs.declared.component.Component.{Component}
 use Rattle.avc_plane.specs.declared.component.Component.TheVariants.{Luma, Cb, Cr}
-use Rattle.avc_yuv.proofs.Windows.{length-part_of_row, length-window, range_split, row_inside, shown_row_is}
+use Rattle.avc_yuv.proofs.Windows.{length-part_of_row, length-window, range_split}
 use Rattle.avc_yuv.specs.Copying.{shown_of, shown_of_row, window_of}
 use Rattle.avc_yuv.specs.I420.{i420, window}
 use Rattle.avc_compare.specs.Kept.{Waiting}
@@ -187,32 +186,3 @@ completed p met w theirs l l' l'' result m reads long = by result reads long
         (subst (Consumes l l'') (sym is) (all reads'.0 reads'.1), long')
     by (Ok false) reads' long' = (m.more ++ reads'.0, all reads'.0 reads'.1, reads'.2, omega (arith, reads'.3, long', length-append m.more reads'.0, ap length m.first))
     by (Err fault) reads' long' = (m.more ++ reads'.0, all reads'.0 reads'.1, reads'.2)
-
--- ---- rows where they lie
-
--- what is shown of a row lies in it
-pub columns_inside : (p : Decoded) (c : Component) → IsWhole p → (window_of p c).left + (window_of p c).width ≤ columns_of p c
-columns_inside p Luma whole = omega (arith, whole.columns)
-columns_inside p Cb whole = omega (arith, whole.columns)
-columns_inside p Cr whole = omega (arith, whole.columns)
-
--- and the row in its plane
-pub row_below : (p : Decoded) (c : Component) (n : ℕ) → IsWhole p → n < (window_of p c).height → (window_of p c).top + n < rows_of p c
-row_below p Luma n whole low = omega (arith, whole.rows, low)
-row_below p Cb n whole low = omega (arith, whole.rows, low)
-row_below p Cr n whole low = omega (arith, whole.rows, low)
-
-pub row_shown : (p : Decoded) (c : Component) (left columns top n : ℕ) (row : List ℕ) → IsWhole p → n < (window_of p c).height → left ≡ (window_of p c).left → columns ≡ (window_of p c).width → top ≡ (window_of p c).top
-    → row ≡ slice_range (samples_of p c) ((top + n) * columns_of p c) ((top + n) * columns_of p c + columns_of p c)
-    → take (left + columns - left) (drop left row) ≡ shown_of_row p c ((window_of p c).top + n)
-row_shown p c left columns top n row whole low left_is columns_is top_is is =
-    let inside = row_inside p c ((window_of p c).top + n) whole (row_below p c n whole low) in
-    let row_is : row ≡ slice_range (samples_of p c) (((window_of p c).top + n) * columns_of p c) (((window_of p c).top + n) * columns_of p c + columns_of p c) =
-    is ∙ ap (λ t. slice_range (samples_of p c) ((t + n) * columns_of p c) ((t + n) * columns_of p c + columns_of p c)) top_is in
-    rw (left_is, columns_is) (shown_row_is p c (window_of p c) ((window_of p c).top + n) row refl (columns_inside p c whole) row_is inside)
-
--- how long a row is
-pub length-coded : (p : Decoded) (c : Component) (y : ℕ) (row : List ℕ) → IsWhole p → y < rows_of p c → row ≡ slice_range (samples_of p c) (y * columns_of p c) (y * columns_of p c + columns_of p c) → length row ≡ columns_of p c
-length-coded p c y row whole low is =
-    let inside = row_inside p c y whole low in
-    ap length is ∙ omega (arith, length-take-le (y * columns_of p c + columns_of p c - y * columns_of p c) (drop (y * columns_of p c) (samples_of p c)) (omega (arith, inside, length-drop (y * columns_of p c) (samples_of p c))))

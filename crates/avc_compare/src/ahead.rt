@@ -5,7 +5,7 @@ ghost use Rattle.std.specs.Io.KnownBytes.{Consumes, IsAtEnd, Keeps};
 ghost use Rattle.avc_compare.specs.Kept.{nothing_read};
 ghost use Rattle.avc_console.specs.declared.fault.RunFault.TheVariants as faults;
 
-use avc_console::{PIECE, RunFault, read_once};
+use avc_console::{RunFault, read_once};
 use std::alloc::Global;
 use std::io::Read;
 use std::marker::Model;
@@ -32,13 +32,14 @@ impl Model for Ahead {
 }
 
 impl Ahead {
-    /// Before anything was read.
-    pub(crate) fn new(alloc: Global) -> Result<Ahead, RunFault>
+    /// Before anything was read, with room for so many bytes of one read.
+    pub(crate) fn new(alloc: Global, room: usize) -> Result<Ahead, RunFault>
+        requires { 0 < room }
         ensures ok { IfOk result (λ ahead. ahead ≡ nothing_read) }
         ensures err { IfErr result (λ fault. fault ≡ faults.Memory) }
     {
         Ok(Ahead {
-            piece: vec![in alloc; 0; PIECE]?,
+            piece: vec![in alloc; 0; room]?,
             start: 0,
             end: 0,
             has_ended: false,

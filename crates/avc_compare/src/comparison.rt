@@ -14,7 +14,7 @@ use crate::picture::compare_picture;
 use crate::samples::{Samples, read_other};
 use crate::stream::next_of;
 use crate::verdict::{CompareFault, PictureSize, Verdict};
-use avc_console::{MAX_UNIT, Reporter, RunFault};
+use avc_console::{MAX_UNIT, PIECE, Reporter, RunFault};
 use avc_decoder::laws::events_only_grow;
 use avc_decoder::{Decoder, Event, Output};
 use avc_plane::SharedPicture;
@@ -72,7 +72,7 @@ pub fn run_comparison<T: Reporter, E: Write, R: Read, O: Read, W: Write>(
 {
     events_only_grow();
     let mut decoder = Decoder::<MAX_UNIT, SharedPicture>::sharing(alloc, how.output);
-    let mut ahead = Ahead::new(alloc)?;
+    let mut ahead = Ahead::new(alloc, PIECE)?;
     let mut samples = Samples::new(alloc)?;
     'events: for _event in 0..EVENTS {
         match next_of(&mut decoder, &mut ahead, reader)? {

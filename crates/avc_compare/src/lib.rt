@@ -9,7 +9,6 @@ mod looking;
 mod meeting;
 mod picture;
 mod program;
-mod rows;
 mod samples;
 mod stream;
 mod text;

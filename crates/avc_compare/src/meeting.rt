@@ -10,10 +10,9 @@ ghost use Rattle.avc_compare.specs.Reading.{Fills};
 ghost use Rattle.avc_compare.specs.declared.verdict.CompareFault.TheVariants as ends;
 
 use crate::ahead::Ahead;
-use crate::rows::{shown_row, shown_rows};
 use crate::verdict::CompareFault;
 use avc_plane::{Component, SharedPicture};
-use avc_yuv::plane_columns;
+use avc_yuv::{shown_row, window_of};
 use std::io::Read;
 
 /// Reads the other's next bytes as long as they are what is shown of a picture, which has `left` bytes
@@ -51,7 +50,8 @@ fn samples_of(picture: &SharedPicture, component: Component) -> u128
     requires { IsWhole picture.now }
     ensures { result ≡ length (shown_of picture.now component) }
 {
-    shown_rows(picture, component) as u128 * plane_columns(picture, component) as u128
+    let of = window_of(picture, component);
+    of.height as u128 * of.width as u128
 }
 
 // The same of one component, from whose first sample on `left` bytes are left.
@@ -71,9 +71,10 @@ fn meet_component<O: Read>(
     ensures fault { IfErr result (λ fault. fault ≡ ends.Theirs) }
     ensures err { OnErr result ((here : List ℕ) × Consumes (O.remaining other.old) (O.remaining other.new) here) }
 {
+    let of = window_of(picture, component);
     let mut met = 0;
-    'rows: for number in 0..shown_rows(picture, component) {
-        let row = shown_row(picture, component, number);
+    'rows: for number in 0..of.height {
+        let row = shown_row(picture, component, of, number);
         let more = meet_row(row, left - met, ahead, other)?;
         met += more as u128;
         if more < row.len() {

@@ -19,6 +19,9 @@ use std::alloc::Global;
 use std::io::Read;
 use std::marker::Model;
 
+/// How many of the other's bytes are read at once: they stay near while they are compared.
+const ROOM: usize = 131_072;
+
 /// The samples of a picture of ours and the other's, both as I420. They are kept from one picture to
 /// the next, since to make room anew for each takes longer than to compare what stands in it.
 #[derive(Drop)]
@@ -46,7 +49,7 @@ impl Samples {
         Ok(Samples {
             ours: Vec::new(alloc),
             theirs: Vec::new(alloc),
-            ahead: Ahead::new(alloc)?,
+            ahead: Ahead::new(alloc, ROOM)?,
         })
     }
 
