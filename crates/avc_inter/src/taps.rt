@@ -29,10 +29,16 @@ fn rounded(sum: i16) -> i16
     (sum + 16) >> 5
 }
 
-pub fn half(e: u8, f: u8, g: u8, h: u8, i: u8, j: u8) -> u8
-    ensures { result ≡ clip1 (six_taps (pos e) (pos f) (pos g) (pos h) (pos i) (pos j) +ℤ pos 16 >>ℤ 5) }
+/// Twice the taps over six samples and what rounds them. To multiply lanes by 10 is one
+/// instruction: 5 times would be taken apart into three.
+fn twice_rounded(e: u8, f: u8, g: u8, h: u8, i: u8, j: u8) -> i16
+    ensures value { result ≡ pos 2 *ℤ (six_taps (pos e) (pos f) (pos g) (pos h) (pos i) (pos j) +ℤ pos 16) }
+    ensures low { neg_ℤ (pos 5068) ≤ℤ result }
+    ensures high { result ≤ℤ pos 21452 }
 {
-    clipped(rounded(taps(e, f, g, h, i, j)))
+    let above = 2 * (u16::from(e) + u16::from(j)) + 40 * (u16::from(g) + u16::from(h)) + 32;
+    let below = 10 * (u16::from(f) + u16::from(i));
+    above as i16 - below as i16
 }
 
 /// The half sample of its sum.
@@ -69,6 +75,12 @@ fn sixty_fourth(v: i16) -> i16
     ensures most { result ≤ℤ pos 32767 }
 {
     v >> 6
+}
+
+pub fn half(e: u8, f: u8, g: u8, h: u8, i: u8, j: u8) -> u8
+    ensures { result ≡ clip1 (six_taps (pos e) (pos f) (pos g) (pos h) (pos i) (pos j) +ℤ pos 16 >>ℤ 5) }
+{
+    clipped(sixty_fourth(twice_rounded(e, f, g, h, i, j)))
 }
 
 fn wide_sum(a: i16, b: i16) -> i32

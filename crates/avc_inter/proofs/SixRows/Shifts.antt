@@ -12,6 +12,17 @@ pub by_64 : (z : ℤ) → ((pos 64 *ℤ (z >>ℤ 6)) ≤ℤ z) × (z ≤ℤ (pos
 by_64 (pos a) = (omega (arith, ints), omega (arith, ints))
 by_64 (negsuc a) = (omega (arith, ints), omega (arith, ints))
 
+by_32 : (z : ℤ) → ((pos 32 *ℤ (z >>ℤ 5)) ≤ℤ z) × (z ≤ℤ (pos 32 *ℤ (z >>ℤ 5) +ℤ pos 31))
+by_32 (pos a) = (omega (arith, ints), omega (arith, ints))
+by_32 (negsuc a) = (omega (arith, ints), omega (arith, ints))
+
+-- a 64th of twice a number, which a call sees through its bits, is a 32nd of it
+pub of_twice : (t v z : ℤ) → neg_ℤ (pos 5068) ≤ℤ t → t ≤ℤ pos 21452 → t ≡ pos 2 *ℤ z → (pos 64 *ℤ v) ≤ℤ to_z w16 (of_z w16 t) → to_z w16 (of_z w16 t) ≤ℤ (pos 64 *ℤ v +ℤ pos 63) → v ≡ (z >>ℤ 5)
+of_twice t v z low high twice least most =
+    let same : to_z w16 (of_z w16 t) ≡ t = omega (arith, ints, low, high) in
+    let b = by_32 z in
+    omega (arith, ints, same, twice, least, most, b.0, b.1)
+
 by_1024 : (z : ℤ) → ((pos 1024 *ℤ (z >>ℤ 10)) ≤ℤ z) × (z ≤ℤ (pos 1024 *ℤ (z >>ℤ 10) +ℤ pos 1023))
 by_1024 (pos a) = (omega (arith, ints), omega (arith, ints))
 by_1024 (negsuc a) = (omega (arith, ints), omega (arith, ints))
