@@ -37,10 +37,37 @@ pub fn read_block<const MAXN: usize>(reader: &mut BitReader, nc: i8) -> Result<L
     }
 }
 
+/// Reads a block as `read_block` does, but into the place of its levels, where nothing is written if
+/// all are 0 before and after. After a fault any levels may stand there, and the reader anywhere.
+#[inline(always)]
+pub fn read_block_in_place<const MAXN: usize>(
+    reader: &mut BitReader,
+    nc: i8,
+    levels: &mut Levels<MAXN>,
+) -> Result<(), Fault>
+    requires { MAXN ≤ 16 }
+    ensures read { ReadsInto result levels.new (residual_block MAXN nc) reader.old reader.new }
+    ensures small { IfOk result (λ _. (i : ℕ) → IsSmall (slice_index_or levels.new i (pos 0))) }
+{
+    if pass_no_levels(reader, nc) {
+        levels.clear();
+        return Ok(());
+    }
+    let mut block = [0; 16];
+    match read_from(reader, nc, MAXN as u8, &mut block) {
+        Ok(total_coeff) => {
+            let mut values = [0; MAXN];
+            values.copy_from_slice(&block[..MAXN]);
+            *levels = Levels::new(values, total_coeff);
+            Ok(())
+        }
+        Err(fault) => Err(fault),
+    }
+}
+
 /// Reads the first `max` levels of a block of zeros, from the lowest frequency on, and answers how
 /// many of them are not 0 (total_coeff). What is behind them stays 0. `max` and `nc` are as MAXN
 /// and `nc` of `read_block`, and so are the faults, after which the block has any value.
-#[inline(never)]
 pub fn read_block_into(
     reader: &mut BitReader,
     nc: i8,
@@ -65,7 +92,8 @@ pub fn read_block_into(
     }
 }
 
-#[inline(always)]
+// The same, where after a fault the reader may stand anywhere.
+#[inline(never)]
 fn read_from(reader: &mut BitReader, nc: i8, max: u8, block: &mut [i16; 16]) -> Result<u8, Fault>
     requires few { max ≤ 16 }
     requires zero { block.old ≡ replicate 16 (pos 0) }

@@ -114,9 +114,8 @@ struct WindowPlacement {
     length: u8,
 }
 
-// The same by one window, which has three bits for each value. It is no part of its caller, whose
-// values would take the registers of the loop.
-#[inline(never)]
+// The same by one window, which has three bits for each value.
+#[inline(always)]
 fn place_by_window(
     window: Window,
     values: &[i16; 16],

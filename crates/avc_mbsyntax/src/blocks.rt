@@ -9,18 +9,23 @@ ghost use Rattle.avc_mbsyntax.specs.Reading.{block_where, blocks, chroma_dc, is_
 ghost use Rattle.avc_mbsyntax.specs.Steps.{ReadsInto};
 
 use avc_bits::BitReader;
-use avc_cavlc::read_block;
+use avc_cavlc::read_block_in_place;
 use avc_neigh::{nc_chroma, nc_luma};
 use avc_types::{Fault, Levels};
 
-/// The levels of a block that is coded.
-#[inline(always)]
-fn read_coded<const MAXN: usize>(reader: &mut BitReader, nc: u8) -> Result<Levels<MAXN>, Fault>
+/// The levels of a block that is coded, into their place. It is no part of its callers, so that
+/// their loops are short enough to be unrolled.
+#[inline(never)]
+fn read_coded<const MAXN: usize>(
+    reader: &mut BitReader,
+    nc: u8,
+    levels: &mut Levels<MAXN>,
+) -> Result<(), Fault>
     requires { MAXN ≤ 16 }
-    ensures read { Reads result (block_where MAXN true nc) reader.old reader.new }
-    ensures small { IfOk result AreSmall }
+    ensures read { ReadsInto result levels.new (block_where MAXN true nc) reader.old reader.new }
+    ensures small { IfOk result (λ _. AreSmall levels.new) }
 {
-    read_block(reader, nc.min(8) as i8)
+    read_block_in_place(reader, nc.min(8) as i8, levels)
 }
 
 /// Intra16x16DCLevel, at the nC of luma block 0.
@@ -32,7 +37,9 @@ pub(crate) fn read_luma_dc(
     ensures read { Reads result (block_where 16 true (nc 16 (option_copied left.entry) (option_copied up.entry) [] 0)) reader.old reader.new }
     ensures small { IfOk result AreSmall }
 {
-    read_coded(reader, nc_luma(left, up, &[0; 16], 0))
+    let mut levels = Levels::zero();
+    read_coded(reader, nc_luma(left, up, &[0; 16], 0), &mut levels)?;
+    Ok(levels)
 }
 
 /// Reads the luma blocks, of which those are coded whose quarter has its bit in the pattern; the
@@ -60,9 +67,9 @@ pub(crate) fn read_luma_blocks<const MAXN: usize>(
             continue;
         }
         let nc = nc_luma(left, up, &total_coeffs, k);
-        let block = read_coded(reader, nc)?;
+        let block = &mut levels[k];
+        read_coded(reader, nc, block)?;
         total_coeffs[k] = block.total_coeff();
-        levels[k] = block;
     }
     Ok(())
 }
@@ -86,9 +93,9 @@ pub(crate) fn read_chroma_blocks(
     let mut total_coeffs = [0; 4];
     'each: for k in 0..4 {
         let nc = nc_chroma(left, up, &total_coeffs, k);
-        let block = read_coded(reader, nc)?;
+        let block = &mut levels[k];
+        read_coded(reader, nc, block)?;
         total_coeffs[k] = block.total_coeff();
-        levels[k] = block;
     }
     Ok(())
 }
@@ -106,8 +113,7 @@ pub(crate) fn read_chroma_dc(
         levels.clear();
         return Ok(());
     }
-    *levels = read_block(reader, -1)?;
-    Ok(())
+    read_block_in_place(reader, -1, levels)
 }
 
 /// No block is coded: all levels become 0.

@@ -12,10 +12,10 @@ returns-then-luma_pattern-eq0-clause-read g c =
 pub each-init : goal.each-init
 each-init g c = record { are = none_read (omega (arith, c.told-levels)); bytes = refl }
 
-pub returns-in_err-block-clause-read : goal.returns-in_err-block-clause-read
-returns-in_err-block-clause-read g c =
+pub returns-in_err-read_coded-clause-read : goal.returns-in_err-read_coded-clause-read
+returns-in_err-read_coded-clause-read g c =
     let coded : is_coded c.args.luma_pattern c.each.k ≡ true = search rules in
-    let fault = block_fault c.each.invariant.are (omega arith) coded (rw c.nc_luma-nc.ensures at c.in_err-block.ensures.read) in
+    let fault = block_fault c.each.invariant.are (omega arith) coded (rw c.nc_luma-nc.ensures at c.in_err-read_coded.ensures.read) in
     search rules
 
 pub returns-clause-read : goal.returns-clause-read
@@ -25,8 +25,8 @@ pub each-preserved : goal.each-preserved
 each-preserved g c =
     let coded : is_coded c.args.luma_pattern c.each.k ≡ true = search rules in
     rw c.total_coeff.ensures (record {
-      are = block_read c.each.invariant.are (omega arith) coded (rw c.nc_luma-nc.ensures at c.in_ok-block.ensures.read.0) c.in_ok-block.ensures.small;
-      bytes = c.in_ok-block.ensures.read.1 ∙ c.each.invariant.bytes;
+      are = block_read c.each.invariant.are (omega arith) coded (rw c.nc_luma-nc.ensures at c.in_ok-read_coded.ensures.read.0) c.in_ok-read_coded.ensures.small;
+      bytes = c.in_ok-read_coded.ensures.read.1 ∙ c.each.invariant.bytes;
     })
 
 pub each-preserved-then-not-is_coded : goal.each-preserved-then-not-is_coded
