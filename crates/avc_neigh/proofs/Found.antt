@@ -205,12 +205,6 @@ availability_found test told earlier mbs p slice is tell x y asked = there_found
 
 -- ---- the modes of an I_NxN macroblock, from its four neighbours
 
-abbrev pub prediction_near : Around → Bool → List NearMode → (k : ℕ) → ℕ
-prediction_near n constrained mine k =
-    predicted_mode
-    (mode_of_neighbour constrained (mode_near n mine (pos (block_x k) -ℤ pos 1) (pos (block_y k))))
-    (mode_of_neighbour constrained (mode_near n mine (pos (block_x k)) (pos (block_y k) -ℤ pos 1)))
-
 unfoldable pub modes_near : Around → Bool → List NearMode → List (Option ℕ) → List NearMode
 modes_near n constrained mine [] = mine
 modes_near n constrained mine (coded ∷ rest) =

@@ -1,5 +1,5 @@
 -- The block that covers a sample beside a macroblock, from the macroblock's four neighbours (6.4.12.1).
-use Rattle.std.specs.Prelude.{◌≡◌, ℕ, nat_lt, Bool, ℤ, pos, negsuc, ◌≤ℤ◌, if◌then◌else◌, List, [], Option, Some, None, slice_index_or, All}
+use Rattle.std.specs.Prelude.{◌≡◌, ℕ, nat_lt, Bool, ℤ, pos, negsuc, ◌-ℤ◌, ◌≤ℤ◌, if◌then◌else◌, List, [], Option, Some, None, slice_index_or, take, All}
 use Rattle.avc_types.specs.Pictures.{Coded, PicMb}
 use Rattle.avc_neigh.specs.declared.neighbour_info.NeighbourInfo.{NeighbourInfo}
 use Rattle.avc_neigh.specs.declared.neighbour_info.Motion.{Motion}
@@ -7,8 +7,8 @@ use Rattle.avc_neigh.specs.declared.neighbour_info.Motion.TheVariants as motions
 use Rattle.avc_neigh.specs.declared.neighbour_info.NearMode.{NearMode}
 use Rattle.avc_neigh.specs.declared.neighbour_info.NearMode.TheVariants as modes
 use Rattle.avc_neigh.specs.Around.{Around}
-use Rattle.avc_neigh.specs.Blocks.{block_at, location_at}
-use Rattle.avc_neigh.specs.Modes.{nxn_modes, IsMode}
+use Rattle.avc_neigh.specs.Blocks.{block_at, block_x, block_y, location_at}
+use Rattle.avc_neigh.specs.Modes.{chosen_mode, mode_of_neighbour, nxn_modes, predicted_mode, IsMode}
 use Rattle.avc_neigh.specs.Nearby.{nearby}
 
 -- what block k of a neighbour has, where that is available (6.4.8)
@@ -33,6 +33,18 @@ motion_near = block_near motions.Absent (λ f. f.motion)
 -- the same of prediction modes (6.4.11.4)
 abbrev pub mode_near : Around → (mine : List NearMode) → (x y : ℤ) → NearMode
 mode_near = block_near modes.Absent (λ f. f.modes)
+
+-- the prediction for block k, where `mine` has the modes of the blocks before it (8.3.1.1)
+abbrev pub prediction_near : Around → (constrained_intra_pred : Bool) → (mine : List NearMode) → (k : ℕ) → ℕ
+prediction_near n constrained_intra_pred mine k =
+    predicted_mode
+    (mode_of_neighbour constrained_intra_pred (mode_near n mine (pos (block_x k) -ℤ pos 1) (pos (block_y k))))
+    (mode_of_neighbour constrained_intra_pred (mode_near n mine (pos (block_x k)) (pos (block_y k) -ℤ pos 1)))
+
+-- the mode of block k, where `all` has those of the blocks before it (8.3.1.1)
+abbrev pub mode_of_block : Around → (constrained_intra_pred : Bool) → (all : List NearMode) → (coded : List (Option ℕ)) → (k : ℕ) → NearMode
+mode_of_block n constrained_intra_pred all coded k =
+    modes.Mode (chosen_mode (prediction_near n constrained_intra_pred (take k all) k) (slice_index_or coded k None))
 
 -- a place whose block a macroblock may ask for (6.4.12.1)
 pub record IsAsked (x y : ℤ) : Type 0 where

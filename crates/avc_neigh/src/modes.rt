@@ -1,9 +1,9 @@
 //! Predicted 4x4 intra modes (8.3.1.1).
 
-ghost use Rattle.std.specs.Prelude.{◌≡◌, ◌<◌, ◌-ℤ◌, pos, take, All};
+ghost use Rattle.std.specs.Prelude.{◌≡◌, ◌<◌, ◌-ℤ◌, pos, take, slice_set, All};
 ghost use Rattle.std.specs.Option.{option_copied};
 ghost use Rattle.avc_neigh.specs.Around.{info_of};
-ghost use Rattle.avc_neigh.specs.BlockNear.{mode_near, AreNxnModes, HasModes};
+ghost use Rattle.avc_neigh.specs.BlockNear.{mode_near, mode_of_block, AreNxnModes, HasModes};
 ghost use Rattle.avc_neigh.specs.Blocks.{block_x, block_y};
 ghost use Rattle.avc_neigh.specs.Modes.{chosen_mode, mode_of_neighbour, predicted_mode, IsMode};
 ghost use Rattle.avc_neigh.specs.Modes.{IsRem};
@@ -88,6 +88,25 @@ fn mode_above(neighbours: &Neighbours, modes: &[NearMode; 16], k: usize) -> Near
     }
 }
 
+/// Writes Intra4x4PredMode of block `k`, whose neighbours in the macroblock have theirs.
+// where its number is known, it is known where its neighbours stand
+#[inline(always)]
+fn set_mode(
+    modes: &mut [NearMode; 16],
+    neighbours: &Neighbours,
+    constrained_intra_pred: bool,
+    coded: &[Option<u8>; 16],
+    k: usize,
+)
+    requires number { k < 16 }
+    requires rems { All IsRem coded.now }
+    ensures { modes.new ≡ slice_set modes.old k (mode_of_block (info_of neighbours.now) constrained_intra_pred modes.old coded.now k) }
+{
+    let left = brought(mode_at_left(neighbours, modes, k), constrained_intra_pred);
+    let above = brought(mode_above(neighbours, modes, k), constrained_intra_pred);
+    modes[k] = NearMode::Mode(chosen(predicted(left, above), coded[k]));
+}
+
 /// Intra4x4PredMode of the sixteen blocks of an I_NxN macroblock (8.3.1.1), in block order. `coded`
 /// has for each block rem_intra4x4_pred_mode, 0 to 7, or nothing where prev_intra4x4_pred_mode_flag
 /// is 1. Each mode is at most 8 where those of the neighbours are.
@@ -101,10 +120,21 @@ pub fn intra4x4_modes(
     ensures within { HasModes (option_copied neighbours.now.a) → HasModes (option_copied neighbours.now.b) → All IsMode result }
 {
     let mut modes = [NearMode::Absent; 16];
-    for k in 0..16 {
-        let left = brought(mode_at_left(neighbours, &modes, k), constrained_intra_pred);
-        let above = brought(mode_above(neighbours, &modes, k), constrained_intra_pred);
-        modes[k] = NearMode::Mode(chosen(predicted(left, above), coded[k]));
-    }
+    set_mode(&mut modes, neighbours, constrained_intra_pred, coded, 0);
+    set_mode(&mut modes, neighbours, constrained_intra_pred, coded, 1);
+    set_mode(&mut modes, neighbours, constrained_intra_pred, coded, 2);
+    set_mode(&mut modes, neighbours, constrained_intra_pred, coded, 3);
+    set_mode(&mut modes, neighbours, constrained_intra_pred, coded, 4);
+    set_mode(&mut modes, neighbours, constrained_intra_pred, coded, 5);
+    set_mode(&mut modes, neighbours, constrained_intra_pred, coded, 6);
+    set_mode(&mut modes, neighbours, constrained_intra_pred, coded, 7);
+    set_mode(&mut modes, neighbours, constrained_intra_pred, coded, 8);
+    set_mode(&mut modes, neighbours, constrained_intra_pred, coded, 9);
+    set_mode(&mut modes, neighbours, constrained_intra_pred, coded, 10);
+    set_mode(&mut modes, neighbours, constrained_intra_pred, coded, 11);
+    set_mode(&mut modes, neighbours, constrained_intra_pred, coded, 12);
+    set_mode(&mut modes, neighbours, constrained_intra_pred, coded, 13);
+    set_mode(&mut modes, neighbours, constrained_intra_pred, coded, 14);
+    set_mode(&mut modes, neighbours, constrained_intra_pred, coded, 15);
     modes
 }

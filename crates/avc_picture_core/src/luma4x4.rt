@@ -11,7 +11,7 @@ ghost use Rattle.avc_transform.specs.MacroblockResidual.{luma_residual};
 ghost use Rattle.avc_plane.specs.Plane.{with_block};
 ghost use Rattle.avc_intra.specs.Luma4x4.{can_predict4x4, intra4x4, mode4x4_of};
 ghost use Rattle.avc_picture_core.specs.Built.{Place, mode_number, seen_from, sum_of};
-ghost use Rattle.avc_picture_core.specs.Built.{with_blocks4x4};
+ghost use Rattle.avc_picture_core.specs.Built.{with_block4x4, with_blocks4x4};
 ghost use Rattle.avc_picture_core.specs.Nxn.{IsNxnAt};
 ghost use Rattle.avc_picture_core.specs.Sides.{AreInside, readable_sides};
 
@@ -85,7 +85,37 @@ fn build_block<const PAD: usize>(
     add_block4x4(plane, left, top, levels, qp);
 }
 
-/// Builds all blocks.
+/// Builds block `k`.
+// where a part of its number is known, little of its place and its sides is left to be computed
+#[inline(always)]
+fn build_numbered<const PAD: usize>(
+    plane: &mut Plane<PAD>,
+    place: MbPlace,
+    readable: ReadableNeighbours,
+    modes: &[NearMode; 16],
+    levels: &BlockLevels<16>,
+    qp: u8,
+    k: usize,
+)
+    requires columns { 16 * place.column + 16 ≤ plane.old.width }
+    requires rows { 16 * place.row + 16 ≤ plane.old.height }
+    requires number { k < 16 }
+    requires quantiser { qp ≤ 51 }
+    requires levels { IsResidual (residual_of [] levels.now) }
+    requires modes { All IsMode modes.now }
+    requires sides { (j : ℕ) → j < 16 → can_predict4x4 (readable_sides readable j) (mode4x4_of (mode_number (slice_index_or modes.now j absent))) ≡ true }
+    ensures size { (plane.new.width ≡ plane.old.width) × (plane.new.height ≡ plane.old.height) }
+    ensures block { (p : Place) → IsNxnAt place.column place.row plane.old.width readable modes.now qp (residual_of [] levels.now) p →
+        plane.new ≡ with_block4x4 p k plane.old }
+{
+    let left = first_column(plane, 16, place.column) + left_of_block(k);
+    let top = first_row(plane, 16, place.row) + top_of_block(k);
+    let mode = mode4x4(modes[k]);
+    let sides = readable.sides(k);
+    build_block(plane, left, top, sides, mode, &levels.luma[k], qp);
+}
+
+/// Builds all blocks, quarter by quarter.
 pub(crate) fn build_luma4x4<const PAD: usize>(
     plane: &mut Plane<PAD>,
     place: MbPlace,
@@ -104,20 +134,11 @@ pub(crate) fn build_luma4x4<const PAD: usize>(
     ensures blocks { (p : Place) → IsNxnAt place.column place.row plane.old.width readable modes.now qp (residual_of [] levels.now) p →
         plane.new ≡ with_blocks4x4 p 16 plane.old }
 {
-    let column = first_column(plane, 16, place.column);
-    let row = first_row(plane, 16, place.row);
-    for k in 0..16 {
-        let left = column + left_of_block(k);
-        let top = row + top_of_block(k);
-        let mode = mode4x4(modes[k]);
-        build_block(
-            plane,
-            left,
-            top,
-            readable.sides(k),
-            mode,
-            &levels.luma[k],
-            qp,
-        );
+    for quarter in 0..4 {
+        let first = 4 * quarter;
+        build_numbered(plane, place, readable, modes, levels, qp, first);
+        build_numbered(plane, place, readable, modes, levels, qp, first + 1);
+        build_numbered(plane, place, readable, modes, levels, qp, first + 2);
+        build_numbered(plane, place, readable, modes, levels, qp, first + 3);
     }
 }

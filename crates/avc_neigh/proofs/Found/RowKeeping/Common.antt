@@ -17,7 +17,7 @@ pub use Rattle.std.specs.Option.{option_map, option_copied}
 pub use Rattle.avc_types.specs.Macroblock.{Mb}
 pub use Rattle.avc_types.specs.Pictures.{PicMb, Coded}
 pub use Rattle.avc_neigh.specs.Around.{PictureInfo, back, of_slice, mb_a, mb_b, mb_c, mb_d, Around, around, info_of}
-pub use Rattle.avc_neigh.specs.BlockNear.{block_of, block_near, IsAsked, mode_near, HasModes, ModesAreAround, AreNxnModes}
+pub use Rattle.avc_neigh.specs.BlockNear.{block_of, block_near, IsAsked, mode_near, mode_of_block, prediction_near, HasModes, ModesAreAround, AreNxnModes}
 pub use Rattle.avc_neigh.specs.Blocks.{Location, location_in, location_at, block_at, same_slice, slices_equal, in_slice, at_location, block_x, block_y}
 pub use Rattle.avc_neigh.specs.Laws.{BlocksAreFound, InfoTell, IsNext, TellSlices, AvailabilityIsFound, TotalCoeffsAreFound, holds_of, is_there_by}
 pub use Rattle.avc_neigh.specs.Laws.{is_there_near}

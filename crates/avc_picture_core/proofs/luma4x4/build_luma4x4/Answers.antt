@@ -1,37 +1,35 @@
-use Rattle.avc_picture_core.proofs.InterTiles.{get_or_default, ◌≡◌, ◌+◌, ◌*◌, [], suc, slice_index_or, ap, sym, ◌∙◌, arith, rules, block_x, block_y, absent}
-use Rattle.avc_picture_core.proofs.InterTiles.{mode4x4_of, residual4x4, mode_number, with_block4x4, with_blocks4x4, AreInside, nxn_block, nxn_residual}
-use Rattle.avc_types.specs.MacroblockFields.{residual_of}
+use Rattle.avc_picture_core.proofs.InterTiles.{◌≡◌, ◌+◌, ◌*◌, ℕ, suc, Place, Plane, with_block4x4, with_blocks4x4, arith, ap, sym, ◌∙◌}
 use Rattle.avc_picture_core.proofs.luma4x4.build_luma4x4.Goals as goal
 
-pub loop-k-preserved : goal.loop-k-preserved
-loop-k-preserved g c =
-    let k = c.loop-k.k in
-    let inv = c.loop-k.invariant in
-    let s = c.args.plane.now in
-    let cur = c.loop-k.plane in
-    let left = c.first_column-column.result + c.left_of_block.result in
-    let top = c.first_row-row.result + c.top_of_block.result in
-    let blocks = c.args.levels.now.luma in
-    let levels = slice_index_or blocks k c.index-levels-k.result in
-    let mine : slice_index_or blocks k [] ≡ levels = get_or_default blocks k [] c.index-levels-k.result (search rules) in
-    let f = residual4x4 c.args.qp levels in
-    let at_left : left ≡ 16 * c.args.place.column + block_x k = omega (arith, inv.left, c.left_of_block.ensures.value) in
-    let at_top : top ≡ 16 * c.args.place.row + block_y k = omega (arith, inv.top, c.top_of_block.ensures.value) in
-    let next : suc k ≡ k + 1 = omega arith in
+-- four blocks more
+four_blocks : (p : Place) (q : ℕ) (s s0 s1 s2 s3 s4 : Plane) → s0 ≡ with_blocks4x4 p (4 * q) s → s1 ≡ with_block4x4 p (4 * q) s0
+    → s2 ≡ with_block4x4 p (4 * q + 1) s1 → s3 ≡ with_block4x4 p (4 * q + 2) s2 → s4 ≡ with_block4x4 p (4 * q + 3) s3
+    → s4 ≡ with_blocks4x4 p (4 * (q + 1)) s
+four_blocks p q s s0 s1 s2 s3 s4 e0 e1 e2 e3 e4 =
+    let a = 4 * q in
+    let n1 : a + 1 ≡ suc a = omega arith in
+    let n2 : a + 2 ≡ suc (suc a) = omega arith in
+    let n3 : a + 3 ≡ suc (suc (suc a)) = omega arith in
+    let n4 : 4 * (q + 1) ≡ suc (suc (suc (suc a))) = omega arith in
+    let f1 : s1 ≡ with_blocks4x4 p (suc a) s = e1 ∙ ap (with_block4x4 p a) e0 in
+    let f2 : s2 ≡ with_blocks4x4 p (suc (suc a)) s = e2 ∙ ap (λ n. with_block4x4 p n s1) n1 ∙ ap (with_block4x4 p (suc a)) f1 in
+    let f3 : s3 ≡ with_blocks4x4 p (suc (suc (suc a))) s = e3 ∙ ap (λ n. with_block4x4 p n s2) n2 ∙ ap (with_block4x4 p (suc (suc a))) f2 in
+    e4 ∙ ap (λ n. with_block4x4 p n s3) n3 ∙ ap (with_block4x4 p (suc (suc (suc a)))) f3 ∙ sym (ap (λ n. with_blocks4x4 p n s) n4)
+
+pub loop-quarter-preserved : goal.loop-quarter-preserved
+loop-quarter-preserved g c =
+    let inv = c.loop-quarter.invariant in
+    let b = c.build_numbered.ensures in
+    let b2 = c.build_numbered-in-loop-quarter.ensures in
+    let b3 = c.build_numbered-in-loop-quarter-2.ensures in
+    let b4 = c.build_numbered-in-loop-quarter-3.ensures in
+    let wide = b.size.0 ∙ inv.wide in
+    let wide2 = b2.size.0 ∙ wide in
+    let wide3 = b3.size.0 ∙ wide2 in
     record {
-      wide = c.build_block.ensures.size.0 ∙ inv.wide;
-      high = c.build_block.ensures.size.1 ∙ inv.high;
-      left = inv.left;
-      top = inv.top;
+      wide = b4.size.0 ∙ wide3;
+      high = b4.size.1 ∙ b3.size.1 ∙ b2.size.1 ∙ b.size.1 ∙ inv.high;
       done = λ p at.
-          let within : AreInside left top cur.width c.sides.result =
-          rw (c.sides.ensures, inv.wide, at_top, at_left) (at.may_read.inside k c.loop-k-test.true) in
-          c.build_block.ensures.block within
-          ∙ nxn_block p k cur left top c.sides.result c.mode4x4-mode.result f
-          (ap (λ n. n + block_x k) at.left ∙ sym at_left) (ap (λ n. n + block_y k) at.top ∙ sym at_top)
-          (at.may_read.sides k c.loop-k-test.true ∙ sym c.sides.ensures)
-          (ap (λ l. mode4x4_of (mode_number (slice_index_or l k absent))) at.modes_are ∙ sym c.mode4x4-mode.ensures)
-          (λ x y column row. nxn_residual c.args.qp k (residual_of [] c.args.levels.now) levels c.loop-k-test.true mine x y column row ∙ sym (at.residual_is (block_x k + x) (block_y k + y)))
-          ∙ ap (with_block4x4 p k) (inv.done p at)
-          ∙ ap (λ n. with_blocks4x4 p n s) next;
+          four_blocks p c.loop-quarter.quarter c.args.plane.now c.loop-quarter.plane c.build_numbered.new.plane c.build_numbered-in-loop-quarter.new.plane c.build_numbered-in-loop-quarter-2.new.plane c.build_numbered-in-loop-quarter-3.new.plane
+          (inv.done p at) (b.block p (rw inv.wide at)) (b2.block p (rw wide at)) (b3.block p (rw wide2 at)) (b4.block p (rw wide3 at));
     }

@@ -2,11 +2,9 @@ use Rattle.avc_picture_core.proofs.InterTiles.{◌≡◌, [], ◌*◌, Place, wi
 use Rattle.avc_types.specs.MacroblockFields.{residual_of}
 use Rattle.avc_picture_core.proofs.luma4x4.build_luma4x4.Given as goal
 
-abbrev pub invariant-loop-k : goal.invariant-loop-k
-invariant-loop-k g l = record {
+abbrev pub invariant-loop-quarter : goal.invariant-loop-quarter
+invariant-loop-quarter g l = record {
   wide : l.plane.width ≡ l.fn.plane.width;
   high : l.plane.height ≡ l.fn.plane.height;
-  left : l.column ≡ 16 * l.fn.place.column;
-  top : l.row ≡ 16 * l.fn.place.row;
-  done : (p : Place) → IsNxnAt l.fn.place.column l.fn.place.row l.fn.plane.width l.readable l.modes l.qp (residual_of [] l.levels) p → l.plane ≡ with_blocks4x4 p l.k l.fn.plane;
+  done : (p : Place) → IsNxnAt l.fn.place.column l.fn.place.row l.fn.plane.width l.readable l.modes l.qp (residual_of [] l.levels) p → l.plane ≡ with_blocks4x4 p (4 * l.quarter) l.fn.plane;
 }
