@@ -184,6 +184,30 @@ fn add_block4x4_with_dc<const PAD: usize>(
     }
 }
 
+/// Adds the residual of luma block `k` of a macroblock.
+// where a part of its number is known, little of its place is left to be computed
+#[inline(always)]
+fn add_numbered<const PAD: usize>(
+    plane: &mut Plane<PAD>,
+    place: MbPlace,
+    levels: &[Levels<16>; 16],
+    qp: u8,
+    k: usize,
+)
+    requires columns { 16 * place.column + 16 ≤ plane.old.width }
+    requires rows { 16 * place.row + 16 ≤ plane.old.height }
+    requires number { k < 16 }
+    requires quantiser { qp ≤ 51 }
+    requires levels { All AreSmall levels.now }
+    ensures size { (plane.new.width ≡ plane.old.width) × (plane.new.height ≡ plane.old.height) }
+    ensures block { plane.new ≡ with_residual plane.old (16 * place.column + block_x k) (16 * place.row + block_y k) 4 4
+        (residual4x4 qp (slice_index_or levels.now k [])) }
+{
+    let left = first_column(plane, 16, place.column) + left_of_block(k);
+    let top = first_row(plane, 16, place.row) + top_of_block(k);
+    add_block4x4(plane, left, top, &levels[k], qp);
+}
+
 /// Adds the luma residual to a macroblock whose blocks have all their levels (8.5.1).
 pub(crate) fn add_luma_residual<const PAD: usize>(
     plane: &mut Plane<PAD>,
@@ -198,12 +222,12 @@ pub(crate) fn add_luma_residual<const PAD: usize>(
     ensures { plane.new ≡ with_residual plane.old (16 * place.column) (16 * place.row) 16 16 (luma_residual qp (residual_of [] levels.now)) }
 {
     plane.holds_bytes();
-    let column = first_column(plane, 16, place.column);
-    let row = first_row(plane, 16, place.row);
-    for k in 0..16 {
-        let left = column + left_of_block(k);
-        let top = row + top_of_block(k);
-        add_block4x4(plane, left, top, &levels.luma[k], qp);
+    for quarter in 0..4 {
+        let first = 4 * quarter;
+        add_numbered(plane, place, &levels.luma, qp, first);
+        add_numbered(plane, place, &levels.luma, qp, first + 1);
+        add_numbered(plane, place, &levels.luma, qp, first + 2);
+        add_numbered(plane, place, &levels.luma, qp, first + 3);
     }
 }
 
