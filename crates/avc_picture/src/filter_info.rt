@@ -88,12 +88,16 @@ fn set_pictures(pictures: &mut [u8; 4], motion: &[Motion; 16], frame_numbers: &[
     }
 }
 
-fn vector(motion: Motion) -> Mv
-    ensures { result ≡ motions.vector_of motion }
+const NO_VECTOR: Mv = Mv { x: 0, y: 0 };
+
+/// The vector of a block, where it stands: so it is copied at once, and not one component after
+/// the other.
+fn vector(motion: &Motion) -> &Mv
+    ensures { result.now ≡ motions.vector_of motion.now }
 {
     match motion {
         Motion::Inter { mv, .. } => mv,
-        Motion::Absent | Motion::Intra => Mv { x: 0, y: 0 },
+        Motion::Absent | Motion::Intra => &NO_VECTOR,
     }
 }
 
@@ -104,7 +108,7 @@ fn set_vectors(vectors: &mut [Mv; 16], motion: &[Motion; 16])
     ensures { vectors.new ≡ map motions.vector_of motion.now }
 {
     for k in 0..BLOCKS {
-        vectors[k] = vector(motion[k]);
+        vectors[k] = *vector(&motion[k]);
     }
 }
 
@@ -123,7 +127,7 @@ fn set_motion(
 {
     if has_one_motion {
         *pictures = [frame_number(motion[0], frame_numbers); 4];
-        *vectors = [vector(motion[0]); 16];
+        *vectors = [*vector(&motion[0]); 16];
     } else {
         set_pictures(pictures, motion, frame_numbers);
         set_vectors(vectors, motion);
