@@ -36,9 +36,10 @@ fn twice_rounded(e: u8, f: u8, g: u8, h: u8, i: u8, j: u8) -> i16
     ensures low { neg_ℤ (pos 5068) ≤ℤ result }
     ensures high { result ≤ℤ pos 21452 }
 {
-    let above = 2 * (u16::from(e) + u16::from(j)) + 40 * (u16::from(g) + u16::from(h)) + 32;
-    let below = 10 * (u16::from(f) + u16::from(i));
-    above as i16 - below as i16
+    let outer = u16::from(e) + u16::from(j) + 16;
+    let middle = u16::from(f) + u16::from(i);
+    let inner = 4 * (u16::from(g) + u16::from(h));
+    10 * (inner as i16 - middle as i16) + (2 * outer) as i16
 }
 
 /// The half sample of its sum.
