@@ -59,10 +59,18 @@ index_b_of qp = threshold_index ((qp.p + qp.q + 1) / 2) qp.offset_b
 abbrev pub tc1_of : (strength index : ℕ) → ℕ
 tc1_of strength index = if strength == 0 then 0 else tc0_of strength index + 1
 
+-- what is asked of one line stands at each of sixteen lines, and tc1_of by strength in the first four bytes of sixteen
+pub record AreSpread (l : QpLimits) : Type 0 where
+  pub low : l.index_a < 52
+  pub alpha : (k : ℕ) → k < 16 → slice_index l.lines.alpha1 k ≡ l.alpha1
+  pub beta : (k : ℕ) → k < 16 → slice_index l.lines.beta1 k ≡ l.beta1
+  pub tc1 : (k : ℕ) → k < 4 → slice_index l.lines.tc1 k ≡ tc1_of k l.index_a
+  pub tc1_small : (k : ℕ) → k < 16 → slice_index l.lines.tc1 k ≤ 26
+
 -- what all lines between two QPs are filtered with (8.7.2.2)
 pub record AreLimits (l : QpLimits) (qp : EdgeQp) : Type 0 where
   pub index : l.index_a ≡ index_a_of qp
-  pub low : l.index_a < 52
+  pub spread : AreSpread l
   pub alpha : l.is_on ≡ true → l.alpha1 + 1 ≡ alpha_of (index_a_of qp)
   pub beta : l.is_on ≡ true → l.beta1 + 1 ≡ beta_of (index_b_of qp)
   pub off : l.is_on ≡ false → (alpha_of (index_a_of qp) == 0 || beta_of (index_b_of qp) == 0) ≡ true

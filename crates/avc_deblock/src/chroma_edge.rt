@@ -4,7 +4,7 @@ ghost use Rattle.std.specs.Prelude.{◌≡◌, ℕ, ◌+◌, ◌*◌, ◌<◌, �
 ghost use Rattle.avc_deblock.specs.Line.{filtered};
 ghost use Rattle.avc_deblock.specs.Rows.{line_near, IsNearSet};
 ghost use Rattle.avc_deblock.specs.OneEdge.{edge_filtered, chroma_setting, strength_along};
-ghost use Rattle.avc_deblock.specs.OneEdge.{AreStrengths, AreLimits};
+ghost use Rattle.avc_deblock.specs.OneEdge.{AreStrengths, AreLimits, AreSpread};
 ghost use Rattle.avc_deblock.specs.declared.edge_strengths.Strengths.TheVariants.{Four, BelowFour};
 ghost use Rattle.avc_deblock.specs.declared.thresholds.EdgeQp.{EdgeQp as Qps};
 
@@ -20,14 +20,14 @@ use avc_plane::Plane;
 fn filter_below_four(t: &mut [u8; 128], from: usize, strengths: &[u8; 4], limits: &QpLimits)
     requires room { from + 64 ≤ 128 }
     requires on { limits.now.is_on ≡ true }
-    requires index { limits.now.index_a < 52 }
+    requires spread { AreSpread limits.now }
     requires strengths { (k : ℕ) → k < 4 → slice_index strengths.now k < 4 }
     ensures lines { (qp : Qps) → AreLimits limits.now qp → (p3 p2 q2 q3 b i : ℕ) → b < 2 → i < 8 →
         filtered (chroma_setting (strength_along (BelowFour strengths.now)) qp i) (line_near p3 p2 q2 q3 t.old from (8 * b + i))
         ≡ line_near p3 p2 q2 q3 t.new from (8 * b + i) }
     ensures others { IsNearSet from t.old t.new }
 {
-    let tc1 = chroma_tc1s(strengths, limits.index_a);
+    let tc1 = chroma_tc1s(strengths, limits);
     weak_chroma(t, from, &limits.weak(&tc1));
 }
 
@@ -36,6 +36,7 @@ fn filter_below_four(t: &mut [u8; 128], from: usize, strengths: &[u8; 4], limits
 fn filter_at_four(t: &mut [u8; 128], from: usize, limits: &QpLimits)
     requires room { from + 64 ≤ 128 }
     requires on { limits.now.is_on ≡ true }
+    requires spread { AreSpread limits.now }
     ensures lines { (qp : Qps) → AreLimits limits.now qp → (p3 p2 q2 q3 b i : ℕ) → b < 2 → i < 8 →
         filtered (chroma_setting (strength_along Four) qp i) (line_near p3 p2 q2 q3 t.old from (8 * b + i))
         ≡ line_near p3 p2 q2 q3 t.new from (8 * b + i) }
@@ -49,7 +50,7 @@ fn filter_at_four(t: &mut [u8; 128], from: usize, limits: &QpLimits)
 fn filter_chroma(t: &mut [u8; 128], from: usize, strengths: &Strengths, limits: &QpLimits)
     requires room { from + 64 ≤ 128 }
     requires on { limits.now.is_on ≡ true }
-    requires index { limits.now.index_a < 52 }
+    requires spread { AreSpread limits.now }
     requires strengths { AreStrengths strengths.now }
     ensures lines { (qp : Qps) → AreLimits limits.now qp → (p3 p2 q2 q3 b i : ℕ) → b < 2 → i < 8 →
         filtered (chroma_setting (strength_along strengths.now) qp i) (line_near p3 p2 q2 q3 t.old from (8 * b + i))
@@ -78,7 +79,7 @@ pub(crate) fn vertical_chroma<const PAD: usize>(
     requires cb_rows { top + 8 ≤ cb.old.height }
     requires cr_columns { left + 8 ≤ cr.old.width }
     requires cr_rows { top + 8 ≤ cr.old.height }
-    requires index { limits.now.index_a < 52 }
+    requires spread { AreSpread limits.now }
     requires strengths { AreStrengths strengths.now }
     ensures cb { (qp : Qps) → AreLimits limits.now qp → cb.new ≡ edge_filtered (chroma_setting (strength_along strengths.now) qp) true (left + 4) top 8 cb.old }
     ensures cr { (qp : Qps) → AreLimits limits.now qp → cr.new ≡ edge_filtered (chroma_setting (strength_along strengths.now) qp) true (left + 4) top 8 cr.old }
@@ -116,10 +117,10 @@ pub(crate) fn two_vertical_chroma<const PAD: usize>(
     requires cr_columns { left + 12 ≤ cr.old.width }
     requires cr_rows { top + 8 ≤ cr.old.height }
     requires first_on { first_limits.now.is_on ≡ true }
-    requires first_index { first_limits.now.index_a < 52 }
+    requires first_spread { AreSpread first_limits.now }
     requires first_strengths { AreStrengths first.now }
     requires second_on { second_limits.now.is_on ≡ true }
-    requires second_index { second_limits.now.index_a < 52 }
+    requires second_spread { AreSpread second_limits.now }
     requires second_strengths { AreStrengths second.now }
     ensures cb { (qp next : Qps) → AreLimits first_limits.now qp → AreLimits second_limits.now next → cb.new
         ≡ edge_filtered (chroma_setting (strength_along second.now) next) true (left + 8) top 8
@@ -158,7 +159,7 @@ fn weak_horizontal<const PAD: usize>(
     requires cr_columns { left + 8 ≤ cr.old.width }
     requires cr_rows { top + 8 ≤ cr.old.height }
     requires on { limits.now.is_on ≡ true }
-    requires index { limits.now.index_a < 52 }
+    requires spread { AreSpread limits.now }
     requires strengths { (k : ℕ) → k < 4 → slice_index strengths.now k < 4 }
     ensures cb { (qp : Qps) → AreLimits limits.now qp →
         cb.new ≡ edge_filtered (chroma_setting (strength_along (BelowFour strengths.now)) qp) false left (top + 4) 8 cb.old }
@@ -190,7 +191,7 @@ fn strong_horizontal<const PAD: usize>(
     requires cr_columns { left + 8 ≤ cr.old.width }
     requires cr_rows { top + 8 ≤ cr.old.height }
     requires on { limits.now.is_on ≡ true }
-    requires index { limits.now.index_a < 52 }
+    requires spread { AreSpread limits.now }
     ensures cb { (qp : Qps) → AreLimits limits.now qp →
         cb.new ≡ edge_filtered (chroma_setting (strength_along Four) qp) false left (top + 4) 8 cb.old }
     ensures cr { (qp : Qps) → AreLimits limits.now qp →
@@ -222,7 +223,7 @@ pub(crate) fn horizontal_chroma<const PAD: usize>(
     requires cb_rows { top + 8 ≤ cb.old.height }
     requires cr_columns { left + 8 ≤ cr.old.width }
     requires cr_rows { top + 8 ≤ cr.old.height }
-    requires index { limits.now.index_a < 52 }
+    requires spread { AreSpread limits.now }
     requires strengths { AreStrengths strengths.now }
     ensures cb { (qp : Qps) → AreLimits limits.now qp →
         cb.new ≡ edge_filtered (chroma_setting (strength_along strengths.now) qp) false left (top + 4) 8 cb.old }

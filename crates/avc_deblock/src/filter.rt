@@ -10,6 +10,7 @@ ghost use Rattle.avc_deblock.specs.OneEdge.{HasRoom};
 ghost use Rattle.avc_deblock.specs.FilterInfo.{Names, HaveInfo};
 ghost use Rattle.avc_deblock.specs.ByInfo.{row_by_info};
 
+use crate::kept::Kept;
 use crate::macroblock::macroblock;
 use crate::mb_info::MbInfo;
 use crate::planes_edge::Place;
@@ -31,6 +32,15 @@ pub fn row<const PAD: usize>(
 {
     let _columns = planes.luma.width();
     let _rows = planes.luma.height();
+    if info.is_empty() {
+        return;
+    }
+    let first = Place {
+        column: 0,
+        row,
+        chroma_qp_index_offset,
+    };
+    let mut kept = Kept::of(&info[0], first);
     for column in 0..info.len() {
         let left = &info[column.max(1) - 1];
         macroblock(
@@ -38,6 +48,7 @@ pub fn row<const PAD: usize>(
             &info[column],
             left,
             &above[column],
+            &mut kept,
             Place {
                 column,
                 row,

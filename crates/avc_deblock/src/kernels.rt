@@ -3,7 +3,7 @@
 ghost use Rattle.std.specs.Prelude.{◌≡◌, ℕ, ◌+◌, ◌/◌, ◌<◌, ◌≤◌, slice_index, true, false};
 ghost use Rattle.avc_deblock.specs.Line.{Setting};
 ghost use Rattle.avc_deblock.specs.Rows.{IsStrong};
-ghost use Rattle.avc_deblock.specs.OneEdge.{edge_filtered, FitsWeak};
+ghost use Rattle.avc_deblock.specs.OneEdge.{edge_filtered, AreSpread, FitsWeak};
 
 use crate::block::{columns, rows_of, rows_of_middle, strong_luma, weak_luma};
 use crate::pair::half;
@@ -23,7 +23,7 @@ fn weak_horizontal<const PAD: usize>(
     requires columns { left + 16 ≤ plane.old.width }
     requires rows { top + 8 ≤ plane.old.height }
     requires strengths { (k : ℕ) → k < 4 → slice_index strengths.now k < 4 }
-    requires index { limits.now.index_a < 52 }
+    requires spread { AreSpread limits.now }
     ensures width { plane.new.width ≡ plane.old.width }
     ensures height { plane.new.height ≡ plane.old.height }
     ensures lines { (setting : ℕ → Setting) → ((i : ℕ) → i < 16 → FitsWeak true limits.now (slice_index strengths.now (i / 4)) (setting i)) →
@@ -31,7 +31,7 @@ fn weak_horizontal<const PAD: usize>(
 {
     let _rows = plane.height();
     let mut lines = plane.rectangle::<16, 8, 128>(left, top);
-    let tc1 = luma_tc1s(strengths, limits.index_a);
+    let tc1 = luma_tc1s(strengths, limits);
     weak_luma(&mut lines, &limits.weak(&tc1));
     let inner = half(&lines, 32);
     plane.set_rectangle::<16, 4, 64>(left, top + 2, &inner);
@@ -50,7 +50,7 @@ fn weak_vertical<const PAD: usize>(
     requires columns { left + 8 ≤ plane.old.width }
     requires rows { top + 16 ≤ plane.old.height }
     requires strengths { (k : ℕ) → k < 4 → slice_index strengths.now k < 4 }
-    requires index { limits.now.index_a < 52 }
+    requires spread { AreSpread limits.now }
     ensures width { plane.new.width ≡ plane.old.width }
     ensures height { plane.new.height ≡ plane.old.height }
     ensures lines { (setting : ℕ → Setting) → ((i : ℕ) → i < 16 → FitsWeak true limits.now (slice_index strengths.now (i / 4)) (setting i)) →
@@ -59,7 +59,7 @@ fn weak_vertical<const PAD: usize>(
     let _columns = plane.width();
     let block = plane.rectangle::<8, 16, 128>(left, top);
     let mut lines = columns(&block);
-    let tc1 = luma_tc1s(strengths, limits.index_a);
+    let tc1 = luma_tc1s(strengths, limits);
     weak_luma(&mut lines, &limits.weak(&tc1));
     let after = rows_of_middle(&lines);
     plane.set_rectangle::<4, 16, 64>(left + 2, top, &after);
@@ -75,6 +75,7 @@ pub(crate) fn strong_horizontal<const PAD: usize>(
 )
     requires columns { left + 16 ≤ plane.old.width }
     requires rows { top + 8 ≤ plane.old.height }
+    requires spread { AreSpread limits.now }
     ensures { (setting : ℕ → Setting) → ((i : ℕ) → i < 16 → IsStrong true (setting i) (limits.now.alpha1 + 1) (limits.now.beta1 + 1)) →
         plane.new ≡ edge_filtered setting false left (top + 4) 16 plane.old }
 {
@@ -93,6 +94,7 @@ pub(crate) fn strong_vertical<const PAD: usize>(
 )
     requires columns { left + 8 ≤ plane.old.width }
     requires rows { top + 16 ≤ plane.old.height }
+    requires spread { AreSpread limits.now }
     ensures { (setting : ℕ → Setting) → ((i : ℕ) → i < 16 → IsStrong true (setting i) (limits.now.alpha1 + 1) (limits.now.beta1 + 1)) →
         plane.new ≡ edge_filtered setting true (left + 4) top 16 plane.old }
 {
@@ -115,7 +117,7 @@ pub(crate) fn one_horizontal<const PAD: usize>(
     requires columns { left + 16 ≤ plane.old.width }
     requires rows { top + 8 ≤ plane.old.height }
     requires strengths { (k : ℕ) → k < 4 → slice_index strengths.now k < 4 }
-    requires index { limits.now.index_a < 52 }
+    requires spread { AreSpread limits.now }
     ensures { (setting : ℕ → Setting) → ((i : ℕ) → i < 16 → FitsWeak true limits.now (slice_index strengths.now (i / 4)) (setting i)) →
         plane.new ≡ edge_filtered setting false left (top + 4) 16 plane.old }
 {
@@ -134,7 +136,7 @@ pub(crate) fn one_vertical<const PAD: usize>(
     requires columns { left + 8 ≤ plane.old.width }
     requires rows { top + 16 ≤ plane.old.height }
     requires strengths { (k : ℕ) → k < 4 → slice_index strengths.now k < 4 }
-    requires index { limits.now.index_a < 52 }
+    requires spread { AreSpread limits.now }
     ensures { (setting : ℕ → Setting) → ((i : ℕ) → i < 16 → FitsWeak true limits.now (slice_index strengths.now (i / 4)) (setting i)) →
         plane.new ≡ edge_filtered setting true (left + 4) top 16 plane.old }
 {
@@ -154,7 +156,7 @@ pub(crate) fn three_horizontal<const PAD: usize>(
     requires columns { left + 16 ≤ plane.old.width }
     requires rows { top + 16 ≤ plane.old.height }
     requires strengths { (k : ℕ) → k < 4 → slice_index strengths.now k < 4 }
-    requires index { limits.now.index_a < 52 }
+    requires spread { AreSpread limits.now }
     ensures { (setting : ℕ → Setting) → ((i : ℕ) → i < 16 → FitsWeak true limits.now (slice_index strengths.now (i / 4)) (setting i)) →
         plane.new ≡ edge_filtered setting false left (top + 12) 16
         (edge_filtered setting false left (top + 8) 16 (edge_filtered setting false left (top + 4) 16 plane.old)) }
@@ -177,7 +179,7 @@ pub(crate) fn three_vertical<const PAD: usize>(
     requires columns { left + 16 ≤ plane.old.width }
     requires rows { top + 16 ≤ plane.old.height }
     requires strengths { (k : ℕ) → k < 4 → slice_index strengths.now k < 4 }
-    requires index { limits.now.index_a < 52 }
+    requires spread { AreSpread limits.now }
     ensures { (setting : ℕ → Setting) → ((i : ℕ) → i < 16 → FitsWeak true limits.now (slice_index strengths.now (i / 4)) (setting i)) →
         plane.new ≡ edge_filtered setting true (left + 12) top 16
         (edge_filtered setting true (left + 8) top 16 (edge_filtered setting true (left + 4) top 16 plane.old)) }

@@ -8,6 +8,7 @@ mod chroma_edge;
 mod edge_strengths;
 mod filter;
 mod horizontal_edges;
+mod kept;
 mod kernels;
 pub mod laws;
 mod line;

@@ -4,6 +4,7 @@ ghost use Rattle.std.specs.Prelude.{◌≡◌, ℕ, ◌+◌, ◌-◌, ◌/◌, �
 ghost use Rattle.std.specs.Prelude.{if◌then◌else◌, slice_index};
 ghost use Rattle.avc_deblock.specs.Line.{Setting, filtered};
 ghost use Rattle.avc_deblock.specs.Rows.{line_of_rows, line_within, line_inside, IsWeak, IsStrong};
+ghost use Rattle.avc_deblock.specs.OneEdge.{AreSpread};
 
 use crate::bytes::less;
 use crate::line::{strong_chroma_line, strong_line, weak_chroma_line, weak_line};
@@ -79,14 +80,15 @@ impl QpLimits {
     /// Those of sixteen lines; `tc1` is one more than tC0, or 0 where nothing is filtered.
     #[inline(always)]
     pub(crate) fn weak(&self, tc1: &[u8; 16]) -> Limits
+        requires { AreSpread self.now }
         ensures alpha { (k : ℕ) → k < 16 → slice_index result.alpha1 k ≡ self.now.alpha1 }
         ensures beta { (k : ℕ) → k < 16 → slice_index result.beta1 k ≡ self.now.beta1 }
         ensures dead { (k : ℕ) → k < 16 → slice_index result.dead k ≡ 1 - slice_index tc1.now k }
         ensures tc0 { (k : ℕ) → k < 16 → slice_index result.tc0 k ≡ slice_index tc1.now k - 1 }
     {
         Limits {
-            alpha1: repeated(self.alpha1),
-            beta1: repeated(self.beta1),
+            alpha1: self.lines.alpha1,
+            beta1: self.lines.beta1,
             dead: deads(tc1),
             tc0: tc0s(tc1),
         }
@@ -95,13 +97,14 @@ impl QpLimits {
     /// Those of sixteen lines at strength 4.
     #[inline(always)]
     pub(crate) fn strong(&self) -> StrongLimits
+        requires { AreSpread self.now }
         ensures alpha { (k : ℕ) → k < 16 → slice_index result.alpha1 k ≡ self.now.alpha1 }
         ensures beta { (k : ℕ) → k < 16 → slice_index result.beta1 k ≡ self.now.beta1 }
         ensures small { (k : ℕ) → k < 16 → slice_index result.small1 k ≡ (slice_index result.alpha1 k + 1) / 4 + 1 }
     {
         StrongLimits {
-            alpha1: repeated(self.alpha1),
-            beta1: repeated(self.beta1),
+            alpha1: self.lines.alpha1,
+            beta1: self.lines.beta1,
             small1: repeated(((u16::from(self.alpha1) + 1) / 4 + 1) as u8),
         }
     }

@@ -2,7 +2,7 @@
 
 ghost use Rattle.std.specs.Prelude.{◌≡◌, ℕ, ◌+◌, ◌<◌, ◌≤◌, true, false, slice_index};
 ghost use Rattle.avc_deblock.specs.OneEdge.{edge_filtered, luma_setting, strength_along};
-ghost use Rattle.avc_deblock.specs.OneEdge.{AreStrengths, AreLimits};
+ghost use Rattle.avc_deblock.specs.OneEdge.{AreStrengths, AreLimits, AreSpread};
 ghost use Rattle.avc_deblock.specs.declared.edge_strengths.Strengths.TheVariants.{BelowFour};
 ghost use Rattle.avc_deblock.specs.declared.thresholds.EdgeQp.{EdgeQp as Qps};
 
@@ -27,7 +27,7 @@ pub(crate) fn vertical_luma<const PAD: usize>(
 )
     requires columns { left + 8 ≤ plane.old.width }
     requires rows { top + 16 ≤ plane.old.height }
-    requires index { limits.now.index_a < 52 }
+    requires spread { AreSpread limits.now }
     requires strengths { AreStrengths strengths.now }
     ensures { (qp : Qps) → AreLimits limits.now qp →
         plane.new ≡ edge_filtered (luma_setting (strength_along strengths.now) qp) true (left + 4) top 16 plane.old }
@@ -54,7 +54,7 @@ pub(crate) fn horizontal_luma<const PAD: usize>(
 )
     requires columns { left + 16 ≤ plane.old.width }
     requires rows { top + 8 ≤ plane.old.height }
-    requires index { limits.now.index_a < 52 }
+    requires spread { AreSpread limits.now }
     requires strengths { AreStrengths strengths.now }
     ensures { (qp : Qps) → AreLimits limits.now qp →
         plane.new ≡ edge_filtered (luma_setting (strength_along strengths.now) qp) false left (top + 4) 16 plane.old }
@@ -81,7 +81,7 @@ pub(crate) fn three_vertical_luma<const PAD: usize>(
 )
     requires columns { left + 16 ≤ plane.old.width }
     requires rows { top + 16 ≤ plane.old.height }
-    requires index { limits.now.index_a < 52 }
+    requires spread { AreSpread limits.now }
     requires strengths { (k : ℕ) → k < 4 → slice_index strengths.now k < 4 }
     ensures { (qp : Qps) → AreLimits limits.now qp → plane.new
         ≡ edge_filtered (luma_setting (strength_along (BelowFour strengths.now)) qp) true (left + 12) top 16
@@ -107,7 +107,7 @@ pub(crate) fn three_horizontal_luma<const PAD: usize>(
 )
     requires columns { left + 16 ≤ plane.old.width }
     requires rows { top + 16 ≤ plane.old.height }
-    requires index { limits.now.index_a < 52 }
+    requires spread { AreSpread limits.now }
     requires strengths { (k : ℕ) → k < 4 → slice_index strengths.now k < 4 }
     ensures { (qp : Qps) → AreLimits limits.now qp → plane.new
         ≡ edge_filtered (luma_setting (strength_along (BelowFour strengths.now)) qp) false left (top + 12) 16

@@ -2,7 +2,7 @@
 
 ghost use Rattle.std.specs.Prelude.{◌≡◌, ℕ, ◌+◌, ◌*◌, ◌^◌, ◌<◌, ◌≤◌, true, false};
 ghost use Rattle.avc_plane.specs.Frames.{planes_of};
-ghost use Rattle.avc_deblock.specs.OneEdge.{AreLimits, AreStrengths, chroma_of_edge, lines_of_edge};
+ghost use Rattle.avc_deblock.specs.OneEdge.{AreLimits, AreSpread, AreStrengths, chroma_of_edge, lines_of_edge};
 ghost use Rattle.avc_deblock.specs.OneEdge.{strength_along, HasRoom};
 ghost use Rattle.avc_deblock.specs.MbLimits.{ArePairLimits};
 ghost use Rattle.avc_deblock.specs.declared.thresholds.EdgeQp.{EdgeQp as Qps};
@@ -75,7 +75,7 @@ fn chroma_qps(p: &MbInfo, q: &MbInfo, place: Place) -> EdgeQp
 }
 
 /// Those between `p` and `q`, with the offsets of the slice of `q`.
-#[inline(always)]
+#[inline(never)]
 pub(crate) fn pair_limits(p: &MbInfo, q: &MbInfo, place: Place) -> PairLimits
     ensures { ArePairLimits result place.chroma_qp_index_offset p.now q.now }
 {
@@ -110,19 +110,6 @@ pub(crate) fn inner_limits(q: &MbInfo, place: Place) -> PairLimits
     }
 }
 
-/// What the lines between two macroblocks are filtered with, where those inside `q` are known.
-#[inline(always)]
-pub(crate) fn limits_beside(p: &MbInfo, q: &MbInfo, own: PairLimits, place: Place) -> PairLimits
-    requires { ArePairLimits own place.chroma_qp_index_offset q.now q.now }
-    ensures { ArePairLimits result place.chroma_qp_index_offset p.now q.now }
-{
-    if p.qp == q.qp {
-        own
-    } else {
-        pair_limits(p, q, place)
-    }
-}
-
 #[inline(always)]
 pub(crate) fn vertical_chroma_of<const PAD: usize>(
     cb: &mut Plane<PAD>,
@@ -140,7 +127,7 @@ pub(crate) fn vertical_chroma_of<const PAD: usize>(
     requires cb_rows { 8 * place.row + 8 ≤ cb.old.height }
     requires cr_columns { 8 * place.column + 8 ≤ cr.old.width }
     requires cr_rows { 8 * place.row + 8 ≤ cr.old.height }
-    requires index { limits.now.index_a < 52 }
+    requires spread { AreSpread limits.now }
     requires strengths { AreStrengths strengths.now }
     ensures cb { (qp : Qps) → AreLimits limits.now qp → cb.new ≡ chroma_of_edge true place.column place.row n (strength_along strengths.now) qp cb.old }
     ensures cr { (qp : Qps) → AreLimits limits.now qp → cr.new ≡ chroma_of_edge true place.column place.row n (strength_along strengths.now) qp cr.old }
@@ -168,7 +155,7 @@ fn horizontal_chroma_of<const PAD: usize>(
     requires cb_rows { 8 * place.row + 8 ≤ cb.old.height }
     requires cr_columns { 8 * place.column + 8 ≤ cr.old.width }
     requires cr_rows { 8 * place.row + 8 ≤ cr.old.height }
-    requires index { limits.now.index_a < 52 }
+    requires spread { AreSpread limits.now }
     requires strengths { AreStrengths strengths.now }
     ensures cb { (qp : Qps) → AreLimits limits.now qp → cb.new ≡ chroma_of_edge false place.column place.row n (strength_along strengths.now) qp cb.old }
     ensures cr { (qp : Qps) → AreLimits limits.now qp → cr.new ≡ chroma_of_edge false place.column place.row n (strength_along strengths.now) qp cr.old }
@@ -193,8 +180,8 @@ fn vertical<const PAD: usize>(
     requires rows_fit { 16 * place.row + 16 < 2 ^ 64 }
     requires room { HasRoom place.column place.row (planes_of planes.old) }
     requires strengths { AreStrengths strengths.now }
-    requires luma_index { limits.now.luma.index_a < 52 }
-    requires chroma_index { limits.now.chroma.index_a < 52 }
+    requires luma_spread { AreSpread limits.now.luma }
+    requires chroma_spread { AreSpread limits.now.chroma }
     ensures { (luma chroma : Qps) → AreLimits limits.now.luma luma → AreLimits limits.now.chroma chroma →
         planes_of planes.new ≡ lines_of_edge true place.column place.row n (strength_along strengths.now) luma chroma (planes_of planes.old) }
 {
@@ -230,8 +217,8 @@ fn horizontal<const PAD: usize>(
     requires rows_fit { 16 * place.row + 16 < 2 ^ 64 }
     requires room { HasRoom place.column place.row (planes_of planes.old) }
     requires strengths { AreStrengths strengths.now }
-    requires luma_index { limits.now.luma.index_a < 52 }
-    requires chroma_index { limits.now.chroma.index_a < 52 }
+    requires luma_spread { AreSpread limits.now.luma }
+    requires chroma_spread { AreSpread limits.now.chroma }
     ensures { (luma chroma : Qps) → AreLimits limits.now.luma luma → AreLimits limits.now.chroma chroma →
         planes_of planes.new ≡ lines_of_edge false place.column place.row n (strength_along strengths.now) luma chroma (planes_of planes.old) }
 {

@@ -2,11 +2,12 @@
 
 ghost use Rattle.std.specs.Prelude.{◌≡◌, ℕ, ◌+◌, ◌*◌, ◌/◌, ◌%◌, ◌<◌, ◌≤◌, slice_index};
 ghost use Rattle.avc_deblock.specs.Line.{threshold_index, alpha_of, beta_of};
-ghost use Rattle.avc_deblock.specs.OneEdge.{tc1_of, AreLimits};
+ghost use Rattle.avc_deblock.specs.OneEdge.{tc1_of, AreLimits, AreSpread};
 
 use crate::block::spread;
 use crate::bytes::less;
 use crate::line::{both, is_zero};
+use crate::lines::repeated;
 use crate::pair::spread_twice;
 use std::simd::prelude::*;
 
@@ -132,35 +133,35 @@ fn looked_up(table: &[u8; 16], places: &[u8; 16]) -> [u8; 16]
 
 /// One more than tC0 at each of sixteen strengths of 1 to 3, and 0 at strength 0.
 #[inline(always)]
-fn tc1s(strengths: &[u8; 16], index: u8) -> [u8; 16]
+fn tc1s(strengths: &[u8; 16], limits: &QpLimits) -> [u8; 16]
     requires strengths { (k : ℕ) → k < 16 → slice_index strengths.now k < 4 }
-    requires index { index < 52 }
-    ensures value { (k : ℕ) → k < 16 → slice_index result k ≡ tc1_of (slice_index strengths.now k) index }
+    requires spread { AreSpread limits.now }
+    ensures value { (k : ℕ) → k < 16 → slice_index result k ≡ tc1_of (slice_index strengths.now k) limits.now.index_a }
     ensures small { (k : ℕ) → k < 16 → slice_index result k ≤ 26 }
 {
-    looked_up(&each_tc1(index), strengths)
+    looked_up(&limits.lines.tc1, strengths)
 }
 
 /// That of each of sixteen lines of luma.
 #[inline(always)]
-pub(crate) fn luma_tc1s(strengths: &[u8; 4], index: u8) -> [u8; 16]
+pub(crate) fn luma_tc1s(strengths: &[u8; 4], limits: &QpLimits) -> [u8; 16]
     requires strengths { (k : ℕ) → k < 4 → slice_index strengths.now k < 4 }
-    requires index { index < 52 }
-    ensures value { (k : ℕ) → k < 16 → slice_index result k ≡ tc1_of (slice_index strengths.now (k / 4)) index }
+    requires spread { AreSpread limits.now }
+    ensures value { (k : ℕ) → k < 16 → slice_index result k ≡ tc1_of (slice_index strengths.now (k / 4)) limits.now.index_a }
     ensures small { (k : ℕ) → k < 16 → slice_index result k ≤ 26 }
 {
-    tc1s(&spread(strengths), index)
+    tc1s(&spread(strengths), limits)
 }
 
 /// That of each of eight lines of chroma, twice.
 #[inline(always)]
-pub(crate) fn chroma_tc1s(strengths: &[u8; 4], index: u8) -> [u8; 16]
+pub(crate) fn chroma_tc1s(strengths: &[u8; 4], limits: &QpLimits) -> [u8; 16]
     requires strengths { (k : ℕ) → k < 4 → slice_index strengths.now k < 4 }
-    requires index { index < 52 }
-    ensures value { (k : ℕ) → k < 16 → slice_index result k ≡ tc1_of (slice_index strengths.now (k % 8 / 2)) index }
+    requires spread { AreSpread limits.now }
+    ensures value { (k : ℕ) → k < 16 → slice_index result k ≡ tc1_of (slice_index strengths.now (k % 8 / 2)) limits.now.index_a }
     ensures small { (k : ℕ) → k < 16 → slice_index result k ≤ 26 }
 {
-    tc1s(&spread_twice(strengths), index)
+    tc1s(&spread_twice(strengths), limits)
 }
 
 /// What all lines between macroblocks of two QPs are filtered with (8.7.2.2).
@@ -176,6 +177,36 @@ pub(crate) struct QpLimits {
 
     /// Neither alpha nor beta is 0. Where one is, nothing is filtered.
     pub(crate) is_on: bool,
+
+    /// The same for sixteen lines at once: once made, it serves many edges.
+    pub(crate) lines: LineLimits,
+}
+
+#[derive(Clone, Copy)]
+pub(crate) struct LineLimits {
+    /// One less than alpha.
+    pub(crate) alpha1: [u8; 16],
+
+    /// One less than beta.
+    pub(crate) beta1: [u8; 16],
+
+    /// One more than tC0 at a strength of 1 to 3, and 0 at strength 0: four by strength.
+    pub(crate) tc1: [u8; 16],
+}
+
+#[inline(always)]
+fn line_limits(alpha1: u8, beta1: u8, index: u8) -> LineLimits
+    requires { index < 52 }
+    ensures alpha { (k : ℕ) → k < 16 → slice_index result.alpha1 k ≡ alpha1 }
+    ensures beta { (k : ℕ) → k < 16 → slice_index result.beta1 k ≡ beta1 }
+    ensures tc1 { (k : ℕ) → k < 4 → slice_index result.tc1 k ≡ tc1_of k index }
+    ensures tc1_small { (k : ℕ) → k < 16 → slice_index result.tc1 k ≤ 26 }
+{
+    LineLimits {
+        alpha1: repeated(alpha1),
+        beta1: repeated(beta1),
+        tc1: each_tc1(index),
+    }
 }
 
 impl EdgeQp {
@@ -199,11 +230,14 @@ impl EdgeQp {
         ensures { AreLimits result self.now }
     {
         let thresholds = self.thresholds();
+        let alpha1 = less(thresholds.alpha, 1);
+        let beta1 = less(thresholds.beta, 1);
         QpLimits {
-            alpha1: less(thresholds.alpha, 1),
-            beta1: less(thresholds.beta, 1),
+            alpha1,
+            beta1,
             index_a: thresholds.index_a,
             is_on: both(!is_zero(thresholds.alpha), !is_zero(thresholds.beta)),
+            lines: line_limits(alpha1, beta1, thresholds.index_a),
         }
     }
 }

@@ -1,4 +1,4 @@
-use Rattle.avc_deblock.proofs.FilteredPictures.{◌≡◌, ◌∙◌, ℕ, suc, ◌+◌, ◌-◌, ℤ, w8, to_z, of_z, arith, refl, ap, slice_index_or, get_or_default}
+use Rattle.avc_deblock.proofs.FilteredPictures.{◌≡◌, ◌∙◌, ℕ, suc, ◌+◌, ◌-◌, ℤ, w8, to_z, of_z, to_z-of_z, length, arith, refl, ap, slice_index_or, get_or_default}
 use Rattle.avc_deblock.proofs.FilteredPictures.{planes_of, Planes, MbInfo, mb_by_info, row_by_info, no_info}
 use Rattle.avc_deblock.proofs.filter.row.Goals as goal
 
@@ -10,7 +10,7 @@ macroblock-requires g c =
         omega (arith, h.luma_columns, c.width-columns.ensures, c.width-columns.type_inv),
         (
           omega (arith, h.luma_rows, c.height-rows.ensures, c.height-rows.type_inv),
-          c.loop-column.invariant.room c.loop-column.column c.args.row h,
+          (c.loop-column.invariant.room c.loop-column.column c.args.row h, c.loop-column.invariant.kept),
         ),
       ),
     )
@@ -23,6 +23,7 @@ same_mb offset other column row l l' u u' f f' s t r e el eu ef et is = is ∙ r
 pub loop-column-preserved : goal.loop-column-preserved
 loop-column-preserved g c = record {
   room = λ column row h. c.macroblock.ensures.room column row (c.loop-column.invariant.room column row h);
+  kept = c.macroblock.ensures.kept;
   lines =
       let n = c.loop-column.column in
       let above = c.args.above.now in
@@ -34,3 +35,13 @@ loop-column-preserved g c = record {
       (get_or_default above n _ no_info (omega (arith, c.requires.same))) (get_or_default info n _ no_info (omega arith)) c.loop-column.invariant.lines c.macroblock.ensures.lines
       ∙ ap (λ (k : ℕ). row_by_info (to_z w8 (of_z w8 c.args.chroma_qp_index_offset)) c.args.row above info k (planes_of c.args.planes.now)) next;
 }
+
+pub returns-clause-lines : goal.returns-clause-lines
+returns-clause-lines g c =
+    let s : Planes = planes_of c.args.planes.now in
+    let above = c.args.above.now in
+    let info = c.args.info.now in
+    let done : c.loop-column.column ≡ length info = omega arith in
+    c.loop-column.invariant.lines
+    ∙ ap (λ (n : ℕ). row_by_info (to_z w8 (of_z w8 c.args.chroma_qp_index_offset)) c.args.row above info n s) done
+    ∙ ap (λ (z : ℤ). row_by_info z c.args.row above info (length info) s) (to_z-of_z w8 c.args.chroma_qp_index_offset c.ranges.chroma_qp_index_offset)

@@ -15,7 +15,7 @@ returns-clause-lines g c setting fits =
     (same_samples (λ k. sample s (left + i) (top + k)) (λ k. slice_index before (16 * k + i)) (λ k less. sym (c.rectangle-lines.ensures.samples i k low less)))
     ∙ c.weak_luma.ensures (setting i) i low (
     weak_row true c.args.limits.now (setting i) (slice_index c.args.strengths.now (i / 4)) _ _ _ _ (slice_index c.luma_tc1s-tc1.result i)
-    (c.weak.ensures.alpha i low) (c.weak.ensures.beta i low) (c.weak.ensures.dead i low) (c.weak.ensures.tc0 i low) c.requires.index (c.luma_tc1s-tc1.ensures.value i low) (fits i low)) in
+    (c.weak.ensures.alpha i low) (c.weak.ensures.beta i low) (c.weak.ensures.dead i low) (c.weak.ensures.tc0 i low) c.requires.spread.low (c.luma_tc1s-tc1.ensures.value i low) (fits i low)) in
     c.set_rectangle.ensures
     ∙ within_block s left top 16 8 0 2 16 4 left (top + 2) (λ x y. slice_index after (16 * y + x)) (λ x y. slice_index c.half-inner.result (16 * y + x)) (omega arith) refl (omega arith) (omega arith)
     (λ x y x_low y_low. c.half-inner.ensures (16 * y + x) (omega arith) ∙ ap (slice_index after) (omega arith))

@@ -16,7 +16,7 @@ returns-clause-lines g c setting fits =
     (λ k less. sym (c.rectangle-block.ensures.samples k i less low) ∙ sym (c.columns-lines.ensures i k low less)))
     ∙ c.weak_luma.ensures (setting i) i low (
     weak_row true c.args.limits.now (setting i) (slice_index c.args.strengths.now (i / 4)) _ _ _ _ (slice_index c.luma_tc1s-tc1.result i)
-    (c.weak.ensures.alpha i low) (c.weak.ensures.beta i low) (c.weak.ensures.dead i low) (c.weak.ensures.tc0 i low) c.requires.index (c.luma_tc1s-tc1.ensures.value i low) (fits i low)) in
+    (c.weak.ensures.alpha i low) (c.weak.ensures.beta i low) (c.weak.ensures.dead i low) (c.weak.ensures.tc0 i low) c.requires.spread.low (c.luma_tc1s-tc1.ensures.value i low) (fits i low)) in
     c.set_rectangle.ensures
     ∙ within_block s left top 8 16 2 0 4 16 (left + 2) top (λ x y. slice_index after (16 * x + y)) (λ x y. slice_index c.rows_of_middle-after.result (4 * y + x)) refl (omega arith) (omega arith) (omega arith)
     (λ x y x_low y_low. c.rows_of_middle-after.ensures y x y_low x_low ∙ ap (slice_index after) (omega arith))

@@ -24,7 +24,7 @@ pub inner_horizontal-requires : goal.inner_horizontal-requires
 inner_horizontal-requires g c =
     let before = c.all_vertical.ensures.room c.args.place.column c.args.place.row c.requires.room in
     let room = c.outer_edge.ensures.room c.args.place.column c.args.place.row before in
-    (omega arith, (c.requires.columns_fit, (c.requires.rows_fit, (room, c.inner_limits-own.ensures))))
+    (omega arith, (c.requires.columns_fit, (c.requires.rows_fit, (room, c.fit.ensures.own))))
 
 pub returns-clause-room : goal.returns-clause-room
 returns-clause-room g c column row h =
