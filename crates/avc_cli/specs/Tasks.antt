@@ -21,7 +21,7 @@ use Rattle.avc_macroblocks.specs.declared.listing.MacroblockListing.{MacroblockL
 use Rattle.avc_formats.specs.Formats.{plain}
 use Rattle.avc_run.specs.Program.{EndsDecodingAs}
 use Rattle.avc_run.specs.Showing.{drawing_of, EndsShowing}
-use Rattle.avc_program.specs.Telling.{EndsTelling, ListingEnding}
+use Rattle.avc_info.specs.Telling.{EndsTelling, ListingEnding}
 use Rattle.avc_compare.specs.Told.{EndsComparing}
 use Rattle.avc_compare.specs.declared.comparison.Comparison.{Comparison}
 use Rattle.avc_compare.specs.declared.verdict.PictureSize.{PictureSize}

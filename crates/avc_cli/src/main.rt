@@ -3,15 +3,15 @@
 
 ghost use Rattle.std.specs.Prelude.{◌≡◌, true, is_some};
 ghost use Rattle.avc_cli.specs.Tasks.{ends_listing, listing_of, EndsTask};
-ghost use Rattle.avc_program.specs.Telling.{EndsTelling};
 
 mod comparing;
 mod explaining;
 
 use avc_console::{Console, Ending, Watch, cut};
+use avc_info::{MacroblockCommand, tell};
 use avc_macroblocks::{MacroblockListing, macroblocks};
-use avc_program::{Commands, run, tell};
-use avc_request::{MacroblockChoice, Request, Subject, Task, Wording};
+use avc_program::{Commands, run};
+use avc_request::{MacroblockChoice, Request, Task, Wording};
 use avc_run::{decode, drawing_of, show};
 use comparing::compare_files;
 use std::alloc::Global;
@@ -55,7 +55,7 @@ impl Commands for WholeProgram {
                 show(alloc, showing, is_each_alone, reader, writer, console)
             }
             Task::Tell(subject, wording) => {
-                tell_all(alloc, subject, wording, reader, writer, console)
+                tell(alloc, self, subject, wording, reader, writer, console)
             }
             Task::Cut(number) => cut(alloc, number, reader, writer, console),
             Task::Draw(number) => show(alloc, drawing_of(number), true, reader, writer, console),
@@ -66,26 +66,19 @@ impl Commands for WholeProgram {
     }
 }
 
-// Tells something of a stream in this wording, of its macroblocks too.
-fn tell_all<R: Read, W: Write, E: Write, V: Watch>(
-    alloc: Global,
-    subject: Subject,
-    wording: Wording,
-    reader: &mut R,
-    writer: &mut W,
-    console: &mut Console<'_, E, V>,
-) -> Ending
-    ensures { EndsTelling ends_listing wording subject console.old.names
-        (R.remaining reader.old) (R.remaining reader.new) (W.contents writer.old) (W.contents writer.new)
-        (E.contents console.old.errors) (E.contents console.new.errors) result }
-{
-    match subject {
-        Subject::Macroblocks(choice) => {
-            macroblocks(alloc, listing_of(choice, wording), reader, writer, console)
-        }
-        Subject::Units | Subject::Headers | Subject::Pieces | Subject::Info => {
-            tell(alloc, subject, wording, reader, writer, console)
-        }
+impl MacroblockCommand for WholeProgram {
+    ghost ends = { ends_listing };
+
+    fn list_macroblocks<R: Read, W: Write, E: Write, V: Watch>(
+        &self,
+        alloc: Global,
+        choice: MacroblockChoice,
+        wording: Wording,
+        reader: &mut R,
+        writer: &mut W,
+        console: &mut Console<'_, E, V>,
+    ) -> Ending {
+        macroblocks(alloc, listing_of(choice, wording), reader, writer, console)
     }
 }
 

@@ -11,7 +11,11 @@ use Rattle.avc_formats.specs.Formats.{plain}
 use Rattle.avc_run.specs.Program.{EndsDecodingAs}
 use Rattle.avc_run.specs.Showing.{drawing_of, EndsShowing}
 use Rattle.avc_program.specs.Absent.{EndsAbsent}
-use Rattle.avc_program.specs.Telling.{EndsTelling, EndsWithout}
+use Rattle.avc_info.specs.Telling.{EndsTelling, ListingEnding}
+
+-- How a listing of macroblocks ends.
+abbrev pub EndsWithout : ListingEnding
+EndsWithout choice names = EndsAbsent
 
 -- A task ended so, where the pictures have a file each or not.
 abbrev pub EndsTask : Task → (other : Option (Bor (List ℕ))) → (is_each_alone : Bool) → Names → (explained : Bool) → (unread left held holds before now : Option (List ℕ)) → Ending → Type 0

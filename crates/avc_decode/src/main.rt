@@ -2,12 +2,14 @@
 #![tactic(auto)]
 
 ghost use Rattle.std.specs.Prelude.{false, is_some};
-ghost use Rattle.avc_decode.specs.Tasks.{EndsTask};
+ghost use Rattle.avc_decode.specs.Tasks.{EndsTask, EndsWithout};
 
 use avc_console::{Console, Ending, Watch, cut};
-use avc_program::{Commands, run, tell, tell_absent};
-use avc_request::{Request, Task};
+use avc_info::{MacroblockCommand, tell};
+use avc_program::{Commands, run, tell_absent};
+use avc_request::{MacroblockChoice, Request, Task, Wording};
 use avc_run::{decode, drawing_of, show};
+use std::alloc::Global;
 use std::io;
 use std::io::{Read, Write};
 use std::process::ExitCode;
@@ -47,10 +49,28 @@ impl Commands for SmallProgram {
                 let is_each_alone = request.numbered.is_some();
                 show(alloc, showing, is_each_alone, reader, writer, console)
             }
-            Task::Tell(subject, wording) => tell(alloc, subject, wording, reader, writer, console),
+            Task::Tell(subject, wording) => {
+                tell(alloc, self, subject, wording, reader, writer, console)
+            }
             Task::Cut(number) => cut(alloc, number, reader, writer, console),
             Task::Draw(number) => show(alloc, drawing_of(number), true, reader, writer, console),
             Task::Compare(_) => tell_absent(&mut console.errors),
         }
+    }
+}
+
+impl MacroblockCommand for SmallProgram {
+    ghost ends = { λ wording. EndsWithout };
+
+    fn list_macroblocks<R: Read, W: Write, E: Write, V: Watch>(
+        &self,
+        _alloc: Global,
+        _choice: MacroblockChoice,
+        _wording: Wording,
+        _reader: &mut R,
+        _writer: &mut W,
+        console: &mut Console<'_, E, V>,
+    ) -> Ending {
+        tell_absent(&mut console.errors)
     }
 }

@@ -4,10 +4,10 @@ use Rattle.serde_json.specs.Written.{has_float}
 use Rattle.avc_presentation.specs.declared.ratio.Ratio.{Ratio}
 use Rattle.avc_params.specs.declared.vui.Colour.{Colour}
 use Rattle.avc_info.specs.Json.{clock_of, colour_data, count_if_given, facts_data, flag_data, kinds_data, ratio_data, refusal_data, sequence_if_given, set_head_data, size_if_given, sizes_data}
-use Rattle.avc_info.specs.Rates.{bit_rate, duration, rate_ratio}
+use Rattle.avc_sequence.specs.Rates.{bit_rate, duration, rate_ratio}
 use Rattle.avc_info.specs.Refusals.{kinds_of}
-use Rattle.avc_info.specs.declared.sequence_facts.SequenceFacts.{SequenceFacts}
-use Rattle.avc_info.specs.declared.sequence_facts.Size.{Size}
+use Rattle.avc_sequence.specs.declared.sequence_facts.SequenceFacts.{SequenceFacts}
+use Rattle.avc_sequence.specs.declared.sequence_facts.Size.{Size}
 use Rattle.avc_info.specs.declared.refusals.Refusal.{Refusal}
 use Rattle.avc_info.specs.declared.refusals.RefusalKind.{RefusalKind}
 use Rattle.avc_info.specs.Text.{sequence_of}

@@ -7,12 +7,12 @@ use Rattle.avc_types.specs.Faults.{number_of, name_of}
 use Rattle.avc_presentation.specs.declared.ratio.Ratio.{Ratio}
 use Rattle.avc_params.specs.declared.vui.Colour.{Colour}
 use Rattle.avc_params.specs.declared.vui.Timing.{Timing}
-use Rattle.avc_info.specs.Rates.{bit_rate, duration, rate_ratio}
+use Rattle.avc_sequence.specs.Rates.{bit_rate, duration, rate_ratio}
 use Rattle.avc_info.specs.Refusals.{kinds_of}
 use Rattle.avc_info.specs.Text.{level_name, newline, profile_name, sequence_of}
-use Rattle.avc_info.specs.declared.sequence_facts.Crop.{Crop}
-use Rattle.avc_info.specs.declared.sequence_facts.SequenceFacts.{SequenceFacts}
-use Rattle.avc_info.specs.declared.sequence_facts.Size.{Size}
+use Rattle.avc_sequence.specs.declared.sequence_facts.Crop.{Crop}
+use Rattle.avc_sequence.specs.declared.sequence_facts.SequenceFacts.{SequenceFacts}
+use Rattle.avc_sequence.specs.declared.sequence_facts.Size.{Size}
 use Rattle.avc_info.specs.declared.refusals.Refusal.{Refusal}
 use Rattle.avc_info.specs.declared.refusals.RefusalKind.{RefusalKind}
 use Rattle.avc_info.specs.declared.stream_facts.SetHead.{SetHead}

@@ -2,10 +2,11 @@ pub mod Sizes
 pub mod RefusedSet
 pub mod Refusals
 pub mod Facts
-pub mod Rates
 pub mod Text
 pub mod PictureText
 pub mod Json
 pub mod Noting
 pub mod Info
+pub mod Laws
 pub mod ListingJson
+pub mod Telling

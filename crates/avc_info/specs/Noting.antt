@@ -11,9 +11,10 @@ use Rattle.avc_units.specs.declared.header_reader.Brought.{Brought}
 use Rattle.avc_units.specs.declared.header_reader.Brought.TheVariants.{Nothing, Set, Slice, Refused}
 use Rattle.avc_units.specs.declared.set_reading.ParameterSet.{ParameterSet}
 use Rattle.avc_units.specs.declared.set_reading.ParameterSet.TheVariants.{OfSequence, OfPicture}
-use Rattle.avc_info.specs.Facts.{after_refusal, after_slice, no_facts, said_by, with_set}
+use Rattle.avc_info.specs.Facts.{after_refusal, after_slice, no_facts, with_set}
 use Rattle.avc_info.specs.RefusedSet.{size_in}
-use Rattle.avc_info.specs.declared.sequence_facts.SequenceFacts.{SequenceFacts}
+use Rattle.avc_sequence.specs.Sequences.{said_by}
+use Rattle.avc_sequence.specs.declared.sequence_facts.SequenceFacts.{SequenceFacts}
 use Rattle.avc_info.specs.declared.stream_facts.SetHead.{SetHead}
 use Rattle.avc_info.specs.declared.stream_facts.StreamFacts.{StreamFacts}
 

@@ -5,12 +5,12 @@ use Rattle.avc_presentation.specs.Ratios.{ratio_word}
 use Rattle.avc_presentation.specs.declared.ratio.Ratio.{Ratio}
 use Rattle.avc_params.specs.declared.vui.Colour.{Colour}
 use Rattle.avc_params.specs.declared.vui.Timing.{Timing}
-use Rattle.avc_info.specs.Rates.{bit_rate, duration}
+use Rattle.avc_sequence.specs.Rates.{bit_rate, duration}
 use Rattle.avc_info.specs.Sizes.{sizes_line}
 use Rattle.avc_info.specs.Text.{if_given, newline, sequence_of, stream_text, thousandths_if_given}
-use Rattle.avc_info.specs.declared.sequence_facts.Crop.{Crop}
-use Rattle.avc_info.specs.declared.sequence_facts.SequenceFacts.{SequenceFacts}
-use Rattle.avc_info.specs.declared.sequence_facts.Size.{Size}
+use Rattle.avc_sequence.specs.declared.sequence_facts.Crop.{Crop}
+use Rattle.avc_sequence.specs.declared.sequence_facts.SequenceFacts.{SequenceFacts}
+use Rattle.avc_sequence.specs.declared.sequence_facts.Size.{Size}
 use Rattle.avc_info.specs.declared.stream_facts.StreamFacts.{StreamFacts}
 
 -- ---- how pictures are coded

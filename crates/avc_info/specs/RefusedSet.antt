@@ -4,7 +4,7 @@ use Rattle.avc_bits.specs.Bits.{Read, ◌>>=◌, ◌>>◌, give, start, where_se
 use Rattle.avc_bits.specs.Codes.{u, flag, ue, ue_to, se_within}
 use Rattle.avc_params.specs.Reading.{read_value}
 use Rattle.avc_params.specs.SpsReading.{order_count}
-use Rattle.avc_info.specs.declared.sequence_facts.Size.{Size}
+use Rattle.avc_sequence.specs.declared.sequence_facts.Size.{Size}
 
 -- a part whose value says nothing of the size, where it is present (7.1)
 abbrev pub if_present : Bool → Read (Unit {0}) → Read (Unit {0})

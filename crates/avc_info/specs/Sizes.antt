@@ -5,7 +5,7 @@ use Rattle.std.specs.List.{flat_map, list_any}
 use Rattle.avc_params.specs.declared.sps.Sps.{Sps}
 use Rattle.avc_tools.specs.Lines.{shown_height, shown_width}
 use Rattle.avc_info.specs.Text.{newline}
-use Rattle.avc_info.specs.declared.sequence_facts.Size.{Size}
+use Rattle.avc_sequence.specs.declared.sequence_facts.Size.{Size}
 use Rattle.avc_info.specs.declared.sizes.Sizes.{Sizes}
 
 -- how many sizes are told, at most

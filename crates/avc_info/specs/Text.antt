@@ -3,9 +3,9 @@ use Rattle.std.specs.Prelude.{ℕ, ◌*◌, ◌/◌, ◌%◌, Bool, ◌==◌, �
 use Rattle.std.specs.Fmt.{decimal}
 use Rattle.std.specs.List.{flat_map}
 use Rattle.avc_types.specs.Faults.{number_of, name_of}
-use Rattle.avc_params.specs.declared.vui.Timing.{Timing}
-use Rattle.avc_info.specs.declared.sequence_facts.SequenceFacts.{SequenceFacts}
-use Rattle.avc_info.specs.declared.sequence_facts.Size.{Size}
+use Rattle.avc_sequence.specs.Rates.{frame_rate}
+use Rattle.avc_sequence.specs.declared.sequence_facts.SequenceFacts.{SequenceFacts}
+use Rattle.avc_sequence.specs.declared.sequence_facts.Size.{Size}
 use Rattle.avc_info.specs.declared.slice_counts.SliceCounts.{SliceCounts}
 use Rattle.avc_info.specs.Refusals.{kinds_of}
 use Rattle.avc_info.specs.declared.refusals.Refusal.{Refusal}
@@ -34,15 +34,6 @@ level_name s = if is_level_1b s then codes "1b" else decimal (s.level_idc / 10) 
 -- the level
 abbrev pub level_text : SequenceFacts → List ℕ
 level_text s = codes ", level " ++ level_name s
-
--- frames in a thousand seconds, rounded down: a frame takes two ticks (E.2.1)
-abbrev pub rate_of : Timing → Option ℕ
-rate_of t = if t.num_units_in_tick == 0 then None else Some (1000 * t.time_scale / (2 * t.num_units_in_tick))
-
--- where there is a clock
-abbrev pub frame_rate : Option Timing → Option ℕ
-frame_rate None = None
-frame_rate (Some t) = rate_of t
 
 -- three digits behind the point
 abbrev pub behind_point : ℕ → List ℕ

@@ -7,10 +7,10 @@ ghost use Rattle.avc_info.specs.Noting.{facts_after};
 
 use crate::form::InfoForm;
 use crate::noting::note_unit;
-use crate::sequence_facts::SequenceFacts;
 use crate::stream_facts::StreamFacts;
 use avc_annexb::Splitter;
 use avc_annexb::laws::units_stay;
+use avc_sequence::SequenceFacts;
 use avc_tools::StreamText;
 use avc_types::{OutOfMemory, WantOfMemory};
 use avc_units::HeaderReader;

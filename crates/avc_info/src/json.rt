@@ -10,13 +10,12 @@ ghost use Rattle.avc_info.specs.Json.{ratio_data, refusal_data, sequence_data, s
 ghost use Rattle.avc_info.specs.Json.{set_head_data, size_data, size_if_given, sizes_data};
 ghost use Rattle.avc_info.specs.Text.{level_name, profile_name};
 
-use crate::rates::{bit_rate, duration, rate_ratio};
 use crate::refusals::{Refusal, RefusalKind};
-use crate::sequence_facts::{Crop, SequenceFacts, Size};
 use crate::stream_facts::{SetHead, StreamFacts};
 use crate::text::{add_level_name, profile_name};
 use avc_params::{Colour, Timing};
 use avc_presentation::Ratio;
+use avc_sequence::{Crop, SequenceFacts, Size, bit_rate, duration, rate_ratio};
 use avc_types::OutOfMemory;
 use serde_json::{Map, Value, json, put};
 use std::alloc::Global;

@@ -7,9 +7,9 @@ ghost use Rattle.avc_info.specs.Noting.{after_brought, after_set, after_unit, re
 ghost use Rattle.avc_info.specs.Noting.{said_in, set_head};
 
 use crate::refused_set::size_in;
-use crate::sequence_facts::SequenceFacts;
 use crate::stream_facts::{SetHead, StreamFacts};
 use avc_annexb::Unit;
+use avc_sequence::SequenceFacts;
 use avc_types::OutOfMemory;
 use avc_units::{Brought, HeaderReader, ParameterSet, rbsp_of};
 use std::alloc::Global;

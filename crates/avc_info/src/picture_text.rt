@@ -5,11 +5,10 @@ ghost use Rattle.avc_info.specs.PictureText.{aspect_text, coded_line, coded_text
 ghost use Rattle.avc_info.specs.PictureText.{colour_text, crop_text};
 ghost use Rattle.avc_info.specs.PictureText.{picture_text, range_text, rates_line, samples_line};
 
-use crate::rates::{bit_rate, duration};
-use crate::sequence_facts::{Crop, SequenceFacts, Size};
 use crate::text::{add_if_given, add_thousandths_if_given, end_line};
 use avc_params::{Colour, Timing};
 use avc_presentation::Ratio;
+use avc_sequence::{Crop, SequenceFacts, Size, bit_rate, duration};
 use avc_types::OutOfMemory;
 
 /// Adds what is told of the pictures, where there are so many, in so many bytes.

@@ -6,9 +6,9 @@ ghost use Rattle.avc_info.specs.RefusedSet.{any_size, before_size, chroma_format
 ghost use Rattle.avc_info.specs.RefusedSet.{has_chroma_format, if_present, lists_8x8, next_scale, scaling_list};
 ghost use Rattle.avc_info.specs.RefusedSet.{scaling_lists, scaling_matrix, size_in, size_of};
 
-use crate::sequence_facts::Size;
 use avc_bits::BitReader;
 use avc_params::{OrderCount, Syntax, read_where};
+use avc_sequence::Size;
 use avc_types::Fault;
 
 /// lastScale before the first entry of a scaling list (7.3.2.1.1.1).

@@ -5,8 +5,8 @@ ghost use Rattle.std.specs.List.{flat_map};
 ghost use Rattle.avc_info.specs.Sizes.{no_sizes, others_text, size_word, sizes_line, with_size};
 ghost use Rattle.avc_info.specs.Sizes.{with_size_if};
 
-use crate::sequence_facts::Size;
 use crate::text::end_line;
+use avc_sequence::Size;
 use avc_types::{OutOfMemory, UpTo};
 
 /// How many sizes are told, at most.

@@ -4,14 +4,15 @@ ghost use Rattle.std.specs.Prelude.{◌≡◌};
 ghost use Rattle.std.specs.Option.{option_map};
 ghost use Rattle.avc_params.specs.Tables.{sets_after};
 ghost use Rattle.avc_units.specs.Bringing.{sps_under};
-ghost use Rattle.avc_info.specs.Facts.{after_refusal, after_slice, no_facts, said_by, with_set};
+ghost use Rattle.avc_info.specs.Facts.{after_refusal, after_slice, no_facts, with_set};
 ghost use Rattle.avc_info.specs.Sizes.{shown_size};
 ghost use Rattle.avc_info.specs.Text.{sequence_of};
+ghost use Rattle.avc_sequence.specs.Sequences.{said_by};
 
 use crate::refusals::{Refusal, Refusals};
-use crate::sequence_facts::{SequenceFacts, Size};
 use crate::sizes::Sizes;
 use crate::slice_counts::SliceCounts;
+use avc_sequence::{SequenceFacts, Size};
 use avc_slice::Header;
 use avc_tools::{shown_height, shown_width};
 use avc_types::Fault;

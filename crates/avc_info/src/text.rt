@@ -3,9 +3,9 @@
 ghost use Rattle.std.specs.Prelude.{◌≡◌, ◌++◌, IfOk, OnOk, codes, string_bytes};
 ghost use Rattle.std.specs.List.{flat_map};
 ghost use Rattle.avc_info.specs.PictureText.{info_text};
-ghost use Rattle.avc_info.specs.Text.{clock_text, counts_line, frame_rate, frames_line, if_given};
+ghost use Rattle.avc_info.specs.Text.{clock_text, counts_line, frames_line, if_given};
 ghost use Rattle.avc_info.specs.Text.{is_level_1b, kind_line, kind_lines};
-ghost use Rattle.avc_info.specs.Text.{level_name, level_text, profile_name, profile_text, rate_of};
+ghost use Rattle.avc_info.specs.Text.{level_name, level_text, profile_name, profile_text};
 ghost use Rattle.avc_info.specs.Text.{newline, references_text, refusal_text, refused_line};
 ghost use Rattle.avc_info.specs.Text.{refused_set_line, refused_text, set_head_line, set_head_text, set_size_text};
 ghost use Rattle.avc_info.specs.Text.{sequence_text, shape_line, size_text, stream_text};
@@ -13,11 +13,10 @@ ghost use Rattle.avc_info.specs.Text.{thousandths, thousandths_if_given};
 
 use crate::picture_text::add_picture;
 use crate::refusals::{Refusal, RefusalKind};
-use crate::sequence_facts::{SequenceFacts, Size};
 use crate::sizes::add_sizes;
 use crate::slice_counts::SliceCounts;
 use crate::stream_facts::{SetHead, StreamFacts};
-use avc_params::Timing;
+use avc_sequence::{SequenceFacts, Size, frame_rate};
 use avc_types::OutOfMemory;
 use std::alloc::Global;
 
@@ -177,26 +176,6 @@ fn add_thousandths(text: &mut String, number: u64) -> Result<(), OutOfMemory>
     let thousandth = number % 10;
     write!(text, " {whole}.{tenth}{hundredth}{thousandth}")?;
     Ok(())
-}
-
-/// Frames in a thousand seconds, where it is given, rounded down.
-pub fn frame_rate(timing: Option<Timing>) -> Option<u64>
-    ensures { result ≡ frame_rate timing }
-{
-    match timing {
-        Some(timing) => rate_of(timing),
-        None => None,
-    }
-}
-
-// A frame takes two ticks (E.2.1).
-fn rate_of(timing: Timing) -> Option<u64>
-    ensures { result ≡ rate_of timing }
-{
-    if timing.num_units_in_tick == 0 {
-        return None;
-    }
-    Some(1000 * u64::from(timing.time_scale) / (2 * u64::from(timing.num_units_in_tick)))
 }
 
 fn add_frames(text: &mut String, sequence: &SequenceFacts) -> Result<(), OutOfMemory>

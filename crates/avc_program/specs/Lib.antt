@@ -1,3 +1,3 @@
 pub mod Absent
+pub mod Outcomes
 pub mod Tasks
-pub mod Telling

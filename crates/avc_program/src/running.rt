@@ -8,9 +8,10 @@ ghost use Rattle.avc_program.specs.Tasks.{are_losses_told};
 
 use crate::absent::{is_for_benches, tell_absent};
 use crate::commands::Commands;
+use crate::observer::Observer;
 use crate::writing::{Noted, Written, write_out_from};
 use avc_console::{Answer, Console, Names, RunFault, answer_status, cut_status, fail};
-use avc_progress::{Observer, Progress};
+use avc_progress::Progress;
 use avc_request::{Request, Task};
 use avc_shell::{
     Errors, FrameTimes, Input, LossLines, RefusalPlaces, absent_picture, ended_status,

@@ -1,9 +1,9 @@
 -- The search for a stream's frame rate.
 use Rattle.std.specs.Prelude.{◌≡◌, ◌⊎◌, ℕ, ◌<◌, Bool, true, false, ◌||◌, if◌then◌else◌, List, [], ◌++◌, length, Option, Some, None, is_some, nat_le}
 use Rattle.avc_tools.specs.Streams.{StreamSoFar}
-use Rattle.avc_info.specs.Info.{facts_so_far}
-use Rattle.avc_info.specs.Text.{frame_rate}
-use Rattle.avc_info.specs.declared.sequence_facts.SequenceFacts.{SequenceFacts}
+use Rattle.avc_sequence.specs.Rates.{frame_rate}
+use Rattle.avc_sequence.specs.Finding.{first_sequence as sequence_in}
+use Rattle.avc_sequence.specs.declared.sequence_facts.SequenceFacts.{SequenceFacts}
 
 -- What a search came to: the bytes that it has looked at, as long as it goes on, the frames in a
 -- thousand seconds, once they are known, and whether memory was wanting.
@@ -27,7 +27,7 @@ rate_of (Some s) = frame_rate s.timing
 
 -- the sequence parameter set of the first slice whose end has been seen
 abbrev pub first_sequence : (bytes : List ℕ) → Option SequenceFacts
-first_sequence bytes = (facts_so_far bytes false).sequence
+first_sequence bytes = sequence_in bytes false
 
 -- The search after these bytes: it is over once there is a slice, and after so many bytes.
 abbrev pub looked : (bytes : List ℕ) → Search

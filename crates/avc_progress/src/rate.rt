@@ -3,8 +3,7 @@
 ghost use Rattle.std.specs.Prelude.{◌≡◌, ◌⊎◌, ◌++◌, [], length, None, Some, false};
 ghost use Rattle.avc_progress.specs.Rates.{given_up, looked, new_search, rate_of, IsGoingOn, Looks};
 
-use avc_info::{InfoLines, SequenceFacts, frame_rate};
-use avc_tools::{ForPeople, StreamText};
+use avc_sequence::{SequenceFacts, SequenceFinder, frame_rate};
 use avc_types::WantOfMemory;
 use std::alloc::Global;
 use std::marker::Model;
@@ -18,7 +17,7 @@ const MOST: usize = 1_048_576;
 #[derive(Drop)]
 pub struct RateSearch {
     // until the search is over
-    lines: Option<InfoLines<ForPeople>>,
+    finder: Option<SequenceFinder>,
     seen: usize,
     found: Option<u64>,
     failed: WantOfMemory,
@@ -29,9 +28,9 @@ impl Model for RateSearch {
 
     ghost Value = { Search };
 
-    ghost view = { λ r. record { searched = bytes_of r.lines; found = r.found; failed = r.failed } };
+    ghost view = { λ r. record { searched = bytes_of r.finder; found = r.found; failed = r.failed } };
 
-    ghost invariant = { λ r. IsSearching r.lines r.seen };
+    ghost invariant = { λ r. IsSearching r.finder r.seen };
 }
 
 impl RateSearch {
@@ -40,7 +39,7 @@ impl RateSearch {
         ensures { result ≡ new_search }
     {
         RateSearch {
-            lines: Some(InfoLines::new(alloc, ForPeople)),
+            finder: Some(SequenceFinder::new(alloc)),
             seen: 0,
             found: None,
             failed: WantOfMemory::none(),
@@ -51,8 +50,8 @@ impl RateSearch {
     pub fn look(&mut self, piece: &[u8])
         ensures { Looks self.old.searched piece.now self.old self.new }
     {
-        if let Some(lines) = self.lines.take() {
-            *self = searched(lines, self.seen, piece, self.found);
+        if let Some(finder) = self.finder.take() {
+            *self = searched(finder, self.seen, piece, self.found);
         }
     }
 
@@ -65,22 +64,17 @@ impl RateSearch {
 }
 
 // The search after further bytes.
-fn searched(
-    lines: InfoLines<ForPeople>,
-    seen: usize,
-    piece: &[u8],
-    found: Option<u64>,
-) -> RateSearch
-    requires { IsGoingOn lines seen }
-    ensures { (result ≡ looked (lines.bytes ++ piece.now)) ⊎ (result ≡ given_up found) }
+fn searched(finder: SequenceFinder, seen: usize, piece: &[u8], found: Option<u64>) -> RateSearch
+    requires { IsGoingOn finder seen }
+    ensures { (result ≡ looked (finder.bytes ++ piece.now)) ⊎ (result ≡ given_up found) }
 {
     let seen = seen + piece.len();
-    let mut lines = lines;
+    let mut finder = finder;
     let mut failed = WantOfMemory::none();
-    match failed.keep(lines.feed(piece)) {
-        Ok(_) => after(lines, seen),
+    match failed.keep(finder.feed(piece)) {
+        Ok(_) => after(finder, seen),
         Err(_) => RateSearch {
-            lines: None,
+            finder: None,
             seen,
             found,
             failed,
@@ -89,23 +83,23 @@ fn searched(
 }
 
 // The search after these bytes, of which there are so many.
-fn after(lines: InfoLines<ForPeople>, seen: usize) -> RateSearch
-    requires going { lines.failed ≡ false }
-    requires open_end { lines.ended ≡ false }
-    requires seen_is { seen ≡ length lines.bytes }
-    ensures { result ≡ looked lines.bytes }
+fn after(finder: SequenceFinder, seen: usize) -> RateSearch
+    requires going { finder.failed ≡ false }
+    requires open_end { finder.ended ≡ false }
+    requires seen_is { seen ≡ length finder.bytes }
+    ensures { result ≡ looked finder.bytes }
 {
-    let found = rate_of(lines.sequence());
-    if lines.sequence().is_some() || seen >= MOST {
+    let found = rate_of(finder.sequence());
+    if finder.sequence().is_some() || seen >= MOST {
         return RateSearch {
-            lines: None,
+            finder: None,
             seen,
             found,
             failed: WantOfMemory::none(),
         };
     }
     RateSearch {
-        lines: Some(lines),
+        finder: Some(finder),
         seen,
         found,
         failed: WantOfMemory::none(),

@@ -21,6 +21,6 @@ pub use Rattle.avc_info.specs.Info.{AreNoted, info_so_far}
 pub use Rattle.avc_info.specs.Json.{count, count_if_given, kinds_data, ratio_data, sizes_data}
 pub use Rattle.avc_info.specs.Noting.{after_unit, facts_after}
 pub use Rattle.avc_info.specs.PictureText.{colour_text}
-pub use Rattle.avc_info.specs.Rates.{bit_rate, duration}
+pub use Rattle.avc_sequence.specs.Rates.{bit_rate, duration}
 pub use Rattle.avc_info.specs.Text.{level_name, profile_name}
 pub use Rattle.avc_info.specs.declared.stream_facts.StreamFacts.{StreamFacts}

@@ -3,12 +3,12 @@
 ghost use Rattle.std.specs.Prelude.{◌≡◌, false, None, IfSome};
 ghost use Rattle.std.specs.Option.{option_map};
 ghost use Rattle.avc_shell.specs.LossLines.{passed_in, with_bytes, with_end, GoesOn};
-ghost use Rattle.avc_progress.specs.Outcomes.{outcome_after};
 ghost use Rattle.avc_progress.specs.Progress.{IsLast, IsReadOn};
+ghost use Rattle.avc_program.specs.Outcomes.{outcome_after};
 ghost use Rattle.avc_shell.specs.UnitPlaces.{places_with_bytes, places_with_end, FollowsOn};
 
-use crate::progress::Progress;
 use avc_console::{Counts, RunFault, Watch};
+use avc_progress::Progress;
 use avc_shell::{FrameTimes, LossLines, RefusalPlaces};
 use avc_types::Fault;
 use std::cell::Cell;
@@ -16,7 +16,7 @@ use std::io::ErrorKind;
 
 /// Watches a run: shows how far it is and what is lost, and remembers what it came to.
 #[derive(Drop)]
-pub struct Observer<'a> {
+pub(crate) struct Observer<'a> {
     progress: Progress<'a>,
     places: RefusalPlaces<'a>,
     losses: LossLines<'a>,
@@ -28,7 +28,7 @@ pub struct Observer<'a> {
 impl<'a> Observer<'a> {
     /// Of a run that has not begun, and where it is noted how many pictures were written or left
     /// out.
-    pub fn new(
+    pub(crate) fn new(
         progress: Progress<'a>,
         places: RefusalPlaces<'a>,
         losses: LossLines<'a>,
@@ -51,21 +51,21 @@ impl<'a> Observer<'a> {
     }
 
     /// What the run came to, once it has ended without a fault.
-    pub fn outcome(&self) -> Option<Counts>
+    pub(crate) fn outcome(&self) -> Option<Counts>
         ensures { result ≡ self.now.outcome }
     {
         self.outcome
     }
 
     /// How many slices were passed over, where that is known.
-    pub fn passed(&self) -> Option<u64>
+    pub(crate) fn passed(&self) -> Option<u64>
         ensures { result ≡ passed_in self.now.losses.losses }
     {
         self.losses.passed()
     }
 
     /// Why times could not be written, where that is so.
-    pub fn times_fault(&self) -> Option<ErrorKind>
+    pub(crate) fn times_fault(&self) -> Option<ErrorKind>
         ensures { IfSome self.now.times (λ times. result ≡ times.fault) }
     {
         match &self.times {

@@ -14,7 +14,6 @@ use Rattle.avc_info.specs.Info.{info_so_far}
 use Rattle.avc_info.specs.Json.{json_line}
 use Rattle.avc_info.specs.ListingJson.{header_json, piece_json, unit_json}
 use Rattle.avc_info.specs.PictureText.{info_text}
-use Rattle.avc_program.specs.Absent.{EndsAbsent}
 
 -- what is written of a stream so far
 abbrev Text : Type 0
@@ -23,10 +22,6 @@ Text = List ℕ → (ended : Bool) → List ℕ
 -- How a listing of these macroblocks ends.
 abbrev pub ListingEnding : Type 1
 ListingEnding = MacroblockChoice → Names → (unread left held holds before now : Option (List ℕ)) → Ending → Type 0
-
--- in a program without that command
-abbrev pub EndsWithout : ListingEnding
-EndsWithout choice names = EndsAbsent
 
 -- One of four texts is written, or the macroblocks that are asked for are listed: what this subject
 -- wants.

@@ -1,8 +1,8 @@
 //! What a sequence parameter set says of the pictures (7.3.2.1.1, E.1.1).
 
 ghost use Rattle.std.specs.Prelude.{◌≡◌};
-ghost use Rattle.avc_info.specs.Facts.{chroma_place, coded_size, crop_of, ratio_given};
-ghost use Rattle.avc_info.specs.Facts.{reorder_number, said_by};
+ghost use Rattle.avc_sequence.specs.Sequences.{chroma_place, coded_size, crop_of, ratio_given};
+ghost use Rattle.avc_sequence.specs.Sequences.{reorder_number, said_by};
 
 use avc_params::{Colour, Cropping, Sps, Timing};
 use avc_presentation::{Presentation, Ratio};

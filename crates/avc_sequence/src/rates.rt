@@ -1,9 +1,9 @@
-//! What follows from a stream's clock: its frame rate as a fraction, its bit rate and how long it lasts.
+//! What follows from a stream's clock: its frame rate, its bit rate and how long it lasts.
 
 ghost use Rattle.std.specs.Prelude.{◌≡◌, ◌<◌};
 ghost use Rattle.avc_annexb.specs.Units.{saturated};
-ghost use Rattle.avc_info.specs.Rates.{bit_rate, bit_rate_by, duration, duration_by, lowest};
-ghost use Rattle.avc_info.specs.Rates.{rate_by, rate_ratio, stands_still};
+ghost use Rattle.avc_sequence.specs.Rates.{bit_rate, bit_rate_by, duration, duration_by, frame_rate};
+ghost use Rattle.avc_sequence.specs.Rates.{lowest, rate_by, rate_of, rate_ratio, stands_still};
 
 use avc_params::Timing;
 use avc_presentation::{Ratio, lowest_terms};
@@ -35,6 +35,26 @@ fn lowest(numerator: u64, denominator: u64) -> Ratio
     ensures { result ≡ lowest numerator denominator }
 {
     lowest_terms(numerator, denominator)
+}
+
+/// Frames in a thousand seconds, where it is given, rounded down.
+pub fn frame_rate(timing: Option<Timing>) -> Option<u64>
+    ensures { result ≡ frame_rate timing }
+{
+    match timing {
+        Some(timing) => rate_of(timing),
+        None => None,
+    }
+}
+
+// A frame takes two ticks (E.2.1).
+fn rate_of(timing: Timing) -> Option<u64>
+    ensures { result ≡ rate_of timing }
+{
+    if timing.num_units_in_tick == 0 {
+        return None;
+    }
+    Some(1000 * u64::from(timing.time_scale) / (2 * u64::from(timing.num_units_in_tick)))
 }
 
 /// Thousandths of a second that so many pictures take, rounded down, where there is a frame rate.

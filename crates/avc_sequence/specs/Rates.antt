@@ -27,6 +27,10 @@ lowest a b = ratio (a / greatest_divisor b a b) (b / greatest_divisor b a b)
 abbrev pub rate_by : Timing → Option Ratio
 rate_by t = if t.num_units_in_tick == 0 then None else Some (lowest t.time_scale (2 * t.num_units_in_tick))
 
+-- frames in a thousand seconds, rounded down: a frame takes two ticks (E.2.1)
+abbrev pub rate_of : Timing → Option ℕ
+rate_of t = if t.num_units_in_tick == 0 then None else Some (1000 * t.time_scale / (2 * t.num_units_in_tick))
+
 -- one of its two numbers is 0, so there is no frame rate that anything could go by
 abbrev pub stands_still : Timing → Bool
 stands_still t = t.num_units_in_tick == 0 || t.time_scale == 0
@@ -49,6 +53,11 @@ bit_rate_by bytes pictures t =
 -- frames in a second, in lowest terms
 abbrev pub rate_ratio : Option Timing → Option Ratio
 rate_ratio t = option_and_then rate_by t
+
+-- frames in a thousand seconds, rounded down
+abbrev pub frame_rate : Option Timing → Option ℕ
+frame_rate None = None
+frame_rate (Some t) = rate_of t
 
 -- thousandths of a second that so many pictures take
 abbrev pub duration : Option Timing → (pictures : ℕ) → Option ℕ

@@ -7,7 +7,7 @@ use Rattle.std.specs.Int.{IsGcd}
 use Rattle.avc_presentation.specs.Presenting.{ratio}
 use Rattle.avc_presentation.specs.Ratios.{IsLowest}
 use Rattle.avc_presentation.specs.declared.ratio.Ratio.{Ratio}
-use Rattle.avc_info.specs.Rates.{divides_both, greatest_divisor, lowest}
+use Rattle.avc_sequence.specs.Rates.{divides_both, greatest_divisor, lowest}
 
 -- what the test says
 both_divided : (d a b : ℕ) → divides_both d a b ≡ true → (a % d ≡ 0) × (b % d ≡ 0)

@@ -1,5 +1,0 @@
-use Rattle.avc_info.proofs.Fractions.{lowest_is}
-use Rattle.avc_info.proofs.rates.lowest.Goals as goal
-
-pub returns : goal.returns
-returns c = lowest_is _ _ _ c.requires c.lowest_terms.ensures

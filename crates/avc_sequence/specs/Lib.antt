@@ -1,0 +1,3 @@
+pub mod Sequences
+pub mod Rates
+pub mod Finding
