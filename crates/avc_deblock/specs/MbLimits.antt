@@ -2,7 +2,7 @@
 use Rattle.std.specs.Prelude.{◌≡◌, ℤ}
 use Rattle.avc_deblock.specs.declared.mb_info.MbInfo.{MbInfo}
 use Rattle.avc_deblock.specs.declared.planes_edge.PairLimits.{PairLimits}
-use Rattle.avc_deblock.specs.declared.kept.Kept.{Kept}
+use Rattle.avc_deblock.specs.declared.inner_limits.InnerLimits.{InnerLimits}
 use Rattle.avc_deblock.specs.OneEdge.{AreLimits}
 use Rattle.avc_deblock.specs.ByInfo.{luma_qp_of, chroma_qp_of}
 
@@ -12,5 +12,5 @@ pub record ArePairLimits (l : PairLimits) (offset : ℤ) (p q : MbInfo) : Type 0
   pub chroma : AreLimits l.chroma (chroma_qp_of offset p q)
 
 -- the limits inside each macroblock that has this QP and whose slice has these offsets
-abbrev pub AreKept : Kept → ℤ → Type 0
-AreKept k offset = (q : MbInfo) → q.qp ≡ k.qp → q.offset_a ≡ k.offset_a → q.offset_b ≡ k.offset_b → ArePairLimits k.limits offset q q
+abbrev pub AreInnerLimits : InnerLimits → ℤ → Type 0
+AreInnerLimits k offset = (q : MbInfo) → q.qp ≡ k.qp → q.offset_a ≡ k.offset_a → q.offset_b ≡ k.offset_b → ArePairLimits k.limits offset q q

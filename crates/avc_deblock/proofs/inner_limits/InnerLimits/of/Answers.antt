@@ -1,7 +1,7 @@
 use Rattle.avc_deblock.proofs.FilteredPictures.{◌≡◌, ◌∙◌, ℤ, rules, w8, to_z-of_z, MbInfo}
 use Rattle.avc_deblock.specs.declared.planes_edge.PairLimits.{PairLimits}
 use Rattle.avc_deblock.specs.MbLimits.{ArePairLimits}
-use Rattle.avc_deblock.proofs.kept.Kept.of.Goals as goal
+use Rattle.avc_deblock.proofs.inner_limits.InnerLimits.of.Goals as goal
 
 same_limits : (l : PairLimits) (offset : ℤ) (p q : MbInfo) → q.qp ≡ p.qp → q.offset_a ≡ p.offset_a → q.offset_b ≡ p.offset_b → ArePairLimits l offset p p →
     ArePairLimits l offset q q

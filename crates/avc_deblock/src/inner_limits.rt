@@ -1,7 +1,7 @@
 //! Limits inside a macroblock, kept for the next: neighbours mostly have one QP.
 
 ghost use Rattle.std.specs.Prelude.{◌≡◌, true};
-ghost use Rattle.avc_deblock.specs.MbLimits.{AreKept, ArePairLimits};
+ghost use Rattle.avc_deblock.specs.MbLimits.{AreInnerLimits, ArePairLimits};
 
 use crate::line::all_three;
 use crate::mb_info::MbInfo;
@@ -9,21 +9,21 @@ use crate::planes_edge::{PairLimits, Place, inner_limits, pair_limits};
 
 /// What the lines inside macroblocks of one QP and of one slice's offsets are filtered with.
 #[derive(Clone, Copy)]
-pub(crate) struct Kept {
+pub(crate) struct InnerLimits {
     qp: u8,
     offset_a: i8,
     offset_b: i8,
     pub(crate) limits: PairLimits,
 }
 
-impl Kept {
+impl InnerLimits {
     /// That of `q`.
     #[inline(never)]
-    pub(crate) fn of(q: &MbInfo, place: Place) -> Kept
-        ensures kept { AreKept result place.chroma_qp_index_offset }
+    pub(crate) fn of(q: &MbInfo, place: Place) -> InnerLimits
+        ensures kept { AreInnerLimits result place.chroma_qp_index_offset }
         ensures own { ArePairLimits result.limits place.chroma_qp_index_offset q.now q.now }
     {
-        Kept {
+        InnerLimits {
             qp: q.qp,
             offset_a: q.offset_a,
             offset_b: q.offset_b,
@@ -47,14 +47,14 @@ impl Kept {
     /// Makes it that of `q`, where it is not yet.
     #[inline(always)]
     pub(crate) fn fit(&mut self, q: &MbInfo, place: Place)
-        requires { AreKept self.old place.chroma_qp_index_offset }
-        ensures kept { AreKept self.new place.chroma_qp_index_offset }
+        requires { AreInnerLimits self.old place.chroma_qp_index_offset }
+        ensures kept { AreInnerLimits self.new place.chroma_qp_index_offset }
         ensures own { ArePairLimits self.new.limits place.chroma_qp_index_offset q.now q.now }
     {
         if self.fits(q) {
             return;
         }
-        *self = Kept::of(q, place);
+        *self = InnerLimits::of(q, place);
     }
 }
 

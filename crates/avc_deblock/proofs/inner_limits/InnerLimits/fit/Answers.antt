@@ -1,4 +1,4 @@
-use Rattle.avc_deblock.proofs.kept.Kept.fit.Goals as goal
+use Rattle.avc_deblock.proofs.inner_limits.InnerLimits.fit.Goals as goal
 
 pub returns-then-fits-clause-own : goal.returns-then-fits-clause-own
 returns-then-fits-clause-own c =
