@@ -119,31 +119,83 @@ never_cut n b f within is = let whole = skip_long n b within in cc
 
 -- ---- a block from its parts
 
--- total_zeros of a block with these levels
-abbrev zeros_where : (none : Bool) → (max : ℕ) → Token → Read ℕ
-zeros_where none max t = elim none [ true ↦ give 0 | false ↦ total_zeros t.total (max == 4) ]
+-- total_zeros of a block with so many levels
+abbrev zeros_where : (none : Bool) → (max total : ℕ) → Read ℕ
+zeros_where none max total = elim none [ true ↦ give 0 | false ↦ total_zeros total (max == 4) ]
 
-abbrev pub zeros_part : (max : ℕ) → Token → Read ℕ
-zeros_part max t = zeros_where (t.total == 0 || t.total == max) max t
+abbrev zeros_part : (max total : ℕ) → Read ℕ
+zeros_part max total = zeros_where (total == 0 || total == max) max total
 
--- no zeros have a place
-pub no_zeros : (max : ℕ) (t : Token) (b : Bits) → t.total ≡ max → zeros_part max t b ≡ Ok (0, b)
-no_zeros max t b all = grind (arith, or_right, eq-eqb)
+-- whether so many zeros have places
+abbrev kept : (max total : ℕ) → ℕ → Read ℕ
+kept max total zeros = check (nat_le (total + zeros) max) faults.TooManyCoefficients >> give zeros
 
-pub some_zeros : (max : ℕ) (t : Token) (b : Bits) → t.total ≢ 0 → t.total ≢ max → zeros_part max t b ≡ total_zeros t.total (max == 4) b
-some_zeros max t b some room = grind (arith, or_from, ne_eqb)
+-- total_zeros, and then the runs
+pub by_zeros : (max : ℕ) (values : List ℤ) (total found : ℕ) (b after : Bits) → zeros_within max total b ≡ Ok (found, after) → placed_by_zeros max values total b ≡ placed_by_runs 16 values total found after
+by_zeros max values total found b after is = ap (λ r. ((λ _. r) >>= λ z. placed_by_runs 16 values total z) b) is
+
+-- a block goes on behind its coeff_token
+pub behind_token : (max : ℕ) (nc : ℤ) (t : Token) (b after : Bits) → coeff_token nc b ≡ Ok (t, after) → residual_block max nc b ≡ block_behind max t after
+behind_token max nc t b after is = ap (λ r. ((λ _. r) >>= block_behind max) b) is
+
+pub token_fault : (max : ℕ) (nc : ℤ) (f : Fault) (b : Bits) → coeff_token nc b ≡ Err f → residual_block max nc b ≡ Err f
+token_fault max nc f b is = ap (λ r. ((λ _. r) >>= block_behind max) b) is
+
+pub reads_behind : {V : Type 0} (result : Result V Fault) (levels : List ℤ) (max : ℕ) (nc : ℤ) (t : Token) (after : Bits) (old new : BitReader) → coeff_token nc (reader_bits old) ≡ Ok (t, after) →
+    ReadsFrom result levels (block_behind max t) after (reader_bits new) → IfOk result (λ _. reader_bytes new ≡ reader_bytes old) → ReadsInto result levels (residual_block max nc) old new
+reads_behind (Ok v) levels max nc t after old new is read bytes = (behind_token max nc t (reader_bits old) after is ∙ read, bytes)
+reads_behind (Err f) levels max nc t after old new is read bytes = behind_token max nc t (reader_bits old) after is ∙ read
 
 -- a block without a level
-pub no_levels : (max : ℕ) (nc : ℤ) (t : Token) (b after : Bits) → t.ones ≤ t.total → t.total ≡ 0 → coeff_token nc b ≡ Ok (t, after) → residual_block max nc b ≡ Ok (replicate max (pos 0), after)
-no_levels max nc t b after few none is =
+pub none_behind : (max : ℕ) (t : Token) (b : Bits) → t.ones ≤ t.total → t.total ≡ 0 → block_behind max t b ≡ Ok (replicate max (pos 0), b)
+none_behind max t b few none =
     let no_ones : t.ones ≡ 0 = omega arith in
-    let whole : max - 0 ≡ max = omega arith in
-    rw (is, none, no_ones, le-leb 0 max (omega arith)) (rw (le-leb 0 max (omega arith), whole) refl)
+    let all : max - 0 ≡ max = omega arith in
+    rw (none, no_ones, le-leb 0 max (omega arith)) (rw (le-leb 0 max (omega arith), all) refl)
 
-pub some_levels : (max : ℕ) (nc : ℤ) (t : Token) (zeros : ℕ) (values block : List ℤ) (b first second third after : Bits) → t.total + zeros ≤ max →
-    coeff_token nc b ≡ Ok (t, first) → token_levels t first ≡ Ok (values, second) → zeros_part max t second ≡ Ok (zeros, third) →
-    placed_by_runs max values t.total zeros third ≡ Ok (block, after) → residual_block max nc b ≡ Ok (block, after)
-some_levels max nc t zeros values block b first second third after room is_token is_levels is_zeros is_placed = grind (arith, le-leb)
+pub no_levels : (max : ℕ) (nc : ℤ) (t : Token) (b after : Bits) → t.ones ≤ t.total → t.total ≡ 0 → coeff_token nc b ≡ Ok (t, after) → residual_block max nc b ≡ Ok (replicate max (pos 0), after)
+no_levels max nc t b after few none is = behind_token max nc t b after is ∙ none_behind max t after few none
+
+whole : (max : ℕ) (t : Token) (zeros : ℕ) (values block : List ℤ) (first second third after : Bits) → t.total + zeros ≤ max →
+    token_levels t first ≡ Ok (values, second) → zeros_part max t.total second ≡ Ok (zeros, third) →
+    placed_by_runs max values t.total zeros third ≡ Ok (block, after) → block_behind max t first ≡ Ok (block, after)
+whole max t zeros values block first second third after room is_levels is_zeros is_placed = grind (arith, le-leb)
+
+tested : (test : Bool) (f : Fault) (x y : ℕ) (b after : Bits) → ((check test f >> give x) b) ≡ Ok (y, after) → (test ≡ true) × (x ≡ y) × (b ≡ after)
+tested true f x y b after is = let both = ok_parts is in (refl, both.0, both.1)
+tested false f x y b after is = cc
+
+pub some_levels : (max : ℕ) (t : Token) (values block : List ℤ) (first second after : Bits) → max ≤ 16 → t.total ≢ 0 → length values ≡ t.total → token_levels t first ≡ Ok (values, second) →
+    placed_by_zeros max values t.total second ≡ Ok (block, after) → (block_behind max t first ≡ Ok (take max block, after)) × (drop max block ≡ replicate (16 - max) (pos 0))
+some_levels max t values block first second after few some long is_levels is_placed =
+    let one = before (zeros_within max t.total second) (λ z. placed_by_runs 16 values t.total z) second block after is_placed in
+    let two = before (zeros_part max t.total second) (kept max t.total) second one.value one.left one.first in
+    let test = tested (nat_le (t.total + two.value) max) faults.TooManyCoefficients two.value one.value two.left one.left two.second in
+    let zeros : zeros_part max t.total second ≡ Ok (one.value, one.left) = two.first ∙ ap (λ z. Ok (z, two.left)) test.1 ∙ ap (λ l. Ok (one.value, l)) test.2 in
+    let within : t.total + one.value ≤ max = omega (arith, leb-true (t.total + two.value) max test.0, test.1) in
+    let short = shorter max values t.total one.value one.left after block long (λ e. absurd (some e)) within few one.second in
+    (whole max t one.value values (take max block) first second one.left after within is_levels zeros short.0, short.1)
+
+-- a fault behind the levels
+fault_by : (r : Result (ℕ × Bits) Fault) (max total : ℕ) (values : List ℤ) (b : Bits) (f : Fault) →
+    (((λ _. r) >>= kept max total) >>= (λ z. placed_by_runs 16 values total z)) b ≡ Err f →
+    ((λ _. r) >>= (λ z. check (nat_le (total + z) max) faults.TooManyCoefficients >> placed_by_runs max values total z)) b ≡ Err f
+fault_by (Err g) max total values b f is = is
+fault_by (Ok p) max total values b f is = by_test (nat_le (total + p.0) max) is
+  where
+    by_runs : (r : Result (List ℕ × Bits) Fault) → ((λ _. r) >>= (λ zero_runs. give (placed 16 values zero_runs))) p.1 ≡ Err f → ((λ _. r) >>= (λ zero_runs. give (placed max values zero_runs))) p.1 ≡ Err f
+    by_runs (Ok q) is = cc
+    by_runs (Err g) is = is
+
+    by_test : (t : Bool) → ((check t faults.TooManyCoefficients >> give p.0) >>= (λ z. placed_by_runs 16 values total z)) p.1 ≡ Err f →
+        (check t faults.TooManyCoefficients >> placed_by_runs max values total p.0) p.1 ≡ Err f
+    by_test true is = by_runs (runs total p.0 p.1) is
+    by_test false is = is
+
+pub levels_fault : (max : ℕ) (t : Token) (values : List ℤ) (first second : Bits) (f : Fault) → t.total ≤ max → token_levels t first ≡ Ok (values, second) →
+    placed_by_zeros max values t.total second ≡ Err f → block_behind max t first ≡ Err f
+levels_fault max t values first second f room is_levels is_fault =
+    rw (le-leb t.total max room, is_levels) (fault_by (zeros_part max t.total second) max t.total values second f is_fault)
 
 -- ---- worked examples of residual blocks
 

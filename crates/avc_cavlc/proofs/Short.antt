@@ -3,8 +3,9 @@ use Rattle.avc_cavlc.proofs.Levels.{◌≡◌, ◌≢◌, ℕ, zero, suc, ◌+�
 use Rattle.avc_cavlc.proofs.Levels.{Bits, Fault, BadCode, Truncated, bits_of, passed, length-drop, length-take-le, take-append-le, before_many, before_short, before_found, u_short, u_long, nat_tests}
 use Rattle.avc_cavlc.proofs.Levels.{All, set, to_z, of_z, w16, length-set, take_more_set, all_more, after_level, levels, levels_after}
 use Rattle.avc_cavlc.proofs.Levels.{IsLevel, level, level_code, level_code_most, level_of_code, level_long, next_suffix_length, ok_parts, suffix_size, get_or-map-range_with_len}
+use Rattle.avc_cavlc.proofs.Levels.{◌>>=◌, ◌&&◌, if◌then◌else◌, times, trailing_one, token_levels, Token}
 use Rattle.std.specs.List.{range_with_len}
-use Rattle.std.proofs.Common.{min}
+use Rattle.std.proofs.Common.{min, nat_lt}
 use Rattle.std.proofs.lemmas.Bool.{le-ltb}
 use Rattle.avc_bits.specs.Bits.{number_of}
 use Rattle.avc_bits.specs.Reader.{leading}
@@ -169,3 +170,12 @@ one_more values total k stage next b mid all l are some few is_level is_small is
       size = all_more IsLevel values k l within are.size is_small;
       stage = omega (arith, small);
     })
+
+-- the levels behind the trailing ones
+pub first_levels : (t : Token) (ones : List ℤ) (stage : ℕ) (b after : Bits) → times t.ones trailing_one b ≡ Ok (ones, after) →
+    stage_length stage ≡ (if nat_lt 10 t.total && nat_lt t.ones 3 then 1 else 0) → stage_above stage ≡ nat_lt t.ones 3 → token_levels t b ≡ left_from ones (t.total - t.ones) stage after
+first_levels t ones stage b after is is_length is_above =
+    let first = if nat_lt 10 t.total && nat_lt t.ones 3 then 1 else 0 in
+    ap (λ r. ((λ _. r) >>= (λ ones. levels_after ones (t.total - t.ones) first (nat_lt t.ones 3))) b) is
+    ∙ ap (λ sl. levels_after ones (t.total - t.ones) sl (nat_lt t.ones 3) after) (sym is_length)
+    ∙ ap (λ above. levels_after ones (t.total - t.ones) (stage_length stage) above after) (sym is_above)

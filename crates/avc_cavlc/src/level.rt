@@ -1,20 +1,20 @@
 //! Levels that are not 0 (9.2.2).
-ghost use Rattle.std.specs.Prelude.{◌≡◌, ◌+◌, ◌-◌, ◌*◌, ◌/◌, ◌%◌, ◌==◌, ◌^◌, ◌≤◌, ◌<◌, ℤ, pos};
+ghost use Rattle.std.specs.Prelude.{◌≡◌, ◌+◌, ◌-◌, ◌*◌, ◌/◌, ◌%◌, ◌==◌, ◌^◌, ◌≤◌, ◌<◌, ℕ, ℤ, pos};
 ghost use Rattle.std.specs.Prelude.{length, take, nat_abs, nat_lt, ◌&&◌, if◌then◌else◌, IfOk};
-ghost use Rattle.std.specs.Prelude.{IsTrue, MatchOption, All};
-ghost use Rattle.avc_bits.specs.Bits.{times};
-ghost use Rattle.avc_bits.specs.Reader.{reader_bits};
+ghost use Rattle.std.specs.Prelude.{IsTrue, MatchOption, MatchResult, All, Err};
+ghost use Rattle.avc_bits.specs.Bits.{passed, times};
+ghost use Rattle.avc_bits.specs.Reader.{IsWindow, reader_bits, reader_bytes};
 ghost use Rattle.avc_vlc.specs.Reading.{IsToken};
 ghost use Rattle.avc_cavlc.specs.Block.{IsLevel, level, level_code, level_of_code};
 ghost use Rattle.avc_cavlc.specs.Block.{next_suffix_length, suffix_size, token_levels};
 ghost use Rattle.avc_cavlc.specs.Block.{trailing_one};
-ghost use Rattle.avc_cavlc.specs.Steps.{AreRead, AreShortLevels, IsLongCode, ReadsCode, ReadsInto};
+ghost use Rattle.avc_cavlc.specs.Steps.{AreRead, AreShortLevels, IsLongCode, ReadsCode, ReadsFrom, ReadsInto};
 ghost use Rattle.avc_cavlc.specs.Steps.{ReadsLevel, left_from, one_of_sign, raised, short_level};
-ghost use Rattle.avc_cavlc.specs.Steps.{stage_above, stage_length};
+ghost use Rattle.avc_cavlc.specs.Steps.{stage_above, stage_length, three_ones};
 
-use avc_bits::BitReader;
+use avc_bits::{BitReader, Window};
 use avc_types::Fault;
-use avc_vlc::Token;
+use avc_vlc::{Token, TokenCode};
 
 /// The greatest suffixLength.
 const MOST_SUFFIX_BITS: u32 = 6;
@@ -38,6 +38,13 @@ struct Level {
     next: u8,
 }
 
+// How many levels have been read, and the stage of the next one.
+#[derive(Clone, Copy)]
+struct Progress {
+    count: usize,
+    stage: u8,
+}
+
 /// Reads the levels of a block that are not 0, the highest frequency first, into the first of the
 /// values.
 #[inline(always)]
@@ -50,13 +57,83 @@ pub(crate) fn read_levels(
     ensures read { ReadsInto result (take token.total values.new) (token_levels token) reader.old reader.new }
     ensures size { IfOk result (λ _. All IsLevel (take token.total values.new)) }
 {
+    let first = read_ones(reader, token, values)?;
+    read_others(reader, values, first, token.total as usize)
+}
+
+/// The same behind the codeword of coeff_token that a window begins with.
+#[inline(always)]
+pub(crate) fn read_levels_ahead(
+    reader: &mut BitReader,
+    window: Window,
+    code: TokenCode,
+    values: &mut [i16; 16],
+) -> Result<(), Fault>
+    requires token { IsToken code.token }
+    requires short { code.length ≤ 16 }
+    requires ahead { 256 ≤ length (reader_bits reader.old).ahead }
+    requires window { IsWindow window (reader_bits reader.old) }
+    ensures read { ReadsFrom result (take code.token.total values.new) (token_levels code.token)
+        (passed (reader_bits reader.old) code.length) (reader_bits reader.new) }
+    ensures bytes { IfOk result (λ _. reader_bytes reader.new ≡ reader_bytes reader.old) }
+    ensures size { IfOk result (λ _. All IsLevel (take code.token.total values.new)) }
+{
+    let first = read_first(reader, window, code, values);
+    read_others(reader, values, first, code.token.total as usize)
+}
+
+// The trailing ones, and the levels behind them whose codewords are short and stand in the same
+// window.
+#[inline(always)]
+fn read_first(
+    reader: &mut BitReader,
+    window: Window,
+    code: TokenCode,
+    values: &mut [i16; 16],
+) -> Progress
+    requires token { IsToken code.token }
+    requires short { code.length ≤ 16 }
+    requires ahead { 256 ≤ length (reader_bits reader.old).ahead }
+    requires window { IsWindow window (reader_bits reader.old) }
+    ensures read { AreRead (token_levels code.token (passed (reader_bits reader.old) code.length)) code.token.total
+        result.count result.stage values.new (reader_bits reader.new) }
+    ensures bytes { reader_bytes reader.new ≡ reader_bytes reader.old }
+{
+    let front = code.length as u32;
+    put_ones(window.bits(front, 3), values);
+    let ones = Progress {
+        count: code.token.ones as usize,
+        stage: first_stage(code.token),
+    };
+    let total = code.token.total as usize;
+    read_short_levels(
+        reader,
+        window,
+        front + code.token.ones as u32,
+        values,
+        ones,
+        total,
+    )
+}
+
+// The trailing ones alone.
+#[inline(always)]
+fn read_ones(
+    reader: &mut BitReader,
+    token: Token,
+    values: &mut [i16; 16],
+) -> Result<Progress, Fault>
+    requires token { IsToken token }
+    ensures read { MatchResult result
+        (λ first. AreRead (token_levels token (reader_bits reader.old)) token.total first.count first.stage values.new (reader_bits reader.new))
+        (λ fault. token_levels token (reader_bits reader.old) ≡ Err fault) }
+    ensures bytes { IfOk result (λ _. reader_bytes reader.new ≡ reader_bytes reader.old) }
+{
     read_trailing_ones(reader, token.ones, values)?;
-    if token.ones == token.total {
-        return Ok(());
-    }
-    let ones = token.ones as usize;
-    let total = token.total as usize;
-    read_others(reader, values, ones, total, first_stage(token))
+    Ok(Progress {
+        count: token.ones as usize,
+        stage: first_stage(token),
+    })
 }
 
 // the stage of the first level that is no trailing one
@@ -88,10 +165,20 @@ fn read_trailing_ones(reader: &mut BitReader, ones: u8, values: &mut [i16; 16]) 
     }
     let signs = reader.peek(3);
     reader.skip(u32::from(ones))?;
+    put_ones(signs, values);
+    Ok(())
+}
+
+// The ones of three sign bits become the first values, as many as stand for trailing ones and what
+// is no value yet behind them.
+#[inline(always)]
+fn put_ones(signs: u32, values: &mut [i16; 16])
+    requires { signs < 8 }
+    ensures { (n : ℕ) → n ≤ 3 → take n values.new ≡ take n (three_ones signs) }
+{
     values[0] = one_at(signs, 0);
     values[1] = one_at(signs, 1);
     values[2] = one_at(signs, 2);
-    Ok(())
 }
 
 // one of the ones of three sign bits
@@ -116,92 +203,87 @@ static ONES: [[i16; 3]; 8] = [
     [-1, -1, -1],
 ];
 
-// How many levels have been read, and the stage of the next one.
-#[derive(Clone, Copy)]
-struct Progress {
-    count: usize,
-    stage: u8,
-}
-
-// The levels that are no trailing ones, put behind those.
+// The levels that are no trailing ones, put behind those that have been read.
 #[inline(always)]
 fn read_others(
     reader: &mut BitReader,
     values: &mut [i16; 16],
-    ones: usize,
+    first: Progress,
     total: usize,
-    first: u8,
 ) -> Result<(), Fault>
-    requires some { ones ≤ total }
+    requires some { first.count ≤ total }
     requires few { total ≤ 16 }
-    requires ones { All IsLevel (take ones values.old) }
-    requires stage { first < 9 }
+    requires size { All IsLevel (take first.count values.old) }
+    requires stage { first.stage < 9 }
     ensures read { ReadsInto result (take total values.new)
-        (left_from (take ones values.old) (total - ones) first) reader.old reader.new }
+        (left_from (take first.count values.old) (total - first.count) first.stage) reader.old reader.new }
     ensures size { IfOk result (λ _. All IsLevel (take total values.new)) }
 {
-    let mut stage = first;
-    let mut k = ones;
+    let mut stage = first.stage;
+    let mut k = first.count;
     'levels: while k < total {
-        let short = read_window(reader, values, k, total, stage);
-        if short.count == total {
-            return Ok(());
-        }
-        k = short.count;
-        let level = read_level(reader, short.stage)?;
+        let level = read_level(reader, stage)?;
         values[k] = level.value;
-        stage = level.next;
-        k += 1;
+        let next = Progress {
+            count: k + 1,
+            stage: level.next,
+        };
+        let short = read_window(reader, values, next, total);
+        k = short.count;
+        stage = short.stage;
     }
     Ok(())
 }
 
-// The levels from `first` on whose codewords are short and stand in one window; none of them where
-// the stop bit may be near.
+// The levels from the next one on whose codewords are short and stand in one window; none of them
+// where the stop bit may be near.
 #[inline(always)]
 fn read_window(
     reader: &mut BitReader,
     values: &mut [i16; 16],
-    first: usize,
+    next: Progress,
     total: usize,
-    stage: u8,
 ) -> Progress
-    requires some { first ≤ total }
+    requires some { next.count ≤ total }
     requires few { total ≤ 16 }
-    requires size { All IsLevel (take first values.old) }
-    requires stage { stage < 9 }
-    ensures read { AreRead total first stage values.old reader.old result.count result.stage values.new reader.new }
+    requires size { All IsLevel (take next.count values.old) }
+    requires stage { next.stage < 9 }
+    ensures read { AreRead (left_from (take next.count values.old) (total - next.count) next.stage (reader_bits reader.old))
+        total result.count result.stage values.new (reader_bits reader.new) }
+    ensures least { next.count ≤ result.count }
+    ensures bytes { reader_bytes reader.new ≡ reader_bytes reader.old }
 {
-    if reader.has_many() {
-        read_short_levels(reader, values, first, total, stage)
-    } else {
-        Progress {
-            count: first,
-            stage,
-        }
+    if next.count < total && reader.has_many() {
+        let window = reader.window();
+        return read_short_levels(reader, window, 0, values, next, total);
     }
+    next
 }
 
-// The same where the stop bit is not near.
+// The same where the stop bit is not near, behind the first bits of the window.
 #[inline(always)]
 fn read_short_levels(
     reader: &mut BitReader,
+    window: Window,
+    front: u32,
     values: &mut [i16; 16],
-    first: usize,
+    first: Progress,
     total: usize,
-    stage: u8,
 ) -> Progress
-    requires some { first ≤ total }
+    requires some { first.count ≤ total }
     requires few { total ≤ 16 }
-    requires size { All IsLevel (take first values.old) }
-    requires stage { stage < 9 }
-    requires ahead { 256 ≤ length (reader_bits reader.old).ahead }
-    ensures read { AreRead total first stage values.old reader.old result.count result.stage values.new reader.new }
+    requires size { All IsLevel (take first.count values.old) }
+    requires stage { first.stage < 9 }
+    requires window { IsWindow window (reader_bits reader.old) }
+    requires front { front ≤ 19 }
+    ensures read { AreRead (left_from (take first.count values.old) (total - first.count) first.stage (passed (reader_bits reader.old) front))
+        total result.count result.stage values.new (reader_bits reader.new) }
+    ensures least { first.count ≤ result.count }
+    ensures bytes { reader_bytes reader.new ≡ reader_bytes reader.old }
 {
-    let window = reader.window();
-    let mut passed = 0;
-    let mut next = stage;
-    let mut k = first;
+    let mut passed = front;
+    let mut next = first.stage;
+    let mut k = first.count;
     'levels: while k < total && passed <= LAST_SHORT {
         let short = short_level(next, window.bits(passed, SHORT_BITS));
         if short.length == 0 {

@@ -5,5 +5,5 @@ mod block;
 mod level;
 mod runs;
 
-pub use block::{read_block, read_block_in_place, read_block_into};
+pub use block::{read_block, read_block_in_place};
 pub use level::{level_code, next_suffix_length, suffix_size};

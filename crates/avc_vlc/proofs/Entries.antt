@@ -484,45 +484,13 @@ pub class_4 : (nc : ℤ) → pos 4 ≤ℤ nc → nc <ℤ pos 8 → token_table n
 class_4 (negsuc n) low high = absurd (omega (arith, ints))
 class_4 (pos n) low high = rw (le-ltb n 2 (omega (arith, ints)), le-ltb n 4 (omega (arith, ints)), lt-ltb n 8 (omega (arith, ints))) refl
 
-pub class_8 : (nc : ℤ) → pos 8 ≤ℤ nc → token_table nc ≡ tokens_8
-class_8 (negsuc n) low = absurd (omega (arith, ints))
-class_8 (pos n) low = rw (le-ltb n 2 (omega (arith, ints)), le-ltb n 4 (omega (arith, ints)), le-ltb n 8 (omega (arith, ints))) refl
-
 pub class_chroma_dc : (nc : ℤ) → nc <ℤ pos 0 → token_table nc ≡ tokens coeff_token_chroma_dc
 class_chroma_dc (negsuc n) high = refl
 class_chroma_dc (pos n) high = absurd (omega (arith, ints))
 
--- the codeword of no level in a class
-pub no_levels_in : (nc : ℤ) (table : Table Token) (word : List Bool) → token_table nc ≡ table → word_of (is_token_same (token 0 0)) table ≡ Some word → token_word nc (token 0 0) ≡ Some word
-no_levels_in nc table word class is = ap (word_of (is_token_same (token 0 0))) class ∙ is
-
--- where it stands ahead
-pub no_levels_ahead : (nc : ℤ) (word own ahead : List Bool) → token_word nc (token 0 0) ≡ Some own → token_word nc (token 0 0) ≡ Some word → IsNext word ahead → IsNext own ahead
-no_levels_ahead nc word own ahead is also next =
-    subst (λ w. IsNext w ahead) (ap (λ o. elim o [ None ↦ [] | Some w ↦ w ]) (sym also ∙ is)) next
-
 -- a number of so many bits is that of its bits
 pub number_own : (n number : ℕ) (bits : List Bool) → number < 2 ^ n → bits_of n number ≡ bits → number ≡ number_of bits
 number_own n number bits below is = sym (mod-eq_of_lt below) ∙ sym (number-bits_of n number) ∙ ap number_of is
-
--- where its bits are next, they are those of no other
-pub number_ahead : (n number other : ℕ) (ahead : List Bool) → n ≤ length ahead → number < 2 ^ n → other < 2 ^ n → bits_of n other ≡ take n (ahead ++ replicate n false) → IsNext (bits_of n number) ahead → other ≡ number
-number_ahead n number other ahead long small below is next =
-    let same : bits_of n other ≡ bits_of n number =
-    is ∙ take-append-le n ahead (replicate n false) long ∙ ap (λ k. take k ahead) (sym (length-bits_of n number)) ∙ next.front in
-    number_own n other (bits_of n number) below same ∙ sym (number_own n number (bits_of n number) small refl)
-
--- a word that stands ahead is read
-pub read_here : {A : Type 0} (part : Read A) (n number : ℕ) (value : A) (b : Bits) → bits_of n number ≡ take n b.ahead → IsReadBack part (bits_of n number) value →
-    part b ≡ Ok (value, bits_at (b.position + n) (drop n b.ahead))
-read_here part n number value b front back =
-    ap (λ l. part (bits_at b.position l)) (sym (take-append-drop n b.ahead) ∙ ap (λ l. l ++ drop n b.ahead) (sym front))
-    ∙ back b.position (drop n b.ahead)
-    ∙ ap (λ k. Ok (value, bits_at (b.position + k) (drop n b.ahead))) (length-bits_of n number)
-
-pub read_ahead : {A : Type 0} (part : Read A) (n number : ℕ) (value : A) (b : Bits) → n ≤ length b.ahead → bits_of n number ≡ take n (b.ahead ++ replicate n false) → IsReadBack part (bits_of n number) value →
-    part b ≡ Ok (value, bits_at (b.position + n) (drop n b.ahead))
-read_ahead part n number value b long same back = read_here part n number value b (same ∙ take-append-le n b.ahead (replicate n false) long) back
 
 -- ---- a run by three bits of a window
 

@@ -1,5 +1,5 @@
 -- Tables that are indexed by the bits ahead: an entry says what the first of these bits decide.
-use Rattle.std.specs.Prelude.{◌≡◌, ℕ, ◌+◌, ◌-◌, ◌*◌, ◌/◌, ◌%◌, ◌^◌, ◌<◌, ◌==◌, Bool, true, false, nat_le, nat_lt, if◌then◌else◌, List, [], ◌∷◌, ◌++◌, length, map, take, replicate, Option, Some, None, Ok, Err}
+use Rattle.std.specs.Prelude.{◌≡◌, ℕ, zero, suc, ◌+◌, ◌-◌, ◌*◌, ◌/◌, ◌%◌, ◌^◌, ◌<◌, ◌==◌, Bool, true, false, nat_le, nat_lt, if◌then◌else◌, List, [], ◌∷◌, ◌++◌, length, map, take, replicate, Option, Some, None, Ok, Err}
 use Rattle.std.specs.List.{enumerate_from, list_all, list_any, range_with_len}
 use Rattle.std.specs.Prelude.{slice_index_or}
 use Rattle.avc_bits.specs.Bits.{bits_of}
@@ -7,8 +7,8 @@ use Rattle.avc_vlc.specs.declared.code.Code.{Code}
 use Rattle.avc_vlc.specs.declared.entry.Entry.{Entry}
 use Rattle.avc_vlc.specs.declared.coeff_token.Token.{Token}
 use Rattle.avc_vlc.specs.declared.run_before.Run.{Run}
-use Rattle.avc_vlc.specs.Reading.{Table, after_word, is_prefix, lookup, row_at, row_table, run_before, token}
-use Rattle.avc_vlc.specs.Tables.{run_before_codes}
+use Rattle.avc_vlc.specs.Reading.{Table, after_word, is_prefix, lookup, row_at, row_table, run_before, token, tokens}
+use Rattle.avc_vlc.specs.Tables.{coeff_token_0, coeff_token_2, coeff_token_4, coeff_token_chroma_dc, run_before_codes}
 use Rattle.avc_vlc.specs.Writing.{word_of}
 
 -- whether a codeword begins with the bits
@@ -81,9 +81,27 @@ pub record AreIndexed {A : Type 0} (each : ℕ → Table A) (tail rows : ℕ) (t
   pub long : map length tables ≡ replicate (length tables) rows
   pub same : map (λ k. index (each k) tail rows) (range_with_len 0 (length tables)) ≡ map (map (map Some)) tables
 
+-- no entry of the rows has more bits
+abbrev pub is_within : {A : Type 0} → (most : ℕ) → List (List (Entry A)) → Bool
+is_within most rows = list_all (λ row. list_all (λ entry. nat_le entry.length most) row) rows
+
+abbrev pub IsWithin : {A : Type 0} → (most : ℕ) → List (List (Entry A)) → Type 0
+IsWithin most rows = is_within most rows ≡ true
+
+-- no entry of the tables has more bits
+abbrev pub AreWithin : {A : Type 0} → (most : ℕ) → List (List (List (Entry A))) → Type 0
+AreWithin most tables = list_all (is_within most) tables ≡ true
+
 -- each of the tables in the list is what the values of three bits decide by its table
 pub record AreFronts {A : Type 0} (each : ℕ → Table A) (tables : List (List (Entry A))) : Type 0 where
   pub same : map (λ k. map (λ n. entry_of (each k) (bits_of 3 n)) (range_with_len 0 8)) (range_with_len 0 (length tables)) ≡ map (map Some) tables
+
+-- the columns of Table 9-5 by the class of nC: 0 and 1, 2 and 3, 4 to 7, and chroma DC
+abbrev pub class_table : ℕ → Table Token
+class_table zero = tokens coeff_token_0
+class_table (suc zero) = tokens coeff_token_2
+class_table (suc (suc zero)) = tokens coeff_token_4
+class_table (suc (suc (suc k))) = tokens coeff_token_chroma_dc
 
 -- what a codeword of run_before decides
 abbrev pub entry_of_run : Run → Entry ℕ

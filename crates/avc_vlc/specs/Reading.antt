@@ -1,5 +1,5 @@
 -- Reading by a table of codewords (9.1.2, 9.2.1, 9.2.3).
-use Rattle.std.specs.Prelude.{◌≡◌, ◌⊎◌, ℕ, zero, suc, ◌+◌, ◌-◌, ◌*◌, ◌≤◌, ℤ, pos, negsuc, Bool, true, false, not, ◌&&◌, ◌||◌, nat_lt, nat_le, if◌then◌else◌, List, [], ◌∷◌, length, map, take, Option, Some, None, Result, Ok, Err}
+use Rattle.std.specs.Prelude.{◌≡◌, ◌⊎◌, ℕ, zero, suc, ◌+◌, ◌-◌, ◌*◌, ◌≤◌, ℤ, pos, negsuc, Bool, true, false, not, ◌&&◌, ◌||◌, nat_lt, nat_le, if◌then◌else◌, List, [], ◌∷◌, length, map, Option, Some, None, Result, Ok, Err}
 use Rattle.std.specs.List.{flat_map, enumerate_from, list_any, list_all, slice_get}
 use Rattle.avc_types.specs.declared.fault.Fault.{Fault}
 use Rattle.avc_types.specs.declared.fault.Fault.TheVariants as faults
@@ -24,10 +24,6 @@ after_word (false ∷ word) (true ∷ bits) = None
 -- the first list is a prefix of the second
 abbrev pub is_prefix : List Bool → List Bool → Bool
 is_prefix word bits = elim (after_word word bits) [ None ↦ false | Some left ↦ true ]
-
--- The bits begin with the codeword.
-pub record IsNext (word bits : List Bool) : Type 0 where
-  pub front : take (length word) bits ≡ word
 
 -- the value of the codeword that the bits begin with, its length, and what is left (9.2)
 abbrev pub lookup : {A : Type 0} → Table A → List Bool → Option (A × ℕ × List Bool)

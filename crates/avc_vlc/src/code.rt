@@ -1,10 +1,10 @@
 //! The next bits of a reader, to be looked up in a table.
 
 ghost use Rattle.std.specs.Prelude.{◌≡◌, ◌≤◌, ◌<◌, ◌^◌, ◌↔◌, List, Bool, take, length, IsTrue};
-ghost use Rattle.avc_bits.specs.Bits.{number_of};
-ghost use Rattle.avc_bits.specs.Reader.{reader_bits};
+ghost use Rattle.avc_bits.specs.Bits.{Bits, number_of};
+ghost use Rattle.avc_bits.specs.Reader.{IsWindow, reader_bits};
 
-use avc_bits::BitReader;
+use avc_bits::{BitReader, Window};
 
 /// The next bits of a reader, at most N of them (N at most 16), and how many they are.
 #[derive(Clone, Copy, Debug)]
@@ -45,6 +45,18 @@ impl<const N: usize> Code<N> {
     {
         Code {
             word: reader.peek(32),
+            count: 0,
+        }
+    }
+
+    // The bits of a window, of which none are counted.
+    #[inline(always)]
+    pub(crate) fn of(window: Window) -> Self
+        requires { N ≤ 16 }
+        ensures { (b : Bits) → IsWindow window b → Shows result b.ahead }
+    {
+        Code {
+            word: window.bits(0, 32),
             count: 0,
         }
     }

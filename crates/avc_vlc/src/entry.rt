@@ -5,7 +5,7 @@ ghost use Rattle.std.specs.Prelude.{◌<◌, MatchOption, OnErr, None, Err};
 ghost use Rattle.std.specs.List.{list_any};
 ghost use Rattle.avc_bits.specs.Reader.{Reads, reader_bits};
 ghost use Rattle.avc_vlc.specs.Reading.{Table, table_code};
-ghost use Rattle.avc_vlc.specs.Indexing.{AreIndexed, Decides, IsIndexed, Shows, holds};
+ghost use Rattle.avc_vlc.specs.Indexing.{AreIndexed, AreWithin, Decides, IsIndexed, IsWithin, Shows, holds};
 
 use crate::code::Code;
 use crate::coeff_token::Token;
@@ -158,7 +158,8 @@ fn entry_near_end(reader: BitReader, rows: &[[Entry<u8>; 4]]) -> Entry<u8>
 pub(crate) fn number_at(code: Code<16>, rows: &[[Entry<u8>; 4]]) -> Entry<u8>
     requires some { 1 ≤ length rows.now }
     requires few { length rows.now ≤ 16 }
-    ensures { (table : Table ℕ) (ahead : List Bool) → IsIndexed table 2 rows.now → Shows code ahead → Decides table ahead result }
+    ensures decides { (table : Table ℕ) (ahead : List Bool) → IsIndexed table 2 rows.now → Shows code ahead → Decides table ahead result }
+    ensures short { (most : ℕ) → IsWithin most rows.now → result.length ≤ most }
 {
     let (row, column) = code.place(rows.len() - 1, 2);
     rows[row][column]
@@ -174,7 +175,8 @@ pub(crate) fn number_in<const ROWS: usize, const TABLES: usize>(
     requires some { 1 ≤ ROWS }
     requires few { ROWS ≤ 16 }
     requires there { table < TABLES }
-    ensures { (each : ℕ → Table ℕ) (ahead : List Bool) → AreIndexed each 2 ROWS tables.now → Shows code ahead → Decides (each table) ahead result }
+    ensures short { (most : ℕ) → AreWithin most tables.now → result.length ≤ most }
+    ensures decides { (each : ℕ → Table ℕ) (ahead : List Bool) → AreIndexed each 2 ROWS tables.now → Shows code ahead → Decides (each table) ahead result }
 {
     number_at(code, &tables[table])
 }

@@ -13,6 +13,6 @@ mod total_zeros;
 pub use code::Code;
 pub use coded_block_pattern::{cbp_of, read_cbp};
 pub use codeword::Codeword;
-pub use coeff_token::{Token, coeff_token_word, pass_no_levels, read_coeff_token};
+pub use coeff_token::{Token, TokenCode, coeff_token_ahead, coeff_token_word, read_coeff_token};
 pub use run_before::{Run, read_run_before, run_before_word, short_run};
-pub use total_zeros::{read_total_zeros, total_zeros_word};
+pub use total_zeros::{read_total_zeros, total_zeros_ahead, total_zeros_word};

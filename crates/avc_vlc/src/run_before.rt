@@ -17,7 +17,7 @@ use crate::entry::{Entry, entry, number_at, row4};
 use avc_bits::{BitReader, Window};
 use avc_types::Fault;
 
-/// A codeword of run_before.
+/// A codeword of run_before or of total_zeros.
 #[derive(Clone, Copy, Debug)]
 pub struct Run {
     /// How many bits it has.

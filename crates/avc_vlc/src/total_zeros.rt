@@ -1,7 +1,10 @@
 //! total_zeros (9.2.3, Tables 9-7 to 9-9). A table has a row for each number of zeros in front of the first 1, the last
 //! for all that are more, and a column for each value of the two bits behind that 1.
-ghost use Rattle.std.specs.Prelude.{◌≡◌, ◌≤◌, List, Bool, true, false, OnErr};
-ghost use Rattle.avc_bits.specs.Reader.{Reads, reader_bits};
+ghost use Rattle.std.specs.Prelude.{◌≡◌, ◌≤◌, List, Bool, true, false, Ok, Err, OnErr, IsTrue, IfSome};
+ghost use Rattle.std.specs.Prelude.{MatchOption};
+ghost use Rattle.avc_types.specs.declared.fault.Fault.TheVariants.{BadCode};
+ghost use Rattle.avc_bits.specs.Bits.{Bits, passed};
+ghost use Rattle.avc_bits.specs.Reader.{IsWindow, Reads, reader_bits};
 ghost use Rattle.avc_vlc.specs.Reading.{total_zeros, zeros_table};
 ghost use Rattle.avc_vlc.specs.Indexing.{Decides, Shows};
 ghost use Rattle.avc_vlc.specs.Writing.{word_bits, zeros_word};
@@ -9,8 +12,9 @@ ghost use Rattle.std.specs.Option.{option_map};
 
 use crate::code::Code;
 use crate::codeword::Codeword;
-use crate::entry::{Entry, entry, number_by, number_in, row4};
-use avc_bits::BitReader;
+use crate::entry::{Entry, entry, number_at, number_by, number_in, row4};
+use crate::run_before::Run;
+use avc_bits::{BitReader, Window};
 use avc_types::Fault;
 
 /// Reads how many zeros stand before the last level of a block with `total` levels (TotalCoeff).
@@ -24,6 +28,56 @@ pub fn read_total_zeros(reader: &mut BitReader, total: u8, chroma_dc: bool) -> R
         read_chroma_dc(reader, total)
     } else {
         read_4x4(reader, total)
+    }
+}
+
+/// The codeword of total_zeros that a window begins with, where a block has `total` levels: at most
+/// 15, or 3 where it is chroma DC. `None` where no codeword stands.
+#[inline(always)]
+pub fn total_zeros_ahead(window: Window, total: u8, chroma_dc: bool) -> Option<Run>
+    requires most { total ≤ 15 }
+    requires few { IsTrue chroma_dc → total ≤ 3 }
+    ensures read { (b : Bits) → IsWindow window b → MatchOption result
+        (total_zeros total chroma_dc b ≡ Err BadCode)
+        (λ run. total_zeros total chroma_dc b ≡ Ok (run.zeros, passed b run.length)) }
+    ensures short { IfSome result (λ run. run.length ≤ 9) }
+{
+    let entry = entry_of_code(Code::<16>::of(window), total, chroma_dc);
+    match entry.value {
+        Some(zeros) => Some(Run {
+            length: entry.length,
+            zeros,
+        }),
+        None => None,
+    }
+}
+
+// what the bits decide
+#[inline(always)]
+fn entry_of_code(code: Code<16>, total: u8, chroma_dc: bool) -> Entry<u8>
+    requires most { total ≤ 15 }
+    requires few { IsTrue chroma_dc → total ≤ 3 }
+    ensures decides { (ahead : List Bool) → Shows code ahead → Decides (zeros_table total chroma_dc) ahead result }
+    ensures short { result.length ≤ 9 }
+{
+    if chroma_dc {
+        chroma_dc_entry(code, total)
+    } else {
+        zeros_entry(code, total)
+    }
+}
+
+// the same for chroma DC
+#[inline(always)]
+fn chroma_dc_entry(code: Code<16>, total: u8) -> Entry<u8>
+    requires { total ≤ 3 }
+    ensures decides { (ahead : List Bool) → Shows code ahead → Decides (zeros_table total true) ahead result }
+    ensures short { result.length ≤ 9 }
+{
+    match total {
+        0..=1 => number_at(code, &CHROMA_DC_1),
+        2 => number_at(code, &CHROMA_DC_2),
+        _ => number_at(code, &CHROMA_DC_3),
     }
 }
 
@@ -63,11 +117,12 @@ fn entry_near_end(reader: BitReader, total: u8) -> Entry<u8>
     zeros_entry(Code::<16>::look(&reader), total)
 }
 
-// what the bits decide
+// the same for 4x4
 #[inline(always)]
 fn zeros_entry(code: Code<16>, total: u8) -> Entry<u8>
     requires { total ≤ 15 }
-    ensures { (ahead : List Bool) → Shows code ahead → Decides (zeros_table total false) ahead result }
+    ensures decides { (ahead : List Bool) → Shows code ahead → Decides (zeros_table total false) ahead result }
+    ensures short { result.length ≤ 9 }
 {
     number_in(code, &TOTAL_ZEROS, usize::from(total.saturating_sub(1)))
 }

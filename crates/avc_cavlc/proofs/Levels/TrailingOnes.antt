@@ -199,8 +199,8 @@ small_more levels at v all here within i = elim (cases_eq i at) [
 ]
 
 -- no value is placed yet
-pub none_placed : (values : List ℤ) (total zeros : ℕ) (b : Bits) → length values ≡ total → 1 ≤ total → total + zeros ≤ 16 → ArePlaced values total zeros 0 zeros (replicate 16 (pos 0)) b b
-none_placed values total zeros b long some room =
+pub none_placed : (total zeros : ℕ) → 1 ≤ total → total + zeros ≤ 16 → ArePlaced total 0 zeros (replicate 16 (pos 0))
+none_placed total zeros some room =
     let all : total ≡ total - 0 = omega arith in
     let first = total + zeros in
     let behind : drop first (replicate 16 (pos 0)) ≡ replicate (16 - first) (pos 0) = drop-replicate first 16 (pos 0) in
@@ -208,10 +208,15 @@ none_placed values total zeros b long some room =
       some = some;
       room = omega arith;
       open_front = rw (← all) (take-replicate first 16 (pos 0) room);
-      read = rw (← all, behind) (first_runs 16 values total zeros b long (λ e. absurd (omega arith)));
       placed_count = rw (← all) (ap total_coeff behind ∙ no_coefficients (16 - first));
       small = λ i. small_none 16 i;
     }
+
+pub none_read : (values : List ℤ) (total zeros : ℕ) (b : Bits) → length values ≡ total → 1 ≤ total → placed_by_runs 16 values total zeros b ≡ placed_others values total 0 zeros (replicate 16 (pos 0)) b
+none_read values total zeros b long some =
+    let all : total ≡ total - 0 = omega arith in
+    let behind : drop (total + zeros) (replicate 16 (pos 0)) ≡ replicate (16 - (total + zeros)) (pos 0) = drop-replicate (total + zeros) 16 (pos 0) in
+    rw (← all, behind) (first_runs 16 values total zeros b long (λ e. absurd (omega arith)))
 
 -- ---- some bits ahead
 
@@ -239,10 +244,6 @@ short_read : (n p : ℕ) (xs : List Bool) → length xs < n → times n trailing
 short_read zero p xs short = absurd (omega arith)
 short_read (suc n) p [] short = refl
 short_read (suc n) p (x ∷ xs) short = grind (arith, fault_later, first_read, short_read n (p + 1) xs (omega arith))
-
--- the ones of three bits
-abbrev pub three_ones : ℕ → List ℤ
-three_ones signs = one_of_sign (signs / 4 % 2 == 1) ∷ one_of_sign (signs / 2 % 2 == 1) ∷ one_of_sign (signs / 1 % 2 == 1) ∷ []
 
 up_to_three : (P : ℕ → Type 0) → P 0 → P 1 → P 2 → P 3 → (n : ℕ) → n ≤ 3 → P n
 up_to_three P none one two three zero few = none

@@ -322,6 +322,12 @@ back same value table word is free found position rest =
 pub token_back : (nc : ℤ) (t : Token) (word : List Bool) → token_word nc t ≡ Some word → IsReadBack (coeff_token nc) word t
 token_back nc t word found = back is_token_same t (token_table nc) word token_is_same (tokens_free nc) found
 
+-- what is read is in range
+pub token_range : (nc : ℤ) (t : Token) (b left : Bits) → coeff_token nc b ≡ Ok (t, left) → IsToken t
+token_range nc t b left is =
+    let read = token_own nc t b left is in
+    token_tested t (all_in is_token (token_table nc) read.bits t (tokens_tested nc) (word-in is_token_same t (token_table nc) read.bits token_is_same read.is_word))
+
 pub zeros_back : (total : ℕ) (chroma_dc : Bool) (n : ℕ) (word : List Bool) → zeros_word total chroma_dc n ≡ Some word → IsReadBack (total_zeros total chroma_dc) word n
 zeros_back total chroma_dc n word found = back is_number_same n (zeros_table total chroma_dc) word number_is_same (zeros_free total chroma_dc) found
 

@@ -4,7 +4,7 @@ pub use Rattle.std.proofs.Common.{arith, append-nil, length-append, Ok, Err, ◌
 pub use Rattle.std.proofs.Common.{◌^◌, map, to_z, of_z, w16, ◌*◌, lit<, rules, max, nat_abs, w8}
 pub use Rattle.std.proofs.Math.Nat.{pow-le-pow_right, mul-le-mul}
 pub use Rattle.std.proofs.Math.Seq.{take-append-add, drop-append-add}
-pub use Rattle.std.proofs.lemmas.Bool.{leb-true, cases_lt, cases_eq, ne_eqb, eq-eqb, le-leb, or_right, or_from}
+pub use Rattle.std.proofs.lemmas.Bool.{leb-true, lt-leb, cases_lt, cases_eq, ne_eqb, eq-eqb, le-leb, or_right, or_from}
 pub use Rattle.std.proofs.lemmas.Bool.Decides.{nat_tests}
 pub use Rattle.std.proofs.lemmas.Grind.{flat_map-append, reverse_onto}
 pub use Rattle.std.proofs.lemmas.Int.{ints}
@@ -16,7 +16,7 @@ pub use Rattle.avc_cavlc.specs.Block.{next_suffix_length, level_of_code, residua
 pub use Rattle.std.proofs.lemmas.List.Elements.{All-map, All-push}
 pub use Rattle.std.proofs.lemmas.List.FromFn.{get_or-map-range_with_len}
 pub use Rattle.std.specs.List.{flat_map, zip, All}
-pub use Rattle.std.specs.Prelude.{Result, replicate, nat_le, ◌==◌, ◌&&◌, IsTrue, if◌then◌else◌, ◌||◌, negsuc}
+pub use Rattle.std.specs.Prelude.{Result, IfOk, replicate, nat_le, ◌==◌, ◌&&◌, IsTrue, if◌then◌else◌, ◌||◌, negsuc}
 pub use Rattle.avc_bits.proofs.Reading.{skip_short, skip_long, one_first, fault_later, u_long, u_short, before_found, before_many, before_short}
 pub use Rattle.avc_bits.specs.Bits.{Bits, Read, ◌>>=◌, ◌>>◌, give, check, bits_of, passed, times, start}
 pub use Rattle.avc_bits.specs.Codes.{skip, u, zeros_before_one}
@@ -29,4 +29,4 @@ pub use Rattle.avc_types.specs.declared.fault.Fault.TheVariants.{Truncated, BadC
 pub use Rattle.avc_vlc.proofs.Entries.{skip-ok, skip-err}
 pub use Rattle.avc_vlc.specs.Reading.{run_before, run_table, table_code, coeff_token, total_zeros}
 pub use Rattle.avc_vlc.specs.declared.coeff_token.Token.{Token}
-pub use Rattle.avc_cavlc.specs.Steps.{ArePlaced, placed_before, placed_by_runs, one_of_sign, levels_after, raised}
+pub use Rattle.avc_cavlc.specs.Steps.{ArePlaced, ReadsFrom, ReadsInto, block_behind, placed_by_zeros, placed_others, zeros_within, placed_before, placed_by_runs, one_of_sign, three_ones, levels_after, raised}

@@ -6,7 +6,7 @@ use Rattle.avc_cavlc.proofs.level.read_others.Given as goal
 abbrev pub invariant-levels : goal.invariant-levels
 invariant-levels l = record {
   most : l.k ≤ l.total;
-  is : IsOneMore l.values l.total l.k l.stage (reader_bits l.reader) (left_from (take l.ones l.fn.values) (l.total - l.ones) l.first (reader_bits l.fn.reader));
+  is : IsOneMore l.values l.total l.k l.stage (reader_bits l.reader) (left_from (take l.fn.first.count l.fn.values) (l.total - l.fn.first.count) l.fn.first.stage (reader_bits l.fn.reader));
   bytes : reader_bytes l.reader ≡ reader_bytes l.fn.reader;
 }
 

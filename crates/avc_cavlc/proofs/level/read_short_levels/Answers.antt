@@ -10,7 +10,7 @@ levels-preserved c =
     let next = c.levels.next in
     let e = c.short_level-short.result in
     let so_far = c.levels.invariant in
-    let window = c.window-window.ensures in
+    let window = c.requires.window in
     let long : 7 ≤ length here.ahead = omega (arith, length-drop c.levels.passed b.ahead, window.long) in
     let reads : Reads7 next e here =
     entry_reads next c.bits.result e here long (c.bits.ensures.bits b window ∙ sym (take-append-le 7 here.ahead (replicate 7 false) long)) c.short_level-short.ensures (omega arith) in

@@ -1,7 +1,7 @@
 use Rattle.avc_cavlc.proofs.Levels.{◌≡◌, ◌+◌, ◌-◌, ◌++◌, ◌∷◌, ℤ, suc, pos, Ok, arith, length, take, drop, set, get_or, to_z, of_z, w16, ap, ◌∙◌}
 use Rattle.avc_cavlc.proofs.Levels.{length-set, replicate, ints, drop-replicate, length-replicate, length-take-le, passed, run, total_coeff}
 use Rattle.avc_cavlc.proofs.Levels.{run_coded, run_more, first_runs, open_first, open_more, done_more, no_coefficients, coefficient_more, small_none}
-use Rattle.avc_cavlc.proofs.Levels.{small_more, value_at, passed_none}
+use Rattle.avc_cavlc.proofs.Levels.{small_more, value_at}
 use Rattle.avc_cavlc.proofs.runs.place_by_window.Goals as goal
 
 pub values-init : goal.values-init
@@ -17,7 +17,7 @@ values-init c =
       some = omega arith;
       place = omega arith;
       is_open = open_first first 16 c.requires.room;
-      read = λ b _. rw (behind, ← all, ← passed_none b) (first_runs 16 values c.args.total c.args.zeros b long (λ e. absurd (omega arith)));
+      read = λ b _. rw (behind, ← all) (first_runs 16 values c.args.total c.args.zeros (passed b c.args.front) long (λ e. absurd (omega arith)));
       count = ap total_coeff behind ∙ no_coefficients (16 - first);
       small = λ i. small_none 16 i;
       few = omega arith;

@@ -9,11 +9,11 @@ invariant-values l = record {
   some : l.k < l.total;
   place : l.place ≡ (l.total - l.k) + l.zeros_left;
   is_open : IsOpen l.place l.block;
-  read : (b : Bits) → IsWindow l.window b → placed_by_runs 16 (take l.total l.values) l.total l.zeros b
+  read : (b : Bits) → IsWindow l.window b → placed_by_runs 16 (take l.total l.values) l.total l.zeros (passed b l.front)
       ≡ placed_before (drop l.place l.block) (drop l.k (take l.total l.values)) (l.total - l.k) l.zeros_left (passed b l.length);
   count : total_coeff (drop l.place l.block) ≡ l.k;
   small : (i : ℕ) → IsSmall (get_or l.block i (pos 0));
-  few : l.length ≤ 3 * l.k;
+  few : l.length ≤ 9 + 3 * l.k;
 }
 
 abbrev pub decreases-values : goal.decreases-values

@@ -32,7 +32,7 @@ pub use Rattle.avc_vlc.specs.Indexing.{begins, goes_on, word_entry, entry_from, 
 pub use Rattle.avc_vlc.specs.Indexing.{IsFrontOf, place_bits, six_bit_entry, IsAhead, IsWritten, entry_word, holds, place_word, word_at}
 pub use Rattle.avc_vlc.specs.Laws.{IsTableRead, IsRead, IsReadBack}
 pub use Rattle.avc_vlc.specs.Reading.{Table, IsIn, after_word, is_prefix, lookup, is_prefix_free, table_code, tokens, tokens_8, token_table, row_table, row_at}
-pub use Rattle.avc_vlc.specs.Reading.{IsNext, zeros_table, run_table, coeff_token, run_before, total_zeros, IsToken, token, pattern_at, coded_block_pattern}
+pub use Rattle.avc_vlc.specs.Reading.{zeros_table, run_table, coeff_token, run_before, total_zeros, IsToken, token, pattern_at, coded_block_pattern}
 pub use Rattle.avc_vlc.specs.Tables.{coeff_token_0, coeff_token_2, coeff_token_4, total_zeros_4x4, total_zeros_chroma_dc, run_before_codes}
 pub use Rattle.avc_vlc.specs.Tables.{coeff_token_chroma_dc, cbp_intra, cbp_inter}
 pub use Rattle.avc_vlc.specs.Writing.{is_number_same, is_token_same, run_word, token_word, word_of, zeros_word, number_is_same, token_is_same}

@@ -1,6 +1,11 @@
-use Rattle.avc_vlc.proofs.Entries.{◌∙◌, ap, sym, refl, arith, ints, coeff_token_0, coeff_token_2, coeff_token_4, tokens, is_token_same, word_of}
-use Rattle.avc_vlc.proofs.Entries.{class_0, class_2, class_4}
+use Rattle.avc_vlc.proofs.Entries.{◌∙◌, ap, sym, refl, arith, ints, coeff_token_0, coeff_token_2, coeff_token_4, coeff_token_chroma_dc, tokens, is_token_same, word_of}
+use Rattle.avc_vlc.proofs.Entries.{class_0, class_2, class_4, class_chroma_dc}
 use Rattle.avc_vlc.proofs.coeff_token.coeff_token_word.Goals as goal
+
+pub returns-then-nc-lt0 : goal.returns-then-nc-lt0
+returns-then-nc-lt0 c =
+    c.of.ensures (tokens coeff_token_chroma_dc) (record { words = refl; whole = refl })
+    ∙ ap (word_of (is_token_same c.args.token)) (sym (class_chroma_dc c.args.nc (omega (arith, ints))))
 
 pub returns-then-nc-lt2 : goal.returns-then-nc-lt2
 returns-then-nc-lt2 c =

@@ -1,21 +1,21 @@
 use Rattle.avc_cavlc.proofs.Levels.{◌≡◌, refl, ◌≤◌, ◌+◌, ◌-◌, ◌++◌, ◌∷◌, ℤ, suc, pos, Ok, Err, arith, rules, length, take, drop, set, get_or, to_z}
 use Rattle.avc_cavlc.proofs.Levels.{of_z, w16, ap, ◌∙◌, sym, length-set, replicate, reverse, ints, length-take-le}
 use Rattle.avc_cavlc.proofs.Levels.{length-drop, take-append-drop, reader_bits, run, total_coeff}
-use Rattle.avc_cavlc.proofs.Levels.{placed_by_runs, run_coded, run_more, run_fault, no_runs, open_front, open_more, done_more}
+use Rattle.avc_cavlc.proofs.Levels.{placed_others, run_coded, run_more, run_fault, no_runs, open_front, open_more, done_more}
 use Rattle.avc_cavlc.proofs.Levels.{coefficient_more, front_none, small_more, value_at}
-use Rattle.avc_cavlc.proofs.runs.read_placed.Goals.{then-values-test+else-k-total, else-values-test}
-use Rattle.avc_cavlc.proofs.runs.read_placed.Goals as goal
+use Rattle.avc_cavlc.proofs.runs.place_runs.Goals.{then-values-test+else-k-total, else-values-test}
+use Rattle.avc_cavlc.proofs.runs.place_runs.Goals as goal
 
 pub values-init : goal.values-init
 values-init c =
-    let first = c.place_first-first.ensures.placed in
+    let first = c.requires.placed in
     record {
-      long = c.place_first-first.array_long;
+      long = c.told-block;
       some = first.some;
       place = refl;
-      is_open = record { within = omega (arith, first.room, c.place_first-first.array_long); front = first.open_front };
-      read = first.read;
-      bytes = c.place_first-first.ensures.bytes;
+      is_open = record { within = omega (arith, first.room, c.told-block); front = first.open_front };
+      read = refl;
+      bytes = refl;
       count = first.placed_count;
       small = first.small;
     }
@@ -27,7 +27,7 @@ returns-in_err-zeros-clause-read c =
     let n = c.args.total - 1 - c.values.k in
     let left : c.args.total - c.values.k ≡ suc n = omega arith in
     let cut : run n c.values.zeros_left b ≡ Err c.in_err-zeros.field-0.0 = ap (λ r. r b) (run_coded n c.values.zeros_left (omega arith) (omega arith)) ∙ c.in_err-zeros.ensures.read in
-    let fault : placed_by_runs 16 values c.args.total c.args.zeros (reader_bits c.args.reader.now) ≡ Err c.in_err-zeros.field-0.0 =
+    let fault : placed_others values c.args.total c.args.first.count c.args.first.zeros_left c.args.block.now (reader_bits c.args.reader.now) ≡ Err c.in_err-zeros.field-0.0 =
     c.values.invariant.read
     ∙ run_fault (drop c.values.place c.values.block) (drop c.values.k values) n (c.args.total - c.values.k) c.values.zeros_left c.in_err-zeros.field-0.0 b left cut in
     search rules

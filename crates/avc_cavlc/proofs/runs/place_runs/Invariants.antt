@@ -1,6 +1,6 @@
 use Rattle.avc_cavlc.proofs.Levels.{◌≡◌, ◌+◌, ◌-◌, ◌<◌, ℕ, pos, drop, get_or, length, take, reader_bits, reader_bytes, IsSmall, total_coeff}
-use Rattle.avc_cavlc.proofs.Levels.{placed_before, placed_by_runs, IsOpen}
-use Rattle.avc_cavlc.proofs.runs.read_placed.Given as goal
+use Rattle.avc_cavlc.proofs.Levels.{placed_before, placed_others, IsOpen}
+use Rattle.avc_cavlc.proofs.runs.place_runs.Given as goal
 
 abbrev pub invariant-values : goal.invariant-values
 invariant-values l = record {
@@ -8,7 +8,7 @@ invariant-values l = record {
   some : l.k < l.total;
   place : l.place ≡ (l.total - l.k) + l.zeros_left;
   is_open : IsOpen l.place l.block;
-  read : placed_by_runs 16 (take l.total l.values) l.total l.zeros (reader_bits l.fn.reader)
+  read : placed_others (take l.total l.values) l.total l.fn.first.count l.fn.first.zeros_left l.fn.block (reader_bits l.fn.reader)
       ≡ placed_before (drop l.place l.block) (drop l.k (take l.total l.values)) (l.total - l.k) l.zeros_left (reader_bits l.reader);
   bytes : reader_bytes l.reader ≡ reader_bytes l.fn.reader;
   count : total_coeff (drop l.place l.block) ≡ l.k;
