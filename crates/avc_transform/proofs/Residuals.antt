@@ -225,11 +225,12 @@ zigzag_table k below = eqb-true _ _ (agree_below_at (λ k. nat_eq (slice_index Z
 pub zigzag_inside : (k : ℕ) → k < 16 → slice_index ZIGZAG k < 16
 zigzag_inside k below = ltb-true _ _ (agree_below_at (λ k. nat_lt (slice_index ZIGZAG k) 16) (λ _. true) 16 k refl below)
 
--- QPc from 30 on
-pub chroma_table : (n : ℕ) → 30 ≤ n → slice_index CHROMA_QP (n - 30) ≡ chroma_qp_at n
-chroma_table n from =
-    let test : nat_lt n 30 ≡ false = grind (arith, nat_tests) in
-    rw test
+-- QPc by qPI
+pub chroma_table : (n : ℕ) → n < 52 → slice_index CHROMA_QP n ≡ chroma_qp_at n
+chroma_table n below = eqb-true _ _ (agree_below_at (λ n. nat_eq (slice_index CHROMA_QP n) (chroma_qp_at n)) (λ _. true) 52 n refl below)
+
+pub chroma_qp_small : (n : ℕ) → n < 52 → slice_index CHROMA_QP n < 40
+chroma_qp_small n below = ltb-true _ _ (agree_below_at (λ n. nat_lt (slice_index CHROMA_QP n) 40) (λ _. true) 52 n refl below)
 
 -- ---- worked values of the residual
 
