@@ -5,7 +5,9 @@ mod between;
 mod bilinear;
 mod centres;
 mod chroma_between;
+mod chroma_both;
 mod chroma_prediction;
+mod eighths;
 mod lines;
 mod luma_prediction;
 mod patch;
@@ -17,6 +19,7 @@ mod vector;
 mod weighting;
 mod whole;
 
+pub use chroma_both::predict_both_chroma;
 pub use chroma_prediction::{chroma, copy_chroma, predict_chroma};
 pub use luma_prediction::{copy_luma, luma, predict_luma};
 pub use row::six_tap_row;

@@ -145,7 +145,7 @@ fn row_3<const L: usize, const W: usize>(
 }
 
 /// The samples of a block by the fractions of a vector.
-#[inline(never)]
+#[inline(always)]
 pub fn quarters<const L: usize, const W: usize>(
     p: &[u8],
     at: usize,

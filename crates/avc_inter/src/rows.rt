@@ -16,7 +16,7 @@ use avc_plane::RowsPlace;
 
 /// Reads L samples of a row.
 #[inline(always)]
-fn load<const L: usize>(p: &[u8], from: usize, out: &mut [u8; 16], to: usize)
+pub fn load<const L: usize>(p: &[u8], from: usize, out: &mut [u8; 16], to: usize)
     requires source { from + L ≤ length p.now }
     requires target { to + L ≤ 16 }
     ensures before { (k : ℕ) → k < to → slice_index out.new k ≡ slice_index out.old k }
@@ -79,7 +79,7 @@ pub fn half_row<const L: usize>(p: &[u8], at: usize, stride: usize, step: usize)
 
 /// Puts W of sixteen samples into a row.
 #[inline(always)]
-fn put_row<const W: usize>(out: &mut [u8], first: usize, r: &[u8; 16], from: usize)
+pub fn put_row<const W: usize>(out: &mut [u8], first: usize, r: &[u8; 16], from: usize)
     requires target { first + W ≤ length out.old }
     requires source { from + W ≤ 16 }
     ensures here { (x : ℕ) → x < W → slice_index out.new (first + x) ≡ slice_index r.now (from + x) }

@@ -14,7 +14,9 @@ ghost use Rattle.avc_picture_core.specs.Inter.{predicted_from, with_part};
 
 use crate::inter::ReferencePicture;
 use crate::places::{Corner, MbPlace};
-use avc_inter::{chroma, copy_chroma, copy_luma, luma, predict_chroma, predict_luma, weight};
+use avc_inter::{
+    chroma, copy_chroma, copy_luma, luma, predict_both_chroma, predict_chroma, predict_luma, weight,
+};
 use avc_plane::{PaddedPlane, Plane, Planes};
 use avc_types::{Block, Mv, Weight, Weights};
 
@@ -219,8 +221,15 @@ fn set_plain_part<
     predict_luma::<W, H, PAD>(&reference.luma, x, y, mv, &mut planes.luma);
     let x = 8 * place.column + corner.x / 2;
     let y = 8 * place.row + corner.y / 2;
-    predict_chroma::<CW, CH, PAD>(&reference.cb, x, y, mv, &mut planes.cb);
-    predict_chroma::<CW, CH, PAD>(&reference.cr, x, y, mv, &mut planes.cr);
+    predict_both_chroma::<CW, CH, PAD>(
+        &reference.cb,
+        &reference.cr,
+        x,
+        y,
+        mv,
+        &mut planes.cb,
+        &mut planes.cr,
+    );
 }
 
 /// Predicts a part with weights.

@@ -1,0 +1,176 @@
+//! Chroma samples between whole ones, of both components at once (8.4.2.2.2).
+//!
+//! A row of sixteen is eight samples of Cb and then eight of Cr. Each row is blended along itself
+//! once, for the samples above it and for those below it.
+
+ghost use Rattle.std.specs.Prelude.{◌≡◌, ℕ, ◌+◌, ◌*◌, ◌<◌, ◌≤◌, length, slice_index};
+ghost use Rattle.avc_plane.specs.Strided.{IsRoom, IsStridedSet};
+ghost use Rattle.avc_inter.specs.Eighths.{share_of, rounded_share, eighth_at, AreAlong, IsLineSet};
+
+use crate::rows::{load, put_row};
+use avc_plane::RowsPlace;
+
+/// Between two samples, in eighths.
+#[inline(always)]
+fn share(by: u16, first: u8, second: u8) -> u16
+    requires { by < 8 }
+    ensures value { result ≡ share_of by first second }
+    ensures small { result ≤ 2040 }
+{
+    (8 - by) * u16::from(first) + by * u16::from(second)
+}
+
+/// Between two numbers in eighths, rounded.
+#[inline(always)]
+fn rounded(by: u16, first: u16, second: u16) -> u8
+    requires by { by < 8 }
+    requires first { first ≤ 2040 }
+    requires second { second ≤ 2040 }
+    ensures { result ≡ rounded_share by first second }
+{
+    (((8 - by) * first + by * second + 32) / 64) as u8
+}
+
+/// Eight samples of each list.
+#[inline(always)]
+fn eight_of_both(cb: &[u8], i: usize, cr: &[u8], j: usize) -> [u8; 16]
+    requires cb { i + 8 ≤ length cb.now }
+    requires cr { j + 8 ≤ length cr.now }
+    ensures first { (x : ℕ) → x < 8 → slice_index result x ≡ slice_index cb.now (i + x) }
+    ensures second { (x : ℕ) → x < 8 → slice_index result (8 + x) ≡ slice_index cr.now (j + x) }
+{
+    let mut out = [0; 16];
+    load::<8>(cb, i, &mut out, 0);
+    load::<8>(cr, j, &mut out, 8);
+    out
+}
+
+/// Between each sample and that right of it.
+#[inline(always)]
+fn shares_of(by: u16, first: &[u8; 16], second: &[u8; 16]) -> [u16; 16]
+    requires { by < 8 }
+    ensures value { (k : ℕ) → k < 16 → slice_index result k ≡ share_of by (slice_index first.now k) (slice_index second.now k) }
+    ensures small { (k : ℕ) → k < 16 → slice_index result k ≤ 2040 }
+{
+    let (first, second) = (*first, *second);
+    let mut out = [0; 16];
+    for k in 0..16 {
+        out[k] = share(by, first[k], second[k]);
+    }
+    out
+}
+
+/// Between two rows.
+#[inline(always)]
+fn rounded_shares_of(by: u16, first: &[u16; 16], second: &[u16; 16]) -> [u8; 16]
+    requires by { by < 8 }
+    requires first { (k : ℕ) → k < 16 → slice_index first.now k ≤ 2040 }
+    requires second { (k : ℕ) → k < 16 → slice_index second.now k ≤ 2040 }
+    ensures { (k : ℕ) → k < 16 → slice_index result k ≡ rounded_share by (slice_index first.now k) (slice_index second.now k) }
+{
+    let (first, second) = (*first, *second);
+    let mut out = [0; 16];
+    for k in 0..16 {
+        out[k] = rounded(by, first[k], second[k]);
+    }
+    out
+}
+
+/// Row n of both, blended along itself.
+#[inline(always)]
+fn along_row(
+    cb: &[u8],
+    from_cb: RowsPlace,
+    cr: &[u8],
+    from_cr: RowsPlace,
+    n: usize,
+    right: u16,
+) -> [u16; 16]
+    requires right { right < 8 }
+    requires cb { from_cb.first + n * from_cb.stride + 9 ≤ length cb.now }
+    requires cr { from_cr.first + n * from_cr.stride + 9 ≤ length cr.now }
+    ensures { AreAlong right cb.now (from_cb.first + n * from_cb.stride) cr.now (from_cr.first + n * from_cr.stride) result }
+{
+    let i = from_cb.first + n * from_cb.stride;
+    let j = from_cr.first + n * from_cr.stride;
+    let here = eight_of_both(cb, i, cr, j);
+    let next = eight_of_both(cb, i + 1, cr, j + 1);
+    shares_of(right, &here, &next)
+}
+
+/// Lays row n of both, between two rows.
+#[inline(always)]
+fn lay_line<const W: usize>(
+    down: u16,
+    above: &[u16; 16],
+    below: &[u16; 16],
+    n: usize,
+    cb: &mut [u8],
+    to_cb: RowsPlace,
+    cr: &mut [u8],
+    to_cr: RowsPlace,
+)
+    requires columns { W ≤ 8 }
+    requires down { down < 8 }
+    requires above { (k : ℕ) → k < 16 → slice_index above.now k ≤ 2040 }
+    requires below { (k : ℕ) → k < 16 → slice_index below.now k ≤ 2040 }
+    requires cb { to_cb.first + n * to_cb.stride + W ≤ length cb.old }
+    requires cr { to_cr.first + n * to_cr.stride + W ≤ length cr.old }
+    ensures cb { IsLineSet W (to_cb.first + n * to_cb.stride)
+        (λ x. rounded_share down (slice_index above.now x) (slice_index below.now x)) cb.old cb.new }
+    ensures cr { IsLineSet W (to_cr.first + n * to_cr.stride)
+        (λ x. rounded_share down (slice_index above.now (8 + x)) (slice_index below.now (8 + x))) cr.old cr.new }
+{
+    let row = rounded_shares_of(down, above, below);
+    put_row::<W>(cb, to_cb.first + n * to_cb.stride, &row, 0);
+    put_row::<W>(cr, to_cr.first + n * to_cr.stride, &row, 8);
+}
+
+/// Lays the samples of both between whole ones, two rows at a time.
+#[inline(always)]
+pub fn lay_both<const W: usize>(
+    cb: &[u8],
+    from_cb: RowsPlace,
+    cr: &[u8],
+    from_cr: RowsPlace,
+    right: u16,
+    down: u16,
+    pairs: usize,
+    out_cb: &mut [u8],
+    to_cb: RowsPlace,
+    out_cr: &mut [u8],
+    to_cr: RowsPlace,
+)
+    requires columns { W ≤ 8 }
+    requires right { right < 8 }
+    requires down { down < 8 }
+    requires few { pairs ≤ 4 }
+    requires cb { (n : ℕ) → n < 2 * pairs + 1 → from_cb.first + n * from_cb.stride + 9 ≤ length cb.now }
+    requires cr { (n : ℕ) → n < 2 * pairs + 1 → from_cr.first + n * from_cr.stride + 9 ≤ length cr.now }
+    requires apart_cb { W ≤ to_cb.stride }
+    requires apart_cr { W ≤ to_cr.stride }
+    requires room_cb { IsRoom W (2 * pairs) to_cb.first to_cb.stride (length out_cb.old) }
+    requires room_cr { IsRoom W (2 * pairs) to_cr.first to_cr.stride (length out_cr.old) }
+    ensures cb { IsStridedSet W (2 * pairs) to_cb.first to_cb.stride
+        (λ x y. eighth_at right down from_cb.stride cb.now (from_cb.first + (y * from_cb.stride + x))) out_cb.old out_cb.new }
+    ensures cr { IsStridedSet W (2 * pairs) to_cr.first to_cr.stride
+        (λ x y. eighth_at right down from_cr.stride cr.now (from_cr.first + (y * from_cr.stride + x))) out_cr.old out_cr.new }
+{
+    let mut row = along_row(cb, from_cb, cr, from_cr, 0, right);
+    for y in 0..pairs {
+        let middle = along_row(cb, from_cb, cr, from_cr, 2 * y + 1, right);
+        lay_line::<W>(down, &row, &middle, 2 * y, out_cb, to_cb, out_cr, to_cr);
+        let last = along_row(cb, from_cb, cr, from_cr, 2 * (y + 1), right);
+        lay_line::<W>(
+            down,
+            &middle,
+            &last,
+            2 * y + 1,
+            out_cb,
+            to_cb,
+            out_cr,
+            to_cr,
+        );
+        row = last;
+    }
+}
