@@ -75,6 +75,7 @@ pub(crate) fn read_luma_blocks<const MAXN: usize>(
 }
 
 /// Reads the AC blocks of a chroma component; where they are not coded their levels become 0.
+#[inline(always)]
 pub(crate) fn read_chroma_blocks(
     reader: &mut BitReader,
     chroma_pattern: u8,

@@ -71,6 +71,7 @@ fn slice_data<'a>(sps: &Sps, pps: &Pps, slice: &'a Slice, read: u32) -> SliceDat
 
 /// Reads the next macroblock of the data, as its neighbours in the picture have it read. Answers
 /// whether there was one.
+#[inline(always)]
 fn next_macroblock<const PAD: usize>(
     unread: &mut SliceData<'_>,
     macroblocks: &Macroblocks<PAD>,

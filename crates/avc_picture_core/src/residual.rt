@@ -32,6 +32,7 @@ pub(crate) struct Quantisers {
 }
 
 /// Adds a residual to a 4x4 block.
+#[inline(always)]
 #[tactic(auto, using(crate::proofs::InterTiles::with_block_same))]
 fn add_residual4x4<const PAD: usize>(
     plane: &mut Plane<PAD>,
@@ -50,6 +51,7 @@ fn add_residual4x4<const PAD: usize>(
 }
 
 /// Adds the same residual to each sample of a 4x4 block.
+#[inline(always)]
 fn add_level4x4<const PAD: usize>(plane: &mut Plane<PAD>, left: usize, top: usize, value: i32)
     requires columns { left + 4 ≤ plane.old.width }
     requires rows { top + 4 ≤ plane.old.height }
@@ -323,6 +325,7 @@ fn add_chroma_blocks4x4<const PAD: usize>(
 
 /// Adds its residual to a chroma component of a macroblock (8.5.4), by the quantiser of chroma.
 /// Nothing is done where it has no level but 0.
+#[inline(always)]
 pub(crate) fn add_chroma_residual<const PAD: usize>(
     plane: &mut Plane<PAD>,
     place: MbPlace,
