@@ -8,6 +8,7 @@ ghost use Rattle.avc_motion.specs.Motion.{zero_vector};
 ghost use Rattle.avc_deblock.specs.Edges.{strength_between};
 ghost use Rattle.avc_deblock.specs.FilterInfo.{Names, HasInfo, has_bit, are_far, inter_strength};
 
+use crate::line::either;
 use crate::mb_info::MbInfo;
 use avc_types::Mv;
 
@@ -24,7 +25,7 @@ fn is_far(a: i16, b: i16) -> bool
 fn are_far(u: Mv, v: Mv) -> bool
     ensures { result ≡ are_far u v }
 {
-    is_far(u.x, v.x) || is_far(u.y, v.y)
+    either(is_far(u.x, v.x), is_far(u.y, v.y))
 }
 
 impl MbInfo {
@@ -44,15 +45,13 @@ impl MbInfo {
         ensures value { result ≡ inter_strength self.now block q.now q_block }
         ensures low { result < 3 }
     {
-        if self.has_coefficients(block) || q.has_coefficients(q_block) {
-            2
-        } else if self.pictures[block / 4] != q.pictures[q_block / 4]
-            || are_far(self.vectors[block], q.vectors[q_block])
-        {
-            1
-        } else {
-            0
-        }
+        // not one after the other: none of them can be foreseen
+        let has_levels = either(self.has_coefficients(block), q.has_coefficients(q_block));
+        let differs = either(
+            self.pictures[block / 4] != q.pictures[q_block / 4],
+            are_far(self.vectors[block], q.vectors[q_block]),
+        );
+        if has_levels { 2 } else { u8::from(differs) }
     }
 }
 

@@ -10,7 +10,7 @@ ghost use Rattle.avc_deblock.specs.OneEdge.{HasRoom};
 ghost use Rattle.avc_deblock.specs.FilterInfo.{Names, HaveInfo};
 ghost use Rattle.avc_deblock.specs.ByInfo.{row_by_info};
 
-use crate::inner_limits::InnerLimits;
+use crate::kept_limits::RowLimits;
 use crate::macroblock::macroblock;
 use crate::mb_info::MbInfo;
 use crate::planes_edge::Place;
@@ -40,7 +40,7 @@ pub fn row<const PAD: usize>(
         row,
         chroma_qp_index_offset,
     };
-    let mut kept = InnerLimits::of(&info[0], first);
+    let mut kept = RowLimits::of(&info[0], &first);
     for column in 0..info.len() {
         let left = &info[column.max(1) - 1];
         macroblock(

@@ -8,7 +8,7 @@ mod chroma_edge;
 mod edge_strengths;
 mod filter;
 mod horizontal_edges;
-mod inner_limits;
+mod kept_limits;
 mod kernels;
 pub mod laws;
 mod line;

@@ -4,11 +4,11 @@ ghost use Rattle.std.specs.Prelude.{◌≡◌, ℕ, ◌+◌, ◌*◌, ◌^◌, �
 ghost use Rattle.avc_plane.specs.Frames.{planes_of};
 ghost use Rattle.avc_deblock.specs.OneEdge.{HasRoom};
 ghost use Rattle.avc_deblock.specs.FilterInfo.{filters_between};
-ghost use Rattle.avc_deblock.specs.MbLimits.{AreInnerLimits, ArePairLimits};
+ghost use Rattle.avc_deblock.specs.MbLimits.{ArePairLimits, AreRowLimits};
 ghost use Rattle.avc_deblock.specs.ByInfo.{edges_by_info, mb_by_info, strength_of};
 
 use crate::horizontal_edges::inner_intra_edges;
-use crate::inner_limits::{InnerLimits, limits_beside};
+use crate::kept_limits::RowLimits;
 use crate::line::{all_three, both};
 use crate::mb_info::MbInfo;
 use crate::planes_edge::{PairLimits, Place, edge_between};
@@ -158,15 +158,15 @@ pub(crate) fn macroblock<const PAD: usize>(
     mb: &MbInfo,
     left: &MbInfo,
     above: &MbInfo,
-    kept: &mut InnerLimits,
+    kept: &mut RowLimits,
     place: Place,
 )
     requires columns_fit { 16 * place.column + 16 < 2 ^ 64 }
     requires rows_fit { 16 * place.row + 16 < 2 ^ 64 }
     requires room { HasRoom place.column place.row (planes_of planes.old) }
-    requires kept { AreInnerLimits kept.old place.chroma_qp_index_offset }
+    requires kept { AreRowLimits kept.old place.chroma_qp_index_offset }
     ensures room { (column row : ℕ) → HasRoom column row (planes_of planes.old) → HasRoom column row (planes_of planes.new) }
-    ensures kept { AreInnerLimits kept.new place.chroma_qp_index_offset }
+    ensures kept { AreRowLimits kept.new place.chroma_qp_index_offset }
     ensures lines { planes_of planes.new
         ≡ mb_by_info place.chroma_qp_index_offset place.column place.row left.now above.now mb.now (planes_of planes.old) }
 {
@@ -177,11 +177,26 @@ pub(crate) fn macroblock<const PAD: usize>(
     if idle {
         return;
     }
-    kept.fit(mb, place);
-    let own = &kept.limits;
-    let left_limits = limits_beside(left, mb, own, place);
-    let above_limits = limits_beside(above, mb, own, place);
-    all_vertical(planes, left, mb, from_left, inner, &left_limits, own, place);
-    outer_edge(planes, above, mb, false, from_above, &above_limits, place);
-    inner_horizontal(planes, mb, inner, own, place);
+    kept.fit(mb, left, above, &place);
+    let inside = &kept.inside.limits;
+    all_vertical(
+        planes,
+        left,
+        mb,
+        from_left,
+        inner,
+        &kept.left.limits,
+        inside,
+        place,
+    );
+    outer_edge(
+        planes,
+        above,
+        mb,
+        false,
+        from_above,
+        &kept.above.limits,
+        place,
+    );
+    inner_horizontal(planes, mb, inner, inside, place);
 }

@@ -63,8 +63,8 @@ fn luma_qps(p: &MbInfo, q: &MbInfo) -> EdgeQp
 }
 
 #[inline(always)]
-fn chroma_qps(p: &MbInfo, q: &MbInfo, place: Place) -> EdgeQp
-    ensures { result ≡ chroma_qp_of place.chroma_qp_index_offset p.now q.now }
+fn chroma_qps(p: &MbInfo, q: &MbInfo, place: &Place) -> EdgeQp
+    ensures { result ≡ chroma_qp_of place.now.chroma_qp_index_offset p.now q.now }
 {
     EdgeQp {
         p: chroma_qp(place.chroma_qp_index_offset, p.qp),
@@ -76,37 +76,12 @@ fn chroma_qps(p: &MbInfo, q: &MbInfo, place: Place) -> EdgeQp
 
 /// Those between `p` and `q`, with the offsets of the slice of `q`.
 #[inline(never)]
-pub(crate) fn pair_limits(p: &MbInfo, q: &MbInfo, place: Place) -> PairLimits
-    ensures { ArePairLimits result place.chroma_qp_index_offset p.now q.now }
+pub(crate) fn pair_limits(p: &MbInfo, q: &MbInfo, place: &Place) -> PairLimits
+    ensures { ArePairLimits result place.now.chroma_qp_index_offset p.now q.now }
 {
     PairLimits {
         luma: luma_qps(p, q).limits(),
         chroma: chroma_qps(p, q, place).limits(),
-    }
-}
-
-/// The chroma QP of the lines inside `q`: both sides have one.
-#[inline(always)]
-fn inner_chroma_qps(q: &MbInfo, place: Place) -> EdgeQp
-    ensures { result ≡ chroma_qp_of place.chroma_qp_index_offset q.now q.now }
-{
-    let qp = chroma_qp(place.chroma_qp_index_offset, q.qp);
-    EdgeQp {
-        p: qp,
-        q: qp,
-        offset_a: q.offset_a,
-        offset_b: q.offset_b,
-    }
-}
-
-/// Those inside `q`.
-#[inline(always)]
-pub(crate) fn inner_limits(q: &MbInfo, place: Place) -> PairLimits
-    ensures { ArePairLimits result place.chroma_qp_index_offset q.now q.now }
-{
-    PairLimits {
-        luma: luma_qps(q, q).limits(),
-        chroma: inner_chroma_qps(q, place).limits(),
     }
 }
 
@@ -324,6 +299,6 @@ pub fn edge<const VERTICAL: bool, const PAD: usize>(
     ensures lines { planes_of planes.new
         ≡ edge_by_info VERTICAL place.column place.row n place.chroma_qp_index_offset p.now q.now (planes_of planes.old) }
 {
-    let limits = pair_limits(p, q, place);
+    let limits = pair_limits(p, q, &place);
     edge_between(planes, p, q, VERTICAL, n, &limits, place);
 }

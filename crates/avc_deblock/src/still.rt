@@ -32,11 +32,12 @@ impl MbInfo {
     {
         let mut same = true;
         for k in 0..16 {
-            same = all_three(
-                same,
+            // both components at once
+            let here = both(
                 self.vectors[k].x == self.vectors[0].x,
                 self.vectors[k].y == self.vectors[0].y,
             );
+            same = both(same, here);
         }
         same
     }

@@ -1,10 +1,10 @@
 use Rattle.avc_deblock.proofs.FilteredPictures.{◌≡◌, ℕ, planes_of, row_by_info, HasRoom}
-use Rattle.avc_deblock.specs.MbLimits.{AreInnerLimits}
+use Rattle.avc_deblock.specs.MbLimits.{AreRowLimits}
 use Rattle.avc_deblock.proofs.filter.row.Given as goal
 
 abbrev pub invariant-loop-column : goal.invariant-loop-column
 invariant-loop-column g l = record {
   room : (column row : ℕ) → HasRoom column row (planes_of l.fn.planes) → HasRoom column row (planes_of l.planes);
-  kept : AreInnerLimits l.kept l.chroma_qp_index_offset;
+  kept : AreRowLimits l.kept l.chroma_qp_index_offset;
   lines : planes_of l.planes ≡ row_by_info l.chroma_qp_index_offset l.row l.above l.info l.column (planes_of l.fn.planes);
 }

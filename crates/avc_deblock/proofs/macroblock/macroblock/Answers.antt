@@ -18,13 +18,13 @@ pub outer_edge-requires : goal.outer_edge-requires
 outer_edge-requires g c =
     let room = c.all_vertical.ensures.room c.args.place.column c.args.place.row c.requires.room in
     let some_row : c.reaches-from_above.result ≡ true → 1 ≤ c.args.place.row = λ e. some_coded (filters_between c.args.mb.now c.args.above.now) c.args.place.row (c.reaches-from_above.ensures.on e) in
-    (omega arith, ((λ e f. absurd (cc)), ((λ e f. some_row e), (c.requires.columns_fit, (c.requires.rows_fit, (room, c.limits_beside-above_limits.ensures))))))
+    (omega arith, ((λ e f. absurd (cc)), ((λ e f. some_row e), (c.requires.columns_fit, (c.requires.rows_fit, (room, c.fit.ensures.above))))))
 
 pub inner_horizontal-requires : goal.inner_horizontal-requires
 inner_horizontal-requires g c =
     let before = c.all_vertical.ensures.room c.args.place.column c.args.place.row c.requires.room in
     let room = c.outer_edge.ensures.room c.args.place.column c.args.place.row before in
-    (omega arith, (c.requires.columns_fit, (c.requires.rows_fit, (room, c.fit.ensures.own))))
+    (omega arith, (c.requires.columns_fit, (c.requires.rows_fit, (room, c.fit.ensures.inside))))
 
 pub returns-clause-room : goal.returns-clause-room
 returns-clause-room g c column row h =

@@ -1,0 +1,118 @@
+//! Limits kept from one macroblock to the next: neighbours mostly have one QP.
+
+ghost use Rattle.std.specs.Prelude.{◌≡◌, true};
+ghost use Rattle.avc_deblock.specs.MbLimits.{AreKept, AreRowLimits, ArePairLimits, IsFor};
+
+use crate::line::both;
+use crate::mb_info::MbInfo;
+use crate::planes_edge::{PairLimits, Place, pair_limits};
+
+/// What the lines between macroblocks of two QPs are filtered with, at the offsets of one slice.
+#[derive(Clone, Copy)]
+pub(crate) struct KeptLimits {
+    p_qp: u8,
+    q_qp: u8,
+    offset_a: i8,
+    offset_b: i8,
+    pub(crate) limits: PairLimits,
+}
+
+impl KeptLimits {
+    /// Those between `p` and `q`, which is at this place.
+    #[inline(never)]
+    fn of(p: &MbInfo, q: &MbInfo, place: &Place) -> KeptLimits
+        ensures kept { AreKept result place.now.chroma_qp_index_offset }
+        ensures own { IsFor result p.now q.now }
+    {
+        KeptLimits {
+            p_qp: p.qp,
+            q_qp: q.qp,
+            offset_a: q.offset_a,
+            offset_b: q.offset_b,
+            limits: pair_limits(p, q, place),
+        }
+    }
+
+    #[inline(always)]
+    fn is_for(&self, p: &MbInfo, q: &MbInfo) -> bool
+        ensures { result ≡ true → IsFor self.now p.now q.now }
+    {
+        both(
+            both(self.p_qp == p.qp, self.q_qp == q.qp),
+            both(self.offset_a == q.offset_a, self.offset_b == q.offset_b),
+        )
+    }
+
+    /// Makes them those inside `q`, where they are not yet.
+    #[inline(always)]
+    fn fit_inside(&mut self, q: &MbInfo, place: &Place)
+        requires { AreKept self.old place.now.chroma_qp_index_offset }
+        ensures kept { AreKept self.new place.now.chroma_qp_index_offset }
+        ensures own { IsFor self.new q.now q.now }
+    {
+        if self.is_for(q, q) {
+            return;
+        }
+        *self = KeptLimits::of(q, q, place);
+    }
+
+    /// Makes them those between `p` and `q`, where they are not yet. `inside` are those inside `q`.
+    #[inline(always)]
+    fn fit(&mut self, p: &MbInfo, q: &MbInfo, inside: &KeptLimits, place: &Place)
+        requires kept { AreKept self.old place.now.chroma_qp_index_offset }
+        requires inside { AreKept inside.now place.now.chroma_qp_index_offset }
+        requires own { IsFor inside.now q.now q.now }
+        ensures kept { AreKept self.new place.now.chroma_qp_index_offset }
+        ensures own { IsFor self.new p.now q.now }
+    {
+        if self.is_for(p, q) {
+            return;
+        }
+        if p.qp == q.qp {
+            *self = *inside;
+        } else {
+            *self = KeptLimits::of(p, q, place);
+        }
+    }
+}
+
+/// What the lines of the last macroblock were filtered with, in a row of macroblocks.
+#[derive(Drop)]
+pub(crate) struct RowLimits {
+    /// Those inside it.
+    pub(crate) inside: KeptLimits,
+
+    /// Those to its left neighbour.
+    pub(crate) left: KeptLimits,
+
+    /// Those to its upper neighbour.
+    pub(crate) above: KeptLimits,
+}
+
+impl RowLimits {
+    /// Those of a macroblock `q` whose neighbours have its QP.
+    pub(crate) fn of(q: &MbInfo, place: &Place) -> RowLimits
+        ensures { AreRowLimits result place.now.chroma_qp_index_offset }
+    {
+        let inside = KeptLimits::of(q, q, place);
+        RowLimits {
+            inside,
+            left: inside,
+            above: inside,
+        }
+    }
+
+    /// Makes them those of `q`, which has these neighbours.
+    #[inline(always)]
+    pub(crate) fn fit(&mut self, q: &MbInfo, left: &MbInfo, above: &MbInfo, place: &Place)
+        requires { AreRowLimits self.old place.now.chroma_qp_index_offset }
+        ensures kept { AreRowLimits self.new place.now.chroma_qp_index_offset }
+        ensures inside { ArePairLimits self.new.inside.limits place.now.chroma_qp_index_offset q.now q.now }
+        ensures left { ArePairLimits self.new.left.limits place.now.chroma_qp_index_offset left.now q.now }
+        ensures above { ArePairLimits self.new.above.limits place.now.chroma_qp_index_offset above.now q.now }
+    {
+        self.inside.fit_inside(q, place);
+        self.left.fit(left, q, &self.inside, place);
+        self.above.fit(above, q, &self.inside, place);
+    }
+}
