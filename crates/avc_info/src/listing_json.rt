@@ -201,7 +201,8 @@ fn pps_value(alloc: Global, unit: u64, pps: &Pps) -> Result<Value, OutOfMemory>
 }
 
 fn put_initial_qp(map: &mut Map<String, Value>, alloc: Global, pps: &Pps) -> Result<(), OutOfMemory>
-    ensures { OnOk result (members_view map.new.entries ≡ with_member (codes "pic_init_qp_minus26") (number (of_integer pps.now.pic_init_qp_minus26)) (members_view map.old.entries)) }
+    ensures { OnOk result (members_view map.new.entries
+        ≡ with_member (codes "pic_init_qp_minus26") (number (of_integer pps.now.pic_init_qp_minus26)) (members_view map.old.entries)) }
 {
     put(
         map,

@@ -148,7 +148,8 @@ impl StillRun {
         requires one { has_one_motion mb.now.syntax ≡ true → AreOfOneMotion info.now.motion }
         requires references { AreUsable canvas.now.width canvas.now.height sources.now.references.now }
         requires copied { AreCopied sources.now.references.now canvas.now.width place.column place.row self.old.copied (planes_of planes.old) }
-        ensures copied { OnOk result (AreCopied sources.now.references.now canvas.now.width (place.column + 1) place.row self.new.copied (planes_of planes.new)) }
+        ensures copied { OnOk result
+            (AreCopied sources.now.references.now canvas.now.width (place.column + 1) place.row self.new.copied (planes_of planes.new)) }
         ensures built { IsBuiltAhead (address_of canvas.now.width place) mb.now info.now (info_of sources.now.neighbours) sources.now.references.now result
             (with_planes canvas.now (planes_of planes.old)) (with_planes canvas.now (planes_of planes.new)) }
         ensures sized { AreSized canvas.now.width canvas.now.height (planes_of planes.new) }

@@ -86,8 +86,8 @@ impl Canvas {
         requires modes { All IsMode info.now.modes }
         requires one { has_one_motion mb.now.syntax ≡ true → AreOfOneMotion info.now.motion }
         requires references { AreUsable self.now.width self.now.height sources.now.references.now }
-        ensures built { (p : Place) → IsPlaceOn (with_planes self.now (planes_of planes.old)) (address_of self.now.width place) mb.now info.now (info_of sources.now.neighbours)
-            sources.now.references.now p →
+        ensures built { (p : Place) → IsPlaceOn (with_planes self.now (planes_of planes.old)) (address_of self.now.width place) mb.now info.now
+            (info_of sources.now.neighbours) sources.now.references.now p →
             IsBuilt p result (with_planes self.now (planes_of planes.old)) (with_planes self.now (planes_of planes.new)) }
         ensures sized { AreSized self.now.width self.now.height (planes_of planes.new) }
     {

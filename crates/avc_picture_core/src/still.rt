@@ -94,8 +94,8 @@ pub fn build_in_place<const PAD: usize>(
     requires skipped { mb.now.syntax ≡ p_skip }
     requires still { info.now.motion ≡ still_blocks }
     requires samples { AreInPlace sources.now.references.now place.column place.row 1 (planes_of planes.now) }
-    ensures { (p : Place) → IsPlaceOn (with_planes canvas.now (planes_of planes.now)) (address_of canvas.now.width place) mb.now info.now (info_of sources.now.neighbours)
-        sources.now.references.now p →
+    ensures { (p : Place) → IsPlaceOn (with_planes canvas.now (planes_of planes.now)) (address_of canvas.now.width place) mb.now info.now
+        (info_of sources.now.neighbours) sources.now.references.now p →
         IsBuilt p (Ok tt) (with_planes canvas.now (planes_of planes.now)) (with_planes canvas.now (planes_of planes.now)) }
 {
     planes.luma.holds_bytes();
