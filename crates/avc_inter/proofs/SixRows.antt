@@ -145,6 +145,10 @@ rows_done n y count set more less =
     let e : y ≡ count = omega arith in
     rw (← e) set
 
+-- rows of a plane are apart where a rectangle lies in it
+pub rows_apart : (x w width pad stride : ℕ) → x + w ≤ width → width + 2 * pad ≤ stride → w ≤ stride
+rows_apart x w width pad stride inside wide = omega arith
+
 pub strided_to : {w h h' first stride : ℕ} {f : ℕ → ℕ → ℕ} {old new : List ℕ} → h ≡ h' → IsStridedSet w h first stride f old new → IsStridedSet w h' first stride f old new
 strided_to same set = strided_rows _ _ _ _ _ _ _ _ same set
 
@@ -159,11 +163,18 @@ strided_as set e same = strided_to e (strided_same _ _ _ _ _ _ _ _ set same)
 abbrev pub Shows : (columns stride : ℕ) → List ℕ → List ℕ → ℕ → Type 0
 Shows columns stride r p at = (k : ℕ) → k < 16 → slice_index r k ≡ slice_index p (at + place_of columns stride k)
 
-pub sum_there : (columns stride : ℕ) (p e f g h i j : List ℕ) (at k : ℕ) → k < 16 → Shows columns stride e p at → Shows columns stride f p (at + 1) →
-    Shows columns stride g p (at + 2) → Shows columns stride h p (at + 3) → Shows columns stride i p (at + 4) → Shows columns stride j p (at + 5) →
-    taps_of e f g h i j k ≡ taps_along p (at + place_of columns stride k) 1
-sum_there columns stride p e f g h i j at k low se sf sg sh si sj =
-    grind (arith, se k low, sf k low, sg k low, sh k low, si k low, sj k low)
+-- six rows a step apart
+pub sum_there : (columns stride step : ℕ) (p e f g h i j : List ℕ) (at k : ℕ) → k < 16 → Shows columns stride e p at → Shows columns stride f p (at + step) →
+    Shows columns stride g p (at + 2 * step) → Shows columns stride h p (at + 3 * step) → Shows columns stride i p (at + 4 * step) → Shows columns stride j p (at + 5 * step) →
+    taps_of e f g h i j k ≡ taps_along p (at + place_of columns stride k) step
+sum_there columns stride step p e f g h i j at k low se sf sg sh si sj =
+    same_taps _ _ _ _ _ _ _ _ _ _ _ _
+    (se k low)
+    (sf k low ∙ ap (slice_index p) (omega arith))
+    (sg k low ∙ ap (slice_index p) (omega arith))
+    (sh k low ∙ ap (slice_index p) (omega arith))
+    (si k low ∙ ap (slice_index p) (omega arith))
+    (sj k low ∙ ap (slice_index p) (omega arith))
 
 pub mean_turned : (a b : ℕ) → mean_of_two a b ≡ mean_of_two b a
 mean_turned a b = omega arith
@@ -264,10 +275,42 @@ module _ (s : Wide) (left top : ℤ) (w h first stride : ℕ) (p : List ℕ)
       (across_is (k + 4 * stride) x (y + 4) (v +ℤ pos 2) q (omega arith) (omega (arith, add-mul y 4 stride)) (omega (arith, ints)))
       (across_is (k + 5 * stride) x (y + 5) (v +ℤ pos 3) q (omega arith) (omega (arith, add-mul y 5 stride)) (omega (arith, ints))))
 
+-- ---- what the calls about a block ask for
+
+-- what a call with a plane asks for: a plane takes 48 bytes, fewer than half of what there can be
+pub below_half : 48 < 2 ^ 63
+below_half = omega arith
+
+-- the rows of a luma block and five more are few
+pub lines_few : (columns n : ℕ) → AreLanes columns → n ≤ 21 → 16 / columns * n < 2 ^ 16
+lines_few columns n lanes few =
+    let one : 16 / columns * 1 ≤ 16 / columns * columns = mul-le-mul_left (16 / columns) lanes.some in
+    let most : 16 / columns ≤ 16 = omega (arith, one, lanes.all) in
+    let all : 16 / columns * n ≤ 16 * 21 = mul-le-mul most few in
+    omega (arith, all)
+
+-- and so are those of a chroma block and one more
+pub lines_few_more : (columns n : ℕ) → AreLanes columns → n ≤ 4 → 16 / columns * n + 1 < 2 ^ 16
+lines_few_more columns n lanes few =
+    let one : 16 / columns * 1 ≤ 16 / columns * columns = mul-le-mul_left (16 / columns) lanes.some in
+    let most : 16 / columns ≤ 16 = omega (arith, one, lanes.all) in
+    let all : 16 / columns * n ≤ 16 * 4 = mul-le-mul most few in
+    omega (arith, all)
+
 -- ---- blocks that the calls predict, as blocks of the definition's samples
 
 pub back_moved : (z : ℤ) → IsMoved z → to_z w64 (of_z w64 z) ≡ z
 back_moved z p = omega (arith, ints, p.low, p.high)
+
+pub place_moved : (z : ℤ) → IsMoved z → IsPlace (to_z w64 (of_z w64 z))
+place_moved z p = rw (back_moved z p) (record { low = omega (arith, ints, p.low); high = omega (arith, ints, p.high) })
+
+-- two columns or rows before it
+pub back_before : (z : ℤ) → IsMoved z → to_z w64 (of_z w64 (to_z w64 (of_z w64 z) -ℤ pos 2)) ≡ z -ℤ pos 2
+back_before z p = rw (back_moved z p) (omega (arith, ints, p.low, p.high))
+
+pub place_before : (z : ℤ) → IsMoved z → IsPlace (to_z w64 (of_z w64 (to_z w64 (of_z w64 z) -ℤ pos 2)))
+place_before z p = rw (back_before z p) (record { low = omega (arith, ints, p.low); high = omega (arith, ints, p.high) })
 
 pub still_moved : (z : ℤ) → IsMoved z → IsMoved (to_z w64 (of_z w64 z))
 still_moved z p = rw (back_moved z p) p

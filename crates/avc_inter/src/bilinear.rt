@@ -11,7 +11,7 @@ use avc_plane::RowsPlace;
 
 /// The weights in 64ths of a sample, that right of it, that below it and that across, which are 64
 /// together.
-#[derive(Clone, Copy, Debug)]
+#[derive(Clone, Copy)]
 pub struct BilinearWeights {
     here: u16,
     right: u16,

@@ -117,6 +117,9 @@ same_centre e f g h i j e' f' g' h' i' j' a b c d x y = cc (a, b, c, d, x, y)
 of_sum : (z : ℤ) → IsSum z → to_z w16 (of_z w16 z) ≡ z
 of_sum z p = omega (arith, ints, p.low, p.high)
 
+pub still_sum : (z : ℤ) → IsSum z → IsSum (to_z w16 (of_z w16 z))
+still_sum z p = rw (of_sum z p) p
+
 pub centre_cast : (e f g h i j : ℤ) (r : ℕ) → IsSum e → IsSum f → IsSum g → IsSum h → IsSum i → IsSum j →
     r ≡ clip1 (six_taps (to_z w16 (of_z w16 e)) (to_z w16 (of_z w16 f)) (to_z w16 (of_z w16 g)) (to_z w16 (of_z w16 h)) (to_z w16 (of_z w16 i)) (to_z w16 (of_z w16 j)) +ℤ pos 512 >>ℤ 10) →
     r ≡ clip1 (six_taps e f g h i j +ℤ pos 512 >>ℤ 10)
@@ -333,6 +336,16 @@ stored P xs n v d room new old k h =
     (λ above.
     let e : n ≡ k = omega arith in
     subst (λ i. P i (get_or (slice_set xs n v) i d)) e (subst (P n) (sym (get_or-set_same xs n v d room)) new))
+    (cases_lt k n)
+
+-- from place `a` on
+pub stored_at : {X : Type 0} (P : ℕ → X → Type 0) (xs : List X) (a n : ℕ) (v d : X) → a + n < length xs → P n v → ((k : ℕ) → k < n → P k (get_or xs (a + k) d)) →
+    (k : ℕ) → k < n + 1 → P k (get_or (slice_set xs (a + n) v) (a + k) d)
+stored_at P xs a n v d room new old k h =
+    ⊎_elim (λ below. subst (P k) (sym (get_or-set_other xs (a + n) (a + k) v d (λ e. omega arith))) (old k below))
+    (λ above.
+    let e : n ≡ k = omega arith in
+    subst (λ i. P i (get_or (slice_set xs (a + n) v) (a + i) d)) e (subst (P n) (sym (get_or-set_same xs (a + n) v d room)) new))
     (cases_lt k n)
 
 -- ---- a block sample by sample

@@ -1,9 +1,16 @@
-use Rattle.avc_inter.proofs.SixRows.{ℤ, ◌≡◌, IsMoved, to_z, of_z, w64, ◌-ℤ◌, pos, back_moved, ints, ◌+◌, ◌*◌, ◌/◌, arith, refl, wide_of, quarter, strided_as, there_in, between_at, moved_at, room_is}
-use Rattle.avc_inter.proofs.SixRows.{rows_suffice}
+use Rattle.avc_inter.proofs.SixRows.{back_before, place_before, below_half, lines_few, ◌+◌, ◌*◌, ◌/◌, arith, refl, wide_of, quarter, strided_as, there_in, between_at, moved_at, room_is}
+use Rattle.avc_inter.proofs.SixRows.{rows_suffice, quarter_of, still_moved}
 use Rattle.avc_inter.proofs.between.lay_between.Goals as goal
 
-back_before : (z : ℤ) → IsMoved z → to_z w64 (of_z w64 (to_z w64 (of_z w64 z) -ℤ pos 2)) ≡ z -ℤ pos 2
-back_before z p = rw (back_moved z p) (omega (arith, ints, p.low, p.high))
+pub find_within-requires : goal.find_within-requires
+find_within-requires g c =
+    let r = c.requires in
+    (below_half, (place_before _ r.left, (place_before _ r.top, (omega (arith, r.lanes.most), lines_few _ _ r.lanes c.count_around.ensures.few))))
+
+pub lay_far-requires : goal.lay_far-requires
+lay_far-requires g c =
+    let r = c.requires in
+    (below_half, (r.lanes, (r.columns, (r.low, (still_moved _ r.left, (still_moved _ r.top, (r.patch, (r.fx, (r.fy, (r.apart, r.room))))))))))
 
 pub quarters-requires-clause-room : goal.quarters-requires-clause-room
 quarters-requires-clause-room g c =
@@ -17,7 +24,7 @@ returns-in-Some g c =
     let at = c.in-Some.at in
     let rows = c.padded_rows.result.now in
     let there = there_in _ _ c.in-Some.is c.find_within.ensures rows c.padded_rows.ensures in
-    strided_as c.quarters.ensures refl (between_at (wide_of c.args.reference.now) c.args.left _ c.args.top _ g.row.W (16 / g.row.L * c.args.count)
+    strided_as {f = λ x y. quarter_of rows at.stride (at.first + (y * at.stride + x)) c.args.fx c.args.fy} c.quarters.ensures refl (between_at (wide_of c.args.reference.now) c.args.left _ c.args.top _ g.row.W (16 / g.row.L * c.args.count)
     (g.row.L + 5) (16 / g.row.L * c.count_around.result) at.first at.stride c.args.fx c.args.fy rows (back_before c.args.left r.left) (back_before c.args.top r.top)
     there.at (omega (arith, r.columns)) (rw c.count_around.ensures.value (rows_suffice g.row.L r.lanes c.args.count)))
 

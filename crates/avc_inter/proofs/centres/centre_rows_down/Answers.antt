@@ -32,6 +32,9 @@ put_rows-requires-clause-room g c r low = row_room _ _ _ _ c.requires.lanes c.lo
 pub half_row-half-requires-clause-samples : goal.half_row-half-requires-clause-samples
 half_row-half-requires-clause-samples g c k low = row_within _ _ c.requires.lanes _ (c.args.at + c.args.by) (5 * c.args.stride) _ k _ c.requires.down c.loop-y-test.true low
 
+pub overflow_add-at-in-loop-y : goal.overflow_add-at-in-loop-y
+overflow_add-at-in-loop-y g c = omega (arith, row_begins _ _ c.requires.lanes _ (c.args.at + c.args.by + 5 * c.args.stride) _ _ c.requires.down c.loop-y-test.true)
+
 pub loop-y-preserved : goal.loop-y-preserved
 loop-y-preserved g c = record {
   sums = window_moved g.row.L c.args.stride c.requires.lanes _ c.args.at c.loop-y.y c.args.p.now _ _ c.middle_row-middle.ensures.sums c.move_on.ensures;

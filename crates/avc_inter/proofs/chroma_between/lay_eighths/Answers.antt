@@ -1,5 +1,15 @@
-use Rattle.avc_inter.proofs.SixRows.{◌+◌, ◌*◌, ◌/◌, arith, refl, wide_of, bilinear, strided_as, there_in, back_moved, blend_at, moved_at, places_for}
+use Rattle.avc_inter.proofs.SixRows.{◌+◌, ◌*◌, ◌/◌, arith, refl, wide_of, bilinear, strided_as, there_in, back_moved, blend_at, blend_of, moved_at, places_for, below_half, lines_few_more, place_moved, still_moved}
 use Rattle.avc_inter.proofs.chroma_between.lay_eighths.Goals as goal
+
+pub find_within-requires : goal.find_within-requires
+find_within-requires g c =
+    let r = c.requires in
+    (below_half, (place_moved _ r.left, (place_moved _ r.top, (omega (arith, r.lanes.most), lines_few_more _ _ r.lanes r.low))))
+
+pub lay_far-requires : goal.lay_far-requires
+lay_far-requires g c =
+    let r = c.requires in
+    (below_half, (r.lanes, (r.columns, (r.low, (r.patch, (still_moved _ r.left, (still_moved _ r.top, (r.right, (r.down, (r.apart, r.room))))))))))
 
 pub blend_rows-requires-clause-samples : goal.blend_rows-requires-clause-samples
 blend_rows-requires-clause-samples g c =
@@ -15,7 +25,7 @@ returns-in-Some g c =
     let rows = c.padded_rows-rows.result.now in
     let shares = c.new-weights.ensures in
     let there = there_in _ _ c.in-Some.is c.find_within.ensures rows c.padded_rows-rows.ensures in
-    strided_as c.blend_rows.ensures refl (λ i j column row. blend_at (wide_of c.args.reference.now) c.args.left _ c.args.top _ (g.row.L + 1) (16 / g.row.L * c.args.count + 1)
+    strided_as {f = λ x y. blend_of c.new-weights.result rows at.stride (at.first + (y * at.stride + x))} c.blend_rows.ensures refl (λ i j column row. blend_at (wide_of c.args.reference.now) c.args.left _ c.args.top _ (g.row.L + 1) (16 / g.row.L * c.args.count + 1)
     at.first at.stride c.args.right c.args.down rows c.new-weights.result there.at (back_moved c.args.left r.left) (back_moved c.args.top r.top)
     shares.here shares.right shares.below shares.across i j (omega (arith, column, r.columns)) (omega (arith, row)))
 

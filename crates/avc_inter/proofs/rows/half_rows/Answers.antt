@@ -19,6 +19,9 @@ overflow_add-to g c = omega (arith, row_first _ _ _ c.requires.lanes c.loop-y-te
 pub put_rows-requires-clause-room : goal.put_rows-requires-clause-room
 put_rows-requires-clause-room g c r low = row_room _ _ _ _ c.requires.lanes c.loop-y-test.true c.requires.room c.loop-y.invariant low
 
+pub overflow_add-at : goal.overflow_add-at
+overflow_add-at g c = omega (arith, row_begins _ _ c.requires.lanes _ (c.args.at + c.args.by + 5 * c.args.step) _ _ c.requires.samples c.loop-y-test.true)
+
 pub loop-y-preserved : goal.loop-y-preserved
 loop-y-preserved g c =
     sixteen_more c.loop-y.y c.half_row-row.result c.requires.lanes c.requires.columns c.requires.apart c.loop-y.invariant c.put_rows.ensures

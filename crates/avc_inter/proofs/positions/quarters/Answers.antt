@@ -1,0 +1,16 @@
+use Rattle.avc_inter.proofs.SixRows.{◌≡◌, arith}
+use Rattle.avc_inter.proofs.positions.quarters.Goals as goal
+
+pub returns-in-0 : goal.returns-in-0
+returns-in-0 g c = rw (c.in-0.is) c.row_0.ensures
+
+pub returns-in-1 : goal.returns-in-1
+returns-in-1 g c = rw (c.in-1.is) c.row_1.ensures
+
+pub returns-in-2 : goal.returns-in-2
+returns-in-2 g c = rw (c.in-2.is) c.row_2.ensures
+
+pub returns-in_default : goal.returns-in_default
+returns-in_default g c =
+    let three : c.args.fy ≡ 3 = omega (arith, c.requires.fy, c.in_default) in
+    rw three c.row_3.ensures
