@@ -145,7 +145,7 @@ module _ (wl wb wr row : ℕ) where
         acts_behind w 8 1 (2 * n) (chroma_setting st chroma) (λ i. chroma_reach (chroma_setting st chroma i) refl) fits (grind (arith, nat_tests)) v
         (λ e. far_enough column n (across e) even) (λ e. far_enough row n (down e) even)) in
         record {
-          luma = luma_of_edge v column row n st luma;
+          luma = luma_behind v column row n st luma;
           cb = chroma_behind v column row n st chroma;
           cr = chroma_behind v column row n st chroma;
           is = in_parts v column row n st luma chroma;

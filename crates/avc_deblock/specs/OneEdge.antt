@@ -126,6 +126,11 @@ chroma_of_edge true column row n strengths qp s =
 chroma_of_edge false column row n strengths qp s =
     if n % 2 == 0 then edge_filtered (chroma_setting strengths qp) false (8 * column) (8 * row + 2 * n) 8 s else s
 
+-- the luma plane after that edge
+abbrev pub luma_of_edge : Bool → (column row n : ℕ) → (ℕ → ℕ) → EdgeQp → Plane → Plane
+luma_of_edge true column row n strengths qp s = edge_filtered (luma_setting strengths qp) true (16 * column + 4 * n) (16 * row) 16 s
+luma_of_edge false column row n strengths qp s = edge_filtered (luma_setting strengths qp) false (16 * column) (16 * row + 4 * n) 16 s
+
 -- the planes after that edge
 abbrev pub lines_of_edge : Bool → (column row n : ℕ) → (ℕ → ℕ) → (luma chroma : EdgeQp) → Planes → Planes
 lines_of_edge true column row n strengths luma chroma s = record {

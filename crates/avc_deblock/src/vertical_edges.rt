@@ -4,7 +4,7 @@
 ghost use Rattle.std.specs.Prelude.{◌≡◌, ℕ, ◌+◌, ◌*◌, ◌^◌, ◌<◌, ◌≤◌, true, false};
 ghost use Rattle.avc_plane.specs.Frames.{planes_of};
 ghost use Rattle.avc_deblock.specs.OneEdge.{AreLimits, AreStrengths, edge_filtered, luma_setting};
-ghost use Rattle.avc_deblock.specs.OneEdge.{chroma_of_edge, strength_along, HasRoom};
+ghost use Rattle.avc_deblock.specs.OneEdge.{chroma_of_edge, luma_of_edge, strength_along, HasRoom};
 ghost use Rattle.avc_deblock.specs.MbLimits.{ArePairLimits};
 ghost use Rattle.avc_deblock.specs.ByInfo.{edges_by_info, luma_qp_of, chroma_qp_of, strength_of};
 
@@ -68,9 +68,9 @@ fn inner_luma<const PAD: usize>(
     requires low { AreStrengths middle.now }
     requires value { (k : ℕ) → k < 4 → strength_along middle.now k ≡ strength_of q.now q.now true 2 k }
     requires limits { AreLimits limits.now (luma_qp_of q.now q.now) }
-    ensures { luma.new ≡ edge_filtered (luma_setting (strength_of q.now q.now true 3) (luma_qp_of q.now q.now)) true (16 * place.column + 12) (16 * place.row) 16
-        (edge_filtered (luma_setting (strength_of q.now q.now true 2) (luma_qp_of q.now q.now)) true (16 * place.column + 8) (16 * place.row) 16
-        (edge_filtered (luma_setting (strength_of q.now q.now true 1) (luma_qp_of q.now q.now)) true (16 * place.column + 4) (16 * place.row) 16 luma.old)) }
+    ensures { luma.new ≡ luma_of_edge true place.column place.row 3 (strength_of q.now q.now true 3) (luma_qp_of q.now q.now)
+        (luma_of_edge true place.column place.row 2 (strength_of q.now q.now true 2) (luma_qp_of q.now q.now)
+        (luma_of_edge true place.column place.row 1 (strength_of q.now q.now true 1) (luma_qp_of q.now q.now) luma.old)) }
 {
     if q.is_intra {
         let left = 16 * place.column;

@@ -127,8 +127,8 @@ behind false x d = x
 abbrev pub edge_behind : (size : ℕ) → (ℕ → Setting) → Bool → (column row d : ℕ) → Plane → Plane
 edge_behind size f v column row d s = edge_filtered f v (behind v (size * column) d) (behind (not v) (size * row) d) size s
 
-abbrev pub luma_of_edge : Bool → (column row n : ℕ) → (ℕ → ℕ) → EdgeQp → Plane → Plane
-luma_of_edge v column row n st qp s = edge_behind 16 (luma_setting st qp) v column row (4 * n) s
+abbrev pub luma_behind : Bool → (column row n : ℕ) → (ℕ → ℕ) → EdgeQp → Plane → Plane
+luma_behind v column row n st qp s = edge_behind 16 (luma_setting st qp) v column row (4 * n) s
 
 -- chroma has every second edge
 abbrev pub chroma_behind : Bool → (column row n : ℕ) → (ℕ → ℕ) → EdgeQp → Plane → Plane
@@ -136,14 +136,14 @@ chroma_behind v column row n st qp s = if n % 2 == 0 then edge_behind 8 (chroma_
 
 -- each plane by itself
 pub in_parts : (v : Bool) (column row n : ℕ) (st : ℕ → ℕ) (luma chroma : EdgeQp) (s : Planes) → lines_of_edge v column row n st luma chroma s
-    ≡ record { luma = luma_of_edge v column row n st luma s.luma; cb = chroma_behind v column row n st chroma s.cb; cr = chroma_behind v column row n st chroma s.cr }
+    ≡ record { luma = luma_behind v column row n st luma s.luma; cb = chroma_behind v column row n st chroma s.cb; cr = chroma_behind v column row n st chroma s.cr }
 in_parts true column row n st luma chroma s = refl
 in_parts false column row n st luma chroma s = refl
 
 -- ---- equal strengths give equal lines
 
 module _ (column row n : ℕ) (f g : ℕ → ℕ) (qp : EdgeQp) (same : (k : ℕ) → k < 4 → f k ≡ g k) (v : Bool) (s : Plane) where
-  pub luma_same : luma_of_edge v column row n f qp s ≡ luma_of_edge v column row n g qp s
+  pub luma_same : luma_behind v column row n f qp s ≡ luma_behind v column row n g qp s
   luma_same = grind (arith, nat_tests, edge_same)
 
   pub chroma_same : chroma_behind v column row n f qp s ≡ chroma_behind v column row n g qp s
@@ -196,7 +196,7 @@ pub far_enough : (column n : ℕ) → 1 ≤ 4 * column + n → (n % 2 == 0) ≡ 
 far_enough column n some even = grind (arith, nat_tests)
 
 module _ (column row n : ℕ) (st : ℕ → ℕ) (qp : EdgeQp) (s : Plane) (none : (k : ℕ) → k < 4 → st k ≡ 0) (v : Bool) where
-  pub luma_zero : luma_of_edge v column row n st qp s ≡ s
+  pub luma_zero : luma_behind v column row n st qp s ≡ s
   luma_zero = grind (arith, nat_tests, edge_none)
 
   pub chroma_zero : chroma_behind v column row n st qp s ≡ s
@@ -212,7 +212,7 @@ size_if true p s h = h
 size_if false p s h = (refl, refl)
 
 module _ (v : Bool) (column row n : ℕ) (st : ℕ → ℕ) (qp : EdgeQp) (s : Plane) where
-  pub luma_size : ((luma_of_edge v column row n st qp s).width ≡ s.width) × ((luma_of_edge v column row n st qp s).height ≡ s.height)
+  pub luma_size : ((luma_behind v column row n st qp s).width ≡ s.width) × ((luma_behind v column row n st qp s).height ≡ s.height)
   luma_size = let e = edge_size (luma_setting st qp) v _ _ 16 s in (e.width, e.height)
 
   pub chroma_size : ((chroma_behind v column row n st qp s).width ≡ s.width) × ((chroma_behind v column row n st qp s).height ≡ s.height)
@@ -434,17 +434,17 @@ inside_intra q v st intra same n some k low = grind (arith, nat_tests)
 pub intra_lines : (column row : ℕ) (q : MbInfo) (v : Bool) (st : List ℕ) (s t : Plane) → q.is_intra ≡ true → ((k : ℕ) → k < 4 → slice_index st k ≡ 3) →
     (let f : ℕ → Setting = luma_setting (strength_along (BelowFour st)) (luma_qp_of q q) in
     t ≡ edge_behind 16 f v column row 12 (edge_behind 16 f v column row 8 (edge_behind 16 f v column row 4 s))) →
-    t ≡ luma_of_edge v column row 3 (strength_of q q v 3) (luma_qp_of q q)
-    (luma_of_edge v column row 2 (strength_of q q v 2) (luma_qp_of q q) (luma_of_edge v column row 1 (strength_of q q v 1) (luma_qp_of q q) s))
+    t ≡ luma_behind v column row 3 (strength_of q q v 3) (luma_qp_of q q)
+    (luma_behind v column row 2 (strength_of q q v 2) (luma_qp_of q q) (luma_behind v column row 1 (strength_of q q v 1) (luma_qp_of q q) s))
 intra_lines column row q v st s t intra same is =
     let qp = luma_qp_of q q in
     let f : ℕ → ℕ = strength_along (BelowFour st) in
-    let alike : (n : ℕ) → 1 ≤ n → (r : Plane) → luma_of_edge v column row n f qp r ≡ luma_of_edge v column row n (strength_of q q v n) qp r =
+    let alike : (n : ℕ) → 1 ≤ n → (r : Plane) → luma_behind v column row n f qp r ≡ luma_behind v column row n (strength_of q q v n) qp r =
     λ n some r. luma_same column row n f (strength_of q q v n) qp (inside_intra q v st intra same n some) v r in
     is
     ∙ alike 3 (omega arith) _
-    ∙ ap (luma_of_edge v column row 3 (strength_of q q v 3) qp)
-    (alike 2 (omega arith) _ ∙ ap (luma_of_edge v column row 2 (strength_of q q v 2) qp) (alike 1 (omega arith) s))
+    ∙ ap (luma_behind v column row 3 (strength_of q q v 3) qp)
+    (alike 2 (omega arith) _ ∙ ap (luma_behind v column row 2 (strength_of q q v 2) qp) (alike 1 (omega arith) s))
 
 pub inner_room : (column row : ℕ) (offset : ℤ) (q : MbInfo) (s t : Planes) →
     t ≡ edges_by_info false column row offset false true q q s → (a b : ℕ) → HasRoom a b s → HasRoom a b t
