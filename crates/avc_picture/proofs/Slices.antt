@@ -212,6 +212,32 @@ listed : (p : PictureStart) (s : Slice) (g : Progress) → g.fault ≡ None → 
     → with_slice p s g ≡ with_reference_list p s g (list_of p s.header)
 listed p s g none e = rw none (tests-passed (nat_lt (length g.mbs) (s.header).first_mb_in_slice) _ _ _ _ e)
 
+tests-refused : (g : Progress) (unit : ℕ) (x y : Bool) (c : Progress) (f : Fault) → (if x then Some MissingMacroblocks else (if y then Some ArbitrarySliceOrder else None)) ≡ Some f
+    → (if x then refused g unit MissingMacroblocks else if y then refused g unit ArbitrarySliceOrder else c) ≡ refused g unit f
+tests-refused g unit true y c f e = cc
+tests-refused g unit false true c f e = cc
+tests-refused g unit false false c f e = cc
+
+module _ {p : PictureStart} {es : List ℕ} {g : Progress} {number read : ℕ} {m : MbsState} (well : IsWellSoFar p es g number read m) (s : Slice) (f : Fault) where
+  long-before : length g.mbs ≡ read
+  long-before = well.decoded.next ∙ well.reached
+
+  is-refused : with_slice p s g ≡ refused g s.unit f → IsStateOrFault p es (with_slice p s g) s.unit (number_after number read read) (Err f) read m
+  is-refused e = (ap (λ (x : Progress). x.fault) e, ap (λ (x : Progress). x.read) e ∙ well.read_is)
+
+  -- by its first address
+  pub refused-by-address : address_fault read (s.header).first_mb_in_slice ≡ Some f
+      → IsStateOrFault p es (with_slice p s g) s.unit (number_after number read read) (Err f) read m
+  refused-by-address e =
+      let here = ap (λ n. address_fault n (s.header).first_mb_in_slice) long-before ∙ e in
+      is-refused (rw well.none (tests-refused g s.unit (nat_lt (length g.mbs) (s.header).first_mb_in_slice) _ _ f here))
+
+  -- by its list
+  pub refused-by-list : address_fault read (s.header).first_mb_in_slice ≡ None → list_of p s.header ≡ Err f
+      → IsStateOrFault p es (with_slice p s g) s.unit (number_after number read read) (Err f) read m
+  refused-by-list address e =
+      is-refused (listed p s g well.none (ap (λ n. address_fault n (s.header).first_mb_in_slice) long-before ∙ address) ∙ ap (with_reference_list p s g) e)
+
 -- ---- a slice whose data is read
 
 module _ {PAD : ℕ} (sps : Sps) (pps : Pps) (fs : List (Frame PAD)) (s : Slice) (number read : ℕ) (m : MbsState) (unread : SliceData) (places : List (Option ℕ))
@@ -618,12 +644,26 @@ two_tone edges = picture 2 1 edges [] (i_16x16 2 0 (only_luma_dc []) ∷ i_16x16
 pub two_tones : (built (two_tone NoEdges)).luma.samples ≡ rows_row 16 (replicate 16 128 ++ replicate 16 136)
 two_tones = refl
 
+abbrev plane_with : ℕ → ℕ → List ℕ → Plane
+plane_with width height samples = record { width = width; height = height; samples = samples }
+
+-- planes of this size in macroblocks with these luma samples and grey chroma
+abbrev with_grey_chroma : ℕ → ℕ → List ℕ → Planes
+with_grey_chroma width height samples = record {
+  luma = plane_with (16 * width) (16 * height) samples;
+  cb = plane_with (8 * width) (8 * height) (replicate (64 * width * height) 128);
+  cr = plane_with (8 * width) (8 * height) (replicate (64 * width * height) 128);
+}
+
 -- and the filter
+pub two_tones_planes : deblocked_planes (two_tone All) (built (two_tone All)) ≡ with_grey_chroma 2 1 (rows_row 16 (replicate 15 128 ++ 130 ∷ 134 ∷ replicate 15 136))
+two_tones_planes = refl
+
 pub two_tones_filtered : (deblocked_planes (two_tone All) (built (two_tone All))).luma.samples ≡ rows_row 16 (replicate 15 128 ++ 130 ∷ 134 ∷ replicate 15 136)
-two_tones_filtered = refl
+two_tones_filtered = ap (λ s. s.luma.samples) two_tones_planes
 
 pub two_tones_chroma : (deblocked_planes (two_tone All) (built (two_tone All))).cr.samples ≡ replicate 128 128
-two_tones_chroma = refl
+two_tones_chroma = ap (λ s. s.cr.samples) two_tones_planes
 
 -- a picture of 128 above 136, filtered
 abbrev two_rows : Coded
@@ -666,12 +706,15 @@ unfolding with_part
 moved_half = refl
 
 -- over the filtered picture, and filtered again
+abbrev moved_over : Planes → Coded
+moved_over s = picture 2 1 All (frame_of (samples_of s) ∷ []) half_left
+
 abbrev moved_filtered : Coded
-moved_filtered = picture 2 1 All (frame_of (samples_of (deblocked_planes (two_tone All) (built (two_tone All)))) ∷ []) half_left
+moved_filtered = moved_over (deblocked_planes (two_tone All) (built (two_tone All)))
 
 pub moved_half_filtered : (deblocked_planes moved_filtered (built moved_filtered)).luma.samples ≡ rows_row 16 (replicate 14 128 ++ 129 ∷ 132 ∷ 134 ∷ replicate 15 136)
 unfolding with_part
-moved_half_filtered = refl
+moved_half_filtered = ap (λ s. (deblocked_planes (moved_over s) (built (moved_over s))).luma.samples) two_tones_planes ∙ refl
 
 -- ---- where the buffer holds no frame, the one entry of a P slice's list is empty
 

@@ -172,7 +172,7 @@ impl<const PAD: usize> Macroblocks<PAD> {
     /// is to be asked of the macroblocks. Anything may stand in `info`, which is where what its
     /// neighbours are told is written. `run`
     /// has macroblocks that were copied ahead.
-    #[tactic(auto, using(crate::proofs::Slices::asked, crate::proofs::Slices::late_room, crate::proofs::Slices::row_below))]
+    #[tactic(auto, using(crate::proofs::Slices::asked))]
     pub(crate) fn decode(
         &mut self,
         mb: &Mb,

@@ -1,5 +1,17 @@
-use Rattle.avc_picture.proofs.Slices.{◌≡◌, ◌*◌, Err, refl, arith, rules, size_in_mbs, slice_qp, abs-within, can-have-first, slice-empty, slice-refused, slice-through}
+use Rattle.avc_picture.proofs.Slices.{◌≡◌, ◌*◌, Err, refl, arith, rules, size_in_mbs, slice_qp, abs-within, can-have-first, refused-by-address, refused-by-list, slice-empty, slice-refused, slice-through}
 use Rattle.avc_picture.proofs.slice_decoding.decode_slice.Goals as goal
+
+pub returns-in_err-check_address-clause-state : goal.returns-in_err-check_address-clause-state
+returns-in_err-check_address-clause-state g c = λ indices so_far stand well.
+    let f = c.in_err-check_address.field-0.0 in
+    let e : c.from_residual.result ≡ Err f = search rules in
+    rw e (refused-by-address well c.args.slice.now f c.in_err-check_address.ensures)
+
+pub returns-in_err-places-clause-state : goal.returns-in_err-places-clause-state
+returns-in_err-places-clause-state g c = λ indices so_far stand well.
+    let f = c.in_err-places.field-0.0 in
+    let e : c.from_residual-in_err-places.result ≡ Err f = search rules in
+    rw e (refused-by-list well c.args.slice.now f c.in_ok-check_address.ensures (c.in_err-places.ensures.list c.args.pps.now indices stand))
 
 pub returns-in_err-more-clause-state : goal.returns-in_err-more-clause-state
 returns-in_err-more-clause-state g c = λ indices so_far stand well.

@@ -1,4 +1,5 @@
 use Rattle.avc_picture.proofs.Slices.{◌≡◌, ◌∙◌, ◌/◌, ap, refl, sym, arith, rules, w8, to_z, of_z, planes_of, AreInfoOf, FiltersUpTo, filtered_rows, filtered_is}
+use Rattle.avc_picture.proofs.Slices.{late_room, state_of}
 use Rattle.avc_picture.specs.Memory.{with_info}
 use Rattle.avc_picture.proofs.macroblocks.Macroblocks.deblocked.Goals as goal
 
@@ -23,3 +24,14 @@ returns g c =
           filtered_is holds w.kept last all before after refl lines);
       memory = rw (← c.self.view_is) (c.keep_info.ensures ∙ ap (λ n. with_info n c.args.memory.now) w.kept.row_width);
     }
+
+pub filter_last_row-requires : goal.filter_last_row-requires
+filter_last_row-requires g c =
+    let i = c.self.inside in
+    let w = c.self.invariant in
+    (omega arith, λ column low. late_room (state_of i) w.kept i.filter_rows.width w.filter_width (planes_of i.planes) w.sized column low)
+
+pub invariant_of-keep_info : goal.invariant_of-keep_info
+invariant_of-keep_info g c =
+    let w = c.self.invariant in
+    record { same = w.kept.row_width ∙ sym w.filter_width }

@@ -2,7 +2,7 @@ use Rattle.avc_picture.proofs.Slices.{Err, suc, ◌≡◌, ◌∙◌, ◌<◌, �
 use Rattle.avc_picture.proofs.Slices.{FilterInfo, FiltersUpTo, filtered_rows, state_of, with_planes, kept_more, modes_above, modes_left, build_fault, decoded_more}
 use Rattle.avc_picture.proofs.Slices.{vector_fault}
 use Rattle.avc_picture_core.specs.Canvas.{address_of}
-use Rattle.avc_picture.proofs.Slices.{arith, AreUsable, in_range_of, row_below}
+use Rattle.avc_picture.proofs.Slices.{arith, AreUsable, in_range_of, late_room, row_below}
 use Rattle.avc_picture.specs.StillRuns.{AreCopiedFrom}
 use Rattle.avc_picture.proofs.StillRuns.{copied_here, copied_next, holds_again, kept_again}
 use Rattle.avc_picture.proofs.macroblocks.Macroblocks.decode.Goals as goal
@@ -122,3 +122,16 @@ build-requires g c =
         ),
       ),
     )
+
+pub filter_late-requires : goal.filter_late-requires
+filter_late-requires g c =
+    let i = c.self.inside in
+    let w = c.self.invariant in
+    (omega arith, λ column low. late_room (state_of i) w.kept i.filter_rows.width w.filter_width (planes_of c.build.new.planes) c.build.ensures.sized column low)
+
+pub put-requires : goal.put-requires
+put-requires g c =
+    let w = c.self.invariant in
+    let room = rw (← c.self.view_is) at c.requires.room in
+    let told = rw (← c.info-info.ensures) at c.in_ok-set.ensures in
+    (omega arith, (omega (arith, w.kept.small, w.kept.filter_count, room), told.one))
