@@ -11,13 +11,23 @@ use avc_plane::PADDING;
 use avc_units::{LastHeader, UnitContext};
 
 /// What decoding waits for, or goes on with.
-#[derive(Drop)]
 pub enum Phase {
     /// For a unit to start with.
     Waiting,
 
     /// With the open picture, if there is one.
     Running(Option<CurrentPicture>),
+}
+
+// Written out, so that a proof takes the open picture apart here alone, and not wherever a phase is
+// let go.
+impl Drop for Phase {
+    fn drop(self) {
+        match self {
+            Phase::Waiting => {}
+            Phase::Running(_) => {}
+        }
+    }
 }
 
 /// The open picture: its decoder, and of its last slice the header and the unit.

@@ -25,7 +25,6 @@ use avc_units::{HeapSlice, Next, Step, step_of};
 use std::alloc::Global;
 
 /// Makes events of units. After want of memory it may be anything.
-#[derive(Drop)]
 pub struct Stream {
     pub alloc: Global,
     pub table: ParamTable,
@@ -42,6 +41,22 @@ pub struct Stream {
     pub queue: Queue,
     /// How many macroblocks of slices have been read, as far as a u64 counts.
     pub read: u64,
+}
+
+// Written out, so that a proof takes the stream apart here alone.
+impl Drop for Stream {
+    fn drop(self) {
+        let Stream {
+            alloc: _,
+            table: _,
+            over: _,
+            sequence: _,
+            phase: _,
+            memory: _,
+            queue: _,
+            read: _,
+        } = self;
+    }
 }
 
 impl Stream {
