@@ -57,7 +57,12 @@ IsAllTaken max old new holds = holds (units_left max old) × (new ≡ after_unit
 
 pub all_taken : (max : ℕ) (old s new : SplitterState) (next : Option Unit) (holds : List Unit → Type 0) → IsDraining max old s holds → old.failed ≡ false
     → next ≡ next_unit_of max s → new ≡ after_next_unit s next → next ≡ None → IsAllTaken max old new holds
-all_taken max old s new next holds i going gives takes is = search (rules, no_more, next_unit_is, append-nil)
+all_taken max old s new next holds i going gives takes is =
+    let none : slice_get (units max s.bytes s.ended) s.taken ≡ None = sym (next_unit_is max old s _ i.state going) ∙ sym gives ∙ is in
+    let all : units_left max old ≡ i.done = i.rest ∙ ap (λ l. i.done ++ l) (no_more (units max s.bytes s.ended) s.taken none) ∙ append-nil i.done in (
+      subst holds (sym all) i.so_far,
+      takes ∙ ap (λ x. after_next_unit s x) is ∙ i.state ∙ ap (λ us. record old { taken = old.taken + length us }) (sym all),
+    )
 
 -- ---- one unit more is taken into a piece, and a piece whose stream comes is written as far as it is settled
 
@@ -218,7 +223,15 @@ cut_none c piece none = λ s h. record { stands = h; added = []; defined = sym (
 
 pub cut_more : (old mid now : Cutter) (piece more : List ℕ) (u : Unit) → ((s : Stage) → StandsAt s mid → IsCutOn s (next s u) now piece more)
     → (done : List Unit) → IsCutFrom old mid piece done → IsCutFrom old now more (done ++ u ∷ [])
-cut_more old mid now piece more u step done i = search (rules, after-append, append_assoc)
+cut_more old mid now piece more u step done i = λ s h.
+    let first = i s h in
+    let second = step (stage_after s done) first.stands in
+    subst (λ t. IsCutOn s t now [] more) (sym (after-append s done (u ∷ []))) (record {
+      stands = second.stands;
+      added = first.added ++ second.added;
+      defined = second.defined ∙ ap (λ l. l ++ second.added) first.defined ∙ append_assoc (text_of s false) first.added second.added;
+      written_on = second.written_on ∙ ap (λ l. l ++ second.added) first.written_on;
+    })
 
 -- ---- once more has come
 
@@ -242,7 +255,15 @@ text_added : (max number : ℕ) (old mid new : SplitterState) (ended : Bool) (c 
     → ended ≡ false → AreLeft max old mid → new ≡ after_units_left max mid → IsCutFrom c now part (units_left max mid) → length new.bytes ≤ max
     → t ≡ stage_after (stage_of max number old) (units_left max mid) → text_of t mid.ended ≡ text_of t false ++ more
     → piece_text number new.bytes new.ended ≡ piece_text number old.bytes old.ended ++ (part ++ more)
-text_added max number old mid new ended c now part more t h open_end left is cut short t_is adds = search (rules, text_behind, append_assoc)
+text_added max number old mid new ended c now part more t h open_end left is cut short t_is adds =
+    let before = stage_of max number old in
+    let on = cut before h.stands in
+    let same : length new.bytes ≡ length mid.bytes = ap (λ (s : SplitterState). length s.bytes) is in
+    ap (λ (s : SplitterState). piece_text number s.bytes s.ended) is
+    ∙ text_behind max number mid.bytes old.bytes mid.ended old.ended (units_left max mid) (part ++ more) (omega (arith, short, same))
+    (omega (arith, short, same, left.no_fewer)) (sym h.end_is ∙ open_end) left.all
+    (ap (λ s. text_of s mid.ended) (sym t_is) ∙ adds ∙ ap (λ s. text_of s false ++ more) t_is ∙ ap (λ l. l ++ more) on.defined
+    ∙ append_assoc (text_of before false) on.added more ∙ ap (λ l. text_of before false ++ (l ++ more)) (sym on.written_on))
 
 -- by a piece
 pub text_fed : (max number : ℕ) (old mid new : SplitterState) (ended : Bool) (c now : Cutter) (part : List ℕ) → IsCutting max number old ended c
@@ -365,7 +386,12 @@ header_lines_behind form max bytes front ended front_ended others short front_sh
 pub header_lines_added : (form : HeaderForm) (max : ℕ) (old mid new : SplitterState) (sets : List SetUnit) (added : List ℕ) → AreShown max old sets → AreLeft max old mid
     → new ≡ after_units_left max mid → added ≡ header_lines_under form sets (units_left max mid) → length new.bytes ≤ max
     → header_lines_so_far form new.bytes new.ended ≡ header_lines_so_far form old.bytes old.ended ++ added
-header_lines_added form max old mid new sets added h left is lines short = search (rules, header_lines_behind)
+header_lines_added form max old mid new sets added h left is lines short =
+    let same : length new.bytes ≡ length mid.bytes = ap (λ (s : SplitterState). length s.bytes) is in
+    ap (λ (s : SplitterState). header_lines_so_far form s.bytes s.ended) is
+    ∙ header_lines_behind form max mid.bytes old.bytes mid.ended old.ended (units_left max mid) (omega (arith, short, same)) (omega (arith, short, same, left.no_fewer)) left.all
+    ∙ ap (λ ss. header_lines_so_far form old.bytes old.ended ++ header_lines_under form ss (units_left max mid)) (sym h.sets_are)
+    ∙ ap (λ l. header_lines_so_far form old.bytes old.ended ++ l) (sym lines)
 
 pub header_lines_grow : (form : HeaderForm) → UnitsStay → OnlyGrows (header_lines_so_far form)
 header_lines_grow form stay bytes more ended short =

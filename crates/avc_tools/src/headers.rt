@@ -10,8 +10,7 @@ ghost use Rattle.avc_units.specs.Grouping.{set_units};
 ghost use Rattle.avc_tools.specs.Showing.{header_lines_under};
 ghost use Rattle.avc_tools.specs.Streams.{after_units_left, max_unit, units_left};
 ghost use Rattle.avc_tools.specs.Lines.{flag_number, header_line, header_lines, line_of};
-ghost use Rattle.avc_tools.specs.Lines.{newline, order_type, pps_constrained, pps_control};
-ghost use Rattle.avc_tools.specs.Lines.{pps_fields};
+ghost use Rattle.avc_tools.specs.Lines.{newline, order_type, pps_fields};
 ghost use Rattle.avc_tools.specs.Lines.{pps_flags, pps_identity, pps_text, qp_number, refused_text};
 ghost use Rattle.avc_tools.specs.Lines.{set_text};
 ghost use Rattle.avc_tools.specs.Lines.{shown_height, shown_width, slice_fields, slice_picture};
@@ -331,24 +330,9 @@ fn add_pps_fields(text: &mut String, pps: &Pps) -> Result<(), OutOfMemory>
 fn add_pps_flags(text: &mut String, pps: &Pps) -> Result<(), OutOfMemory>
     ensures { OnOk result (string_bytes text.new ≡ string_bytes text.old ++ pps_flags pps.now) }
 {
-    add_pps_control(text, pps)?;
-    add_pps_constrained(text, pps)?;
-    Ok(())
-}
-
-fn add_pps_control(text: &mut String, pps: &Pps) -> Result<(), OutOfMemory>
-    ensures { OnOk result (string_bytes text.new ≡ string_bytes text.old ++ pps_control pps.now) }
-{
     let control = flag_number(pps.deblocking_filter_control_present_flag);
-    write!(text, " control {control}")?;
-    Ok(())
-}
-
-fn add_pps_constrained(text: &mut String, pps: &Pps) -> Result<(), OutOfMemory>
-    ensures { OnOk result (string_bytes text.new ≡ string_bytes text.old ++ pps_constrained pps.now) }
-{
     let constrained = flag_number(pps.constrained_intra_pred_flag);
-    write!(text, " constrained {constrained}")?;
+    write!(text, " control {control} constrained {constrained}")?;
     Ok(())
 }
 

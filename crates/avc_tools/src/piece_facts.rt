@@ -6,7 +6,7 @@ ghost use Rattle.avc_tools.specs.CutPoints.{new_piece, one_more_picture};
 use avc_annexb::Unit;
 
 /// What a line tells of a piece.
-#[derive(Clone, Copy, Debug, PartialEq, Eq)]
+#[derive(Clone, Copy)]
 pub struct PieceFacts {
     /// Its place among the stream's pieces, from 0.
     pub piece: u64,

@@ -46,16 +46,28 @@ impl SetsInForce {
         ensures pps { OnOk result (AreReplaced is_pps pps_record (set_unit unit.now) (written unit.now) self.old.pps.items self.new.pps.items) }
     {
         match read_set(alloc, unit)? {
-            Some(ParameterSet::OfSequence(set)) => {
-                put_sps(&mut self.sps, &set, written_unit(alloc, unit)?);
-                Ok(())
-            }
-            Some(ParameterSet::OfPicture(set)) => {
-                put_pps(&mut self.pps, &set, written_unit(alloc, unit)?);
-                Ok(())
-            }
+            Some(set) => self.take_set(alloc, unit, &set),
             None => Ok(()),
         }
+    }
+
+    // Takes a unit that brings this set.
+    fn take_set(
+        &mut self,
+        alloc: Global,
+        unit: &Unit,
+        set: &ParameterSet,
+    ) -> Result<(), OutOfMemory>
+        requires { option_map parameter_set (set_unit unit.now) ≡ Some set.now }
+        ensures sps { OnOk result (AreReplaced is_sps sps_record (set_unit unit.now) (written unit.now) self.old.sps.items self.new.sps.items) }
+        ensures pps { OnOk result (AreReplaced is_pps pps_record (set_unit unit.now) (written unit.now) self.old.pps.items self.new.pps.items) }
+    {
+        let written = written_unit(alloc, unit)?;
+        match set {
+            ParameterSet::OfSequence(set) => put_sps(&mut self.sps, set, written),
+            ParameterSet::OfPicture(set) => put_pps(&mut self.pps, set, written),
+        }
+        Ok(())
     }
 }
 

@@ -6,7 +6,7 @@ ghost use Rattle.avc_tools.specs.Lines.{facts_of};
 use avc_annexb::Unit;
 
 /// What a line tells of a unit.
-#[derive(Clone, Copy, Debug, PartialEq, Eq)]
+#[derive(Clone, Copy)]
 pub struct UnitFacts {
     /// Its place among the stream's units, from 0.
     pub unit: u64,

@@ -347,7 +347,11 @@ pub record AreLeft (max : ℕ) (old new : SplitterState) : Type 0 where
 left_behind : (max : ℕ) (old new : SplitterState) (others : List Unit) → IsDrained max old
     → units max new.bytes new.ended ≡ units max old.bytes old.ended ++ others → new.taken ≡ old.taken → new.failed ≡ old.failed → length old.bytes ≤ length new.bytes
     → AreLeft max old new
-left_behind max old new others d is count fails no_fewer = search (rules, drop-append_seam)
+left_behind max old new others d is count fails no_fewer =
+    let before = units max old.bytes old.ended in
+    let taken = count ∙ d.taken in
+    let left : units_left max new ≡ others = ap (λ n. drop n (units max new.bytes new.ended)) taken ∙ ap (drop (length before)) is ∙ drop-append_seam before others in
+    record { all = is ∙ ap (λ l. before ++ l) (sym left); taken = taken; going = fails ∙ d.going; no_fewer = no_fewer }
 
 abbrev splitter_at : (bytes : List ℕ) (ended : Bool) (taken : ℕ) (failed : Bool) → SplitterState
 splitter_at bytes ended taken failed = record { bytes = bytes; ended = ended; taken = taken; failed = failed }
@@ -376,7 +380,13 @@ left_by_finish stay max old new d is = rw is (finished stay max old.bytes old.en
 
 -- and nothing is left once these were taken
 pub drained : (max : ℕ) (old mid new : SplitterState) → AreLeft max old mid → new ≡ after_units_left max mid → IsDrained max new
-drained max old mid new left is = search (rules, length-append)
+drained max old mid new left is = record {
+  going = ap (λ (s : SplitterState). s.failed) is ∙ left.going;
+  taken =
+      ap (λ (s : SplitterState). s.taken) is ∙ ap (λ n. n + length (units_left max mid)) left.taken
+      ∙ sym (length-append (units max old.bytes old.ended) (units_left max mid)) ∙ ap length (sym left.all)
+      ∙ ap (λ (s : SplitterState). length (units max s.bytes s.ended)) (sym is);
+}
 
 -- The lines of units that come to others come behind theirs.
 lines_behind : (form : UnitFacts → List ℕ) (bytes front : List ℕ) (ended front_ended : Bool) (others : List Unit) → units 1 bytes ended ≡ units 1 front front_ended ++ others

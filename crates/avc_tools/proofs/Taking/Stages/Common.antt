@@ -60,7 +60,7 @@ pub use Rattle.avc_tools.specs.Cutting.{AreKept, AreReplaced, HasSets, kept_byte
 pub use Rattle.avc_tools.specs.Cutting.{piece_units}
 pub use Rattle.avc_tools.specs.Lines.{unit_line, unit_lines_so_far, line_of_unit, header_line, header_lines_from, header_lines_so_far, newline, pps_fields, pps_flags}
 pub use Rattle.avc_tools.specs.Lines.{pps_identity, slice_fields, slice_picture, slice_place, sps_frames, sps_identity, sps_size, unit_lines, header_lines}
-pub use Rattle.avc_tools.specs.Lines.{pps_constrained, pps_control, and_number}
+pub use Rattle.avc_tools.specs.Lines.{and_number}
 pub use Rattle.avc_tools.specs.PieceSoFar.{PiecesAreWhole, PiecesStay, bytes_of, numbered_piece, piece_so_far, piece_text, pieces_so_far_from, rest_so_far}
 pub use Rattle.avc_tools.specs.PieceSoFar.{is_over as piece_is_over}
 pub use Rattle.avc_tools.specs.Pieces.{after_slices, is_left_out, is_slice, rest_of_piece, through_slices, leads, piece, pieces_from, pieces}

@@ -1,9 +1,16 @@
-use Rattle.avc_tools.proofs.Taking.{true, ◌++◌, ◌∷◌, [], ap, arith, refl, ◌∙◌, after_feed, after_finish, max_unit, IsDraining}
+use Rattle.avc_tools.proofs.Taking.{◌≡◌, true, ◌++◌, ◌∷◌, [], ap, arith, refl, subst, sym, ◌∙◌, after_feed, after_finish, max_unit, IsDraining}
 use Rattle.avc_tools.proofs.Taking.{all_taken, draining_begun, one_more, whole_stream, whole_units}
 use Rattle.avc_tools.proofs.units.all_units.Goals as goal
 
 pub loop-unit-init : goal.loop-unit-init
-loop-unit-init c = grind (arith, after_feed, after_finish, IsDraining, draining_begun)
+loop-unit-init c =
+    let fed = c.in_ok-feed.ensures.ok ∙ ap (λ s. after_feed s c.args.bytes.now) c.new-parts.ensures in
+    let ended = c.in_ok-finish.ensures.ok ∙ ap after_finish fed in
+    record {
+      draining =
+          subst (λ s. IsDraining max_unit (whole_stream c.args.bytes.now) s (λ done. c.new-all.result.items ≡ done)) (sym ended)
+          (draining_begun max_unit _ _ c.new-all.ensures.items);
+    }
 
 pub loop-unit-preserved : goal.loop-unit-preserved
 loop-unit-preserved c = record {

@@ -21,7 +21,8 @@ returns-clause-added g c =
     (sym (feed_keeps_end _ _ c.args.piece.now fed) ∙ sym h.end_is ∙ c.if-self.false) (omega (arith, short)))
 
 pub returns-then-self-clause-so_far : goal.returns-then-self-clause-so_far
-returns-then-self-clause-so_far g c = grind (arith, stays_by_piece)
+returns-then-self-clause-so_far g c =
+    rw (← c.self.view_is) (stays_by_piece _ c.args.piece.now (sym (c.self.invariant c.in_ok-check.ensures.going).end_is ∙ c.if-self.true))
 
 pub returns-then-self-clause-added : goal.returns-then-self-clause-added
 returns-then-self-clause-added g c = grind (arith, append-nil)

@@ -21,7 +21,8 @@ returns-clause-added g c =
     (ap (λ s. s.ended) finished) c.piece.ensures (ap (λ v. v.items) c.into_bytes.ensures.value ∙ (rw (← c.in_ok-keep-2.ensures.same) at c.add_line-last.ensures)) (omega (arith, short)))
 
 pub returns-then-self-clause-so_far : goal.returns-then-self-clause-so_far
-returns-then-self-clause-so_far g c = grind (arith, stays_by_end)
+returns-then-self-clause-so_far g c =
+    rw (← c.self.view_is) (stays_by_end _ (sym (c.self.invariant c.in_ok-check.ensures.going).end_is ∙ c.if-self.true))
 
 pub returns-then-self-clause-added : goal.returns-then-self-clause-added
 returns-then-self-clause-added g c = grind (arith, append-nil)

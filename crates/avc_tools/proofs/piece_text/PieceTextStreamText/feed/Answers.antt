@@ -20,7 +20,8 @@ returns-clause-added c =
     (sym (feed_keeps_end _ _ c.args.piece.now fed) ∙ sym h.end_is ∙ c.if-self.false) (rw (← c.in_ok-added.ensures.same) at c.cut_units_left-added.ensures.piece) (omega (arith, short)))
 
 pub returns-then-self-clause-so_far : goal.returns-then-self-clause-so_far
-returns-then-self-clause-so_far c = grind (arith, stays_by_piece)
+returns-then-self-clause-so_far c =
+    rw (← c.self.view_is) (stays_by_piece _ c.args.piece.now (sym (c.self.invariant c.in_ok-check.ensures.going).end_is ∙ c.if-self.true))
 
 pub returns-then-self-clause-added : goal.returns-then-self-clause-added
 returns-then-self-clause-added c = grind (arith, append-nil)

@@ -1,4 +1,4 @@
-use Rattle.avc_tools.proofs.Taking.{true, ap, sym, arith, append-nil, max_unit, left_by_finish, cutting_again, stays_by_end, text_ended}
+use Rattle.avc_tools.proofs.Taking.{true, ap, sym, ◌∙◌, arith, append-nil, max_unit, left_by_finish, cutting_again, stays_by_end, text_ended}
 use Rattle.avc_tools.proofs.piece_text.PieceTextStreamText.finish.Goals as goal
 
 pub invariant_of-self-2 : goal.invariant_of-self-2
@@ -18,7 +18,8 @@ returns-clause-added c =
     (rw (← c.in_ok-added.ensures.same) at c.cut_units_left-added.ensures.taken) (ap (λ s. s.ended) (rw (← c.in_ok-keep.ensures.same) at c.finish.ensures.ok)) (rw (← c.in_ok-added.ensures.same) at c.cut_units_left-added.ensures.piece) (rw (← c.in_ok-keep-2.ensures.same) at c.write_held.ensures) (omega (arith, short)))
 
 pub returns-then-self-clause-so_far : goal.returns-then-self-clause-so_far
-returns-then-self-clause-so_far c = grind (arith, stays_by_end)
+returns-then-self-clause-so_far c =
+    rw (← c.self.view_is) (stays_by_end _ (sym (c.self.invariant c.in_ok-check.ensures.going).end_is ∙ c.if-self.true))
 
 pub returns-then-self-clause-added : goal.returns-then-self-clause-added
 returns-then-self-clause-added c = grind (arith, append-nil)
