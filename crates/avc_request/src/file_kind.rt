@@ -5,7 +5,7 @@ ghost use Rattle.avc_request.specs.FileKinds.{IsKind};
 use std::alloc::{AllocError, Global};
 
 /// What a file is, by its name.
-#[derive(Clone, Copy, Debug, PartialEq, Eq)]
+#[derive(Clone, Copy)]
 pub(crate) enum FileKind {
     /// YUV4MPEG2.
     Y4m,

@@ -1,7 +1,8 @@
 //! The words that the program takes, as clap reads them and shows them for help.
 
-use clap::{Arg, ArgAction, Command as Grammar, Error};
-use std::alloc::Global;
+use clap::builder::ValueParser;
+use clap::{Arg, ArgAction, Command as Grammar};
+use std::alloc::{AllocError, Global};
 
 pub(crate) const DECODE: &str = "decode";
 
@@ -419,20 +420,33 @@ const COMMANDS: &[CommandWords] = &[
 ];
 
 /// What words the program takes.
-pub(crate) fn grammar<'a>(alloc: Global) -> Result<Grammar<'a>, Error> {
-    let mut program = Grammar::new(alloc, "avcdec")
-        .bin_name("avcdec")?
+pub(crate) fn grammar<'a>(alloc: Global) -> Result<Grammar<'a>, AllocError> {
+    with_commands(alloc, program_alone(alloc)?, COMMANDS)
+}
+
+// The program without its commands.
+fn program_alone<'a>(alloc: Global) -> Result<Grammar<'a>, AllocError> {
+    Grammar::new(alloc, "avcdec")
         .version("0.2.0")
         .about("Reads an H.264 byte stream (Annex B)")
         .after_help(STATUSES)
-        .subcommand_required(true);
-    for command in COMMANDS {
+        .subcommand_required(true)
+        .bin_name("avcdec")
+}
+
+// The program, with these commands.
+fn with_commands<'a>(
+    alloc: Global,
+    mut program: Grammar<'a>,
+    commands: &[CommandWords],
+) -> Result<Grammar<'a>, AllocError> {
+    for command in commands {
         program = program.subcommand(command_of(alloc, command)?)?;
     }
     Ok(program)
 }
 
-fn command_of<'a>(alloc: Global, command: &CommandWords) -> Result<Grammar<'a>, Error> {
+fn command_of<'a>(alloc: Global, command: &CommandWords) -> Result<Grammar<'a>, AllocError> {
     let mut grammar = Grammar::new(alloc, command.name)
         .about(command.about)
         .after_help(command.example);
@@ -442,47 +456,64 @@ fn command_of<'a>(alloc: Global, command: &CommandWords) -> Result<Grammar<'a>, 
     Ok(grammar)
 }
 
-fn arg_of<'a>(alloc: Global, word: &Word) -> Result<Arg<'a>, Error> {
-    let plain = Arg::new(alloc, word.name).help(word.help);
-    let mut arg = taking(shortened(plain, word.short), word.name, word.kind);
+fn arg_of<'a>(alloc: Global, word: &Word) -> Result<Arg<'a>, AllocError> {
+    let mut arg = Arg::new(alloc, word.name)
+        .help(word.help)
+        .required(is_required(word.kind))
+        .action(action_of(word.kind));
+    if has_dashes(word.kind) {
+        arg = arg.long(word.name);
+    }
+    if let Some(letter) = word.short {
+        arg = arg.short(letter);
+    }
+    if let Some(name) = value_name(word.kind) {
+        arg = arg.value_name(name);
+    }
+    if let Some(parser) = parser_of(word.kind) {
+        arg = arg.value_parser(parser);
+    }
     for other in word.conflicts {
         arg = arg.conflicts_with(*other)?;
     }
     Ok(arg)
 }
 
-// The word, with a letter that stands for it.
-fn shortened<'a>(arg: Arg<'a>, short: Option<char>) -> Arg<'a> {
-    match short {
-        Some(letter) => arg.short(letter),
-        None => arg,
-    }
+// Whether it may not be left out.
+fn is_required(kind: Kind) -> bool {
+    matches!(kind, Kind::Piece | Kind::Picture | Kind::Other)
 }
 
-// The word, with what stands for it and what it takes.
-fn taking<'a>(arg: Arg<'a>, name: &'static str, kind: Kind) -> Arg<'a> {
+// Whether it is an option, whose name stands on the command line.
+fn has_dashes(kind: Kind) -> bool {
+    !is_required(kind) && !matches!(kind, Kind::Input)
+}
+
+fn action_of(kind: Kind) -> ArgAction {
     match kind {
-        Kind::Flag => arg.long(name).action(ArgAction::SetTrue),
-        Kind::Pictures => option(arg, name, NUMBER).value_parser(clap::value_parser!(u64)),
-        Kind::Start => option(arg, name, NUMBER).value_parser(clap::value_parser!(u32)),
-        Kind::Digest => option(arg, name, "MD5"),
-        Kind::Format => option(arg, name, "format").value_parser(FORMATS),
-        Kind::Output | Kind::Times => option(arg, name, "FILE"),
-        Kind::Input => arg.action(ArgAction::Set),
-        Kind::Piece => arg
-            .required(true)
-            .action(ArgAction::Set)
-            .value_parser(clap::value_parser!(u32)),
-        Kind::Picture => arg
-            .required(true)
-            .action(ArgAction::Set)
-            .value_parser(clap::value_parser!(u64)),
-        Kind::Distance => option(arg, name, NUMBER).value_parser(clap::value_parser!(u8)),
-        Kind::Other => arg.required(true).action(ArgAction::Set),
+        Kind::Flag => ArgAction::SetTrue,
+        _ => ArgAction::Set,
     }
 }
 
-// An option with a value, which help calls so.
-fn option<'a>(arg: Arg<'a>, name: &'static str, value_name: &'static str) -> Arg<'a> {
-    arg.long(name).value_name(value_name).action(ArgAction::Set)
+// What help calls the value of an option.
+fn value_name(kind: Kind) -> Option<&'static str> {
+    match kind {
+        Kind::Pictures | Kind::Start | Kind::Distance => Some(NUMBER),
+        Kind::Digest => Some("MD5"),
+        Kind::Format => Some("format"),
+        Kind::Output | Kind::Times => Some("FILE"),
+        Kind::Flag | Kind::Input | Kind::Piece | Kind::Picture | Kind::Other => None,
+    }
+}
+
+// How its value is read, where it is not taken as it is.
+fn parser_of<'a>(kind: Kind) -> Option<ValueParser<'a>> {
+    match kind {
+        Kind::Pictures | Kind::Picture => Some(clap::value_parser!(u64)),
+        Kind::Start | Kind::Piece => Some(clap::value_parser!(u32)),
+        Kind::Distance => Some(clap::value_parser!(u8)),
+        Kind::Format => Some(ValueParser::from(FORMATS)),
+        Kind::Flag | Kind::Digest | Kind::Output | Kind::Times | Kind::Input | Kind::Other => None,
+    }
 }

@@ -6,7 +6,7 @@ ghost use Rattle.avc_request.specs.Numberings.{file_name, IsNaming, IsNumbering,
 use std::alloc::{AllocError, Global};
 
 /// A name that stands for one file a picture: its number stands between two parts.
-#[derive(Clone, Copy, Debug, PartialEq, Eq)]
+#[derive(Clone, Copy, PartialEq, Eq)]
 pub struct Numbered<'a> {
     pub front: &'a str,
 
@@ -43,7 +43,7 @@ fn add_zeros(name: &mut String, count: usize) -> Result<(), AllocError>
 }
 
 /// What a name stands for.
-#[derive(Clone, Copy, Debug, PartialEq, Eq)]
+#[derive(Clone, Copy)]
 pub(crate) enum Naming<'a> {
     /// One file.
     Plain,

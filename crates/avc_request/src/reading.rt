@@ -3,7 +3,7 @@
 use crate::grammar::grammar;
 use clap::Error;
 use clap::error::ErrorKind;
-use std::alloc::AllocError;
+use std::alloc::{AllocError, Global};
 use std::env::Env;
 use std::{env, io, str};
 
@@ -22,19 +22,30 @@ pub fn words_of(rt: &HostRuntime) -> Result<Vec<String>, Error> {
 }
 
 // The error that says which word is no text.
-fn no_text(rt: &HostRuntime) -> Result<Error, Error> {
+fn no_text(rt: &HostRuntime) -> Result<Error, AllocError> {
     let alloc = rt.alloc();
     let mut word = vec![in alloc; 0; LONGEST]?;
     for place in 1..usize::MAX {
         match rt.arg(place, &mut word) {
             Ok(len) if str::from_utf8(&word[..len]).is_err() => {
-                let shown = String::from_utf8_lossy(alloc, &word[..len])?;
-                let message = format!(in alloc; "word {place} is not UTF-8: {shown}")?;
-                return Ok(grammar(alloc)?.error(ErrorKind::InvalidValue, &message)?);
+                return shown_word(alloc, place, &word[..len]);
             }
             Ok(_) => {}
             Err(_) => break,
         }
     }
-    Ok(grammar(alloc)?.error(ErrorKind::InvalidValue, "a word is not UTF-8")?)
+    of_words(alloc, "a word is not UTF-8")
+}
+
+// The error that shows the word at this place.
+fn shown_word(alloc: Global, place: usize, word: &[u8]) -> Result<Error, AllocError> {
+    let shown = String::from_utf8_lossy(alloc, word)?;
+    let message = format!(in alloc; "word {place} is not UTF-8: {shown}")?;
+    of_words(alloc, &message)
+}
+
+// The error of words that the system gives, with this message.
+fn of_words(alloc: Global, message: &str) -> Result<Error, AllocError> {
+    let mut command_line = grammar(alloc)?;
+    command_line.error(ErrorKind::InvalidValue, message)
 }

@@ -7,7 +7,7 @@ use crate::numbered::Numbered;
 use avc_dpb::Output;
 
 /// What the words of the command line ask for.
-#[derive(Clone, Copy, Debug, PartialEq, Eq)]
+#[derive(Clone, Copy, PartialEq, Eq)]
 pub struct Request<'a> {
     pub task: Task,
 
@@ -38,7 +38,7 @@ pub struct Request<'a> {
 }
 
 /// How it is done, and what is told beside it.
-#[derive(Clone, Copy, Debug, PartialEq, Eq)]
+#[derive(Clone, Copy, PartialEq, Eq)]
 pub struct Manner {
     pub progress: Telling,
 
@@ -53,7 +53,7 @@ pub struct Manner {
 }
 
 /// When a line says how far decoding is.
-#[derive(Clone, Copy, Debug, PartialEq, Eq)]
+#[derive(Clone, Copy, PartialEq, Eq)]
 pub enum Telling {
     Always,
 
@@ -64,7 +64,7 @@ pub enum Telling {
 }
 
 /// What is done with a stream.
-#[derive(Clone, Copy, Debug, PartialEq, Eq)]
+#[derive(Clone, Copy, PartialEq, Eq)]
 pub enum Task {
     /// The pictures are written, each as soon as it goes out in this mode.
     Decode(Output),
@@ -102,7 +102,7 @@ impl Task {
 }
 
 /// How pictures are compared.
-#[derive(Clone, Copy, Debug, PartialEq, Eq)]
+#[derive(Clone, Copy, PartialEq, Eq)]
 pub struct Comparing {
     /// Samples that are at most so far apart are the same.
     pub most: u8,
@@ -112,7 +112,7 @@ pub struct Comparing {
 }
 
 /// What is told of a stream.
-#[derive(Clone, Copy, Debug, PartialEq, Eq)]
+#[derive(Clone, Copy, PartialEq, Eq)]
 pub enum Subject {
     /// A line for each unit.
     Units,
@@ -131,7 +131,7 @@ pub enum Subject {
 }
 
 /// Which macroblocks are told of, and what.
-#[derive(Clone, Copy, Debug, PartialEq, Eq)]
+#[derive(Clone, Copy, PartialEq, Eq)]
 pub struct MacroblockChoice {
     /// With the levels of each block.
     pub has_coefficients: bool,
@@ -142,7 +142,7 @@ pub struct MacroblockChoice {
 }
 
 /// How it is told.
-#[derive(Clone, Copy, Debug, PartialEq, Eq)]
+#[derive(Clone, Copy, PartialEq, Eq)]
 pub enum Wording {
     /// In words and numbers, for people.
     Plain,
@@ -152,7 +152,7 @@ pub enum Wording {
 }
 
 /// Which pictures, and what becomes of them.
-#[derive(Clone, Copy, Debug, PartialEq, Eq)]
+#[derive(Clone, Copy, PartialEq, Eq)]
 pub struct Showing {
     pub mode: Output,
 
@@ -166,7 +166,7 @@ pub struct Showing {
 }
 
 /// What becomes of pictures.
-#[derive(Clone, Copy, Debug, PartialEq, Eq)]
+#[derive(Clone, Copy, PartialEq, Eq)]
 pub enum Form {
     /// They are written as I420.
     I420,

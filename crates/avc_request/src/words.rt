@@ -17,12 +17,12 @@ use crate::request::{
 };
 use avc_dpb::Output;
 use clap::error::ErrorKind;
-use clap::{ArgMatches, Error};
+use clap::{ArgMatches, Command as Grammar, Error};
 use hex::FromHex;
 use std::alloc::{AllocError, Global};
 
 /// The commands, which the first word names.
-#[derive(Clone, Copy, Debug, PartialEq, Eq)]
+#[derive(Clone, Copy)]
 enum Command {
     Decode,
     Units,
@@ -36,8 +36,14 @@ enum Command {
 }
 
 /// Why words that the grammar takes name nothing to do.
-#[derive(Clone, Copy, Debug, PartialEq, Eq)]
+#[derive(Clone, Copy)]
 enum Misuse {
+    /// There is no command.
+    NoCommand,
+
+    /// There is no command of that name.
+    OtherCommand,
+
     /// What `--verify` has is no MD5.
     Digest,
 
@@ -387,21 +393,38 @@ fn progress_of(is_wanted: bool, is_quiet: bool) -> Telling
 /// take, and a request for help, is an `Err` with the text to print.
 pub fn requested(alloc: Global, words: &[String]) -> Result<Request<'_>, Error> {
     let mut command_line = grammar(alloc)?;
+    requested_by(alloc, &mut command_line, words)
+}
+
+// The same by this grammar.
+fn requested_by<'a>(
+    alloc: Global,
+    command_line: &mut Grammar<'a>,
+    words: &'a [String],
+) -> Result<Request<'a>, Error> {
     let matches = command_line.try_get_matches_from_mut(words)?;
-    let (kind, message) = match matches.subcommand() {
-        Some((name, words)) => match command_named(name) {
-            Some(command) => {
-                let kind = output_kind(alloc, output_word(command, words))?;
-                match request_of(command, words, kind) {
-                    Ok(request) => return Ok(request),
-                    Err(misuse) => (ErrorKind::ValueValidation, misuse_text(misuse)),
-                }
-            }
-            None => (ErrorKind::InvalidSubcommand, "there is no such command"),
-        },
-        None => (ErrorKind::MissingSubcommand, "a command is missing"),
+    match request_among(alloc, &matches)? {
+        Ok(request) => Ok(request),
+        Err(misuse) => Err(command_line.error(misuse_kind(misuse), misuse_text(misuse))?),
+    }
+}
+
+// The request that the words are, or why they are none.
+fn request_among<'a>(
+    alloc: Global,
+    matches: &ArgMatches<'a>,
+) -> Result<Result<Request<'a>, Misuse>, AllocError> {
+    let (name, words) = match matches.subcommand() {
+        Some(found) => found,
+        None => return Ok(Err(Misuse::NoCommand)),
     };
-    Err(command_line.error(kind, message)?)
+    match command_named(name) {
+        Some(command) => {
+            let kind = output_kind(alloc, output_word(command, words))?;
+            Ok(request_of(command, words, kind))
+        }
+        None => Ok(Err(Misuse::OtherCommand)),
+    }
 }
 
 // What the output is by its name, where it has one.
@@ -412,8 +435,20 @@ fn output_kind(alloc: Global, output: Option<&str>) -> Result<FileKind, AllocErr
     }
 }
 
+fn misuse_kind(misuse: Misuse) -> ErrorKind {
+    match misuse {
+        Misuse::NoCommand => ErrorKind::MissingSubcommand,
+        Misuse::OtherCommand => ErrorKind::InvalidSubcommand,
+        Misuse::Digest | Misuse::Container | Misuse::Numbering | Misuse::SameInput => {
+            ErrorKind::ValueValidation
+        }
+    }
+}
+
 fn misuse_text(misuse: Misuse) -> &'static str {
     match misuse {
+        Misuse::NoCommand => "a command is missing",
+        Misuse::OtherCommand => "there is no such command",
         Misuse::Digest => "--verify takes an MD5 of 32 hex digits",
         Misuse::Numbering => {
             concat!(

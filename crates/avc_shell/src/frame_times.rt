@@ -65,10 +65,15 @@ impl FrameTimes<'_> {
         }
         if let Ok(now) = self.start.elapsed(self.rt) {
             let took = self.note_time(now);
-            if let Ok(line) = time_line(self.rt.alloc(), took) {
-                if let Err(error) = self.write(line.as_bytes()) {
-                    self.fault = Some(error.kind());
-                }
+            self.write_time(took);
+        }
+    }
+
+    // The line of a picture that took so long.
+    fn write_time(&mut self, nanoseconds: u128) {
+        if let Ok(line) = time_line(self.rt.alloc(), nanoseconds) {
+            if let Err(error) = self.write(line.as_bytes()) {
+                self.fault = Some(error.kind());
             }
         }
     }

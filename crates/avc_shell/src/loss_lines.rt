@@ -49,9 +49,9 @@ impl LossLines<'_> {
     pub fn note_bytes(&mut self, piece: &[u8])
         ensures { self.new.failed ≡ false → GoesOn (with_bytes piece.now) self.old.losses self.new.losses }
     {
-        if let Some(mut losses) = self.losses.take() {
-            if self.failed.keep(losses.feed(piece)).is_ok() {
-                self.losses = Some(losses);
+        if let Some(losses) = &mut self.losses {
+            if self.failed.keep(losses.feed(piece)).is_err() {
+                self.losses = None;
             }
         }
     }
@@ -60,9 +60,9 @@ impl LossLines<'_> {
     pub fn note_end(&mut self)
         ensures { self.new.failed ≡ false → GoesOn with_end self.old.losses self.new.losses }
     {
-        if let Some(mut losses) = self.losses.take() {
-            if self.failed.keep(losses.finish()).is_ok() {
-                self.losses = Some(losses);
+        if let Some(losses) = &mut self.losses {
+            if self.failed.keep(losses.finish()).is_err() {
+                self.losses = None;
             }
         }
     }
@@ -77,11 +77,13 @@ impl LossLines<'_> {
         if let Fault::ForbiddenBit = fault {
             return;
         }
-        if let Some(mut losses) = self.losses.take() {
-            let lost = lose_at(&mut losses, &mut self.last_slice, unit);
-            if let Ok(is_lost) = self.failed.keep(lost) {
-                self.losses = Some(losses);
-                let _ = tell_loss(unit, is_lost, &mut self.rt.stderr());
+        if let Some(losses) = &mut self.losses {
+            let lost = lose_at(losses, &mut self.last_slice, unit);
+            match self.failed.keep(lost) {
+                Ok(is_lost) => {
+                    let _ = tell_loss(unit, is_lost, &mut self.rt.stderr());
+                }
+                Err(_) => self.losses = None,
             }
         }
     }
@@ -90,10 +92,10 @@ impl LossLines<'_> {
     pub fn note_units(&mut self)
         ensures { self.new.failed ≡ false → is_some self.new.losses ≡ is_some self.old.losses }
     {
-        if let Some(mut losses) = self.losses.take() {
-            let taken = take_all(&mut losses, &mut self.last_slice);
-            if self.failed.keep(taken).is_ok() {
-                self.losses = Some(losses);
+        if let Some(losses) = &mut self.losses {
+            let taken = take_all(losses, &mut self.last_slice);
+            if self.failed.keep(taken).is_err() {
+                self.losses = None;
             }
         }
     }

@@ -208,12 +208,32 @@ impl<W: Write> Write for Output<'_, W> {
 /// written, through links too. What is no file on a disk, as a terminal or a pipe, loses nothing by
 /// that.
 pub fn is_input(rt: &HostRuntime, input: Option<&str>, output: &str) -> bool {
-    let read = metadata(rt, input.unwrap_or(STANDARD_INPUT));
-    let written = metadata(rt, output);
+    let read = file_place(rt, input.unwrap_or(STANDARD_INPUT));
+    let written = file_place(rt, output);
     match (read, written) {
-        (Ok(read), Ok(written)) => {
-            read.is_file() && read.dev() == written.dev() && read.ino() == written.ino()
+        (Some(read), Some(written)) => {
+            read.is_file && read.device == written.device && read.inode == written.inode
         }
         _ => false,
+    }
+}
+
+// Where a file stands among all of the system.
+#[derive(Clone, Copy)]
+struct FilePlace {
+    is_file: bool,
+    device: u64,
+    inode: u64,
+}
+
+// That of the file of this name, if there is one.
+fn file_place(rt: &HostRuntime, name: &str) -> Option<FilePlace> {
+    match metadata(rt, name) {
+        Ok(file) => Some(FilePlace {
+            is_file: file.is_file(),
+            device: file.dev(),
+            inode: file.ino(),
+        }),
+        Err(_) => None,
     }
 }

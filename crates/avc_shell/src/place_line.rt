@@ -29,12 +29,20 @@ fn place_line(alloc: Global, place: UnitPlace, fault: Fault) -> Result<String, A
     ensures { IfOk result (λ line. string_bytes line ≡ place_line fault place) }
 {
     let mut line = String::from_str(alloc, "unit ")?;
-    add_start(&mut line, place.unit, place.first_byte)?;
-    line.push_str(side_text(place.is_in_picture))?;
-    add_picture(&mut line, place.picture)?;
+    add_place(&mut line, place)?;
     add_value(&mut line, place, fault)?;
     line.push_str("\n")?;
     Ok(line)
+}
+
+// Where the unit stands.
+fn add_place(line: &mut String, place: UnitPlace) -> Result<(), AllocError>
+    ensures { OnOk result (string_bytes line.new ≡ string_bytes line.old
+        ++ (start_text place.unit place.first_byte ++ (side_text place.is_in_picture ++ picture_text place.picture))) }
+{
+    add_start(line, place.unit, place.first_byte)?;
+    line.push_str(side_text(place.is_in_picture))?;
+    add_picture(line, place.picture)
 }
 
 // The unit, and where its first byte stands.

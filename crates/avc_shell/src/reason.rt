@@ -1,6 +1,6 @@
 //! Why a file could not be read or written, in words.
 
-ghost use Rattle.std.specs.Prelude.{◌≡◌, IfOk, string_bytes};
+ghost use Rattle.std.specs.Prelude.{◌≡◌, ◌++◌, ◌∷◌, [], codes, IfOk, OnOk, string_bytes};
 ghost use Rattle.avc_shell.specs.Reasons.{reason_line, reason_of};
 
 use std::alloc::{AllocError, Global};
@@ -11,11 +11,19 @@ pub fn reason_line(alloc: Global, name: &str, kind: ErrorKind) -> Result<String,
     ensures { IfOk result (λ line. string_bytes line ≡ reason_line name.now (reason_of kind)) }
 {
     let mut line = String::from_str(alloc, "avcdec: ")?;
+    add_reason(&mut line, name, reason_of(kind))?;
+    Ok(line)
+}
+
+// The file's name and why, up to the line's end.
+fn add_reason(line: &mut String, name: &str, reason: &str) -> Result<(), AllocError>
+    ensures { OnOk result (string_bytes line.new
+        ≡ string_bytes line.old ++ (name.now ++ (codes ": " ++ (reason.now ++ 10 ∷ [])))) }
+{
     line.push_str(name)?;
     line.push_str(": ")?;
-    line.push_str(reason_of(kind))?;
-    line.push_str("\n")?;
-    Ok(line)
+    line.push_str(reason)?;
+    line.push_str("\n")
 }
 
 // In words, by what the system answered.

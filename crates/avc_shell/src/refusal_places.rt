@@ -40,9 +40,9 @@ impl RefusalPlaces<'_> {
     pub fn note_bytes(&mut self, piece: &[u8])
         ensures { self.new.failed ≡ false → FollowsOn (places_with_bytes piece.now) self.old.places self.new.places }
     {
-        if let Some(mut places) = self.places.take() {
-            if self.failed.keep(places.feed(piece)).is_ok() {
-                self.places = Some(places);
+        if let Some(places) = &mut self.places {
+            if self.failed.keep(places.feed(piece)).is_err() {
+                self.places = None;
             }
         }
     }
@@ -51,9 +51,9 @@ impl RefusalPlaces<'_> {
     pub fn note_end(&mut self)
         ensures { self.new.failed ≡ false → FollowsOn places_with_end self.old.places self.new.places }
     {
-        if let Some(mut places) = self.places.take() {
-            if self.failed.keep(places.finish()).is_ok() {
-                self.places = Some(places);
+        if let Some(places) = &mut self.places {
+            if self.failed.keep(places.finish()).is_err() {
+                self.places = None;
             }
         }
     }

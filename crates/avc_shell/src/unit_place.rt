@@ -18,7 +18,7 @@ const PROFILE_IDC: usize = 0;
 const LEVEL_IDC: usize = 2;
 
 /// Where a unit stands in its stream, and of a sequence parameter set what it asks for.
-#[derive(Clone, Copy, Debug, PartialEq, Eq)]
+#[derive(Clone, Copy)]
 pub struct UnitPlace {
     /// Its place among the stream's units, from 0.
     pub unit: u64,

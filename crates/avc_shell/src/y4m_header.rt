@@ -7,7 +7,7 @@ const COLOURS: [&[u8]; 4] = [b"420", b"420jpeg", b"420mpeg2", b"420paldv"];
 const DIGITS: usize = 9;
 
 /// How many columns and rows of luma samples a picture has, as the first line says.
-#[derive(Clone, Copy, Debug, PartialEq, Eq)]
+#[derive(Clone, Copy)]
 pub struct StatedSize {
     pub width: u64,
     pub height: u64,
