@@ -759,6 +759,9 @@ met_of_none s p had is = sym (ap (λ x. had || is_met x p) is ∙ or_none had)
 pub met_of_picture : (s : Selection) (number : ℕ) (p : OpenPicture) (had : Bool) → s ≡ OfPicture number → had ≡ (had || is_met s p)
 met_of_picture s number p had is = sym (ap (λ x. had || is_met x p) is ∙ or_none had)
 
+-- whether it has come by now, as it had or not before
+pub ruleset whether_met = (met_now, not_met, met_before, met_of_none, met_of_picture)
+
 pub over_is : (s : Selection) (max : ℕ) (state : SplitterState) (sets : List SetUnit) (kept : Option Picture) (met over : Bool) → over ≡ met → AreListed s max state sets kept met
     → length state.bytes ≤ max → over ≡ has_met (selection_of_text (text_number s)) state.bytes state.ended
 over_is s max state sets kept met over is h short =

@@ -1,7 +1,7 @@
 //! What is told of each block of a macroblock.
 
 /// What is told of each block of a macroblock.
-#[derive(Clone, Copy, Debug, PartialEq, Eq)]
+#[derive(Clone, Copy)]
 pub(crate) enum BlockFacts {
     /// total_coeff.
     TotalCoeff,

@@ -7,7 +7,7 @@ ghost use Rattle.avc_macroblocks.specs.Reading.{first_choice, has_come, is_chose
 use crate::selection::Selection;
 
 /// Which of the pictures from one on have their macroblocks listed.
-#[derive(Clone, Copy, Debug, PartialEq, Eq)]
+#[derive(Clone, Copy)]
 pub(crate) enum Choice {
     /// Each of them.
     Each,

@@ -49,11 +49,11 @@ pub trait MacroblockForm {
 
 /// Words and numbers in decimal, with spaces between them; where COEFFICIENTS, with the levels of
 /// each block.
-#[derive(Clone, Copy, Debug)]
+#[derive(Clone, Copy)]
 pub struct ForPeople<const COEFFICIENTS: bool>;
 
 /// Objects of JSON (RFC 8259); where COEFFICIENTS, with the levels of each block.
-#[derive(Clone, Copy, Debug)]
+#[derive(Clone, Copy)]
 pub struct ForPrograms<const COEFFICIENTS: bool>;
 
 impl<const COEFFICIENTS: bool> MacroblockForm for ForPeople<COEFFICIENTS> {

@@ -1,7 +1,9 @@
 //! The elements of a macroblock that JSON has as lists.
 
-ghost use Rattle.std.specs.Prelude.{◌≡◌, [], map, IfOk};
-ghost use Rattle.serde_json.specs.View.{view};
+ghost use Rattle.std.specs.Prelude.{◌≡◌, [], ◌∷◌, map, IfOk};
+ghost use Rattle.serde_json.specs.Data.{array, number};
+ghost use Rattle.serde_json.specs.Find.{of_integer};
+ghost use Rattle.serde_json.specs.View.{items_of, view};
 ghost use Rattle.avc_types.specs.MacroblockFields.{residual_of, syntax_of};
 ghost use Rattle.avc_macroblocks.specs.Json.{all_blocks_data, block_data, blocks_data};
 ghost use Rattle.avc_macroblocks.specs.Json.{derived_mode_data, derived_modes_data};
@@ -125,7 +127,7 @@ fn motion_value(alloc: Global, motion: Motion) -> Result<Value, OutOfMemory>
 fn vector_value(alloc: Global, mv: Mv) -> Result<Value, OutOfMemory>
     ensures { IfOk result (λ value. view value ≡ vector_data mv) }
 {
-    Ok(json!(in alloc; [mv.x, mv.y])?)
+    components_value(alloc, i32::from(mv.x), i32::from(mv.y))
 }
 
 /// ref_idx_l0 of each partition.
@@ -181,7 +183,14 @@ fn difference_values(alloc: Global, mvd: &[Mvd]) -> Result<Vec<Value>, OutOfMemo
 fn difference_value(alloc: Global, mvd: Mvd) -> Result<Value, OutOfMemory>
     ensures { IfOk result (λ value. view value ≡ difference_data mvd) }
 {
-    Ok(json!(in alloc; [mvd.x, mvd.y])?)
+    components_value(alloc, mvd.x, mvd.y)
+}
+
+// A horizontal and a vertical component.
+fn components_value(alloc: Global, right: i32, down: i32) -> Result<Value, OutOfMemory>
+    ensures { IfOk result (λ value. view value ≡ array (items_of (number (of_integer right) ∷ number (of_integer down) ∷ []))) }
+{
+    Ok(json!(in alloc; [right, down])?)
 }
 
 /// The names of the four of sub_mb_type.

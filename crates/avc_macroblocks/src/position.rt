@@ -215,7 +215,7 @@ fn cut_byte(byte: u8, bits: u32) -> u8
 
 /// Finds where the macroblock that is asked for stands, if it came with this slice of this picture,
 /// before which so many of its macroblocks came.
-#[tactic(auto, using(crate::proofs::Read::met_now, crate::proofs::Read::not_met, crate::proofs::Read::met_before, crate::proofs::Read::met_of_none, crate::proofs::Read::met_of_picture))]
+#[tactic(auto, using(crate::proofs::Read::whether_met))]
 pub(crate) fn find<F>(
     telling: &Telling<F>,
     found: &mut Option<MacroblockPosition>,
