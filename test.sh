@@ -8,7 +8,8 @@ set -eu
 cd "$(dirname "$0")"
 scripts/documents.sh check
 scripts/refusals.sh
-rt ci
+# one processor a proof: two take a third more of their time for it
+RT_JOBS=${RT_JOBS:-$(scripts/prove.py --at-once)} rt ci
 scripts/heard.py vectors/run.sh
 scripts/heard.py vectors/compare.sh
 scripts/heard.py vectors/growths.sh

@@ -2,7 +2,6 @@
 """numbers.py [check]: puts the numbers of README.md and docs/speed.md that come from elsewhere to what they are in this commit; with `check`
 it changes nothing and says which are others.
 
-- how long the first start takes, to a picture and in all: by the plan of scripts/prove.py, for four processors and for two
 - the toolchain: that of scripts/proof-times.txt
 - the greatest unit and picture: those of the crates that refuse more
 - the size of the program, where it is built
@@ -24,13 +23,6 @@ def read(name):
         return file.read()
 
 
-def minutes(jobs, program="avc_decode"):
-    """How long the first start takes where nothing is proved, by the plan: of the program that is proved before the first picture, or of another."""
-    proofs = prove.proofs_of(prove.Kit(), prove.Crates(), [program])
-    proofs.jobs = jobs
-    return f"{proofs.left():.0f}"
-
-
 def constant(name):
     """A number of the crates, as README writes it."""
     for file in sorted(glob.glob(f"{TOP}/crates/*/src/*.rt")):
@@ -48,10 +40,7 @@ def size_of_program():
 def facts():
     """Of each number the document, the words around it, and what it is."""
     return [
-        ("README.md", r"(The first start takes )\d+( minutes)", minutes(4)),
-        ("README.md", r"(minutes\s+on\s+four\s+processors\s+and\s+)\d+(\s+on\s+two)", minutes(2)),
-        ("README.md", r"(in\s+all\s+)\d+(\s+minutes\s+on\s+four)", minutes(4, "avc_cli")),
-        ("README.md", r"(`rt\s+version`\s+)rattle-kit-\w+\s+logic\s+\w+(\))", prove.Kit().proved_with),
+        ("README.md", r"(`rt\s+version`\s+)rattle-kit-\w+\s+logic\s+\w+(\))", prove.Kit().proved_with[0]),
         ("README.md", r"(a\s+picture\s+at\s+most\s+)[\d,]+(\s+macroblocks)", constant("MAX_MACROBLOCKS")),
         ("README.md", r"(a\s+unit\s+at\s+most\s+)[\d,]+(\s+bytes)", constant("MAX_UNIT")),
         ("docs/speed.md", r"(The program has )[\d,]+( bytes)", size_of_program()),

@@ -10,7 +10,8 @@ which all others wait gets the processors that nobody else has. The toolchain's 
 What was proved before is not proved again, also after an interrupt. Every half minute a line on standard error says what is being proved, and
 how long is left by the times of scripts/proof-times.txt.
 
---plan shows the order and how long it takes, and proves nothing. --times writes what each crate's proof took, for that list."""
+--plan shows the order and how long it takes, and proves nothing. --times writes what each crate's proof took, for that list. --at-once tells how
+many proofs this machine has processors and memory for, and proves nothing."""
 import argparse
 import hashlib
 import os
@@ -81,11 +82,10 @@ class Kit:
     """The toolchain. Says at once where there is none, or another than the decoder was proved with."""
 
     def __init__(self):
-        rows = [line.split(":") for line in lines_of("scripts/proof-times.txt")]
-        times = {name: rest.strip() for name, rest in rows}
-        self.proved_with = times.pop("toolchain")
+        rows = [[it.strip() for it in line.split(":")] for line in lines_of("scripts/proof-times.txt")]
+        self.proved_with = [it for name, it in rows if name == "toolchain"]
         # how long the proof of each crate takes on one processor, in seconds
-        self.seconds = {name: int(it) for name, it in times.items()}
+        self.seconds = {name: int(it) for name, it in rows if name != "toolchain"}
 
     def look(self):
         if shutil.which("rt") is None:
@@ -94,8 +94,8 @@ class Kit:
             sys.exit(69)
         self.version = told_by("rt", "version")
         self.at = os.path.dirname(told_by("rt", "doc"))
-        if self.version != self.proved_with:
-            say(f"the toolchain here is '{self.version}', and the decoder was proved with '{self.proved_with}'. That is tried.")
+        if self.version not in self.proved_with:
+            say(f"the toolchain here is '{self.version}', and the decoder was proved with '{self.proved_with[0]}'. That is tried.")
 
 
 class Room:
@@ -202,7 +202,9 @@ class Proofs:
                     name = max(ready, key=lambda it: (self.way(it), it))
                     idle = self.jobs - len(self.running)
                     self.running[name] = time.time()
-                    return name, max(1, idle // len(ready))
+                    # what little waits for can wait itself
+                    equals = [it for it in ready if 2 * self.way(it) > self.way(name)]
+                    return name, max(1, idle // len(equals))
                 self.change.wait(5)
 
     def work(self):
@@ -288,6 +290,11 @@ def link(kit, program, log):
     return status
 
 
+def at_once():
+    """How many proofs run side by side: one a processor, as far as memory holds."""
+    return max(1, min(len(os.sched_getaffinity(0)), free_memory() // NEED))
+
+
 def proofs_of(kit, crates, names):
     """What is named is proved where it is built, and all below it before."""
     return Proofs(Room(kit, crates), [it for it in crates.with_below(names) if it not in names], names)
@@ -297,17 +304,25 @@ def words_given():
     given = argparse.ArgumentParser(description=__doc__, formatter_class=argparse.RawDescriptionHelpFormatter)
     given.add_argument("--tests", action="store_true")
     given.add_argument("--plan", action="store_true")
+    given.add_argument("--at-once", action="store_true")
     given.add_argument("--times", action="store_true")
     given.add_argument("--cpu")
     given.add_argument("--target")
     given.add_argument("--toolchain")
     given.add_argument("--to")
-    given.add_argument("crate", nargs="+")
-    return given.parse_args()
+    given.add_argument("crate", nargs="*")
+    words = given.parse_args()
+    if not words.crate and not words.at_once:
+        given.error("no crate is named")
+    return words
 
 
 def main():
-    given, crates, kit = words_given(), Crates(), Kit()
+    given = words_given()
+    if given.at_once:
+        print(at_once())
+        return
+    crates, kit = Crates(), Kit()
     unknown = [it for it in given.crate if it not in crates.lines]
     if unknown:
         sys.exit(f"prove.py: no such crate: {unknown[0]}")
@@ -320,8 +335,7 @@ def main():
         return
     kit.look()
     os.makedirs(room.at, exist_ok=True)
-    processors = proofs.jobs
-    proofs.jobs = max(1, min(processors, free_memory() // NEED))
+    processors, proofs.jobs = proofs.jobs, at_once()
     if proofs.jobs < processors:
         say(f"{free_memory() / GIB:.0f} GiB of memory are free and a proof takes up to 3: {proofs.jobs} at a time; with more it is faster.")
     say(f"{len(proofs.everything)} crates are proved, {proofs.jobs} at a time: about {proofs.left():.0f} min where nothing is proved yet.")
