@@ -4,8 +4,7 @@ use crate::limited_writer::Refusal;
 use crate::worked_streams::ONE_HELD;
 use avc_formats::{HeadedFormat, I420, Selected};
 use avc_run::{
-    Console, Ending, Names, Output, RunFault, Unwatched, decode, decode_as, decode_headed, run,
-    run_units,
+    Console, Names, Output, RunFault, Unwatched, decode, decode_as, decode_headed, run, run_units,
 };
 use avc_shell::FromPiece;
 use avc_tools::ForPeople;
@@ -117,8 +116,11 @@ fn a_write_that_fails_is_the_last(rt: HostRuntime) -> Result<(), Fail> {
             let mut reader = reader_of(ONE_HELD, 7, None);
             let mut writer = writer_failing(Some(failing), refusal);
             let fault = fault_of(rt.alloc(), &mut reader, &mut writer);
-            assert_eq!(rt; fault, Some(RunFault::Write), "{failing}");
-            assert_eq!(rt; (writer.calls, writer.taken), (calls, taken), "{failing}");
+            assert_eq!(rt;
+                (fault, writer.calls, writer.taken),
+                (Some(RunFault::Write), calls, taken),
+                "{failing}"
+            );
         }
     }
     Ok(())
@@ -130,27 +132,34 @@ fn a_read_that_fails_is_the_last(rt: HostRuntime) -> Result<(), Fail> {
         let mut reader = reader_of(ONE_HELD, 1, Some(failing));
         let mut writer = writer_failing(None, Refusal::Error);
         let fault = fault_of(rt.alloc(), &mut reader, &mut writer);
-        assert_eq!(rt; fault, Some(RunFault::Read), "{failing}");
-        assert_eq!(rt; reader.calls, calls, "{failing}");
+        assert_eq!(rt;
+            (fault, reader.calls),
+            (Some(RunFault::Read), calls),
+            "{failing}"
+        );
     }
     Ok(())
 }
 
-fn framed(
-    alloc: Global,
-    reader: &mut CountingReader<'_>,
-    writer: &mut CountingWriter,
-    console: &mut Console<'static, CountingWriter, Unwatched>,
-) -> Ending {
-    decode_headed(
+// How a run in a headed format ends, how many bytes the standard error took, and how often the writer was called.
+fn framed(alloc: Global, reader: &mut CountingReader<'_>) -> (u8, bool, usize, usize) {
+    let mut writer = writer_failing(None, Refusal::Error);
+    let mut console = console_of(writer_failing(None, Refusal::Error));
+    let ending = decode_headed(
         alloc,
         HeadedFormat::FrameMd5,
         Output::Full,
         0,
         u64::MAX,
         reader,
-        writer,
-        console,
+        &mut writer,
+        &mut console,
+    );
+    (
+        ending.status,
+        ending.told,
+        console.errors.taken,
+        writer.calls,
     )
 }
 
@@ -159,12 +168,12 @@ fn framed(
 fn a_read_that_fails_in_the_front_is_told(rt: HostRuntime) -> Result<(), Fail> {
     for (failing, calls) in [(0, 1), (1, 2)] {
         let mut reader = reader_of(ONE_HELD, 1, Some(failing));
-        let mut writer = writer_failing(None, Refusal::Error);
-        let mut console = console_of(writer_failing(None, Refusal::Error));
-        let ending = framed(rt.alloc(), &mut reader, &mut writer, &mut console);
-        assert_eq!(rt; (ending.status, ending.told), (3, true), "{failing}");
-        assert_eq!(rt; (reader.calls, writer.calls), (calls, 0), "{failing}");
-        assert_eq!(rt; console.errors.taken, 19, "{failing}");
+        let ended = framed(rt.alloc(), &mut reader);
+        assert_eq!(rt;
+            (ended, reader.calls),
+            ((3, true, 19, 0), calls),
+            "{failing}"
+        );
     }
     Ok(())
 }
@@ -172,33 +181,51 @@ fn a_read_that_fails_in_the_front_is_told(rt: HostRuntime) -> Result<(), Fail> {
 // So many that a count of a million, or of 2 to the power of 20, is passed.
 const MANY: usize = 1_048_577;
 
+// What ended a run of which each read gives a byte, and how often it read and wrote.
+fn run_by_bytes(alloc: Global, bytes: &[u8]) -> (Option<RunFault>, usize, usize) {
+    let mut reader = reader_of(bytes, 1, None);
+    let mut writer = writer_failing(None, Refusal::Error);
+    let fault = fault_of(alloc, &mut reader, &mut writer);
+    (fault, reader.calls, writer.calls)
+}
+
+// Whether the list of the units is told, and how often the reader and the writer were called.
+fn listed(
+    alloc: Global,
+    mut reader: CountingReader<'_>,
+    writer: &mut CountingWriter,
+) -> (bool, usize, usize) {
+    let is_told = run_units(alloc, ForPeople, &mut reader, writer).is_ok();
+    (is_told, reader.calls, writer.calls)
+}
+
 // A stream of which each read gives a byte goes on, and what reads it asks for its end once.
 #[test]
 fn a_million_reads_are_no_fault(rt: HostRuntime) -> Result<(), Fail> {
     let alloc = rt.alloc();
     let zeros = vec![in alloc; 0; MANY]?;
+    assert_eq!(rt; run_by_bytes(alloc, &zeros), (None, MANY + 1, 0));
     let mut writer = writer_failing(None, Refusal::Error);
-
-    let mut reader = reader_of(&zeros, 1, None);
-    assert_eq!(rt; fault_of(alloc, &mut reader, &mut writer), None);
-    assert_eq!(rt; (reader.calls, writer.calls), (MANY + 1, 0));
-
-    let mut listed = reader_of(&zeros, 1, None);
-    assert!(rt; run_units(alloc, ForPeople, &mut listed, &mut writer).is_ok());
-    assert_eq!(rt; (listed.calls, writer.calls), (MANY + 1, 0));
-
-    let mut front = reader_of(&zeros, 1, None);
-    let mut console = console_of(writer_failing(None, Refusal::Error));
-    let ending = framed(alloc, &mut front, &mut writer, &mut console);
-    assert_eq!(rt; (ending.status, ending.told), (0, true));
+    let reader = reader_of(&zeros, 1, None);
+    assert_eq!(rt; listed(alloc, reader, &mut writer), (true, MANY + 1, 0));
+    let (status, told, _, _) = framed(alloc, &mut reader_of(&zeros, 1, None));
+    assert_eq!(rt; (status, told), (0, true));
     Ok(())
 }
 
-// How many bytes the first read from the first piece on gives, where it doesn't fail, and whether
-// the stream turns out to have no piece.
-fn first_read<R: Read>(
+// How many bytes the first read from the first piece on gives, where it doesn't fail, whether the
+// stream turns out to have no piece, and how often it is read.
+fn first_read(
     alloc: Global,
-    reader: &mut R,
+    mut reader: CountingReader<'_>,
+) -> Result<(Option<usize>, bool, usize), OutOfMemory> {
+    let (read, is_missing) = first_read_of(alloc, &mut reader)?;
+    Ok((read, is_missing, reader.calls))
+}
+
+fn first_read_of(
+    alloc: Global,
+    reader: &mut CountingReader<'_>,
 ) -> Result<(Option<usize>, bool), OutOfMemory> {
     let mut from = FromPiece::new(alloc, 0, reader)?;
     let read = from.read(&mut [0; 16]).ok();
@@ -210,9 +237,10 @@ fn first_read<R: Read>(
 fn a_million_reads_before_a_piece_are_no_fault(rt: HostRuntime) -> Result<(), Fail> {
     let alloc = rt.alloc();
     let zeros = vec![in alloc; 0; MANY]?;
-    let mut reader = reader_of(&zeros, 1, None);
-    assert_eq!(rt; first_read(alloc, &mut reader)?, (Some(0), true));
-    assert_eq!(rt; reader.calls, MANY + 1);
+    assert_eq!(rt;
+        first_read(alloc, reader_of(&zeros, 1, None))?,
+        (Some(0), true, MANY + 1)
+    );
     Ok(())
 }
 
@@ -220,13 +248,12 @@ fn a_million_reads_before_a_piece_are_no_fault(rt: HostRuntime) -> Result<(), Fa
 #[test]
 fn a_read_that_fails_before_a_piece_is_the_last(rt: HostRuntime) -> Result<(), Fail> {
     for (failing, calls) in [(0, 1), (20, 21)] {
-        let mut reader = reader_of(ONE_HELD, 1, Some(failing));
+        let reader = reader_of(ONE_HELD, 1, Some(failing));
         assert_eq!(rt;
-            first_read(rt.alloc(), &mut reader)?,
-            (None, false),
+            first_read(rt.alloc(), reader)?,
+            (None, false, calls),
             "{failing}"
         );
-        assert_eq!(rt; reader.calls, calls, "{failing}");
     }
     Ok(())
 }
@@ -240,6 +267,20 @@ fn forbidden(alloc: Global, units: u32) -> Result<Vec<u8>, AllocError> {
     Ok(bytes)
 }
 
+// How a run ends, and how often the standard error was called and how many bytes it took, where one of these calls may fail.
+fn refused(alloc: Global, bytes: &[u8], failing: Option<usize>) -> (u8, bool, usize, usize) {
+    let mut reader = reader_of(bytes, 65_536, None);
+    let mut writer = writer_failing(None, Refusal::Error);
+    let mut console = console_of(writer_failing(failing, Refusal::Error));
+    let ending = decode(alloc, Output::Full, &mut reader, &mut writer, &mut console);
+    (
+        ending.status,
+        ending.told,
+        console.errors.calls,
+        console.errors.taken,
+    )
+}
+
 // `refused unit N: 4 ForbiddenBit` and the end of the line are 30 bytes and the digits of N, told
 // by one write: of 2,500 units 83,890 bytes. Where the standard error takes no more of the second
 // line, it is not asked again.
@@ -248,14 +289,10 @@ fn refusals_are_told_as_long_as_they_are_taken(rt: HostRuntime) -> Result<(), Fa
     let alloc = rt.alloc();
     let bytes = forbidden(alloc, 2_500)?;
     for (failing, told, calls, taken) in [(None, true, 2_500, 83_890), (Some(1), false, 2, 31)] {
-        let mut reader = reader_of(&bytes, 65_536, None);
-        let mut writer = writer_failing(None, Refusal::Error);
-        let mut console = console_of(writer_failing(failing, Refusal::Error));
-        let ending = decode(alloc, Output::Full, &mut reader, &mut writer, &mut console);
-        assert_eq!(rt; (ending.status, ending.told), (1, told), "{taken}");
         assert_eq!(rt;
-            (console.errors.calls, console.errors.taken),
-            (calls, taken)
+            refused(alloc, &bytes, failing),
+            (1, told, calls, taken),
+            "{taken}"
         );
     }
     Ok(())
@@ -274,16 +311,36 @@ fn listed_lines_go_out_together(rt: HostRuntime) -> Result<(), Fail> {
         (Some(1), 1, 2, 65_524),
         (Some(5), 2, 6, 281_007),
     ] {
-        let mut reader = reader_of(&bytes, 65_536, None);
+        let reader = reader_of(&bytes, 65_536, None);
         let mut writer = writer_failing(failing, Refusal::Error);
-        let listed = run_units(alloc, ForPeople, &mut reader, &mut writer);
-        assert_eq!(rt; listed.is_ok(), failing.is_none(), "{taken}");
         assert_eq!(rt;
-            (reader.calls, writer.calls, writer.taken),
-            (reads, writes, taken)
+            (listed(alloc, reader, &mut writer), writer.taken),
+            ((failing.is_none(), reads, writes), taken),
+            "{taken}"
         );
     }
     Ok(())
+}
+
+// How a run ends that is to write so many pictures, how often it reads pieces of this size, and how many bytes it writes.
+fn limited(alloc: Global, piece: usize, limit: u64) -> (u8, usize, usize) {
+    let format = Selected {
+        format: I420,
+        skip: 0,
+        limit,
+    };
+    let mut reader = reader_of(ONE_HELD, piece, None);
+    let mut writer = writer_failing(None, Refusal::Error);
+    let mut console = console_of(writer_failing(None, Refusal::Error));
+    let ending = decode_as(
+        alloc,
+        Output::Full,
+        &format,
+        &mut reader,
+        &mut writer,
+        &mut console,
+    );
+    (ending.status, reader.calls, writer.taken)
 }
 
 // The first picture goes out with the last byte, the second at the end. The first read is made also
@@ -298,26 +355,9 @@ fn reads_as_long_as_pictures_are_wanted(rt: HostRuntime) -> Result<(), Fail> {
         (1, 1, 43, 384),
         (1, 2, 44, 768),
     ] {
-        let format = Selected {
-            format: I420,
-            skip: 0,
-            limit,
-        };
-        let mut reader = reader_of(ONE_HELD, piece, None);
-        let mut writer = writer_failing(None, Refusal::Error);
-        let mut console = console_of(writer_failing(None, Refusal::Error));
-        let ending = decode_as(
-            rt.alloc(),
-            Output::Full,
-            &format,
-            &mut reader,
-            &mut writer,
-            &mut console,
-        );
-        assert_eq!(rt; ending.status, 0, "{piece}, {limit}");
         assert_eq!(rt;
-            (reader.calls, writer.taken),
-            (reads, taken),
+            limited(rt.alloc(), piece, limit),
+            (0, reads, taken),
             "{piece}, {limit}"
         );
     }

@@ -4,11 +4,11 @@
 // a fault comes from. What whole streams come to, and each status and line, stands in vectors/.
 // Where an allocation is refused (`rt try --test --fail-alloc N`), a test ends in that error, and
 // not at an assertion.
+use crate::fed_streams::{Seen, decode_stream, feed_pieces, finish, joined, seen_again, unseen};
 use crate::limited_writer::{LimitedWriter, Refusal};
-use avc_decoder::{DecodeError, Decoder, Event, Output};
+use avc_decoder::{DecodeError, Decoder, Output};
 use avc_run::{RunFault, run};
-use avc_types::Picture;
-use std::alloc::{AllocError, Global};
+use std::alloc::Global;
 use std::test::Fail;
 
 // A sequence parameter set of a 16x16 picture.
@@ -33,14 +33,6 @@ const GREY: &[u8] = &[0x80; 385];
 
 // An access unit delimiter, and the next start code, by which its end is seen.
 const DELIMITER: &[u8] = &[0, 0, 1, 9, 0, 0, 1];
-
-fn joined(alloc: Global, parts: &[&[u8]]) -> Result<Vec<u8>, AllocError> {
-    let mut bytes = Vec::new(alloc);
-    for part in parts {
-        bytes.extend_from_slice(part)?;
-    }
-    Ok(bytes)
-}
 
 // What ended a run on a writer of so much room, where it is not want of memory, and how much room
 // is left.
@@ -89,7 +81,9 @@ fn is_over(decoder: &mut Decoder<1000>) -> Result<bool, DecodeError> {
 
 fn stays_over(decoder: &mut Decoder<1000>) -> Result<bool, DecodeError> {
     decoder.flush()?;
-    Ok(is_over(decoder)? && is_over(decoder)?)
+    let once = is_over(decoder)?;
+    let again = is_over(decoder)?;
+    Ok(once && again)
 }
 
 fn stays_over_from_a_flush(alloc: Global) -> Result<bool, DecodeError> {
@@ -122,28 +116,11 @@ const THREE_PICTURES: &[u8] = &[
     0x91, 0x49, 0xE0,
 ];
 
-// How many pictures are among the next ten events.
-fn pictures_taken(decoder: &mut Decoder<1000>) -> Result<usize, DecodeError> {
-    let mut count = 0usize;
-    for _ in 0..10 {
-        if let Some(Event::Picture(_)) = decoder.take()? {
-            count = count.saturating_add(1);
-        }
-    }
-    Ok(count)
-}
-
 // How many pictures a stream gives before its end, and after it.
-fn pictures_fed(decoder: &mut Decoder<1000>, bytes: &[u8]) -> Result<(usize, usize), DecodeError> {
-    decoder.feed(bytes)?;
-    let before = pictures_taken(decoder)?;
-    decoder.flush()?;
-    Ok((before, pictures_taken(decoder)?))
-}
-
 fn pictures_by(alloc: Global, output: Output, bytes: &[u8]) -> Result<(usize, usize), DecodeError> {
-    let mut decoder = Decoder::<1000>::new(alloc, output);
-    pictures_fed(&mut decoder, bytes)
+    let mut seen = unseen(128, 10);
+    decode_stream(alloc, output, bytes, 1000, &mut seen)?;
+    Ok((seen.before.pictures, seen.after.pictures))
 }
 
 #[test]
@@ -173,30 +150,11 @@ const LONG_TERM: &[u8] = &[
     0x3D, 0xF2, 0x62, 0x80, 0, 0x80, 0x36, 0, 0, 1, 1, 0xB9, 0x11, 0x26, 0x28, 0, 8, 0x0D, 0x60,
 ];
 
-// Whether it answers that memory was refused, whatever is asked.
-fn is_stopped(decoder: &mut Decoder<1000>, bytes: &[u8]) -> bool {
-    let answers = [decoder.feed(bytes), decoder.flush()];
-    answers == [Err(DecodeError::OutOfMemory); 2] && decoder.take().is_err()
-}
-
 // How many pictures it gives; where an allocation is refused, after a reset, and none where it has
 // gone on without one.
-fn pictures_after_reset(decoder: &mut Decoder<1000>, bytes: &[u8]) -> Result<usize, DecodeError> {
-    let first = pictures_fed(decoder, bytes);
-    if first != Err(DecodeError::OutOfMemory) {
-        return first.map(|(before, after)| before.saturating_add(after));
-    }
-    if !is_stopped(decoder, bytes) {
-        return Ok(0);
-    }
-    decoder.reset();
-    let (before, after) = pictures_fed(decoder, bytes)?;
-    Ok(before.saturating_add(after))
-}
-
 fn pictures_in(alloc: Global, bytes: &[u8]) -> Result<usize, DecodeError> {
-    let mut decoder = Decoder::<1000>::new(alloc, Output::Full);
-    pictures_after_reset(&mut decoder, bytes)
+    let seen = seen_again(alloc, bytes, 10)?;
+    Ok(seen.before.pictures.saturating_add(seen.after.pictures))
 }
 
 #[test]
@@ -224,6 +182,11 @@ fn turns_of(decoder: &mut Decoder<1000>, bytes: &[u8]) -> Result<(u64, u64), Dec
     Ok((before, decoder.turns()))
 }
 
+fn turns_after_reset(decoder: &mut Decoder<1000>, bytes: &[u8]) -> Result<(u64, u64), DecodeError> {
+    decoder.reset();
+    turns_of(decoder, bytes)
+}
+
 // How many macroblocks are counted of one stream, and after a reset of another.
 fn turns_of_both(
     decoder: &mut Decoder<1000>,
@@ -231,9 +194,8 @@ fn turns_of_both(
     other: &[u8],
 ) -> Result<[(u64, u64); 2], DecodeError> {
     let first = turns_of(decoder, one)?;
-    decoder.reset();
-    let (before, after) = turns_of(decoder, other)?;
-    Ok([first, (before, after)])
+    let second = turns_after_reset(decoder, other)?;
+    Ok([first, second])
 }
 
 fn turns_in(alloc: Global, one: &[u8], other: &[u8]) -> Result<[(u64, u64); 2], DecodeError> {
@@ -251,59 +213,27 @@ fn counts_macroblocks(rt: HostRuntime) -> Result<(), Fail> {
     Ok(())
 }
 
-// Whether a picture has 384 samples, which are all 128.
-fn is_grey(picture: &Picture) -> bool {
-    let components = [&picture.luma, &picture.cb, &picture.cr];
-    let mut count = 0usize;
-    for component in components {
-        for sample in component.as_slice() {
-            if *sample != 128 {
-                return false;
-            }
-            count = count.saturating_add(1);
-        }
-    }
-    count == 384
-}
-
-// How many such pictures are among the next three events.
-fn grey_pictures_taken(decoder: &mut Decoder<1000>) -> Result<usize, DecodeError> {
-    let mut count = 0usize;
-    for _ in 0..3 {
-        if let Some(Event::Picture(picture)) = decoder.take()? {
-            count = count.saturating_add(usize::from(is_grey(&picture)));
-        }
-    }
-    Ok(count)
-}
-
-// How many are taken while these bytes are fed one at a time.
-fn byte_by_byte(decoder: &mut Decoder<1000>, bytes: &[u8]) -> Result<usize, DecodeError> {
-    let mut count = 0usize;
-    for byte in bytes.chunks(1) {
-        decoder.feed(byte)?;
-        count = count.saturating_add(grey_pictures_taken(decoder)?);
-    }
-    Ok(count)
-}
-
-fn two_hundred_pictures(decoder: &mut Decoder<1000>) -> Result<usize, DecodeError> {
-    let mut count = byte_by_byte(decoder, SMALL)?;
-    count = count.saturating_add(byte_by_byte(decoder, PLAIN)?);
+fn feed_two_hundred(decoder: &mut Decoder<1000>, seen: &mut Seen) -> Result<(), DecodeError> {
+    feed_pieces(decoder, SMALL, 1, seen)?;
+    feed_pieces(decoder, PLAIN, 1, seen)?;
     for _ in 0..100 {
-        count = count.saturating_add(byte_by_byte(decoder, PLAIN_IDR)?);
-        count = count.saturating_add(byte_by_byte(decoder, NEXT_IDR)?);
+        feed_pieces(decoder, PLAIN_IDR, 1, seen)?;
+        feed_pieces(decoder, NEXT_IDR, 1, seen)?;
     }
-    decoder.flush()?;
-    Ok(count.saturating_add(grey_pictures_taken(decoder)?))
+    finish(decoder, seen)
 }
 
 // How many pictures of grey and how many macroblocks there are.
 fn pictures_and_turns(alloc: Global) -> Result<(usize, u64), DecodeError> {
     let mut decoder = Decoder::<1000>::new(alloc, Output::Full);
-    let pictures = two_hundred_pictures(&mut decoder);
-    let turns = decoder.turns();
-    pictures.map(|count| (count, turns))
+    let mut seen = unseen(128, 3);
+    match feed_two_hundred(&mut decoder, &mut seen) {
+        Ok(()) => Ok((
+            seen.before.flat.saturating_add(seen.after.flat),
+            decoder.turns(),
+        )),
+        Err(error) => Err(error),
+    }
 }
 
 // Each byte is decoded once: a body that began anew at each byte would take more memory than

@@ -10,6 +10,8 @@ mod counted_comparisons;
 #[cfg(test)]
 mod decoder_calls;
 #[cfg(test)]
+mod fed_streams;
+#[cfg(test)]
 mod limited_writer;
 #[cfg(test)]
 mod macroblock_positions;

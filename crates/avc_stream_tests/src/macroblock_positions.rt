@@ -75,32 +75,34 @@ fn macroblocks_that_never_come_stand_nowhere(rt: HostRuntime) -> Result<(), Fail
     Ok(())
 }
 
+// Macroblocks of the nine: the address, where in the run it stands, and what is told with it.
+const NEIGHBOURS: [(u32, u32, &str); 3] = [
+    (
+        4,
+        5,
+        "2 slice 0 mb 0 P_Skip qp 26 mv 0,0\n2 slice 0 mb 1 P_Skip qp 26 mv 0,0\n\
+        2 slice 0 mb 2 P_Skip qp 26 mv 0,0\n2 slice 0 mb 3 P_Skip qp 26 mv 0,0\n2 slice 0 mb 4 P_Skip qp 26 mv 0,0\n",
+    ),
+    (
+        3,
+        4,
+        "2 slice 0 mb 0 P_Skip qp 26 mv 0,0\n2 slice 0 mb 1 P_Skip qp 26 mv 0,0\n\
+        2 slice 0 mb 3 P_Skip qp 26 mv 0,0\n",
+    ),
+    (
+        5,
+        6,
+        "2 slice 0 mb 1 P_Skip qp 26 mv 0,0\n2 slice 0 mb 2 P_Skip qp 26 mv 0,0\n\
+        2 slice 0 mb 4 P_Skip qp 26 mv 0,0\n2 slice 0 mb 5 P_Skip qp 26 mv 0,0\n",
+    ),
+];
+
 #[test]
 fn neighbours_are_told(rt: HostRuntime) -> Result<(), Fail> {
-    let alloc = rt.alloc();
-    let (at, told) = found(alloc, &NINE, 2, 4)?;
-    assert_eq!(rt; at, position(2, 11, Some(5)));
-    assert_eq!(rt;
-        told.as_slice(),
-        b"2 slice 0 mb 0 P_Skip qp 26 mv 0,0\n2 slice 0 mb 1 P_Skip qp 26 mv 0,0\n\
-        2 slice 0 mb 2 P_Skip qp 26 mv 0,0\n2 slice 0 mb 3 P_Skip qp 26 mv 0,0\n2 slice 0 mb 4 P_Skip qp 26 mv 0,0\n"
-            .as_slice()
-    );
-    let (at, told) = found(alloc, &NINE, 2, 3)?;
-    assert_eq!(rt; at, position(2, 11, Some(4)));
-    assert_eq!(rt;
-        told.as_slice(),
-        b"2 slice 0 mb 0 P_Skip qp 26 mv 0,0\n2 slice 0 mb 1 P_Skip qp 26 mv 0,0\n\
-        2 slice 0 mb 3 P_Skip qp 26 mv 0,0\n"
-            .as_slice()
-    );
-    let (at, told) = found(alloc, &NINE, 2, 5)?;
-    assert_eq!(rt; at, position(2, 11, Some(6)));
-    assert_eq!(rt;
-        told.as_slice(),
-        b"2 slice 0 mb 1 P_Skip qp 26 mv 0,0\n2 slice 0 mb 2 P_Skip qp 26 mv 0,0\n\
-        2 slice 0 mb 4 P_Skip qp 26 mv 0,0\n2 slice 0 mb 5 P_Skip qp 26 mv 0,0\n"
-            .as_slice()
-    );
+    for (address, run, lines) in NEIGHBOURS {
+        let (at, told) = found(rt.alloc(), &NINE, 2, address)?;
+        assert_eq!(rt; at, position(2, 11, Some(run)));
+        assert_eq!(rt; told.as_slice(), lines.as_bytes());
+    }
     Ok(())
 }

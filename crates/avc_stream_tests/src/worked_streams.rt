@@ -1,6 +1,7 @@
 //! Streams of a few bytes whose events can be worked out by hand, with memory that is there: a call that always wanted some would
 //! keep its contract. Each is decoded to its samples, its refusals and its count of macroblocks.
 
+use crate::fed_streams::{decode_stream, is_flat, joined, seen_again, unseen};
 use crate::limited_writer::{LimitedWriter, Refusal};
 use avc_annexb::Splitter;
 use avc_decoder::{Call, DecodeError, Decoder, Event, Output, Reply, run_calls};
@@ -47,66 +48,8 @@ const TWO_SLICES: &[u8] = &[
     1, 0x65, 0x88, 0x84, 0x93, 0xC0, 0, 0, 1, 0x65, 0x42, 0x21, 0x24, 0xC5, 0x00, 0x02, 0x58,
 ];
 
-fn joined(alloc: Global, parts: &[&[u8]]) -> Result<Vec<u8>, AllocError> {
-    let mut bytes = Vec::new(alloc);
-    for part in parts {
-        bytes.extend_from_slice(part)?;
-    }
-    Ok(bytes)
-}
-
-// Whether all 384 samples of a 16x16 picture are this one.
-fn is_flat(picture: &Picture, value: u8) -> bool {
-    let mut count = 0usize;
-    for component in [&picture.luma, &picture.cb, &picture.cr] {
-        for sample in component.as_slice() {
-            if *sample != value {
-                return false;
-            }
-            count = count.saturating_add(1);
-        }
-    }
-    count == 384
-}
-
-// How many of the next five events are such pictures, and how many are others.
-fn flat_pictures(decoder: &mut Decoder<1000>, value: u8) -> Result<(usize, usize), DecodeError> {
-    let mut flat = 0usize;
-    let mut others = 0usize;
-    for _ in 0..5 {
-        match decoder.take()? {
-            Some(Event::Picture(picture)) if is_flat(&picture, value) => flat = flat.saturating_add(
-                1,
-            ),
-            Some(_) => others = others.saturating_add(1),
-            None => {}
-        }
-    }
-    Ok((flat, others))
-}
-
-// What comes of these bytes before the end, which are fed in such pieces, and behind it, and how
-// many macroblocks are counted.
-fn fed_by(
-    decoder: &mut Decoder<1000>,
-    bytes: &[u8],
-    piece: usize,
-    value: u8,
-) -> Result<([(usize, usize); 2], u64), DecodeError> {
-    let mut before = (0usize, 0usize);
-    for part in bytes.chunks(piece.max(1)) {
-        decoder.feed(part)?;
-        let (flat, others) = flat_pictures(decoder, value)?;
-        before = (
-            before.0.saturating_add(flat),
-            before.1.saturating_add(others),
-        );
-    }
-    decoder.flush()?;
-    let after = flat_pictures(decoder, value)?;
-    Ok(([before, after], decoder.turns()))
-}
-
+// How many of the events before the end of these bytes, which are fed in such pieces, are flat pictures of this value and how many are
+// others, the same behind it, and how many macroblocks are counted.
 fn events_of(
     alloc: Global,
     output: Output,
@@ -114,8 +57,11 @@ fn events_of(
     piece: usize,
     value: u8,
 ) -> Result<([(usize, usize); 2], u64), DecodeError> {
-    let mut decoder = Decoder::<1000>::new(alloc, output);
-    fed_by(&mut decoder, bytes, piece, value)
+    let mut seen = unseen(value, 5);
+    let turns = decode_stream(alloc, output, bytes, piece, &mut seen)?;
+    let before = (seen.before.flat, seen.before.others);
+    let after = (seen.after.flat, seen.after.others);
+    Ok(([before, after], turns))
 }
 
 // The picture comes at the end alone, however the bytes come, and with two zeros behind them.
@@ -380,42 +326,16 @@ fn a_run_ends_at_a_fault(rt: HostRuntime) -> Result<(), Fail> {
     Ok(())
 }
 
-// How many pictures the first stream gives.
-fn pictures_of_the_first(decoder: &mut Decoder<1000>) -> Result<usize, DecodeError> {
-    let seen = fed_by(decoder, FIRST, 1000, 128)?;
-    let events = seen.0;
-    let (flat, _) = events[1];
-    Ok(flat)
-}
-
-// Whether it answers that memory was refused, whatever is asked.
-fn is_stopped(decoder: &mut Decoder<1000>) -> bool {
-    let answers = [decoder.feed(FIRST), decoder.flush()];
-    answers == [Err(DecodeError::OutOfMemory); 2] && decoder.take().is_err()
-}
-
 // How many pictures the first stream gives; where a growth is refused, each call answers so until a
 // reset, after which the stream gives them.
-fn pictures_again(decoder: &mut Decoder<1000>) -> Result<usize, DecodeError> {
-    let first = pictures_of_the_first(decoder);
-    if first != Err(DecodeError::OutOfMemory) {
-        return first;
-    }
-    if !is_stopped(decoder) {
-        return Ok(0);
-    }
-    decoder.reset();
-    pictures_of_the_first(decoder)
-}
-
-fn pictures_again_in(alloc: Global) -> Result<usize, DecodeError> {
-    let mut decoder = Decoder::<1000>::new(alloc, Output::Full);
-    pictures_again(&mut decoder)
+fn pictures_again(alloc: Global) -> Result<usize, DecodeError> {
+    let seen = seen_again(alloc, FIRST, 5)?;
+    Ok(seen.after.flat)
 }
 
 // vectors/growths.sh refuses each growth of it.
 #[test]
 fn the_first_again_after_want_of_memory(rt: HostRuntime) -> Result<(), Fail> {
-    assert_eq!(rt; pictures_again_in(rt.alloc())?, 1);
+    assert_eq!(rt; pictures_again(rt.alloc())?, 1);
     Ok(())
 }

@@ -3,6 +3,8 @@
 // No clause says that memory is found. Where an allocation is refused (`rt try --test --fail-alloc
 // N`), a test ends in that error, and not at an assertion.
 use avc_annexb::{Splitter, unescape};
+use avc_types::OutOfMemory;
+use std::process::Abort;
 use std::test::Fail;
 
 const STREAM: [u8; 26] = [
@@ -10,9 +12,8 @@ const STREAM: [u8; 26] = [
     0x65, 0x88, 0x84, 0x93, 0xC0,
 ];
 
-#[test]
-fn splits_byte_by_byte(rt: HostRuntime) -> Result<(), Fail> {
-    let mut splitter = Splitter::<134_217_728>::new(rt.alloc());
+// Where a byte is refused, so is what follows, and nothing is given.
+fn feed_bytes(rt: &impl Abort, splitter: &mut Splitter<134_217_728>) -> Result<(), OutOfMemory> {
     for byte in STREAM {
         let fed = splitter.feed(&[byte]);
         if fed.is_err() {
@@ -21,7 +22,13 @@ fn splits_byte_by_byte(rt: HostRuntime) -> Result<(), Fail> {
         }
         fed?;
     }
-    splitter.finish()?;
+    splitter.finish()
+}
+
+#[test]
+fn splits_byte_by_byte(rt: HostRuntime) -> Result<(), Fail> {
+    let mut splitter = Splitter::<134_217_728>::new(rt.alloc());
+    feed_bytes(&rt, &mut splitter)?;
     let mut lines = Vec::new(rt.alloc());
     while let Some(unit) = splitter.next_unit() {
         lines.push((unit.index, unit.offset, unit.length, unit.header))?;

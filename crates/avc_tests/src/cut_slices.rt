@@ -7,7 +7,7 @@ use avc_mbsyntax::SliceData;
 use avc_neigh::Row;
 use avc_params::ParamTable;
 use avc_slice::read_header;
-use avc_types::{Fault, Mb, Syntax};
+use avc_types::{Fault, Mb, OutOfMemory, Syntax};
 use std::alloc::Global;
 use std::test::Fail;
 
@@ -34,6 +34,10 @@ fn read(alloc: Global, rbsp: &[u8], table: &ParamTable) -> Result<(u32, Option<F
     };
     let mut row = Row::new(alloc, 2)?;
     let mut data = SliceData::new(BitReader::at(rbsp, header.position), false, 0, 26, 2);
+    Ok(macroblocks_of(&mut data, &mut row))
+}
+
+fn macroblocks_of(data: &mut SliceData<'_>, row: &mut Row) -> (u32, Option<Fault>) {
     let mut mb = Mb {
         syntax: Syntax::PSkip,
         qp: 0,
@@ -46,30 +50,40 @@ fn read(alloc: Global, rbsp: &[u8], table: &ParamTable) -> Result<(u32, Option<F
             &mut mb,
         ) {
             Ok(true) => row.put(&info(0, total_coeffs_of(&mb.syntax))),
-            Ok(false) => return Ok((count, None)),
-            Err(fault) => return Ok((count, Some(fault))),
+            Ok(false) => return (count, None),
+            Err(fault) => return (count, Some(fault)),
         }
     }
-    Ok((3, None))
+    (3, None)
+}
+
+fn cut(alloc: Global, n: usize) -> Result<Vec<u8>, OutOfMemory> {
+    cut_bits(alloc, &SLICE, n)
+}
+
+fn read_cut(alloc: Global, n: usize, table: &ParamTable) -> Result<(u32, Option<Fault>), Fail> {
+    let rbsp = cut(alloc, n)?;
+    read(alloc, &rbsp, table)
+}
+
+fn put_sets(table: &mut ParamTable) -> Result<(), OutOfMemory> {
+    table.put_sps(&SPS)?;
+    table.put_pps(&PPS)?;
+    Ok(())
 }
 
 #[test]
 fn each_cut_ends_as_it_should(rt: HostRuntime) -> Result<(), Fail> {
     let mut table = ParamTable::new(rt.alloc());
-    table.put_sps(&SPS)?;
-    table.put_pps(&PPS)?;
+    put_sets(&mut table)?;
     for n in 0..BITS {
-        let cut = cut_bits(rt.alloc(), &SLICE, n)?;
-        let (count, fault) = read(rt.alloc(), &cut, &table)?;
-        assert_eq!(rt; count, if n < FIRST_BITS { 0 } else { 1 });
-        assert_eq!(rt;
-            fault,
-            if n == FIRST_BITS {
-                None
-            } else {
-                Some(Fault::Truncated)
-            }
-        );
+        let count = if n < FIRST_BITS { 0 } else { 1 };
+        let fault = if n == FIRST_BITS {
+            None
+        } else {
+            Some(Fault::Truncated)
+        };
+        assert_eq!(rt; read_cut(rt.alloc(), n, &table)?, (count, fault));
     }
     assert_eq!(rt; read(rt.alloc(), &SLICE, &table)?, (2, None));
     Ok(())
@@ -77,13 +91,13 @@ fn each_cut_ends_as_it_should(rt: HostRuntime) -> Result<(), Fail> {
 
 #[test]
 fn cuts_to_bits(rt: HostRuntime) -> Result<(), Fail> {
-    let cut = cut_bits(rt.alloc(), &SLICE, FIRST_BITS)?;
-    assert_eq!(rt; cut.as_slice(), [0x88, 0x84, 0x93, 0xC0].as_slice());
-    let whole = cut_bits(rt.alloc(), &SLICE, BITS)?;
-    assert_eq!(rt; whole.as_slice(), SLICE.as_slice());
-    let more = cut_bits(rt.alloc(), &SLICE, 1000)?;
-    assert_eq!(rt; more.as_slice(), SLICE.as_slice());
-    let none = cut_bits(rt.alloc(), &SLICE, 0)?;
-    assert_eq!(rt; none.as_slice(), [0x80].as_slice());
+    let alloc = rt.alloc();
+    assert_eq!(rt;
+        cut(alloc, FIRST_BITS)?.as_slice(),
+        [0x88, 0x84, 0x93, 0xC0].as_slice()
+    );
+    assert_eq!(rt; cut(alloc, BITS)?.as_slice(), SLICE.as_slice());
+    assert_eq!(rt; cut(alloc, 1000)?.as_slice(), SLICE.as_slice());
+    assert_eq!(rt; cut(alloc, 0)?.as_slice(), [0x80].as_slice());
     Ok(())
 }

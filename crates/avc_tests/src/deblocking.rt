@@ -709,30 +709,39 @@ fn is_plain<const W: usize, const H: usize, const N: usize>(
     Ok(done && luma && cb && cr)
 }
 
+// The size of the first of five pictures that is not filtered so, in macroblocks, if one is not.
+fn differing_size(
+    alloc: Global,
+    random: &mut Random,
+    strengths: &mut [bool; 5],
+) -> Result<Option<&'static str>, OutOfMemory> {
+    if !is_plain::<1, 1, 1>(alloc, random, strengths)? {
+        return Ok(Some("1 by 1"));
+    }
+    if !is_plain::<2, 2, 4>(alloc, random, strengths)? {
+        return Ok(Some("2 by 2"));
+    }
+    if !is_plain::<3, 2, 6>(alloc, random, strengths)? {
+        return Ok(Some("3 by 2"));
+    }
+    if !is_plain::<1, 3, 3>(alloc, random, strengths)? {
+        return Ok(Some("1 by 3"));
+    }
+    if !is_plain::<3, 1, 3>(alloc, random, strengths)? {
+        return Ok(Some("3 by 1"));
+    }
+    Ok(None)
+}
+
 #[test]
 fn random_pictures_are_filtered_line_by_line(rt: HostRuntime) -> Result<(), Fail> {
     let mut random = Random { state: 1 };
     let mut strengths = [false; 5];
     for round in 0..4 {
-        assert!(rt;
-            is_plain::<1, 1, 1>(rt.alloc(), &mut random, &mut strengths)?,
-            "1 by 1, round {round}"
-        );
-        assert!(rt;
-            is_plain::<2, 2, 4>(rt.alloc(), &mut random, &mut strengths)?,
-            "2 by 2, round {round}"
-        );
-        assert!(rt;
-            is_plain::<3, 2, 6>(rt.alloc(), &mut random, &mut strengths)?,
-            "3 by 2, round {round}"
-        );
-        assert!(rt;
-            is_plain::<1, 3, 3>(rt.alloc(), &mut random, &mut strengths)?,
-            "1 by 3, round {round}"
-        );
-        assert!(rt;
-            is_plain::<3, 1, 3>(rt.alloc(), &mut random, &mut strengths)?,
-            "3 by 1, round {round}"
+        assert_eq!(rt;
+            differing_size(rt.alloc(), &mut random, &mut strengths)?,
+            None,
+            "round {round}"
         );
     }
     assert_eq!(rt; strengths, [false, true, true, true, true]);

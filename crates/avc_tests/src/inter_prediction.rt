@@ -240,22 +240,22 @@ fn is_chroma<const W: usize, const H: usize>(
 
 fn all_luma(plane: &PaddedPlane<32>, mv: Mv) -> bool {
     is_luma::<16, 16>(plane, 8, 16, mv)
-        && is_luma::<16, 8>(plane, 8, 16, mv)
-        && is_luma::<8, 16>(plane, 8, 16, mv)
-        && is_luma::<8, 8>(plane, 8, 16, mv)
-        && is_luma::<8, 4>(plane, 8, 16, mv)
-        && is_luma::<4, 8>(plane, 8, 16, mv)
-        && is_luma::<4, 4>(plane, 8, 16, mv)
+        & is_luma::<16, 8>(plane, 8, 16, mv)
+        & is_luma::<8, 16>(plane, 8, 16, mv)
+        & is_luma::<8, 8>(plane, 8, 16, mv)
+        & is_luma::<8, 4>(plane, 8, 16, mv)
+        & is_luma::<4, 8>(plane, 8, 16, mv)
+        & is_luma::<4, 4>(plane, 8, 16, mv)
 }
 
 fn all_chroma(plane: &PaddedPlane<32>, mv: Mv) -> bool {
     is_chroma::<8, 8>(plane, 8, 16, mv)
-        && is_chroma::<8, 4>(plane, 8, 16, mv)
-        && is_chroma::<4, 8>(plane, 8, 16, mv)
-        && is_chroma::<4, 4>(plane, 8, 16, mv)
-        && is_chroma::<4, 2>(plane, 8, 16, mv)
-        && is_chroma::<2, 4>(plane, 8, 16, mv)
-        && is_chroma::<2, 2>(plane, 8, 16, mv)
+        & is_chroma::<8, 4>(plane, 8, 16, mv)
+        & is_chroma::<4, 8>(plane, 8, 16, mv)
+        & is_chroma::<4, 4>(plane, 8, 16, mv)
+        & is_chroma::<4, 2>(plane, 8, 16, mv)
+        & is_chroma::<2, 4>(plane, 8, 16, mv)
+        & is_chroma::<2, 2>(plane, 8, 16, mv)
 }
 
 // inside the plane; over each edge inside the padding; past the padding

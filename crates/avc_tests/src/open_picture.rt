@@ -129,23 +129,24 @@ fn decoded(
     two_slices(&mut picture, sps, upper, lower)
 }
 
-#[test]
-fn a_row_is_filtered_when_the_next_is_built(rt: HostRuntime) -> Result<(), Fail> {
-    let alloc = rt.alloc();
-    let mut table = ParamTable::new(alloc);
-    table.put_sps(&SPS)?;
-    table.put_pps(&PPS)?;
+// The same under the sets of a table.
+fn decoded_under(alloc: Global, table: &ParamTable) -> Result<[u32; 5], Fail> {
     let Some(sps) = table.sps(0) else {
         return Err(Fail::new("no sequence parameter set"));
     };
     let Some(pps) = table.pps(0) else {
         return Err(Fail::new("no picture parameter set"));
     };
-    let upper = slice_of(alloc, &table, sps, pps, &UPPER)?;
-    let lower = slice_of(alloc, &table, sps, pps, &LOWER)?;
-    assert_eq!(rt;
-        decoded(alloc, sps, pps, &upper, &lower)?,
-        [0, 128, 1, 128, 136]
-    );
+    let upper = slice_of(alloc, table, sps, pps, &UPPER)?;
+    let lower = slice_of(alloc, table, sps, pps, &LOWER)?;
+    decoded(alloc, sps, pps, &upper, &lower)
+}
+
+#[test]
+fn a_row_is_filtered_when_the_next_is_built(rt: HostRuntime) -> Result<(), Fail> {
+    let mut table = ParamTable::new(rt.alloc());
+    table.put_sps(&SPS)?;
+    table.put_pps(&PPS)?;
+    assert_eq!(rt; decoded_under(rt.alloc(), &table)?, [0, 128, 1, 128, 136]);
     Ok(())
 }

@@ -1,6 +1,6 @@
 //! Which pictures go out of the decoded picture buffer at each step, by worked rows (C.4).
 
-ghost use Rattle.std.specs.Prelude.{◌≡◌};
+ghost use Rattle.std.specs.Prelude.{◌≡◌, ◌≤◌};
 
 use avc_dpb::{ArrivingFrame, Dpb, Output};
 use avc_plane::{Frame, PADDING, PictureRows, Planes, SharedPicture, SharedPlanes};
@@ -104,6 +104,41 @@ fn add_numbers(given: &mut Vec<u32>, pictures: &[SharedPicture]) -> Result<(), A
     Ok(())
 }
 
+fn store(
+    alloc: Global,
+    dpb: &mut Dpb,
+    number: u32,
+    mark: Option<Mark>,
+    arriving: &ArrivingFrame,
+    given: &mut Vec<u32>,
+) -> Result<(), OutOfMemory>
+    requires { arriving.now.capacity ≤ 16 }
+{
+    let stored = frame(alloc, number, mark)?;
+    let pictures = dpb.store(stored, arriving)?;
+    add_numbers(given, &pictures)?;
+    Ok(())
+}
+
+fn empty(dpb: &mut Dpb, given: &mut Vec<u32>) -> Result<(), OutOfMemory> {
+    let pictures = dpb.empty()?;
+    add_numbers(given, &pictures)?;
+    Ok(())
+}
+
+fn take_emptied(dpb: &mut Dpb, given: &mut Vec<u32>) -> Result<(), OutOfMemory> {
+    if let Some(emptied) = dpb.emptied_frame() {
+        given.push(emptied.crop.left)?;
+    }
+    Ok(())
+}
+
+fn unmark(dpb: &mut Dpb, index: usize) {
+    if index < dpb.frames().len() {
+        dpb.mark(index, None);
+    }
+}
+
 // Adds the numbers of the frames that this step gives.
 fn take_step(
     alloc: Global,
@@ -112,27 +147,21 @@ fn take_step(
     given: &mut Vec<u32>,
 ) -> Result<(), OutOfMemory> {
     match step {
-        Step::Store(number, mark, arriving) => {
-            if arriving.capacity <= 16 {
-                let stored = frame(alloc, number, mark)?;
-                add_numbers(given, &dpb.store(stored, &arriving)?)?;
-            }
+        Step::Store(number, mark, arriving) if arriving.capacity <= 16 => {
+            store(alloc, dpb, number, mark, &arriving, given)
         }
+        Step::Store(..) => Ok(()),
         Step::Unmark(index) => {
-            if index < dpb.frames().len() {
-                dpb.mark(index, None);
-            }
+            unmark(dpb, index);
+            Ok(())
         }
-        Step::Empty => add_numbers(given, &dpb.empty()?)?,
-        Step::DropAll => dpb.drop_all(),
-        Step::TakeEmptied => {
-            if let Some(emptied) = dpb.emptied_frame() {
-                given.push(emptied.crop.left)?;
-            }
+        Step::Empty => empty(dpb, given),
+        Step::DropAll => {
+            dpb.drop_all();
+            Ok(())
         }
+        Step::TakeEmptied => take_emptied(dpb, given),
     }
-    given.push(END)?;
-    Ok(())
 }
 
 fn take_steps(
@@ -143,6 +172,7 @@ fn take_steps(
 ) -> Result<(), OutOfMemory> {
     for step in steps {
         take_step(alloc, dpb, *step, given)?;
+        given.push(END)?;
     }
     Ok(())
 }
@@ -273,13 +303,19 @@ fn no_limit(rt: HostRuntime) -> Result<(), Fail> {
     Ok(())
 }
 
-// Stores a picture and a frame that stands for a missing frame number, and hands out all.
-fn shown(alloc: Global, dpb: &mut Dpb) -> Result<Vec<SharedPicture>, OutOfMemory> {
-    dpb.store(frame(alloc, 16, None)?, &other(0, 2))?;
-    let none = Frame {
+// A frame that stands for a missing frame number.
+fn frame_without_planes(alloc: Global) -> Result<Frame<PADDING>, OutOfMemory> {
+    Ok(Frame {
         planes: None,
         ..frame(alloc, 16, None)?
-    };
+    })
+}
+
+// Stores a picture and a frame that stands for a missing frame number, and hands out all.
+fn shown(alloc: Global, dpb: &mut Dpb) -> Result<Vec<SharedPicture>, OutOfMemory> {
+    let picture = frame(alloc, 16, None)?;
+    dpb.store(picture, &other(0, 2))?;
+    let none = frame_without_planes(alloc)?;
     dpb.store(none, &other(2, 2))?;
     dpb.empty()
 }
@@ -289,6 +325,19 @@ fn shown_by_a_new_buffer(alloc: Global) -> Result<Vec<SharedPicture>, OutOfMemor
     shown(alloc, &mut dpb)
 }
 
+// The width and the cropping below, the unit that is told of the picture before and after it is copied, and how many samples of luma and of
+// Cr it has.
+type Shown = ((u32, u32), (u64, u64), (usize, usize));
+
+fn copied(alloc: Global, shared: &SharedPicture) -> Result<Shown, OutOfMemory> {
+    let picture = shared.to_picture(alloc)?;
+    Ok((
+        (picture.width, picture.crop.bottom),
+        (picture.info.unit, shared.info().unit),
+        (picture.luma.as_slice().len(), picture.cr.as_slice().len()),
+    ))
+}
+
 // A picture goes out with the samples and the cropping of its frame; a frame that stands for a
 // missing frame number has none.
 #[test]
@@ -296,13 +345,7 @@ fn shows_its_picture(rt: HostRuntime) -> Result<(), Fail> {
     let out = shown_by_a_new_buffer(rt.alloc())?;
     assert_eq!(rt; out.len(), 1);
     for shared in out.as_slice() {
-        let picture = shared.to_picture(rt.alloc())?;
-        assert_eq!(rt; (picture.width, picture.crop.bottom), (16, 4));
-        assert_eq!(rt; (picture.info.unit, shared.info().unit), (16, 16));
-        assert_eq!(rt;
-            (picture.luma.as_slice().len(), picture.cr.as_slice().len()),
-            (256, 64)
-        );
+        assert_eq!(rt; copied(rt.alloc(), shared)?, ((16, 4), (16, 16), (256, 64)));
     }
     Ok(())
 }

@@ -3,12 +3,14 @@
 // What stands after want of memory. Each call is tried once and, where a growth of it was refused,
 // once more: with one growth refused, whichever it is, the second gives what is wanted. With none
 // refused the first does.
+ghost use Rattle.avc_params.specs.Within.{IsPps, IsSps};
+
 use crate::written_slices::p_slice;
-use crate::written_syntax::{PPS, SPS};
+use crate::written_syntax::{written_pps, written_sps};
 use avc_annexb::{Splitter, unescape};
-use avc_make::{BitMaker, Macroblocks, cut_bits, write_pps, write_slice, write_sps};
+use avc_make::{BitMaker, Macroblocks, cut_bits, write_slice};
 use avc_neigh::Row;
-use avc_params::ParamTable;
+use avc_params::{ParamTable, Pps, Sps};
 use avc_picture::{PictureDecoder, PictureMemory};
 use avc_plane::Plane;
 use avc_types::OutOfMemory;
@@ -26,31 +28,46 @@ const STREAM: [u8; 27] = [
 macro_rules! given {
     ($call:expr) => {
         match $call {
-            Ok(value) => value,
-            Err(_) => $call?,
+            Ok(value) => Ok(value),
+            Err(_) => $call,
         }
     };
+}
+
+fn unescaped(alloc: Global) -> Result<Vec<u8>, OutOfMemory> {
+    given!(unescape(alloc, &[0x65, 0, 0, 3, 0]))
+}
+
+fn cut_to_twelve(alloc: Global) -> Result<Vec<u8>, OutOfMemory> {
+    given!(cut_bits(alloc, &[0x88, 0x84, 0x93, 0xC0], 12))
+}
+
+// Whether a row of two begins with no macroblock on the left.
+fn row_begins(alloc: Global) -> Result<bool, OutOfMemory> {
+    let row = given!(Row::new(alloc, 2))?;
+    Ok(row.around(0).a.is_none())
+}
+
+fn plane_width(alloc: Global) -> Result<usize, OutOfMemory> {
+    let plane = given!(Plane::<32>::new(alloc, 16, 16))?;
+    Ok(plane.width())
 }
 
 #[test]
 fn calls_that_begin_anew(rt: HostRuntime) -> Result<(), Fail> {
     let alloc = rt.alloc();
-    let body = given!(unescape(alloc, &[0x65, 0, 0, 3, 0]));
-    assert_eq!(rt; body.as_slice(), [0x65, 0, 0, 0].as_slice());
-    let sps = SPS;
-    let unit = given!(write_sps(alloc, &sps));
+    assert_eq!(rt; unescaped(alloc)?.as_slice(), [0x65, 0, 0, 0].as_slice());
     assert_eq!(rt;
-        unit.as_slice(),
+        given!(written_sps(alloc))?.as_slice(),
         [0x67, 0x42, 0xC0, 0x0A, 0xDA, 0x71].as_slice()
     );
-    let unit = given!(write_pps(alloc, &PPS));
-    assert_eq!(rt; unit.as_slice(), [0x68, 0xCE, 0x38, 0x80].as_slice());
-    let bits = given!(cut_bits(alloc, &[0x88, 0x84, 0x93, 0xC0], 12));
-    assert_eq!(rt; bits.as_slice(), [0x88, 0x88].as_slice());
-    let row = given!(Row::new(alloc, 2));
-    assert!(rt; row.around(0).a.is_none());
-    let plane = given!(Plane::<32>::new(alloc, 16, 16));
-    assert_eq!(rt; plane.width(), 16);
+    assert_eq!(rt;
+        given!(written_pps(alloc))?.as_slice(),
+        [0x68, 0xCE, 0x38, 0x80].as_slice()
+    );
+    assert_eq!(rt; cut_to_twelve(alloc)?.as_slice(), [0x88, 0x88].as_slice());
+    assert!(rt; row_begins(alloc)?);
+    assert_eq!(rt; plane_width(alloc)?, 16);
     Ok(())
 }
 
@@ -62,23 +79,37 @@ const NO_MACROBLOCK: [u8; 4] = [0x41, 0x78, 0xD1, 0xC0];
 fn slices_begin_anew(rt: HostRuntime) -> Result<(), Fail> {
     let alloc = rt.alloc();
     let slice = p_slice(Macroblocks::from_vec(Vec::new(alloc)));
-    let unit = given!(write_slice(alloc, &slice));
+    let unit = given!(write_slice(alloc, &slice))?;
     assert_eq!(rt; unit.as_slice(), NO_MACROBLOCK.as_slice());
     Ok(())
+}
+
+// Puts a sequence parameter set of a 16x16 picture and a picture parameter set.
+fn put_sets(table: &mut ParamTable) -> Result<(), OutOfMemory> {
+    given!(table.put_sps(&[0x42, 0xC0, 0x0A, 0xDA, 0x71]))?;
+    given!(table.put_pps(&[0xCE, 0x38, 0x80]))?;
+    Ok(())
+}
+
+// Whether a picture of these sets begins.
+fn begins(alloc: Global, sps: &Sps, pps: &Pps) -> Result<bool, OutOfMemory>
+    requires sps { IsSps sps.now }
+    requires pps { IsPps pps.now }
+{
+    let mut memory = PictureMemory::new();
+    let picture = given!(PictureDecoder::<32>::begin(alloc, sps, pps, &[], &mut memory))?;
+    Ok(picture.read() == 0)
 }
 
 #[test]
 fn pictures_begin_anew(rt: HostRuntime) -> Result<(), Fail> {
     let alloc = rt.alloc();
     let mut table = ParamTable::new(alloc);
-    given!(table.put_sps(&[0x42, 0xC0, 0x0A, 0xDA, 0x71]));
-    given!(table.put_pps(&[0xCE, 0x38, 0x80]));
+    put_sets(&mut table)?;
     let mut is_begun = false;
     if let Some(sps) = table.sps(0) {
         if let Some(pps) = table.pps(0) {
-            let mut memory = PictureMemory::new();
-            let picture = given!(PictureDecoder::<32>::begin(alloc, sps, pps, &[], &mut memory));
-            is_begun = picture.read() == 0;
+            is_begun = begins(alloc, sps, pps)?;
         }
     }
     assert!(rt; is_begun);
@@ -113,19 +144,32 @@ fn splitters_want_memory_from_then_on(rt: HostRuntime) -> Result<(), Fail> {
     Ok(())
 }
 
+// Puts a set, if need be twice, and says whether none was in force between.
+fn put_sps_anew(table: &mut ParamTable) -> Result<bool, OutOfMemory> {
+    let sps = [0x42, 0xC0, 0x0A, 0xDA, 0x71];
+    if table.put_sps(&sps).is_ok() {
+        return Ok(true);
+    }
+    let is_none = table.sps(0).is_none();
+    table.put_sps(&sps)?;
+    Ok(is_none)
+}
+
+fn put_pps_anew(table: &mut ParamTable) -> Result<bool, OutOfMemory> {
+    let pps = [0xCE, 0x38, 0x80];
+    if table.put_pps(&pps).is_ok() {
+        return Ok(true);
+    }
+    let is_none = table.pps(0).is_none();
+    table.put_pps(&pps)?;
+    Ok(is_none)
+}
+
 #[test]
 fn tables_stay_as_they_are(rt: HostRuntime) -> Result<(), Fail> {
     let mut table = ParamTable::new(rt.alloc());
-    let sps = [0x42, 0xC0, 0x0A, 0xDA, 0x71];
-    let pps = [0xCE, 0x38, 0x80];
-    if table.put_sps(&sps).is_err() {
-        assert!(rt; table.sps(0).is_none());
-        table.put_sps(&sps)?;
-    }
-    if table.put_pps(&pps).is_err() {
-        assert!(rt; table.pps(0).is_none());
-        table.put_pps(&pps)?;
-    }
+    assert!(rt; put_sps_anew(&mut table)?);
+    assert!(rt; put_pps_anew(&mut table)?);
     assert!(rt; table.sps(0).is_some());
     assert!(rt; table.pps(0).is_some());
     Ok(())

@@ -118,30 +118,51 @@ pub(crate) fn total_coeffs_in(info: Option<&NeighbourInfo>) -> Option<&TotalCoef
     }
 }
 
-// The parameter sets of the slices, in force.
-fn sets_in_force(alloc: Global) -> Result<ParamTable, Fail> {
+// Puts the parameter sets of the slices into force.
+fn put_sets(alloc: Global, table: &mut ParamTable) -> Result<(), Fail> {
+    put_sps(alloc, table)?;
+    put_pps(alloc, table)
+}
+
+fn put_sps(alloc: Global, table: &mut ParamTable) -> Result<(), Fail> {
     let mut sps = SPS;
     sps.pic_width_in_mbs_minus1 = WIDTH - 1;
     sps.pic_height_in_map_units_minus1 = HEIGHT - 1;
-    let sps = write_sps(alloc, &sps)?;
-    let pps = write_pps(alloc, &PPS)?;
-    let mut table = ParamTable::new(alloc);
-    table.put_sps(&unescape(alloc, &sps.as_slice()[1..])?)?;
-    table.put_pps(&unescape(alloc, &pps.as_slice()[1..])?)?;
-    Ok(table)
+    let unit = write_sps(alloc, &sps)?;
+    let rbsp = unescape(alloc, &unit.as_slice()[1..])?;
+    table.put_sps(&rbsp)?;
+    Ok(())
+}
+
+fn put_pps(alloc: Global, table: &mut ParamTable) -> Result<(), Fail> {
+    let unit = write_pps(alloc, &PPS)?;
+    let rbsp = unescape(alloc, &unit.as_slice()[1..])?;
+    table.put_pps(&rbsp)?;
+    Ok(())
 }
 
 // Whether the unit is read as a slice of these macroblocks, and of no more.
 fn is_read_back(alloc: Global, unit: &[u8], macroblocks: &[Mb]) -> Result<bool, Fail> {
-    let table = sets_in_force(alloc)?;
-    let Some((first, body)) = unit.split_first() else {
-        return Ok(false);
-    };
+    let mut table = ParamTable::new(alloc);
+    put_sets(alloc, &mut table)?;
+    match unit.split_first() {
+        Some((first, body)) => is_read_under(alloc, &table, *first, body, macroblocks),
+        None => Ok(false),
+    }
+}
+
+fn is_read_under(
+    alloc: Global,
+    table: &ParamTable,
+    unit_header: u8,
+    body: &[u8],
+    macroblocks: &[Mb],
+) -> Result<bool, Fail> {
     let rbsp = unescape(alloc, body)?;
-    let Ok(header) = read_header(*first, &rbsp, &table) else {
-        return Ok(false);
-    };
-    has_macroblocks(alloc, &header, &rbsp, macroblocks)
+    match read_header(unit_header, &rbsp, table) {
+        Ok(header) => has_macroblocks(alloc, &header, &rbsp, macroblocks),
+        Err(_) => Ok(false),
+    }
 }
 
 // the same of the bits after the header
@@ -152,6 +173,21 @@ fn has_macroblocks(
     macroblocks: &[Mb],
 ) -> Result<bool, Fail> {
     let mut row = Row::new(alloc, u32::from(WIDTH))?;
+    put_earlier(&mut row, header);
+    let num_ref_idx_active = header.num_ref_idx_active.min(16) as u8;
+    let remaining = u32::from(WIDTH) * u32::from(HEIGHT) - FIRST;
+    let mut data = SliceData::new(
+        BitReader::at(rbsp, header.position),
+        header.is_p(),
+        num_ref_idx_active,
+        SLICE_QP,
+        remaining,
+    );
+    Ok(gives(&mut data, &mut row, macroblocks))
+}
+
+// Puts the macroblocks of the earlier slice.
+fn put_earlier(row: &mut Row, header: &Header) {
     let earlier = TotalCoeffs {
         luma: [9; 16],
         cb: [9; 4],
@@ -160,39 +196,33 @@ fn has_macroblocks(
     for _ in 0..header.first_mb_in_slice.get() {
         row.put(&info(0, earlier));
     }
-    let reader = BitReader::at(rbsp, header.position);
-    let num_ref_idx_active = header.num_ref_idx_active.min(16) as u8;
-    let remaining = u32::from(WIDTH) * u32::from(HEIGHT) - FIRST;
-    let mut data = SliceData::new(
-        reader,
-        header.is_p(),
-        num_ref_idx_active,
-        SLICE_QP,
-        remaining,
-    );
+}
+
+// Whether the data has these macroblocks and no more.
+fn gives(data: &mut SliceData<'_>, row: &mut Row, macroblocks: &[Mb]) -> bool {
     let mut mb = Mb {
         syntax: Syntax::PSkip,
         qp: 0,
     };
     'each: for written in macroblocks {
-        let around = row.around(1);
-        match data.next(
-            total_coeffs_in(around.a),
-            total_coeffs_in(around.b),
-            &mut mb,
-        ) {
-            Ok(true) => {}
-            _ => return Ok(false),
+        if !gives_next(data, row, &mut mb, written) {
+            return false;
         }
-        if !is_same(&mb, written) {
-            return Ok(false);
-        }
-        row.put(&info(1, total_coeffs_of(&mb.syntax)));
     }
     match data.next(None, None, &mut mb) {
-        Ok(false) => Ok(true),
-        _ => Ok(false),
+        Ok(is_more) => !is_more,
+        Err(_) => false,
     }
+}
+
+fn gives_next(data: &mut SliceData<'_>, row: &mut Row, mb: &mut Mb, written: &Mb) -> bool {
+    let around = row.around(1);
+    let next = data.next(total_coeffs_in(around.a), total_coeffs_in(around.b), mb);
+    if next != Ok(true) || !is_same(mb, written) {
+        return false;
+    }
+    row.put(&info(1, total_coeffs_of(&mb.syntax)));
+    true
 }
 
 #[test]

@@ -10,7 +10,7 @@ use crate::macroblock_types::{add, i_pcm};
 use avc_make::{BitMaker, CodedSlice, Macroblocks, write_block, write_pps, write_slice, write_sps};
 use avc_params::{ConstraintFlags, OrderCount, Pps, Sps, read_sps};
 use avc_slice::{CodedOrder, Header, SliceType};
-use avc_types::{Fault, Levels, Marking, MbAddr, Syntax};
+use avc_types::{Fault, Levels, Marking, MbAddr, OutOfMemory, Syntax};
 use std::alloc::Global;
 use std::test::Fail;
 
@@ -56,16 +56,24 @@ pub(crate) const PPS: Pps = Pps {
     redundant_pic_cnt_present_flag: false,
 };
 
+pub(crate) fn written_sps(alloc: Global) -> Result<Vec<u8>, OutOfMemory> {
+    write_sps(alloc, &SPS)
+}
+
+pub(crate) fn written_pps(alloc: Global) -> Result<Vec<u8>, OutOfMemory> {
+    write_pps(alloc, &PPS)
+}
+
 #[test]
 fn writes_parameter_sets(rt: HostRuntime) -> Result<(), Fail> {
-    let sps = SPS;
-    let unit = write_sps(rt.alloc(), &sps)?;
     assert_eq!(rt;
-        unit.as_slice(),
+        written_sps(rt.alloc())?.as_slice(),
         [0x67, 0x42, 0xC0, 0x0A, 0xDA, 0x71].as_slice()
     );
-    let unit = write_pps(rt.alloc(), &PPS)?;
-    assert_eq!(rt; unit.as_slice(), [0x68, 0xCE, 0x38, 0x80].as_slice());
+    assert_eq!(rt;
+        written_pps(rt.alloc())?.as_slice(),
+        [0x68, 0xCE, 0x38, 0x80].as_slice()
+    );
     Ok(())
 }
 
