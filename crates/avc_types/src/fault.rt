@@ -2,11 +2,11 @@
 
 ghost use Rattle.std.specs.Prelude.{◌≡◌};
 
-use thiserror::Error;
+use std::error::Error;
+use std::fmt;
 
 /// Why a unit, a parameter set or a picture was refused. Its printed text is its name.
-#[derive(Clone, Copy, Debug, PartialEq, Eq, Error)]
-#[error("{}", self.name())]
+#[derive(Clone, Copy, Debug, PartialEq, Eq)]
 pub enum Fault {
     /// An element reaches the stop bit, or there is none (7.2).
     Truncated = 1,
@@ -112,6 +112,20 @@ pub enum Fault {
     /// No call answers it: the number stays taken.
     NotYet = 46,
 }
+
+// by hand: what thiserror writes has an arm for each variant, and says nothing of the text
+impl fmt::Display for Fault {
+    ghost use Rattle.std.specs.Prelude.{Some};
+    ghost use Rattle.avc_types.specs.Faults.{name_of};
+
+    ghost output = { λ fault. Some (name_of fault) };
+
+    fn fmt<W: fmt::Write>(&self, f: &mut fmt::Formatter<W>) -> fmt::Result {
+        f.write_str(self.name())
+    }
+}
+
+impl Error for Fault {}
 
 impl Fault {
     ghost use Rattle.avc_types.specs.Faults.{name_of, number_of};
