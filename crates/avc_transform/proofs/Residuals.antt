@@ -41,6 +41,12 @@ module _ (out : List ℤ) (y : ℕ) (v : ℕ → ℤ) (long : length out ≡ 16)
 pub IsBelow-more : (m n : ℕ) (z : ℤ) → m ≤ n → IsBelow m z → IsBelow n z
 IsBelow-more m n z h small = record { low = omega (arith, ints); high = omega (arith, ints) }
 
+pub IsBelow-add : (m n : ℕ) (a b : ℤ) → IsBelow m a → IsBelow n b → IsBelow (m + n) (a +ℤ b)
+IsBelow-add m n a b p q = record { low = omega (arith, ints); high = omega (arith, ints) }
+
+pub IsBelow-sub : (m n : ℕ) (a b : ℤ) → IsBelow m a → IsBelow n b → IsBelow (m + n) (a -ℤ b)
+IsBelow-sub m n a b p q = record { low = omega (arith, ints); high = omega (arith, ints) }
+
 pub AllBelow-more : {c m n : ℕ} (l : List ℤ) → m ≤ n → AllBelow c m l → AllBelow c n l
 AllBelow-more {c} {m} {n} l h all i less = IsBelow-more m n (slice_index_or l i (pos 0)) h (all i less)
 
@@ -50,6 +56,9 @@ cast_small {n} {z} h small = omega (arith, ints)
 
 pub small_cast : {n : ℕ} {z : ℤ} → n ≤ 2 ^ 31 → IsBelow n z → IsBelow n (to_z w32 (of_z w32 z))
 small_cast {n} {z} h small = rw (cast_small h small) small
+
+pub still_small : {m n : ℕ} {z : ℤ} → m ≤ 2 ^ 31 → IsBelow m z → IsBelow n z → IsBelow n (to_z w32 (of_z w32 z))
+still_small h small all = rw (cast_small h small) all
 
 -- what a function gives for a small number that passes through its bits, and back
 pub passed : (f : ℤ → ℤ) {m n : ℕ} {d r : ℤ} → m ≤ 2 ^ 31 → n ≤ 2 ^ 31 → IsBelow m d → IsBelow n r → r ≡ f (to_z w32 (of_z w32 d)) → to_z w32 (of_z w32 r) ≡ f d
@@ -73,6 +82,20 @@ level_back z small = omega (arith, ints)
 pub level_read : (l r : ℤ) → IsBelow (2 ^ 12) l → r ≡ to_z w16 (of_z w16 l) → to_z w32 (of_z w32 r) ≡ l
 level_read l r small told = omega (arith, ints)
 
+-- and is small in thirty-two
+pub level_below : {n : ℕ} (l r : ℤ) → 2 ^ 12 ≤ n → IsBelow (2 ^ 12) l → r ≡ to_z w16 (of_z w16 l) → IsBelow n (to_z w32 (of_z w32 r))
+level_below l r more small told = rw (level_read l r small told) (IsBelow-more _ _ l more small)
+
+pub level_stored : (z : ℤ) → IsBelow (2 ^ 12) z → IsBelow (2 ^ 12) (to_z w16 (of_z w16 z))
+level_stored z small = rw (level_back z small) small
+
+-- four levels of a list, as sixteen bits
+pub four_levels : {n : ℕ} (l : List ℤ) → AllBelow n (2 ^ 12) l → (a b d e : ℕ) → a < n → b < n → d < n → e < n →
+    AllBelow 4 (2 ^ 12)
+    (to_z w16 (of_z w16 (level l a)) ∷ to_z w16 (of_z w16 (level l b)) ∷ to_z w16 (of_z w16 (level l d)) ∷ to_z w16 (of_z w16 (level l e)) ∷ [])
+four_levels l all a b d e ha hb hd he =
+    below_four _ (level_stored _ (all a ha)) (level_stored _ (all b hb)) (level_stored _ (all d hd)) (level_stored _ (all e he))
+
 -- one factor after the other
 neg_times : (m b : ℕ) → neg_ℤ (pos m) *ℤ pos b ≡ neg_ℤ (pos (m * b))
 neg_times zero b = rw zero-mul
@@ -95,6 +118,13 @@ scaled_line qp x c l r s told el es y h = scaled_of qp (c y) x y (told y h) (el 
 pub scale_below : (a p e k : ℕ) → a ≤ 288 → p ≡ 2 ^ e → e ≤ k → a * p ≤ 288 * 2 ^ k
 scale_below a p e k few is less = mul-le-mul few (rw is (pow-le-pow_right (omega arith) less))
 
+pub luma_rounded : (qp : ℕ) (f v r : ℤ) (a : ℕ) → qp < 36 → a ≡ 16 * even_scale (qp % 6) → v ≡ f *ℤ pos a
+    → r ≡ (v +ℤ pos (2 ^ (6 - qp / 6 - 1)) >>ℤ 6 - qp / 6) → r ≡ luma_dc_scaled qp f
+luma_rounded qp f v r a below ea ev told =
+    let test : nat_lt qp 36 ≡ true = grind (arith, nat_tests) in
+    let half : 6 - qp / 6 - 1 ≡ 5 - qp / 6 = omega (arith, below) in
+    rw (test, told, half, ev, ea) refl
+
 pub luma_shifted : (qp : ℕ) (f r : ℤ) (a p : ℕ) → 36 ≤ qp → a ≡ 16 * even_scale (qp % 6) → p ≡ 2 ^ (qp / 6 - 6) → r ≡ f *ℤ pos (a * p) → r ≡ luma_dc_scaled qp f
 luma_shifted qp f r a p from ea ep told =
     let test : nat_lt qp 36 ≡ false = grind (arith, nat_tests) in
@@ -106,6 +136,19 @@ chroma_shifted qp f v r a p ea ep told last = rw (last, told, ea, ep, times_time
 -- the product of a row looks at four numbers alone
 pub same_hadamard_row : (d e : ℕ → ℤ) (x : ℕ) → ((u : ℕ) → u < 4 → d u ≡ e u) → hadamard_row d x ≡ hadamard_row e x
 same_hadamard_row d e x same = rw (same 0 (omega arith), same 1 (omega arith), same 2 (omega arith), same 3 (omega arith))
+
+-- which are added and subtracted in pairs
+pub row_in_pairs : (d : ℕ → ℤ) (a b : ℤ) → a ≡ d 0 +ℤ d 1 → b ≡ d 2 +ℤ d 3 → (a +ℤ b ≡ hadamard_row d 0) × (a -ℤ b ≡ hadamard_row d 1)
+row_in_pairs d a b p q = (omega (arith, ints, p, q), omega (arith, ints, p, q))
+
+pub row_by_differences : (d : ℕ → ℤ) (a b : ℤ) → a ≡ d 0 -ℤ d 1 → b ≡ d 2 -ℤ d 3 → (a -ℤ b ≡ hadamard_row d 2) × (a +ℤ b ≡ hadamard_row d 3)
+row_by_differences d a b p q = (omega (arith, ints, p, q), omega (arith, ints, p, q))
+
+-- the product of a square of four levels is that of the row of them
+pub square_is_row : (l : List ℤ)
+    → (hadamard_row (level l) 0 ≡ chroma_dc_product l 0 0) × (hadamard_row (level l) 3 ≡ chroma_dc_product l 1 0)
+    × (hadamard_row (level l) 1 ≡ chroma_dc_product l 0 1) × (hadamard_row (level l) 2 ≡ chroma_dc_product l 1 1)
+square_is_row l = (omega (arith, ints), omega (arith, ints), omega (arith, ints), omega (arith, ints))
 
 -- a sign goes out of a row's product
 plus : (d : ℕ → ℤ) (x : ℕ) → x < 4 → hadamard_row d x *ℤ pos 1 ≡ sum_below_ℤ 4 (λ u. pos 1 *ℤ d u *ℤ hadamard x u)

@@ -1,5 +1,15 @@
-use Rattle.avc_transform.proofs.Residuals.{ℕ, ◌+◌, ◌*◌, ◌/◌, ◌%◌, arith, rules, pos, slice_index_or, ap, moves_same}
+use Rattle.avc_transform.proofs.Residuals.{ℕ, ◌<◌, ◌+◌, ◌*◌, ◌/◌, ◌%◌, arith, rules, pos, slice_index_or, ap, small_cast, moves_same}
 use Rattle.avc_transform.proofs.construction.add_to_square.Goals as goal
+
+pub moves_of_four-upper-requires : goal.moves_of_four-upper-requires
+moves_of_four-upper-requires c =
+    let small = λ (k : ℕ) (h : k < 4). small_cast (omega arith) (c.requires k h) in
+    record { first = small 0 (omega arith); second = small 1 (omega arith); third = small 0 (omega arith); fourth = small 1 (omega arith) }
+
+pub moves_of_four-lower-requires : goal.moves_of_four-lower-requires
+moves_of_four-lower-requires c =
+    let small = λ (k : ℕ) (h : k < 4). small_cast (omega arith) (c.requires k h) in
+    record { first = small 2 (omega arith); second = small 3 (omega arith); third = small 2 (omega arith); fourth = small 3 (omega arith) }
 
 pub returns : goal.returns
 returns c =

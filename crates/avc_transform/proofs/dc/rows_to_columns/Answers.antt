@@ -1,6 +1,17 @@
 use Rattle.avc_transform.proofs.Residuals.{◌≡◌, ℕ, ◌+◌, ◌*◌, ◌/◌, ◌%◌, ◌^◌, ◌<◌, [], ◌∷◌, pos, slice_index_or, to_z, of_z, w32, arith, rules, ◌∙◌, add-zero}
-use Rattle.avc_transform.proofs.Residuals.{hadamard_row, IsBelow, AllBelow, matrix, below_four, cast_small, place_of_four, same_hadamard_row, columns_more}
+use Rattle.avc_transform.proofs.Residuals.{hadamard_row, IsBelow, AllBelow, matrix, below_four, cast_small, small_cast, place_of_four, same_hadamard_row, columns_more}
 use Rattle.avc_transform.proofs.dc.rows_to_columns.Goals as goal
+
+pub hadamard_row-row-requires : goal.hadamard_row-row-requires
+hadamard_row-row-requires c =
+    let y = c.loop-y.y in
+    let small = λ (i : ℕ) (h : i < 16). small_cast (omega arith) (c.requires i h) in
+    record {
+      small0 = small (4 * y) (omega arith);
+      small1 = small (4 * y + 1) (omega arith);
+      small2 = small (4 * y + 2) (omega arith);
+      small3 = small (4 * y + 3) (omega arith);
+    }
 
 pub loop-y-preserved : goal.loop-y-preserved
 loop-y-preserved c =

@@ -1,5 +1,74 @@
-use Rattle.avc_transform.proofs.Residuals.{◌+◌, ◌*◌, arith, AllBelow-more}
+use Rattle.avc_transform.proofs.Residuals.{ℕ, ℤ, ◌≡◌, ◌+◌, ◌*◌, ◌^◌, ◌<◌, ◌+ℤ◌, ◌-ℤ◌, ◌>>ℤ◌, refl, arith, ap, ◌∙◌, AllBelow-more}
 use Rattle.avc_transform.proofs.inverse.inverse4.Goals as goal
+
+pub halves-half1-requires : goal.halves-half1-requires
+halves-half1-requires c = c.requires.first
+
+pub halves-half3-requires : goal.halves-half3-requires
+halves-half3-requires c = c.requires.third
+
+pub sums-e0-requires : goal.sums-e0-requires
+sums-e0-requires c = record { a = AllBelow-more _ (omega arith) c.requires.zeroth; b = AllBelow-more _ (omega arith) c.requires.second }
+
+pub differences-e1-requires : goal.differences-e1-requires
+differences-e1-requires c = record { a = AllBelow-more _ (omega arith) c.requires.zeroth; b = AllBelow-more _ (omega arith) c.requires.second }
+
+pub differences-e2-requires : goal.differences-e2-requires
+differences-e2-requires c = record {
+  a = AllBelow-more _ (omega arith) (c.halves-half1.ensures.small (2 ^ 28) c.requires.first);
+  b = AllBelow-more _ (omega arith) c.requires.third;
+}
+
+pub sums-e3-requires : goal.sums-e3-requires
+sums-e3-requires c = record {
+  a = AllBelow-more _ (omega arith) c.requires.first;
+  b = AllBelow-more _ (omega arith) (c.halves-half3.ensures.small (2 ^ 28) c.requires.third);
+}
+
+pub sums-requires : goal.sums-requires
+sums-requires c = record {
+  a = AllBelow-more _ (omega arith) (c.sums-e0.ensures.small (2 ^ 29) (2 ^ 29) c.requires.zeroth c.requires.second);
+  b = AllBelow-more _ (omega arith) (c.sums-e3.ensures.small (2 ^ 29) (2 ^ 28 + 1) c.requires.first (c.halves-half3.ensures.small (2 ^ 28) c.requires.third));
+}
+
+pub sums-requires-2 : goal.sums-requires-2
+sums-requires-2 c = record {
+  a = AllBelow-more _ (omega arith) (c.differences-e1.ensures.small (2 ^ 29) (2 ^ 29) c.requires.zeroth c.requires.second);
+  b = AllBelow-more _ (omega arith) (c.differences-e2.ensures.small (2 ^ 28 + 1) (2 ^ 29) (c.halves-half1.ensures.small (2 ^ 28) c.requires.first) c.requires.third);
+}
+
+pub differences-requires : goal.differences-requires
+differences-requires c = record {
+  a = AllBelow-more _ (omega arith) (c.differences-e1.ensures.small (2 ^ 29) (2 ^ 29) c.requires.zeroth c.requires.second);
+  b = AllBelow-more _ (omega arith) (c.differences-e2.ensures.small (2 ^ 28 + 1) (2 ^ 29) (c.halves-half1.ensures.small (2 ^ 28) c.requires.first) c.requires.third);
+}
+
+pub differences-requires-2 : goal.differences-requires-2
+differences-requires-2 c = record {
+  a = AllBelow-more _ (omega arith) (c.sums-e0.ensures.small (2 ^ 29) (2 ^ 29) c.requires.zeroth c.requires.second);
+  b = AllBelow-more _ (omega arith) (c.sums-e3.ensures.small (2 ^ 29) (2 ^ 28 + 1) c.requires.first (c.halves-half3.ensures.small (2 ^ 28) c.requires.third));
+}
+
+plus : {a b d e : ℤ} → a ≡ d → b ≡ e → a +ℤ b ≡ d +ℤ e
+plus p q = rw (p, q) refl
+
+less : {a b d e : ℤ} → a ≡ d → b ≡ e → a -ℤ b ≡ d -ℤ e
+less p q = rw (p, q) refl
+
+pub returns-clause-values : goal.returns-clause-values
+returns-clause-values c = λ f l.
+    let half1 = λ (k : ℕ) (h : k < 4). c.halves-half1.ensures.values k h ∙ ap (λ (z : ℤ). z >>ℤ 1) (l.first k h) in
+    let half3 = λ (k : ℕ) (h : k < 4). c.halves-half3.ensures.values k h ∙ ap (λ (z : ℤ). z >>ℤ 1) (l.third k h) in
+    let e0 = λ (k : ℕ) (h : k < 4). c.sums-e0.ensures.values k h ∙ plus (l.zeroth k h) (l.second k h) in
+    let e1 = λ (k : ℕ) (h : k < 4). c.differences-e1.ensures.values k h ∙ less (l.zeroth k h) (l.second k h) in
+    let e2 = λ (k : ℕ) (h : k < 4). c.differences-e2.ensures.values k h ∙ less (half1 k h) (l.third k h) in
+    let e3 = λ (k : ℕ) (h : k < 4). c.sums-e3.ensures.values k h ∙ plus (l.first k h) (half3 k h) in
+    record {
+      zeroth = λ k h. c.sums.ensures.values k h ∙ plus (e0 k h) (e3 k h);
+      first = λ k h. c.sums-2.ensures.values k h ∙ plus (e1 k h) (e2 k h);
+      second = λ k h. c.differences.ensures.values k h ∙ less (e1 k h) (e2 k h);
+      third = λ k h. c.differences-2.ensures.values k h ∙ less (e0 k h) (e3 k h);
+    }
 
 pub returns-clause-small : goal.returns-clause-small
 returns-clause-small c = λ n d.

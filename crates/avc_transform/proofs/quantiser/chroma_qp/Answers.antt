@@ -1,4 +1,4 @@
-use Rattle.avc_transform.proofs.Residuals.{◌≡◌, ◌+ℤ◌, ◌∙◌, ◌<◌, ℤ, ap, pos, nat_abs, of_z, to_z, w16, arith, ints, clip3, chroma_qp_at}
+use Rattle.avc_transform.proofs.Residuals.{◌≡◌, ◌+ℤ◌, ◌∙◌, ℤ, ap, pos, nat_abs, of_z, to_z, w16, arith, ints, clip3, chroma_qp_at}
 use Rattle.avc_transform.proofs.Residuals.{int_max, int_min, chroma_table, chroma_qp_small}
 use Rattle.avc_transform.proofs.quantiser.chroma_qp.Goals as goal
 

@@ -1,6 +1,9 @@
 use Rattle.avc_transform.proofs.Residuals.{ℕ, ℤ, ◌≡◌, ◌*◌, ◌^◌, ◌<◌, ◌*ℤ◌, arith, ap, ◌∙◌, to_z, of_z, w16, w32, pos, slice_index, IsBelow, below_four}
-use Rattle.avc_transform.proofs.Residuals.{cast_small, small_cast, level_read}
+use Rattle.avc_transform.proofs.Residuals.{level_below, cast_small, small_cast, level_read}
 use Rattle.avc_transform.proofs.scaling.scaled.Goals as goal
+
+scale_less : (s : ℕ) → s < 2 ^ 13 → s < 2 ^ 15
+scale_less s h = omega (arith, h)
 
 -- a level of sixteen bits, times a scale
 module _ (l r t : ℤ) (s : ℕ) (p : IsBelow (2 ^ 12) l) (h : s < 2 ^ 13) (told : r ≡ to_z w16 (of_z w16 l)) (value : t ≡ to_z w32 (of_z w32 r) *ℤ pos s)
@@ -13,6 +16,18 @@ module _ (l r t : ℤ) (s : ℕ) (p : IsBelow (2 ^ 12) l) (h : s < 2 ^ 13) (told
 
   stored : to_z w32 (of_z w32 t) ≡ l *ℤ pos s
   stored = cast_small (omega arith) fits ∙ value ∙ ap (λ z. z *ℤ pos s) (level_read l r p told)
+
+pub times-requires : goal.times-requires
+times-requires c = record { value = level_below _ _ (omega arith) (c.requires.levels 0 (omega arith)) c.from.ensures; scale = scale_less _ (c.requires.scales 0 (omega arith)) }
+
+pub times-requires-2 : goal.times-requires-2
+times-requires-2 c = record { value = level_below _ _ (omega arith) (c.requires.levels 1 (omega arith)) c.from-2.ensures; scale = scale_less _ (c.requires.scales 1 (omega arith)) }
+
+pub times-requires-3 : goal.times-requires-3
+times-requires-3 c = record { value = level_below _ _ (omega arith) (c.requires.levels 2 (omega arith)) c.from-3.ensures; scale = scale_less _ (c.requires.scales 2 (omega arith)) }
+
+pub times-requires-4 : goal.times-requires-4
+times-requires-4 c = record { value = level_below _ _ (omega arith) (c.requires.levels 3 (omega arith)) c.from-4.ensures; scale = scale_less _ (c.requires.scales 3 (omega arith)) }
 
 pub returns : goal.returns
 returns c =

@@ -1,25 +1,33 @@
-use Rattle.avc_transform.proofs.Residuals.{ℕ, ℤ, ◌≡◌, ◌+◌, ◌-◌, ◌<◌, ◌==◌, ◌^◌, ◌∙◌, sym, if◌then◌else◌, arith, nat_tests, w32, to_z-of_z, AllBelow, level}
-use Rattle.avc_transform.proofs.Residuals.{List, [], ◌∷◌, w16, to_z, of_z, zigzag, below_four, AllBelow-more, cast_small, small_cast, level_back}
+use Rattle.avc_transform.proofs.Residuals.{ℕ, ℤ, ◌≡◌, ◌+◌, ◌-◌, ◌<◌, ◌==◌, ◌^◌, ◌∙◌, sym, if◌then◌else◌, arith, nat_tests, w32, to_z-of_z, level}
+use Rattle.avc_transform.proofs.Residuals.{ints, zigzag, below_four, level_stored, four_levels, AllBelow-more, cast_small, small_cast, level_back}
 use Rattle.avc_transform.proofs.Residuals.{scaled_of, scaled_line, IsBelow-more}
 use Rattle.avc_transform.proofs.scaling.scaled_levels_with_dc.Goals as goal
 
--- four of the levels, as sixteen bits
-small_levels : (l : List ℤ) → AllBelow 15 (2 ^ 12) l → (a b d e : ℕ) → a < 15 → b < 15 → d < 15 → e < 15 →
-    AllBelow 4 (2 ^ 12)
-    (to_z w16 (of_z w16 (level l a)) ∷ to_z w16 (of_z w16 (level l b)) ∷ to_z w16 (of_z w16 (level l d)) ∷ to_z w16 (of_z w16 (level l e)) ∷ [])
-small_levels l all a b d e ha hb hd he =
-    below_four _
-    (rw (level_back _ (all a ha)) (all a ha)) (rw (level_back _ (all b hb)) (all b hb))
-    (rw (level_back _ (all d hd)) (all d hd)) (rw (level_back _ (all e he)) (all e he))
+pub scaled-ac-requires : goal.scaled-ac-requires
+scaled-ac-requires c = record {
+  levels = below_four _
+      (record { low = omega (arith, ints); high = omega (arith, ints) })
+      (level_stored _ (c.requires.small 1 (omega arith))) (level_stored _ (c.requires.small 2 (omega arith))) (level_stored _ (c.requires.small 8 (omega arith)));
+  scales = c.column_scales-scales.ensures.even_small;
+}
 
-pub scaled-requires-clause-levels : goal.scaled-requires-clause-levels
-scaled-requires-clause-levels c = small_levels c.args.levels.now c.requires.small 0 3 7 9 (omega arith) (omega arith) (omega arith) (omega arith)
+pub scaled-requires : goal.scaled-requires
+scaled-requires c = record {
+  levels = four_levels c.args.levels.now c.requires.small 0 3 7 9 (omega arith) (omega arith) (omega arith) (omega arith);
+  scales = c.column_scales-scales.ensures.odd_small;
+}
 
-pub scaled-requires-2-clause-levels : goal.scaled-requires-2-clause-levels
-scaled-requires-2-clause-levels c = small_levels c.args.levels.now c.requires.small 4 6 10 13 (omega arith) (omega arith) (omega arith) (omega arith)
+pub scaled-requires-2 : goal.scaled-requires-2
+scaled-requires-2 c = record {
+  levels = four_levels c.args.levels.now c.requires.small 4 6 10 13 (omega arith) (omega arith) (omega arith) (omega arith);
+  scales = c.column_scales-scales.ensures.even_small;
+}
 
-pub scaled-requires-3-clause-levels : goal.scaled-requires-3-clause-levels
-scaled-requires-3-clause-levels c = small_levels c.args.levels.now c.requires.small 5 11 12 14 (omega arith) (omega arith) (omega arith) (omega arith)
+pub scaled-requires-3 : goal.scaled-requires-3
+scaled-requires-3 c = record {
+  levels = four_levels c.args.levels.now c.requires.small 5 11 12 14 (omega arith) (omega arith) (omega arith) (omega arith);
+  scales = c.column_scales-scales.ensures.odd_small;
+}
 
 not_first : (x y : ℕ) (dc v : ℤ) → 0 < x → (if (x + y) == 0 then dc else v) ≡ v
 not_first x y dc v some = grind (arith, nat_tests)
