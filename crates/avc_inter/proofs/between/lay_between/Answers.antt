@@ -7,11 +7,6 @@ find_within-requires g c =
     let r = c.requires in
     (below_half, (place_before _ r.left, (place_before _ r.top, (omega (arith, r.lanes.most), lines_few _ _ r.lanes c.count_around.ensures.few))))
 
-pub lay_far-requires : goal.lay_far-requires
-lay_far-requires g c =
-    let r = c.requires in
-    (below_half, (r.lanes, (r.columns, (r.low, (still_moved _ r.left, (still_moved _ r.top, (r.patch, (r.fx, (r.fy, (r.apart, r.room))))))))))
-
 pub quarters-requires-clause-room : goal.quarters-requires-clause-room
 quarters-requires-clause-room g c =
     let at = c.in-Some.at in

@@ -1,5 +1,11 @@
-use Rattle.avc_inter.proofs.SixRows.{ℤ, arith, subst, sym, ap, ◌∙◌, IsSum, by_line, place_row, row_within, taps_along}
+use Rattle.avc_inter.proofs.SixRows.{ℤ, ◌+◌, arith, subst, sym, ap, ◌∙◌, IsSum, by_line, place_row, row_begins, row_within, taps_along}
 use Rattle.avc_inter.proofs.centres.put_sum_row.Goals as goal
+
+pub overflow_mul-row : goal.overflow_mul-row
+overflow_mul-row g c = omega (arith, row_begins _ _ c.requires.lanes _ (c.args.at + 5) c.args.row _ c.requires.samples (omega arith))
+
+pub overflow_add-at : goal.overflow_add-at
+overflow_add-at g c = omega (arith, row_begins _ _ c.requires.lanes _ (c.args.at + 5) c.args.row _ c.requires.samples (omega arith))
 
 pub sum_row-next-requires-clause-samples : goal.sum_row-next-requires-clause-samples
 sum_row-next-requires-clause-samples g c k low = row_within _ _ c.requires.lanes _ c.args.at 5 c.args.row k _ c.requires.samples (omega arith) low

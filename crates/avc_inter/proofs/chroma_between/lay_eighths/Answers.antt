@@ -6,11 +6,6 @@ find_within-requires g c =
     let r = c.requires in
     (below_half, (place_moved _ r.left, (place_moved _ r.top, (omega (arith, r.lanes.most), lines_few_more _ _ r.lanes r.low))))
 
-pub lay_far-requires : goal.lay_far-requires
-lay_far-requires g c =
-    let r = c.requires in
-    (below_half, (r.lanes, (r.columns, (r.low, (r.patch, (still_moved _ r.left, (still_moved _ r.top, (r.right, (r.down, (r.apart, r.room))))))))))
-
 pub blend_rows-requires-clause-samples : goal.blend_rows-requires-clause-samples
 blend_rows-requires-clause-samples g c =
     let at = c.in-Some.at in

@@ -1,6 +1,13 @@
-use Rattle.avc_inter.proofs.SixRows.{◌≡◌, ◌+◌, ◌*◌, ◌-ℤ◌, ◌+ℤ◌, pos, to_z, of_z, w64, slice_index, arith, ap, sym, ◌∙◌, nat_abs, row_fits, below_more}
+use Rattle.avc_inter.proofs.SixRows.{◌≡◌, ℕ, ◌+◌, ◌*◌, ◌<◌, ◌≤◌, ◌-ℤ◌, ◌+ℤ◌, pos, to_z, of_z, w64, slice_index, arith, ap, sym, ◌∙◌, nat_abs, row_fits, below_more}
 use Rattle.avc_inter.proofs.SixRows.{clip3, sample, clamped, held_moved, place_back, moved_sample}
 use Rattle.avc_inter.proofs.patch.fetch_held.Goals as goal
+
+-- all rows of the patch so far, and this one
+row_there : (j columns count long : ℕ) → j < count → count * columns ≤ long → j * columns + columns ≤ long
+row_there j columns count long less target = omega (arith, row_fits j columns count columns less (omega arith), target)
+
+pub overflow_mul-j : goal.overflow_mul-j
+overflow_mul-j g c = omega (arith, row_there c.loop-j.j c.args.columns c.args.count _ c.loop-j-test.true c.requires.target)
 
 pub loop-j-preserved : goal.loop-j-preserved
 loop-j-preserved g c i j column below =

@@ -10,6 +10,9 @@ centre_rows_down-requires-clause-down g c = room_for _ _ c.requires.lanes _ c.ar
 pub centre_rows_down-requires-in_default-clause-down : goal.centre_rows_down-requires-in_default-clause-down
 centre_rows_down-requires-in_default-clause-down g c = room_for _ _ c.requires.lanes _ c.args.at _ _ c.requires.room (omega arith)
 
+pub returns-in-0 : goal.returns-in-0
+returns-in-0 g c = rw (c.in-0.is) c.half_rows.ensures
+
 pub returns-in-1 : goal.returns-in-1
 returns-in-1 g c = rw (c.in-1.is) (strided_as c.centre_rows_down.ensures refl (λ x y column low. mean_turned _ _))
 

@@ -19,6 +19,33 @@ sixteen-i-requires-clause-samples g c k low = omega (arith, c.requires.samples k
 pub sixteen-j-requires-clause-samples : goal.sixteen-j-requires-clause-samples
 sixteen-j-requires-clause-samples g c k low = omega (arith, c.requires.samples k low)
 
+pub overflow_add-at : goal.overflow_add-at
+overflow_add-at g c = omega (arith, c.requires.samples 0 (omega arith))
+
+pub overflow_add-at-2 : goal.overflow_add-at-2
+overflow_add-at-2 g c = omega (arith, c.requires.samples 0 (omega arith))
+
+pub overflow_add-at-3 : goal.overflow_add-at-3
+overflow_add-at-3 g c = omega (arith, c.requires.samples 0 (omega arith))
+
+pub overflow_add-at-4 : goal.overflow_add-at-4
+overflow_add-at-4 g c = omega (arith, c.requires.samples 0 (omega arith))
+
+pub overflow_add-at-5 : goal.overflow_add-at-5
+overflow_add-at-5 g c = omega (arith, c.requires.samples 0 (omega arith))
+
+pub overflow_mul-step : goal.overflow_mul-step
+overflow_mul-step g c = omega (arith, c.requires.samples 0 (omega arith))
+
+pub overflow_mul-step-2 : goal.overflow_mul-step-2
+overflow_mul-step-2 g c = omega (arith, c.requires.samples 0 (omega arith))
+
+pub overflow_mul-step-3 : goal.overflow_mul-step-3
+overflow_mul-step-3 g c = omega (arith, c.requires.samples 0 (omega arith))
+
+pub overflow_mul-step-4 : goal.overflow_mul-step-4
+overflow_mul-step-4 g c = omega (arith, c.requires.samples 0 (omega arith))
+
 pub returns : goal.returns
 returns g c k low =
     c.halves_of.ensures k low

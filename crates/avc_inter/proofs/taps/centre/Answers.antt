@@ -1,5 +1,23 @@
-use Rattle.avc_inter.proofs.SixRows.{◌∙◌, ap, w16, ℤ, FitsSigned, to_z-of_z, ◌>>ℤ◌, clip1, by_pairs, back_pair}
+use Rattle.avc_inter.proofs.SixRows.{◌∙◌, ap, w16, ℤ, FitsSigned, to_z-of_z, ◌>>ℤ◌, clip1, by_pairs, back_pair, still_sum}
 use Rattle.avc_inter.proofs.taps.centre.Goals as goal
+
+pub pair-requires-clause-first : goal.pair-requires-clause-first
+pair-requires-clause-first c = still_sum _ c.requires.e
+
+pub pair-requires-clause-second : goal.pair-requires-clause-second
+pair-requires-clause-second c = still_sum _ c.requires.j
+
+pub pair-requires-2-clause-first : goal.pair-requires-2-clause-first
+pair-requires-2-clause-first c = still_sum _ c.requires.f
+
+pub pair-requires-2-clause-second : goal.pair-requires-2-clause-second
+pair-requires-2-clause-second c = still_sum _ c.requires.i
+
+pub pair-requires-3-clause-first : goal.pair-requires-3-clause-first
+pair-requires-3-clause-first c = still_sum _ c.requires.g
+
+pub pair-requires-3-clause-second : goal.pair-requires-3-clause-second
+pair-requires-3-clause-second c = still_sum _ c.requires.h
 
 pub returns : goal.returns
 returns c =
