@@ -2,6 +2,9 @@
 pub mod Common
 unfoldable pub use Common.*
 use Rattle.avc_units.specs.Grouping.{other as other_kind}
+use Rattle.avc_types.specs.declared.fault.Fault.TheVariants as faults
+use Rattle.avc_units.specs.declared.header_reader.Brought.TheVariants as brings_kinds
+use Rattle.avc_units.specs.declared.kinds.UnitKind.TheVariants as kinds
 
 -- ---- the unit that decides which parameter set of an id is in force: the last of a list
 
@@ -154,7 +157,91 @@ pub on-err : {A E : Type 0} (r : Result A E) (P : Type 0) → P → OnErr r P
 on-err (Ok x) P p = tt
 on-err (Err e) P p = p
 
-pub ruleset set_refused = (refused_as, has-body)
+-- a set that is put into the table is told by its fault
+pub fault_told : {A : Type 0} (r : Result A SetFault) (fault : Option SetFault) (said : Option Fault) (next : Next) (step : Step) → step ≡ ends_picture next
+    → next ≡ refusal_of (option_map (λ why. why.fault) fault) → fault ≡ refused r → fault_in r ≡ said → step ≡ ends_picture (refusal_of said)
+fault_told r fault said next step is_step is_next put is_said = is_step ∙ ap ends_picture (is_next ∙ refused_as r fault put ∙ ap refusal_of is_said)
+
+-- ---- what a unit brings, by its first byte, its kind and its RBSP
+
+-- forbidden_zero_bit by the test of the first byte
+pub is_allowed : (header : ℕ) → header < 128 → forbidden_zero_bit header ≡ false
+is_allowed header low = lt-leb 128 header low
+
+pub is_forbidden : (header : ℕ) → 128 ≤ header → forbidden_zero_bit header ≡ true
+is_forbidden header high = le-leb 128 header high
+
+pub no_set : (u : Unit) → 128 ≤ u.header → None ≡ set_unit u
+no_set u high = rw (set_unit, is_forbidden u.header high) refl
+
+pub set_by : (u : Unit) (k : Kind) (read : Option (List ℕ)) → u.header < 128 → k ≡ kind u → read ≡ rbsp_of u → set_of k read ≡ set_unit u
+set_by u k read low is has = rw (set_unit, is_allowed u.header low, is, has) refl
+
+pub set_read : (u : Unit) (k : Kind) (read : Option (List ℕ)) (set : Option ParameterSet) → u.header < 128 → k ≡ kind u → read ≡ rbsp_of u
+    → set ≡ option_map parameter_set (set_of k read) → set ≡ option_map parameter_set (set_unit u)
+set_read u k read set low is has value = value ∙ ap (option_map parameter_set) (set_by u k read low is has)
+
+-- of other kinds
+pub none_read : (k : UnitKind) (read : Option (List ℕ)) → (k ≡ kinds.Sps → ⊥) → (k ≡ kinds.Pps → ⊥) → None ≡ set_of (meant k) read
+none_read (kinds.Slice idr) read no_sps no_pps = refl
+none_read kinds.Partition read no_sps no_pps = refl
+none_read kinds.Sps read no_sps no_pps = absurd (no_sps refl)
+none_read kinds.Pps read no_sps no_pps = absurd (no_pps refl)
+none_read kinds.Boundary read no_sps no_pps = refl
+none_read kinds.Other read no_sps no_pps = refl
+
+pub more_sets : (before : List SetUnit) (u : Unit) (k : Kind) (read : Option (List ℕ)) → u.header < 128 → k ≡ kind u → read ≡ rbsp_of u
+    → before ++ list_of (set_of k read) ≡ before ++ set_units (u ∷ [])
+more_sets before u k read low is has = ap (λ s. before ++ s) (sym (append-nil (list_of (set_of k read))) ∙ ap (λ s. list_of s ++ []) (set_by u k read low is has))
+
+-- a kind without RBSP
+abbrev IsUnread : UnitKind → Type 0
+IsUnread k = (k ≡ kinds.Boundary) ⊎ (k ≡ kinds.Other)
+
+pub unread_set : (k : UnitKind) (read : Option (List ℕ)) → IsUnread k → None ≡ set_of (meant k) read
+unread_set (kinds.Slice idr) read unread = refl
+unread_set kinds.Partition read unread = refl
+unread_set kinds.Sps read unread = grind arith
+unread_set kinds.Pps read unread = grind arith
+unread_set kinds.Boundary read unread = refl
+unread_set kinds.Other read unread = refl
+
+pub unread_brought : (sets : Sets) (header : ℕ) (k : UnitKind) (read : Option (List ℕ)) → IsUnread k → brings_kinds.Nothing ≡ brought_by sets header (meant k) read
+unread_brought sets header (kinds.Slice idr) read unread = grind arith
+unread_brought sets header kinds.Partition read unread = grind arith
+unread_brought sets header kinds.Sps read unread = grind arith
+unread_brought sets header kinds.Pps read unread = grind arith
+unread_brought sets header kinds.Boundary read unread = refl
+unread_brought sets header kinds.Other read unread = refl
+
+pub is_read_by : (k : UnitKind) → (k ≡ kinds.Partition → ⊥) → (k ≡ kinds.Boundary → ⊥) → (k ≡ kinds.Other → ⊥) → is_read (meant k) ≡ true
+is_read_by (kinds.Slice idr) no_partition no_boundary no_other = refl
+is_read_by kinds.Partition no_partition no_boundary no_other = absurd (no_partition refl)
+is_read_by kinds.Sps no_partition no_boundary no_other = refl
+is_read_by kinds.Pps no_partition no_boundary no_other = refl
+is_read_by kinds.Boundary no_partition no_boundary no_other = absurd (no_boundary refl)
+is_read_by kinds.Other no_partition no_boundary no_other = absurd (no_other refl)
+
+pub too_long : (sets : Sets) (header : ℕ) (k : Kind) → is_read k ≡ true → brings_kinds.Refused faults.NalTooLong ≡ brought_by sets header k None
+too_long sets header (slice idr) read = refl
+too_long sets header sps read = refl
+too_long sets header pps read = refl
+too_long sets header _ read = cc
+
+pub too_long_set : (k : Kind) → None ≡ set_of k None
+too_long_set (slice idr) = refl
+too_long_set partition = refl
+too_long_set sps = refl
+too_long_set pps = refl
+too_long_set boundary = refl
+too_long_set other_kind = refl
+
+pub may_want : (u : Unit) (k : Kind) → u.header < 128 → k ≡ kind u → is_read k ≡ true → is_some u.body ≡ true → MayWantMemory u
+may_want u k low is read body = record { allowed = is_allowed u.header low; not_too_long = body; read = ap is_read (sym is) ∙ read }
+
+pub brought-by : (sets : Sets) (u : Unit) (k : Kind) (read : Option (List ℕ)) → u.header < 128 → k ≡ kind u → read ≡ rbsp_of u
+    → brought_by sets u.header k read ≡ brought sets u
+brought-by sets u k read low is has = rw (brought, is_allowed u.header low, is, has) refl
 
 -- ---- parameter sets that are sent again: sets come alike
 
@@ -380,6 +467,10 @@ starts-by u idr rbsp allowed is read = rw (is_start, allowed, slice_type (nal_un
 
 read-by : (sets : Sets) (u : Unit) (rbsp : List ℕ) → rbsp_of u ≡ Some rbsp → slice_in sets u ≡ read_from sets u rbsp
 read-by sets u rbsp read = rw (slice_in, read) refl
+
+-- a slice whose header was read in its place
+pub slice_read : (u : Unit) (rbsp : List ℕ) (s : Slice) (read : Result Header Fault) → s.unit ≡ u.index → s.rbsp ≡ rbsp → Ok s.header ≡ read → Ok s ≡ with_header u rbsp read
+slice_read u rbsp s read is_unit is_rbsp is = (λ i. Ok (record { unit = is_unit i; header = s.header; rbsp = is_rbsp i })) ∙ ap (with_header u rbsp) is
 
 -- with its RBSP
 pub slice_or_start-read : (running idr : Bool) (open_picture : Option OpenPictureFacts) (sets : Sets) (u : Unit) (rbsp seen : List ℕ) (starts : Bool) (read : Result Slice Fault)

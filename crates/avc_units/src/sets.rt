@@ -66,7 +66,6 @@ fn refusal_of(fault: Option<SetFault>) -> Next
 }
 
 /// A sequence parameter set's unit ends the picture, and is refused where it has a fault.
-#[tactic(auto, using(crate::proofs::SetUnits::set_refused))]
 pub(crate) fn put_sps(
     alloc: Global,
     table: &mut ParamTable,
@@ -88,7 +87,6 @@ pub(crate) fn put_sps(
 }
 
 /// A picture parameter set's unit does so too.
-#[tactic(auto, using(crate::proofs::SetUnits::set_refused))]
 pub(crate) fn put_pps(
     alloc: Global,
     table: &mut ParamTable,
