@@ -107,6 +107,72 @@ IsWithin-mul m n a b first second =
     let y = abs-within n b second in
     IsWithin-abs (m * n) (a *ℤ b) (rw unsigned_abs-mul (mul-le-mul x y))
 
+pub IsWithin-more : {m n : ℕ} {z : ℤ} → m ≤ n → IsWithin m z → IsWithin n z
+IsWithin-more {m} {n} {z} h small = record { low = omega (arith, ints); high = omega (arith, ints) }
+
+pub IsWithin-add : (m n : ℕ) (a b : ℤ) → IsWithin m a → IsWithin n b → IsWithin (m + n) (a +ℤ b)
+IsWithin-add m n a b p q = record { low = omega (arith, ints); high = omega (arith, ints) }
+
+-- a small number is what its 32 bits say
+pub cast_within : {n : ℕ} {z : ℤ} → n < 2 ^ 31 → IsWithin n z → to_z w32 (of_z w32 z) ≡ z
+cast_within {n} {z} h small = omega (arith, ints)
+
+pub still_within : {n : ℕ} {z : ℤ} → n < 2 ^ 31 → IsWithin n z → IsWithin n (to_z w32 (of_z w32 z))
+still_within {n} {z} h small = rw (cast_within h small) small
+
+pub fits_within : {n : ℕ} {z : ℤ} → n < 2 ^ 31 → IsWithin n z → FitsSigned w32 z
+fits_within {n} {z} h small = search (arith, ints)
+
+-- ---- from the slope of a side to what the plane rises in a step
+
+-- a shift by its two bounds
+shift_low : (z : ℤ) → (pos 64 *ℤ (z >>ℤ 6)) ≤ℤ z
+shift_low (pos a) = omega (arith, ints)
+shift_low (negsuc a) = omega (arith, ints)
+
+shift_high : (z : ℤ) → z <ℤ (pos 64 *ℤ (z >>ℤ 6) +ℤ pos 64)
+shift_high (pos a) = omega (arith, ints)
+shift_high (negsuc a) = omega (arith, ints)
+
+shift_within : (z : ℤ) → IsWithin 300032 z → IsWithin 5000 (z >>ℤ 6)
+shift_within z small = record { low = omega (arith, ints, shift_low z, shift_high z); high = omega (arith, ints, shift_low z, shift_high z) }
+
+module _ (m n : ℕ) (s : ℤ) (few : m * n ≤ 300000) (fits : n < 2 ^ 31) (small : IsWithin n s) where
+  times : IsWithin 300000 (pos m *ℤ s)
+  times = IsWithin-more few (IsWithin-mul m n (pos m) s (record { low = omega (arith, ints); high = omega (arith, ints) }) small)
+
+  half_more : IsWithin 300032 (pos m *ℤ s +ℤ pos 32)
+  half_more = IsWithin-add 300000 32 _ (pos 32) times (record { low = omega (arith, ints); high = omega (arith, ints) })
+
+  shifted : IsWithin 5000 (pos m *ℤ s +ℤ pos 32 >>ℤ 6)
+  shifted = shift_within _ half_more
+
+  -- the same through the bits of each step
+  pub gradient_is : to_z w32 (of_z w32 (to_z w32 (of_z w32 (to_z w32 (of_z w32 (pos m *ℤ to_z w32 (of_z w32 s))) +ℤ pos 32)) >>ℤ 6)) ≡ (pos m *ℤ s +ℤ pos 32 >>ℤ 6)
+  gradient_is =
+      let product : to_z w32 (of_z w32 (pos m *ℤ to_z w32 (of_z w32 s))) ≡ pos m *ℤ s = rw (cast_within fits small) (cast_within (omega arith) times) in
+      let sum : to_z w32 (of_z w32 (to_z w32 (of_z w32 (pos m *ℤ to_z w32 (of_z w32 s))) +ℤ pos 32)) ≡ pos m *ℤ s +ℤ pos 32 =
+      rw product (cast_within (omega arith) half_more) in
+      ap (λ (z : ℤ). to_z w32 (of_z w32 (z >>ℤ 6))) sum ∙ cast_within (omega arith) shifted
+
+  pub gradient_small : IsWithin 5000 (to_z w32 (of_z w32 (to_z w32 (of_z w32 (to_z w32 (of_z w32 (pos m *ℤ to_z w32 (of_z w32 s))) +ℤ pos 32)) >>ℤ 6)))
+  gradient_small = rw gradient_is shifted
+
+-- ---- what calls about a block in rows ask for
+
+pub first_line : (w h first stride long : ℕ) → 0 < h → IsRoom w h first stride long → first + w ≤ long
+first_line w h first stride long some room = omega (arith, room 0 some)
+
+all_three : (a b d : Bool) → (a && b && d) ≡ true → (a ≡ true) × (b ≡ true) × (d ≡ true)
+all_three true true true all = (refl, refl, refl)
+all_three true true false all = absurd (false≢true all)
+all_three true false d all = absurd (false≢true all)
+all_three false b d all = absurd (false≢true all)
+
+-- the sides that meet at the corner, in what was read beside the block
+pub corner_sides : (found sides : Sides) → found ≡ sides → has_corner_sides sides ≡ true → (found.above ≡ true) × (found.left ≡ true) × (found.corner ≡ true)
+corner_sides found sides is all = rw is (all_three sides.above sides.left sides.corner all)
+
 -- ---- the column left of a block that is laid line by line stays
 
 pub left_kept : (w first stride y : ℕ) (f : ℕ → ℕ → ℕ) (old new : List ℕ) → 0 < first → w < stride → IsStridedSet w y first stride f old new
