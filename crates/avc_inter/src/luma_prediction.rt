@@ -17,10 +17,11 @@ use avc_types::{Block, Mv};
 
 /// How many times sixteen samples the rows of a block have, the last ones perhaps not whole.
 fn count_of(columns: usize, rows: usize) -> usize
-    requires narrow { columns ≤ 16 }
+    requires lanes { AreLanes columns }
     requires low { rows ≤ 16 }
     ensures value { result ≡ (rows * columns + 15) / 16 }
     ensures few { result ≤ 16 }
+    ensures room { (long : ℕ) → 16 * ((rows * columns + 15) / 16) ≤ long → IsRoom columns (16 / columns * result) 0 columns long }
 {
     (rows * columns + 15) / 16
 }

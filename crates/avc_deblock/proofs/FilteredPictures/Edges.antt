@@ -142,16 +142,28 @@ in_parts false column row n st luma chroma s = refl
 
 -- ---- equal strengths give equal lines
 
+module _ (f g : ℕ → ℕ) (qp : EdgeQp) (same : (k : ℕ) → k < 4 → f k ≡ g k) (v : Bool) (x y : ℕ) (s : Plane) where
+  luma_edge_same : edge_filtered (luma_setting f qp) v x y 16 s ≡ edge_filtered (luma_setting g qp) v x y 16 s
+  luma_edge_same =
+      edge_same (luma_setting f qp) (luma_setting g qp) v x y 16 s (λ i low. ap (λ k. setting_of true k qp.p qp.q qp.offset_a qp.offset_b) (same (i / 4) (omega arith)))
+
+  chroma_edge_same : edge_filtered (chroma_setting f qp) v x y 8 s ≡ edge_filtered (chroma_setting g qp) v x y 8 s
+  chroma_edge_same =
+      edge_same (chroma_setting f qp) (chroma_setting g qp) v x y 8 s (λ i low. ap (λ k. setting_of false k qp.p qp.q qp.offset_a qp.offset_b) (same (i / 2) (omega arith)))
+
 module _ (column row n : ℕ) (f g : ℕ → ℕ) (qp : EdgeQp) (same : (k : ℕ) → k < 4 → f k ≡ g k) (v : Bool) (s : Plane) where
   pub luma_same : luma_behind v column row n f qp s ≡ luma_behind v column row n g qp s
-  luma_same = grind (arith, nat_tests, edge_same)
+  luma_same = luma_edge_same f g qp same v _ _ s
 
   pub chroma_same : chroma_behind v column row n f qp s ≡ chroma_behind v column row n g qp s
-  chroma_same = grind (arith, nat_tests, edge_same)
+  chroma_same = ap (λ p. if n % 2 == 0 then p else s) (chroma_edge_same f g qp same v _ _ s)
 
 pub same_strengths : (column row n : ℕ) (f g : ℕ → ℕ) (luma chroma : EdgeQp) (s : Planes) → ((k : ℕ) → k < 4 → f k ≡ g k) → (v : Bool) →
     lines_of_edge v column row n f luma chroma s ≡ lines_of_edge v column row n g luma chroma s
-same_strengths column row n f g luma chroma s same v = grind (arith, nat_tests, in_parts, three, luma_same, chroma_same)
+same_strengths column row n f g luma chroma s same v =
+    in_parts v column row n f luma chroma s
+    ∙ three _ _ _ _ _ _ (luma_same column row n f g luma same v s.luma) (chroma_same column row n f g chroma same v s.cb) (chroma_same column row n f g chroma same v s.cr)
+    ∙ sym (in_parts v column row n g luma chroma s)
 
 -- ---- the edge of a picture
 
@@ -197,13 +209,15 @@ far_enough column n some even = grind (arith, nat_tests)
 
 module _ (column row n : ℕ) (st : ℕ → ℕ) (qp : EdgeQp) (s : Plane) (none : (k : ℕ) → k < 4 → st k ≡ 0) (v : Bool) where
   pub luma_zero : luma_behind v column row n st qp s ≡ s
-  luma_zero = grind (arith, nat_tests, edge_none)
+  luma_zero = edge_none (luma_setting st qp) v _ _ 16 s (λ i low. none (i / 4) (omega arith))
 
   pub chroma_zero : chroma_behind v column row n st qp s ≡ s
-  chroma_zero = grind (arith, nat_tests, kept_if, edge_none)
+  chroma_zero = kept_if (n % 2 == 0) _ s (λ even. edge_none (chroma_setting st qp) v _ _ 8 s (λ i low. none (i / 2) (omega arith)))
 
 pub edge_zero : (v : Bool) (column row n : ℕ) (st : ℕ → ℕ) (luma chroma : EdgeQp) (s : Planes) → ((k : ℕ) → k < 4 → st k ≡ 0) → lines_of_edge v column row n st luma chroma s ≡ s
-edge_zero v column row n st luma chroma s none = grind (arith, nat_tests, in_parts, three, luma_zero, chroma_zero)
+edge_zero v column row n st luma chroma s none =
+    in_parts v column row n st luma chroma s
+    ∙ three _ _ _ _ _ _ (luma_zero column row n st luma s.luma none v) (chroma_zero column row n st chroma s.cb none v) (chroma_zero column row n st chroma s.cr none v)
 
 -- ---- sizes
 
@@ -269,7 +283,11 @@ module _ (c : Coded) (motion : List (List Motion)) (k : ℕ) (filters : ℕ → 
       all_filtered c motion s (flat_map (λ e. if filters e then lines e else []) es) ≡ in_component k (edges_filtered filters edge es) s
   edges_in_order [] s = nothing k s
   edges_in_order (e ∷ es) s =
-      grind (arith, all_filtered-append, one_edge, twice, edges_in_order es (in_component k (λ p. if filters e then edge e p else p) s))
+      let rest : List LineFilter = flat_map (λ e. if filters e then lines e else []) es in
+      all_filtered-append c motion s (if filters e then lines e else []) rest
+      ∙ ap (λ t. all_filtered c motion t rest) (one_edge (filters e) e s)
+      ∙ edges_in_order es (in_component k (λ p. if filters e then edge e p else p) s)
+      ∙ twice k _ _ s
 
 -- the plane of component k after the edges of macroblock a
 abbrev component_mb : Coded → List (List Motion) → ℕ → ℕ → Plane → Plane
@@ -393,7 +411,11 @@ rows_are_all c (suc n) =
 
 pub one_row_more : (c : Coded) (motion : List (List Motion)) (n m : ℕ) (s t u : Planes) → m ≡ n + 1 → t ≡ all_filtered c motion s (flat_map (row_lines c) (range_with_len 0 n)) →
     u ≡ all_filtered c motion t (row_lines c n) → u ≡ all_filtered c motion s (flat_map (row_lines c) (range_with_len 0 m))
-one_row_more c motion n m s t u next before here = grind (arith, nat_tests, all_filtered-append, row_more)
+one_row_more c motion n m s t u next before here =
+    let suc_is : suc n ≡ m = omega arith in
+    here ∙ ap (λ (p : Planes). all_filtered c motion p (row_lines c n)) before
+    ∙ sym (all_filtered-append c motion s (flat_map (row_lines c) (range_with_len 0 n)) (row_lines c n))
+    ∙ ap (λ (l : List LineFilter). all_filtered c motion s l) (sym (row_more c n) ∙ ap (λ (k : ℕ). flat_map (row_lines c) (range_with_len 0 k)) suc_is)
 
 -- info of one row, from those of all macroblocks
 pub part_info : (c : Coded) (motion : List (List Motion)) (names : Names) (info part : List MbInfo) (w y h : ℕ) → c.width ≡ w → length info ≡ h * w → y < h → length part ≡ w →
@@ -406,14 +428,23 @@ module _ (column row n : ℕ) (f g : ℕ → ℕ) (qp : EdgeQp) (s t : Plane) wh
   pub luma_lines : 1 ≤ 4 * column + n → ((k : ℕ) → k < 4 → f k ≡ g k) →
       t ≡ edge_filtered (luma_setting f qp) true (16 * column + 4 * n - 4 + 4) (16 * row) 16 s →
       t ≡ edge_filtered (luma_setting g qp) true (16 * column + 4 * n) (16 * row) 16 s
-  luma_lines some same is = grind (arith, nat_tests, edge_same)
+  luma_lines some same is =
+      let place : 16 * column + 4 * n - 4 + 4 ≡ 16 * column + 4 * n = omega arith in
+      is ∙ ap (λ x. edge_filtered (luma_setting f qp) true x (16 * row) 16 s) place ∙ luma_edge_same f g qp same true _ _ s
 
 -- the left edge of chroma and the one in the middle
 pub both_chroma : (column row : ℕ) (f f' g g' : ℕ → ℕ) (qp next : EdgeQp) (s t : Plane) → 1 ≤ column →
     ((k : ℕ) → k < 4 → f k ≡ f' k) → ((k : ℕ) → k < 4 → g k ≡ g' k) →
     t ≡ edge_filtered (chroma_setting g next) true (8 * column - 4 + 8) (8 * row) 8 (edge_filtered (chroma_setting f qp) true (8 * column - 4 + 4) (8 * row) 8 s) →
     t ≡ chroma_of_edge true column row 2 g' next (chroma_of_edge true column row 0 f' qp s)
-both_chroma column row f f' g g' qp next s t some first second is = grind (arith, nat_tests, edge_same)
+both_chroma column row f f' g g' qp next s t some first second is =
+    let left : 8 * column - 4 + 4 ≡ 8 * column + 2 * 0 = omega arith in
+    let middle : 8 * column - 4 + 8 ≡ 8 * column + 2 * 2 = omega arith in
+    is
+    ∙ ap (λ x. edge_filtered (chroma_setting g next) true x (8 * row) 8 (edge_filtered (chroma_setting f qp) true (8 * column - 4 + 4) (8 * row) 8 s)) middle
+    ∙ chroma_edge_same g g' next second true _ _ _
+    ∙ ap (edge_filtered (chroma_setting g' next) true (8 * column + 2 * 2) (8 * row) 8)
+    (ap (λ x. edge_filtered (chroma_setting f qp) true x (8 * row) 8 s) left ∙ chroma_edge_same f f' qp first true _ _ s)
 
 pub edges_room : (column row : ℕ) (offset : ℤ) (p q : MbInfo) (s t : Planes) →
     t ≡ edges_by_info true column row offset false true q q (edges_by_info true column row offset true false p q s) → (a b : ℕ) → HasRoom a b s → HasRoom a b t

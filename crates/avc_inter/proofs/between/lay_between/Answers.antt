@@ -1,5 +1,5 @@
 use Rattle.avc_inter.proofs.SixRows.{back_before, place_before, below_half, lines_few, ◌+◌, ◌*◌, ◌/◌, arith, refl, wide_of, quarter, strided_as, there_in, between_at, moved_at, room_is}
-use Rattle.avc_inter.proofs.SixRows.{rows_suffice, quarter_of, still_moved}
+use Rattle.avc_inter.proofs.SixRows.{rows_suffice, quarter_of}
 use Rattle.avc_inter.proofs.between.lay_between.Goals as goal
 
 pub find_within-requires : goal.find_within-requires

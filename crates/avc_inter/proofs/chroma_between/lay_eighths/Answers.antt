@@ -1,4 +1,4 @@
-use Rattle.avc_inter.proofs.SixRows.{◌+◌, ◌*◌, ◌/◌, arith, refl, wide_of, bilinear, strided_as, there_in, back_moved, blend_at, blend_of, moved_at, places_for, below_half, lines_few_more, place_moved, still_moved}
+use Rattle.avc_inter.proofs.SixRows.{◌+◌, ◌*◌, ◌/◌, arith, refl, wide_of, bilinear, strided_as, there_in, back_moved, blend_at, blend_of, moved_at, places_for, below_half, lines_few_more, place_moved}
 use Rattle.avc_inter.proofs.chroma_between.lay_eighths.Goals as goal
 
 pub find_within-requires : goal.find_within-requires

@@ -2,6 +2,50 @@ use Rattle.avc_inter.proofs.SixRows.{◌+◌, ◌*◌, arith, refl, strided_to, 
 use Rattle.avc_inter.proofs.BothRows.{line_more, between_rows}
 use Rattle.avc_inter.proofs.eighths.lay_both.Goals as goal
 
+pub along_row-row-requires-clause-cb : goal.along_row-row-requires-clause-cb
+along_row-row-requires-clause-cb g c = c.requires.cb 0 (omega arith)
+
+pub along_row-row-requires-clause-cr : goal.along_row-row-requires-clause-cr
+along_row-row-requires-clause-cr g c = c.requires.cr 0 (omega arith)
+
+pub along_row-middle-requires-clause-cb : goal.along_row-middle-requires-clause-cb
+along_row-middle-requires-clause-cb g c = c.requires.cb (2 * c.loop-y.y + 1) (omega arith)
+
+pub along_row-middle-requires-clause-cr : goal.along_row-middle-requires-clause-cr
+along_row-middle-requires-clause-cr g c = c.requires.cr (2 * c.loop-y.y + 1) (omega arith)
+
+pub along_row-last-requires-clause-cb : goal.along_row-last-requires-clause-cb
+along_row-last-requires-clause-cb g c = c.requires.cb (2 * (c.loop-y.y + 1)) (omega arith)
+
+pub along_row-last-requires-clause-cr : goal.along_row-last-requires-clause-cr
+along_row-last-requires-clause-cr g c = c.requires.cr (2 * (c.loop-y.y + 1)) (omega arith)
+
+pub lay_line-requires-clause-cb : goal.lay_line-requires-clause-cb
+lay_line-requires-clause-cb g c = omega (arith, c.requires.room_cb (2 * c.loop-y.y) (omega arith), c.loop-y.invariant.cb.long)
+
+pub lay_line-requires-clause-cr : goal.lay_line-requires-clause-cr
+lay_line-requires-clause-cr g c = omega (arith, c.requires.room_cr (2 * c.loop-y.y) (omega arith), c.loop-y.invariant.cr.long)
+
+pub lay_line-requires-in-loop-y-clause-cb : goal.lay_line-requires-in-loop-y-clause-cb
+lay_line-requires-in-loop-y-clause-cb g c =
+    omega (arith, c.requires.room_cb (2 * c.loop-y.y + 1) (omega arith), c.lay_line.ensures.cb.long, c.loop-y.invariant.cb.long)
+
+pub lay_line-requires-in-loop-y-clause-cr : goal.lay_line-requires-in-loop-y-clause-cr
+lay_line-requires-in-loop-y-clause-cr g c =
+    omega (arith, c.requires.room_cr (2 * c.loop-y.y + 1) (omega arith), c.lay_line.ensures.cr.long, c.loop-y.invariant.cr.long)
+
+pub lay_line-requires-clause-above : goal.lay_line-requires-clause-above
+lay_line-requires-clause-above g c = c.loop-y.invariant.along.small
+
+pub lay_line-requires-clause-below : goal.lay_line-requires-clause-below
+lay_line-requires-clause-below g c = c.along_row-middle.ensures.small
+
+pub lay_line-requires-in-loop-y-clause-above : goal.lay_line-requires-in-loop-y-clause-above
+lay_line-requires-in-loop-y-clause-above g c = c.along_row-middle.ensures.small
+
+pub lay_line-requires-in-loop-y-clause-below : goal.lay_line-requires-in-loop-y-clause-below
+lay_line-requires-in-loop-y-clause-below g c = c.along_row-last.ensures.small
+
 pub loop-y-preserved : goal.loop-y-preserved
 loop-y-preserved g c =
     let a = c.args in
