@@ -1,9 +1,10 @@
 -- Counting places, and marking macroblocks.
-use Rattle.std.proofs.Common.{◌≡◌, ℕ, zero, suc, ◌+◌, ◌<◌, ◌≤◌, Bool, true, false, ◌&&◌, ◌||◌, not, refl, sym, ap, ◌∙◌, arith, add-one, List, [], ◌∷◌, length, get_or}
-use Rattle.std.specs.Prelude.{if◌then◌else◌, ◌==◌, replicate}
+use Rattle.std.proofs.Common.{◌≡◌, ℕ, zero, suc, ◌+◌, ◌<◌, ◌≤◌, Bool, true, false, ◌&&◌, ◌||◌, not, refl, sym, ap, ◌∙◌, arith, add-one, List, [], ◌∷◌, length, get_or, take}
+use Rattle.std.specs.Prelude.{count_by, if◌then◌else◌, ◌==◌, replicate}
+use Rattle.std.proofs.lemmas.List.Sums.{count_by_more_no, count_by_more_yes}
 use Rattle.avc_plane.specs.declared.component.Component.{Component}
 use Rattle.avc_plane.specs.declared.component.Component.TheVariants.{Luma, Cb, Cr}
-use Rattle.avc_difference.specs.Differences.{any_below, count_below, differs_at, differs_in_chroma, differs_in_luma, is_luma, mark_after, no_mark, with_component, AreMarks}
+use Rattle.avc_difference.specs.Differences.{any_below, count_below, differs_at, differs_in_chroma, differs_in_luma, is_luma, is_marked, mark_after, no_mark, with_component, AreMarks}
 use Rattle.avc_difference.specs.Places.{place_of, sample_count}
 use Rattle.avc_difference.specs.declared.marks.Mark.{Mark}
 use Rattle.avc_difference.specs.declared.place.Place.{Place}
@@ -43,6 +44,12 @@ counted_more n count count' b test before here is =
     is ∙ ap (λ k. k + (if b then 1 else 0)) before ∙ ap (λ t. count_below n test + (if t then 1 else 0)) here ∙ sym (count_below_more n test)
 
 -- ---- marks
+
+-- one mark more is counted
+pub marked_more : (i count count' : ℕ) (b : Bool) (marks : List Mark) (d : Mark) → i < length marks → count ≡ count_by is_marked (take i marks) → b ≡ is_marked (get_or marks i d)
+    → count' ≡ count + (if b then 1 else 0) → count' ≡ count_by is_marked (take (i + 1) marks)
+marked_more i count count' true marks d inside before here is = is ∙ ap (λ k. k + 1) before ∙ sym (count_by_more_yes is_marked marks i d inside (sym here))
+marked_more i count count' false marks d inside before here is = omega (arith, is) ∙ before ∙ sym (count_by_more_no is_marked marks i d inside (sym here))
 
 or_true : (b : Bool) → (b || true) ≡ true
 or_true true = refl

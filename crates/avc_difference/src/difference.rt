@@ -1,11 +1,11 @@
 //! Where two pictures differ.
 
-ghost use Rattle.std.specs.Prelude.{◌≡◌, ◌+◌, ◌<◌, ◌^◌, if◌then◌else◌, length, IfOk, MatchOption};
+ghost use Rattle.std.specs.Prelude.{◌≡◌, length, IfOk, MatchOption};
 ghost use Rattle.avc_difference.specs.Places.{sample_count};
 ghost use Rattle.avc_difference.specs.Differences.{count_below, differs_at, AreSame, IsDifference};
 ghost use Rattle.avc_difference.specs.Differences.{IsFirst};
 
-use crate::marks::{Mark, differs, marked, marks_of};
+use crate::marks::{Mark, differs, marked, marks_of, one_more};
 use crate::origin::{SamplePair, origin_pairs};
 use crate::place::{Place, Shape, place_of};
 use avc_types::OutOfMemory;
@@ -96,12 +96,4 @@ fn count_differences(most: u8, ours: &[u8], theirs: &[u8]) -> usize
         count = one_more(count, differs(most, ours[place], theirs[place]));
     }
     count
-}
-
-// One more, where there is one.
-fn one_more(count: usize, is_there: bool) -> usize
-    requires { count < 2 ^ 63 }
-    ensures { result ≡ count + (if is_there then 1 else 0) }
-{
-    if is_there { count + 1 } else { count }
 }

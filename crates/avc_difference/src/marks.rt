@@ -1,6 +1,6 @@
 //! In which macroblocks two pictures differ.
 
-ghost use Rattle.std.specs.Prelude.{◌≡◌, ◌+◌, ◌<◌, ℕ, count_by, length, replicate, slice_index_or};
+ghost use Rattle.std.specs.Prelude.{◌≡◌, ◌+◌, ◌<◌, ◌^◌, ℕ, count_by, if◌then◌else◌, length, replicate, slice_index_or};
 ghost use Rattle.std.specs.Prelude.{IfOk};
 ghost use Rattle.avc_difference.specs.Places.{macroblocks, sample_count};
 ghost use Rattle.avc_difference.specs.Differences.{differs, is_marked, mark_after, no_mark};
@@ -12,7 +12,7 @@ use avc_types::OutOfMemory;
 use std::alloc::Global;
 
 /// Whether something differs in a macroblock: some luma samples, and some chroma samples.
-#[derive(Clone, Copy, Debug, PartialEq, Eq)]
+#[derive(Clone, Copy, Debug)]
 pub struct Mark {
     pub luma: bool,
     pub chroma: bool,
@@ -92,5 +92,24 @@ pub(crate) fn differs(most: u8, ours: u8, theirs: u8) -> bool
 pub(crate) fn marked(marks: &[Mark]) -> usize
     ensures { result ≡ count_by is_marked marks.now }
 {
-    marks.iter().filter(|mark| mark.luma || mark.chroma).count()
+    let mut count = 0;
+    'marks: for mark in marks {
+        count = one_more(count, is_marked(*mark));
+    }
+    count
+}
+
+// Whether something differs in a macroblock.
+fn is_marked(mark: Mark) -> bool
+    ensures { result ≡ is_marked mark }
+{
+    mark.luma || mark.chroma
+}
+
+/// One more, where there is one.
+pub(crate) fn one_more(count: usize, is_there: bool) -> usize
+    requires { count < 2 ^ 63 }
+    ensures { result ≡ count + (if is_there then 1 else 0) }
+{
+    if is_there { count + 1 } else { count }
 }

@@ -20,7 +20,7 @@ pub struct Shape {
 
 /// Where a sample stands: in what is shown of its component, in the coded component, and in which
 /// macroblock (6.4.1). Everything is counted from 0, columns and rows in samples of the component.
-#[derive(Clone, Copy, Debug, PartialEq, Eq)]
+#[derive(Clone, Copy, Debug)]
 pub struct Place {
     pub component: Component,
 
