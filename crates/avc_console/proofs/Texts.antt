@@ -132,10 +132,16 @@ whole_at_end text now_text over n s now unread left left' w0 w w' len piece i lo
 whole : (all : Bool) → (all ≡ false → false ≡ true) → all ≡ true
 whole all other = grind arith
 
-pub listed : (text : Text) (s : StreamSoFar) (unread left held holds : Option (List ℕ)) → IsWhole text (λ bytes ended. false) s unread left held holds → Lists text unread left held holds (Ok tt)
+listed : (text : Text) (s : StreamSoFar) (unread left held holds : Option (List ℕ)) → IsWhole text (λ bytes ended. false) s unread left held holds → Lists text unread left held holds (Ok tt)
 listed text s unread left held holds all =
     let ended = whole s.ended all.is_over in
     (s.bytes, subst (HasRead unread left s.bytes) ended all.has_read, subst (λ e. Appends held holds (text s.bytes e)) ended all.written)
+
+-- and so of what the writing of a text answers that is over at the end alone
+pub lists : (text : Text) (s : StreamSoFar) (unread left held holds : Option (List ℕ)) (r : Result (Unit {0}) RunFault) → OnOk r (IsWhole text (λ bytes ended. false) s unread left held holds)
+    → IfErr r (λ fault. Lists text unread left held holds (Err fault)) → Lists text unread left held holds r
+lists text s unread left held holds (Ok done) ok err = listed text s unread left held holds ok
+lists text s unread left held holds (Err fault) ok err = err
 
 -- ---- a piece of a stream that comes is the stream's piece
 

@@ -22,8 +22,7 @@ pub fn run_units<F: ListingForm + Drop, R: Read, W: Write>(
         (W.contents writer.old) (W.contents writer.new) result }
 {
     let mut lines = UnitLines::new(alloc, form);
-    write_stream(alloc, &mut lines, reader, writer)?;
-    Ok(())
+    write_stream(alloc, &mut lines, reader, writer)
 }
 
 /// Writes a line of a form for each parameter set and slice of a byte stream (Annex B), as soon as
@@ -38,8 +37,7 @@ pub fn run_headers<F: ListingForm + Drop, R: Read, W: Write>(
         (W.contents writer.old) (W.contents writer.new) result }
 {
     let mut lines = HeaderLines::new(alloc, form);
-    write_stream(alloc, &mut lines, reader, writer)?;
-    Ok(())
+    write_stream(alloc, &mut lines, reader, writer)
 }
 
 /// Writes a line of a form for each piece of a byte stream (Annex B), as soon as the end of the unit
@@ -54,6 +52,5 @@ pub fn run_pieces<F: ListingForm + Drop, R: Read, W: Write>(
         (W.contents writer.old) (W.contents writer.new) result }
 {
     let mut lines = CutPointLines::new(alloc, form);
-    write_stream(alloc, &mut lines, reader, writer)?;
-    Ok(())
+    write_stream(alloc, &mut lines, reader, writer)
 }

@@ -9,7 +9,7 @@ pub use Rattle.std.specs.Fmt.{decimal}
 pub use Rattle.std.specs.Io.KnownBytes.{Appends, Keeps, Consumes, IsAtEnd}
 pub use Rattle.std.specs.List.{flat_map}
 pub use Rattle.std.specs.Prelude.{◌≡◌, ℕ, ◌+◌, ◌<◌, List, [], ◌∷◌, ◌++◌, length, take, get_or, Option, Some, None, codes, Bool, true, false}
-pub use Rattle.std.specs.Prelude.{Result, Ok, Err, is_ok, refl, ◌≤◌, IfErr, OnErr, IsErrAnd, slice_get, ◌^◌, if◌then◌else◌}
+pub use Rattle.std.specs.Prelude.{Result, Ok, Err, is_ok, refl, ◌≤◌, IfErr, OnErr, OnOk, IsErrAnd, slice_get, ◌^◌, if◌then◌else◌}
 pub use Rattle.avc_tools.specs.PieceSoFar.{bytes_of, piece_text, is_over, numbered_piece, pieces_so_far, PieceSoFar, PiecesAreWhole, PiecesStay}
 pub use Rattle.avc_tools.specs.Pieces.{pieces}
 pub use Rattle.avc_tools.specs.Streams.{OnlyGrows, StreamSoFar, after_end, after_piece, new_stream}

@@ -1,5 +1,5 @@
-use Rattle.avc_console.proofs.Texts.{listed}
+use Rattle.avc_console.proofs.Texts.{lists}
 use Rattle.avc_console.proofs.listing.run_pieces.Goals as goal
 
 pub returns : goal.returns
-returns g c = listed _ _ _ _ _ _ c.in_ok-write_stream.ensures.ok
+returns g c = lists _ _ _ _ _ _ _ c.write_stream.ensures.ok c.write_stream.ensures.err
