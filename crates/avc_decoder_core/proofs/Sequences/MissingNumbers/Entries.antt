@@ -379,6 +379,13 @@ pub few_marked : (i : FrameBuffer) (frames : List (Frame 16)) (marked : List Mar
     marked ≡ map marked_frame frames → (length frames ≤ 16) × (length marked ≤ 16)
 few_marked i frames marked invariant on is marked_is = rw (marked_is, length-map, is) (few_needed i invariant on, few_needed i invariant on)
 
+-- marks for all frames that were there
+pub marks_for_all : (kept frames : List (Frame 16)) (old new marked : List MarkedFrame) → frames ≡ kept → old ≡ map marked_frame frames
+    → length new ≡ length old + 1 → marked ≡ new → length kept ≤ length marked
+marks_for_all kept frames old new marked is old_is more same =
+    let long : length old ≡ length kept = ap length old_is ∙ length-map frames marked_frame ∙ ap length is in
+    rw same (omega (arith, more, long))
+
 frames_are : (h : History) (c : Contents) (idx : Option ℕ) (previous : ℕ) (s : IsStateAfter h c idx previous) → c.frames ≡ map (frame_at h (s.marks).references) (indices_in (buffer_of c.output h))
 frames_are h c idx previous s = (s.buffer).frames ∙ sym (map-map (frame_at h (s.marks).references) (λ t. t.decoding_index) (buffer_of c.output h).frames)
 
@@ -417,7 +424,7 @@ are_frames h c idx previous s =
 
 -- ---- what the arriving frame is
 
-capacity_of : (sps : Sps) → sps.max_num_ref_frames ≤ 16 → dpb_size sps ≤ 16
+pub capacity_of : (sps : Sps) → sps.max_num_ref_frames ≤ 16 → dpb_size sps ≤ 16
 capacity_of sps few = grind arith
 
 room_of : (sps : Sps) → reference_limit sps ≤ dpb_size sps

@@ -2,6 +2,8 @@ use Rattle.avc_decoder_core.proofs.Sequences.{◌≡◌, ◌∙◌, ◌∷◌, �
 use Rattle.avc_decoder_core.proofs.Sequences.{false≢true, marked_frame, history_of, with_all_marks}
 use Rattle.avc_decoder_core.proofs.Sequences.{is_ok, Entry, is_same_sps, marks_of, missing_frame, sequence_sps}
 use Rattle.avc_decoder_core.proofs.Sequences.{marked_then, IsTaken, few_marked, taken, frame_made, arrival_of_missing, missing_arrives, outputs_none}
+use Rattle.avc_decoder_core.proofs.Sequences.{capacity_of, marks_for_all, on_err}
+use Rattle.avc_decoder_core.proofs.Refusals.{any_after, err_is}
 use Rattle.avc_decoder_core.proofs.frame_buffer.FrameBuffer.store_missing.Goals as goal
 
 pub sliding_window-requires : goal.sliding_window-requires
@@ -75,3 +77,20 @@ returns-clause-ok c =
       marked = (s.taken).ok;
       pictures = (s.taken).pictures;
     })
+
+pub set_marks-requires : goal.set_marks-requires
+set_marks-requires c =
+    marks_for_all c.self.inside.dpb.frames c.frames.result.now c.marked_frames-marked.result.items c.sliding_window.new.frames.items c.as_slice.result.now
+    c.frames.ensures c.marked_frames-marked.ensures c.in-Ok.ensures.length c.as_slice.ensures.value
+
+pub store-requires : goal.store-requires
+store-requires c = record { capacity = rw c.dpb_size.ensures (capacity_of c.args.sps.now c.requires.sps.references) }
+
+pub invariant_of-self : goal.invariant_of-self
+invariant_of-self c = any_after _ c.in_err-out.ensures.refused
+
+pub returns-in_err-out-clause-ok : goal.returns-in_err-out-clause-ok
+returns-in_err-out-clause-ok c = rw (err_is c.from_residual.result c.in_err-out.field-0.0 c.from_residual.ensures.1) tt
+
+pub returns-in_err-out-clause-err : goal.returns-in_err-out-clause-err
+returns-in_err-out-clause-err c = on_err c.from_residual.result c.in_err-out.ensures.refused

@@ -1,9 +1,10 @@
-use Rattle.avc_decoder_core.proofs.Sequences.{◌≡◌, ◌∙◌, ◌∷◌, ◌+◌, ◌-◌, length, map, ap, ap₂, refl, rules, to_z, of_z, w32, sym, subst, OnOk, false}
-use Rattle.avc_decoder_core.proofs.Sequences.{Err, arith, Faulty, NoMemory, order_counts, CanFollow, marked_frame}
+use Rattle.avc_decoder_core.proofs.Sequences.{◌≡◌, ◌∙◌, ◌∷◌, ◌+◌, ◌-◌, length, map, ap, ap₂, refl, rules, to_z, of_z, w32, sym, subst, false}
+use Rattle.avc_decoder_core.proofs.Sequences.{Err, arith, marks_for_all, Faulty, NoMemory, order_counts, CanFollow, marked_frame}
 use Rattle.avc_decoder_core.proofs.Sequences.{frame_num_after_marking, history_of, with_all_marks}
 use Rattle.avc_decoder_core.proofs.Sequences.{Entry, decoded_picture, marks_of, order_or_0, pasts, picture_entry, marked_then, IsTaken, few_marked}
-use Rattle.avc_decoder_core.proofs.Sequences.{refused, taken, frame_made, picture_arrival, picture_arrives, picture_previous}
+use Rattle.avc_decoder_core.proofs.Sequences.{capacity_of, on_err, refused, taken, frame_made, picture_arrival, picture_arrives, picture_previous}
 use Rattle.avc_marking.specs.Frames.{marking_entry}
+use Rattle.avc_decoder_core.proofs.Refusals.{any_after, err_is}
 use Rattle.avc_decoder_core.proofs.frame_buffer.FrameBuffer.store_picture.Goals as goal
 
 pub mark-requires : goal.mark-requires
@@ -27,15 +28,9 @@ returns-in_err-mark-clause-err c =
     let marks = rw (c.new_frame-new.ensures) at c.in_err-mark.ensures.marks in
     let then = marked_then e h i.dpb idx i.prev_ref_frame_num (c.self.invariant on) old new (Err f) new_idx
     (c.marked_frames-marked.ensures ∙ ap (map marked_frame) c.frames.ensures) marks in
-    let is : c.from_residual.result ≡ Err (Faulty f) = search rules in
+    let is : c.from_residual.result ≡ Err (Faulty f) = err_is c.from_residual.result (Faulty f) c.from_residual.ensures.1 in
     refused c.args.self.now c.args.self.now (marks_of (e ∷ c.args.self.now.history)) f c.from_residual.result is c.requires.going refl
     (sym (ap (λ h. marks_of (e ∷ h)) before) ∙ then)
-
-pub returns-in_err-more-clause-closed : goal.returns-in_err-more-clause-closed
-returns-in_err-more-clause-closed c =
-    let f = c.in_err-more.field-0.0 in
-    let is : c.from_residual-in_err-more.result ≡ Err (NoMemory f) = search rules in
-    subst (λ r. OnOk r (history_of c.args.closed.now.items ≡ history_of c.self.inside.history.items)) (sym is) tt
 
 -- the entry
 abbrev entry : goal.After-self-2-1 → Entry
@@ -115,3 +110,74 @@ returns-clause-ok c =
       marked = (s.taken).ok;
       pictures = (rw (← c.in_ok-out.ensures.same) at c.joined.ensures) ∙ (s.taken).pictures;
     })
+
+pub returns-in_err-mark-clause-ok : goal.returns-in_err-mark-clause-ok
+returns-in_err-mark-clause-ok c = rw (err_is c.from_residual.result (Faulty c.in_err-mark.field-0.0) c.from_residual.ensures.1) tt
+
+pub returns-in_err-mark-clause-closed : goal.returns-in_err-mark-clause-closed
+returns-in_err-mark-clause-closed c = rw (err_is c.from_residual.result (Faulty c.in_err-mark.field-0.0) c.from_residual.ensures.1) tt
+
+pub returns-in_err-mark-clause-kept : goal.returns-in_err-mark-clause-kept
+returns-in_err-mark-clause-kept c = on_err c.from_residual.result refl
+
+pub invariant_of-self : goal.invariant_of-self
+invariant_of-self c = any_after _ c.in_err-prior.ensures.refused
+
+pub returns-in_err-prior-clause-ok : goal.returns-in_err-prior-clause-ok
+returns-in_err-prior-clause-ok c = rw (err_is c.from_residual-in_err-prior.result (NoMemory c.in_err-prior.field-0.0) c.from_residual-in_err-prior.ensures.1) tt
+
+pub returns-in_err-prior-clause-err : goal.returns-in_err-prior-clause-err
+returns-in_err-prior-clause-err c = rw (err_is c.from_residual-in_err-prior.result (NoMemory c.in_err-prior.field-0.0) c.from_residual-in_err-prior.ensures.1) c.in_err-prior.ensures.refused
+
+pub returns-in_err-prior-clause-closed : goal.returns-in_err-prior-clause-closed
+returns-in_err-prior-clause-closed c = rw (err_is c.from_residual-in_err-prior.result (NoMemory c.in_err-prior.field-0.0) c.from_residual-in_err-prior.ensures.1) tt
+
+pub returns-in_err-prior-clause-kept : goal.returns-in_err-prior-clause-kept
+returns-in_err-prior-clause-kept c = on_err c.from_residual-in_err-prior.result refl
+
+pub invariant_of-self-in_err-more : goal.invariant_of-self-in_err-more
+invariant_of-self-in_err-more c = any_after _ c.in_err-more.ensures.refused
+
+pub returns-in_err-more-clause-ok : goal.returns-in_err-more-clause-ok
+returns-in_err-more-clause-ok c = rw (err_is c.from_residual-in_err-more.result (NoMemory c.in_err-more.field-0.0) c.from_residual-in_err-more.ensures.1) tt
+
+pub returns-in_err-more-clause-err : goal.returns-in_err-more-clause-err
+returns-in_err-more-clause-err c = rw (err_is c.from_residual-in_err-more.result (NoMemory c.in_err-more.field-0.0) c.from_residual-in_err-more.ensures.1) c.in_err-more.ensures.refused
+
+pub returns-in_err-more-clause-closed : goal.returns-in_err-more-clause-closed
+returns-in_err-more-clause-closed c = rw (err_is c.from_residual-in_err-more.result (NoMemory c.in_err-more.field-0.0) c.from_residual-in_err-more.ensures.1) tt
+
+pub returns-in_err-more-clause-kept : goal.returns-in_err-more-clause-kept
+returns-in_err-more-clause-kept c = on_err c.from_residual-in_err-more.result refl
+
+pub invariant_of-self-in_err-out : goal.invariant_of-self-in_err-out
+invariant_of-self-in_err-out c = any_after _ c.in_err-out.ensures.refused
+
+pub returns-in_err-out-clause-ok : goal.returns-in_err-out-clause-ok
+returns-in_err-out-clause-ok c = rw (err_is c.from_residual-in_err-out.result (NoMemory c.in_err-out.field-0.0) c.from_residual-in_err-out.ensures.1) tt
+
+pub returns-in_err-out-clause-err : goal.returns-in_err-out-clause-err
+returns-in_err-out-clause-err c = rw (err_is c.from_residual-in_err-out.result (NoMemory c.in_err-out.field-0.0) c.from_residual-in_err-out.ensures.1) c.in_err-out.ensures.refused
+
+pub returns-in_err-out-clause-closed : goal.returns-in_err-out-clause-closed
+returns-in_err-out-clause-closed c = rw (err_is c.from_residual-in_err-out.result (NoMemory c.in_err-out.field-0.0) c.from_residual-in_err-out.ensures.1) tt
+
+pub returns-in_err-out-clause-kept : goal.returns-in_err-out-clause-kept
+returns-in_err-out-clause-kept c = on_err c.from_residual-in_err-out.result refl
+
+pub set_marks-requires : goal.set_marks-requires
+set_marks-requires c =
+    marks_for_all c.self.inside.dpb.frames c.frames.result.now c.marked_frames-marked.result.items c.mark.new.frames.items c.as_slice.result.now
+    c.frames.ensures c.marked_frames-marked.ensures c.in_ok-mark.ensures.length c.as_slice.ensures.value
+
+pub entry_frame-frame-requires : goal.entry_frame-frame-requires
+entry_frame-frame-requires c =
+    c.frame_num_after_marking-frame_num.ensures
+    ∙ ap (λ n. frame_num_after_marking (marking_entry n c.args.header.now.marking)) c.new_frame-new.ensures
+    ∙ sym (ap₂ (λ s t. frame_num_after_marking (picture_entry s t)) c.copied.ensures c.copied-2.ensures)
+
+pub store-requires : goal.store-requires
+store-requires c = record { capacity = rw c.dpb_size.ensures (capacity_of c.args.sps.now c.requires.sps.references) }
+
+pub returns-clause-closed : goal.returns-clause-closed
+returns-clause-closed c = ap history_of (c.with_newest-with_picture.ensures ∙ sym c.with_newest-history.ensures)

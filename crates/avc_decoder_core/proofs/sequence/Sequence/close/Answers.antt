@@ -1,8 +1,9 @@
 use Rattle.avc_decoder_core.proofs.Sequences.{◌≡◌, ◌∙◌, ap, ap₂, sym, subst, false, Err, None, Some, Option, List, option_map}
-use Rattle.avc_decoder_core.proofs.Sequences.{Output, order_count_state, HistoryEntry, OpenPicture, Inside, history_of}
+use Rattle.avc_decoder_core.proofs.Sequences.{Output, true, sequence_state, order_count_state, HistoryEntry, OpenPicture, Inside, history_of}
 use Rattle.avc_decoder_core.proofs.Sequences.{FrameBufferState, output_at_closing, SequenceState, OpenPictureStart, History, marks_of}
 use Rattle.avc_decoder_core.proofs.Sequences.{info_of, known, pasts, sequence_sps, with_picture, IsSequenceState, IsStateOf, PictureInfo, open_picture_of, IsRefusedOn, IsStoredOn}
-use Rattle.avc_decoder_core.proofs.Sequences.{can_store, closing_refused, current_is, is_closed, open_is, refused_on, set_then, stored_on, unchanged}
+use Rattle.avc_decoder_core.proofs.Sequences.{can_store, closing_refused, current_is, is_closed, NoMemory, open_is, refused_on, set_then, stored_on, unchanged}
+use Rattle.avc_decoder_core.proofs.Refusals.{any_after, err_is}
 use Rattle.avc_decoder_core.proofs.sequence.Sequence.close.Goals as goal
 
 -- the state on which the picture stands
@@ -109,3 +110,70 @@ returns-in-Err-Fault-clause-err c o told =
       closing_refused o planes old s.buffer.history c.in-Err-Fault.fault current
           (subst (λ (p : OpenPictureStart). marks_of (with_picture p.sps p.header p.unit planes s.buffer.history) ≡ Err c.in-Err-Fault.fault) same refused.refused),
     )
+
+-- The sequence went on before the call, so nothing is asked of one that had failed.
+went_on : (s : Inside) {now : SequenceState} {A : Type 0} → sequence_state s ≡ now → s.failed ≡ false → now.failed ≡ true → A
+went_on s seen going failed = any_after s.failed (ap (λ (v : SequenceState). v.failed) seen ∙ failed) going
+
+pub invariant_of-self : goal.invariant_of-self
+invariant_of-self c = any_after _ c.in_err-prior.ensures.refused
+
+pub invariant_of-self-in_err-out-in-Ok : goal.invariant_of-self-in_err-out-in-Ok
+invariant_of-self-in_err-out-in-Ok c = any_after _ c.in_err-out-in-Ok.ensures.refused
+
+pub invariant_of-self-in-Err-OutOfMemory : goal.invariant_of-self-in-Err-OutOfMemory
+invariant_of-self-in-Err-OutOfMemory c = any_after _ (rw (c.keep-in-Err-OutOfMemory.ensures.same) at c.keep-in-Err-OutOfMemory.ensures.refused)
+
+pub returns-in_err-prior-clause-ok : goal.returns-in_err-prior-clause-ok
+returns-in_err-prior-clause-ok c = rw (err_is c.from_residual-in_err-prior.result (NoMemory c.in_err-prior.field-0.0) c.from_residual-in_err-prior.ensures.1) tt
+
+pub returns-in_err-prior-clause-err : goal.returns-in_err-prior-clause-err
+returns-in_err-prior-clause-err c = rw (err_is c.from_residual-in_err-prior.result (NoMemory c.in_err-prior.field-0.0) c.from_residual-in_err-prior.ensures.1) (λ o told. c.in_err-prior.ensures.refused)
+
+pub returns-in_err-prior-clause-memory : goal.returns-in_err-prior-clause-memory
+returns-in_err-prior-clause-memory c = went_on c.self.inside c.self.view_is c.in_ok-check.ensures.going
+
+pub returns-in_err-prior-clause-stays : goal.returns-in_err-prior-clause-stays
+returns-in_err-prior-clause-stays c = went_on c.self.inside c.self.view_is c.in_ok-check.ensures.going
+
+pub returns-in_err-out-in-Ok-clause-ok : goal.returns-in_err-out-in-Ok-clause-ok
+returns-in_err-out-in-Ok-clause-ok c = rw (err_is c.from_residual-in_err-out-in-Ok.result (NoMemory c.in_err-out-in-Ok.field-0.0) c.from_residual-in_err-out-in-Ok.ensures.1) tt
+
+pub returns-in_err-out-in-Ok-clause-err : goal.returns-in_err-out-in-Ok-clause-err
+returns-in_err-out-in-Ok-clause-err c = rw (err_is c.from_residual-in_err-out-in-Ok.result (NoMemory c.in_err-out-in-Ok.field-0.0) c.from_residual-in_err-out-in-Ok.ensures.1) (λ o told. c.in_err-out-in-Ok.ensures.refused)
+
+pub returns-in_err-out-in-Ok-clause-memory : goal.returns-in_err-out-in-Ok-clause-memory
+returns-in_err-out-in-Ok-clause-memory c = went_on c.self.inside c.self.view_is c.in_ok-check.ensures.going
+
+pub returns-in_err-out-in-Ok-clause-stays : goal.returns-in_err-out-in-Ok-clause-stays
+returns-in_err-out-in-Ok-clause-stays c = went_on c.self.inside c.self.view_is c.in_ok-check.ensures.going
+
+pub returns-in_err-keep-in-Err-OutOfMemory-clause-ok : goal.returns-in_err-keep-in-Err-OutOfMemory-clause-ok
+returns-in_err-keep-in-Err-OutOfMemory-clause-ok c = rw (err_is c.from_residual-in_err-keep-in-Err-OutOfMemory.result (NoMemory c.in_err-keep-in-Err-OutOfMemory.field-0.0) c.from_residual-in_err-keep-in-Err-OutOfMemory.ensures.1) tt
+
+pub returns-in_err-keep-in-Err-OutOfMemory-clause-err : goal.returns-in_err-keep-in-Err-OutOfMemory-clause-err
+returns-in_err-keep-in-Err-OutOfMemory-clause-err c = rw (err_is c.from_residual-in_err-keep-in-Err-OutOfMemory.result (NoMemory c.in_err-keep-in-Err-OutOfMemory.field-0.0) c.from_residual-in_err-keep-in-Err-OutOfMemory.ensures.1) (λ o told. c.in_err-keep-in-Err-OutOfMemory.ensures.refused)
+
+pub returns-in_err-keep-in-Err-OutOfMemory-clause-memory : goal.returns-in_err-keep-in-Err-OutOfMemory-clause-memory
+returns-in_err-keep-in-Err-OutOfMemory-clause-memory c = went_on c.self.inside c.self.view_is c.in_ok-check.ensures.going
+
+pub returns-in_err-keep-in-Err-OutOfMemory-clause-stays : goal.returns-in_err-keep-in-Err-OutOfMemory-clause-stays
+returns-in_err-keep-in-Err-OutOfMemory-clause-stays c = went_on c.self.inside c.self.view_is c.in_ok-check.ensures.going
+
+pub returns-in-Ok-clause-memory : goal.returns-in-Ok-clause-memory
+returns-in-Ok-clause-memory c = went_on c.self.inside c.self.view_is c.in_ok-check.ensures.going
+
+pub returns-in-Ok-clause-stays : goal.returns-in-Ok-clause-stays
+returns-in-Ok-clause-stays c = went_on c.self.inside c.self.view_is c.in_ok-check.ensures.going
+
+pub returns-in-Err-Fault-clause-memory : goal.returns-in-Err-Fault-clause-memory
+returns-in-Err-Fault-clause-memory c = went_on c.self.inside c.self.view_is c.in_ok-check.ensures.going
+
+pub returns-in-Err-Fault-clause-stays : goal.returns-in-Err-Fault-clause-stays
+returns-in-Err-Fault-clause-stays c = went_on c.self.inside c.self.view_is c.in_ok-check.ensures.going
+
+pub returns-in-Ok-clause-err : goal.returns-in-Ok-clause-err
+returns-in-Ok-clause-err c = tt
+
+pub returns-in-Err-Fault-clause-ok : goal.returns-in-Err-Fault-clause-ok
+returns-in-Err-Fault-clause-ok c = tt

@@ -1,5 +1,5 @@
 use Rattle.avc_decoder_core.proofs.Sequences.{◌≡◌, ◌∙◌, ap, refl, to_z, of_z, w32, rules, history_of}
-use Rattle.avc_decoder_core.proofs.Sequences.{SequenceState}
+use Rattle.avc_decoder_core.proofs.Sequences.{ap₂, sym, Bool, Output, SequenceState, Some}
 use Rattle.avc_decoder_core.proofs.Sequences.{at_rest, opened_on, opened_state}
 use Rattle.avc_decoder_core.proofs.sequence.Sequence.open.Goals as goal
 
@@ -26,7 +26,9 @@ returns-clause-ok c =
     (rw (← c.self.view_is) at c.in_ok-opening.ensures) stores.history in
     rw (c.in_ok-out.ensures.going, c.in_ok-check.ensures.going, c.copied.ensures, c.copied-2.ensures, ← c.self.view_is) (record {
       going = c.in_ok-check.ensures.going;
-      state = cc (stores.output, c.in_ok-check.ensures.going);
+      state =
+          ap₂ (λ (m : Output) (failed : Bool). record { history = history_of s.closed.items; open_picture = Some (record { sps = c.args.sps.now; header = c.args.header.now; unit = c.args.unit }); frames = c.store_missing-stored.new.buffer.frames; output = m; failed = failed })
+          stores.output (sym c.in_ok-check.ensures.going);
       stands = rw opens refl;
       pictures = rw (opens, rest) stores.pictures;
     })
