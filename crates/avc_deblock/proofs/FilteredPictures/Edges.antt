@@ -234,7 +234,18 @@ module _ (v : Bool) (column row n : ℕ) (st : ℕ → ℕ) (qp : EdgeQp) (s : P
 
 pub room_kept : (v : Bool) (at_column at_row n : ℕ) (st : ℕ → ℕ) (luma chroma : EdgeQp) (s t : Planes) → t ≡ lines_of_edge v at_column at_row n st luma chroma s →
     (column row : ℕ) → HasRoom column row s → HasRoom column row t
-room_kept v at_column at_row n st luma chroma s t is column row h = grind (arith, nat_tests, luma_size, chroma_size, in_parts)
+room_kept v at_column at_row n st luma chroma s t is column row h =
+    let l = luma_size v at_column at_row n st luma s.luma in
+    let b = chroma_size v at_column at_row n st chroma s.cb in
+    let r = chroma_size v at_column at_row n st chroma s.cr in
+    rw (is ∙ in_parts v at_column at_row n st luma chroma s) (record {
+      luma_columns = omega (arith, l.0, h.luma_columns);
+      luma_rows = omega (arith, l.1, h.luma_rows);
+      cb_columns = omega (arith, b.0, h.cb_columns);
+      cb_rows = omega (arith, b.1, h.cb_rows);
+      cr_columns = omega (arith, r.0, h.cr_columns);
+      cr_rows = omega (arith, r.1, h.cr_rows);
+    })
 
 -- ---- the lines of a macroblock in their order, as its edges one after another
 
@@ -526,18 +537,30 @@ one_motion f none pictures vectors j k j_low k_low = grind (arith, nat_tests, no
 
 -- ---- a macroblock of one motion without coefficients has no edge inside it that is filtered
 
+-- along an edge of no intra macroblock
+inter_along : (p q : MbInfo) (v : Bool) (n k : ℕ) → (p.is_intra || q.is_intra) ≡ false → strength_of p q v n k ≡ inter_strength p (edge_block v ((n + 3) % 4) k) q (edge_block v n k)
+inter_along p q v n k inter = ap (λ b. if b then (if n == 0 then 4 else 3) else inter_strength p (edge_block v ((n + 3) % 4) k) q (edge_block v n k)) inter
+
 module _ (column row : ℕ) (offset : ℤ) (f : MbInfo) (inter : f.is_intra ≡ false) (none : (j k : ℕ) → j < 16 → k < 16 → inter_strength f j f k ≡ 0) (v : Bool) where
   still_edge : (n : ℕ) → suc n < 4 → (s : Planes) → edge_by_info v column row (suc n) offset f f s ≡ s
-  still_edge n low s = grind (arith, edge_zero, low_block)
+  still_edge n low s =
+      edge_zero v column row (suc n) (strength_of f f v (suc n)) (luma_qp_of f f) (chroma_qp_of offset f f) s (λ k k_low.
+      inter_along f f v (suc n) k (ap (λ b. b || b) inter) ∙ none _ _ (low_block v ((suc n + 3) % 4) k (omega arith) k_low) (low_block v (suc n) k low k_low))
 
   still_edges : (inner : Bool) (s : Planes) → edges_by_info v column row offset false inner f f s ≡ s
-  still_edges inner s = grind (arith, still_edge)
+  still_edges false s = refl
+  still_edges true s =
+      ap (λ t. edge_by_info v column row 3 offset f f (edge_by_info v column row 2 offset f f t)) (still_edge 0 (omega arith) s)
+      ∙ ap (edge_by_info v column row 3 offset f f) (still_edge 1 (omega arith) s) ∙ still_edge 2 (omega arith) s
 
 -- Edges inside a macroblock that is still can go.
 pub without_still : (column row : ℕ) (offset : ℤ) (f : MbInfo) (still : Bool) → (still ≡ true → f.is_intra ≡ false) →
     (still ≡ true → (j k : ℕ) → j < 16 → k < 16 → inter_strength f j f k ≡ 0) → (v inner : Bool) (s : Planes) →
     edges_by_info v column row offset false (inner && not still) f f s ≡ edges_by_info v column row offset false inner f f s
-without_still column row offset f still inter none v inner s = grind (arith, nat_tests, still_edges)
+without_still column row offset f true inter none v true s = sym (still_edges column row offset f (inter refl) (none refl) v true s)
+without_still column row offset f true inter none v false s = refl
+without_still column row offset f false inter none v true s = refl
+without_still column row offset f false inter none v false s = refl
 
 -- ---- a macroblock
 
@@ -551,7 +574,9 @@ over v false i column row e p q s = refl
 outer_kept : (v : Bool) (column row : ℕ) (e : ℤ) (p q : MbInfo) (acts joins : Bool) → (acts ≡ true → joins ≡ true) →
     (acts ≡ false → joins ≡ true → (k : ℕ) → k < 4 → strength_of p q v 0 k ≡ 0) → (s : Planes) →
     edges_by_info v column row e acts false p q s ≡ edges_by_info v column row e joins false p q s
-outer_kept v column row e p q acts joins on off s = grind (arith, nat_tests, edge_zero)
+outer_kept v column row e p q true joins on off s = ap (λ j. edges_by_info v column row e j false p q s) (sym (on refl))
+outer_kept v column row e p q false true on off s = sym (edge_zero v column row 0 (strength_of p q v 0) (luma_qp_of p q) (chroma_qp_of e p q) s (off refl refl))
+outer_kept v column row e p q false false on off s = refl
 
 module _ (column row : ℕ) (e : ℤ) (left above mb : MbInfo) (still i l u : Bool)
     (inter : still ≡ true → mb.is_intra ≡ false) (none : still ≡ true → (j k : ℕ) → j < 16 → k < 16 → inter_strength mb j mb k ≡ 0)
