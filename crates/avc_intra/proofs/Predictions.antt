@@ -213,6 +213,20 @@ pub stored : {X : Type 0} (P : ℕ → X → Type 0) (xs : List X) (n : ℕ) (v 
 stored P xs n v d room new old =
     below_more _ n (λ k below. rw (get_or-set_other xs n k v d (omega arith)) (old k below)) (rw (get_or-set_same xs n v d room) new)
 
+-- ---- a block of w columns that is filled row by row
+
+-- a row ends within the block
+pub row_room : (w n y : ℕ) → w * w ≡ n → y < w → w * y + w ≤ n
+row_room w n y all low = let more : w * (y + 1) ≤ w * w = mul-le-mul_left w (omega arith) in omega (arith, more, all)
+
+pub rows_more : (w y : ℕ) (f : ℕ → ℕ → ℕ) (old new : List ℕ) → ((k : ℕ) → k < w * y → slice_index new k ≡ slice_index old k)
+    → ((x : ℕ) → x < w → slice_index new (w * y + x) ≡ f x y) → ((x v : ℕ) → x < w → v < y → slice_index old (w * v + x) ≡ f x v)
+    → (x v : ℕ) → x < w → v < y + 1 → slice_index new (w * v + x) ≡ f x v
+rows_more w y f old new before here done x v column =
+    below_more (λ v. slice_index new (w * v + x) ≡ f x v) y
+    (λ v less. let above : w * (v + 1) ≤ w * y = mul-le-mul_left w (omega arith) in before (w * v + x) (omega (arith, above)) ∙ done x v column less)
+    (here x column) v
+
 -- ---- worked values of intra prediction: each mode over one set of samples, beside the values of the modes written out sample by sample
 
 -- the samples above and left of a block, each list beginning with the corner

@@ -2,11 +2,11 @@
 pub use Rattle.std.proofs.Common.{◌≡◌, ℕ, ℤ, zero, suc, ◌+◌, ◌*◌, ◌-◌, ◌<◌, pos, negsuc, ◌+ℤ◌, ◌-ℤ◌, ◌*ℤ◌, inl, inr, add-one, ap, ◌∙◌, sym, arith}
 pub use Rattle.std.proofs.Common.{List, slice_index, to_z, of_z, w32, refl, ◌≤◌, Bool, true, false, if◌then◌else◌, zero-add, below_more}
 pub use Rattle.std.proofs.Common.{◌/◌, ◌%◌, [], ◌∷◌, Some, None, length, get_or, subst, slice_set, get_or as slice_index_or, rules, ◌^◌, ◌≤ℤ◌, ◌<ℤ◌, FitsSigned}
-pub use Rattle.std.proofs.Math.Nat.{mul-le-mul, mul-le-mul_right}
+pub use Rattle.std.proofs.Math.Nat.{mul-le-mul, mul-le-mul_left, mul-le-mul_right}
 pub use Rattle.std.proofs.lemmas.Bool.{cases_lt, false≢true}
 pub use Rattle.std.proofs.lemmas.Bool.Decides.{nat_tests}
 pub use Rattle.std.proofs.lemmas.Int.{ints, unsigned_abs-mul}
-pub use Rattle.std.proofs.lemmas.List.{get_or-set_same, get_or-set_other, get_or-replicate}
+pub use Rattle.std.proofs.lemmas.List.{get_or-set_same, get_or-set_other, get_or-replicate, length-replicate}
 pub use Rattle.std.proofs.lemmas.List.FromFn.{get_or-map-range_with_len, fill_by_all}
 pub use Rattle.std.specs.Int.RustNames.{unsigned_abs}
 pub use Rattle.std.specs.List.{range_with_len}
