@@ -60,6 +60,9 @@ small_cast {n} {z} h small = rw (cast_small h small) small
 pub still_small : {m n : ℕ} {z : ℤ} → m ≤ 2 ^ 31 → IsBelow m z → IsBelow n z → IsBelow n (to_z w32 (of_z w32 z))
 still_small h small all = rw (cast_small h small) all
 
+pub fits_below : {n : ℕ} {z : ℤ} → n ≤ 2 ^ 31 → IsBelow n z → FitsSigned w32 z
+fits_below {n} {z} h small = search (arith, ints)
+
 -- what a function gives for a small number that passes through its bits, and back
 pub passed : (f : ℤ → ℤ) {m n : ℕ} {d r : ℤ} → m ≤ 2 ^ 31 → n ≤ 2 ^ 31 → IsBelow m d → IsBelow n r → r ≡ f (to_z w32 (of_z w32 d)) → to_z w32 (of_z w32 r) ≡ f d
 passed f few many p q e = cast_small many q ∙ e ∙ ap f (cast_small few p)
