@@ -40,14 +40,22 @@ is_other u = not (is_slice u)
 abbrev behind : (others reversed : List Unit) → List Unit
 behind others reversed = reverse (drop (length (reverse others)) reversed)
 
+-- from the units in reverse alone
+abbrev through : (reversed : List Unit) → List Unit
+through reversed = behind (take_while is_other reversed) reversed
+
 pub through_slice : (us : List Unit) (u : Unit) → is_slice u ≡ true → through_slices (us ++ u ∷ []) ≡ us ++ u ∷ []
-through_slice us u is = search (rules, take_while, reverse-append, reverse, stops, reverse-reverse)
+through_slice us u is =
+    ap through (reverse-append us (u ∷ [])) ∙ ap (λ others. behind others (u ∷ reverse us)) (stops is_other u (reverse us) (ap not is))
+    ∙ ap reverse (sym (reverse-append us (u ∷ []))) ∙ reverse-reverse (us ++ u ∷ [])
 
 one_less : (t r : List Unit) (u : Unit) → behind (u ∷ t) (u ∷ r) ≡ behind t r
 one_less t r u = ap (λ n. reverse (drop n (u ∷ r))) (length-reverse (u ∷ t) ∙ ap suc (sym (length-reverse t)))
 
 pub through_other : (us : List Unit) (u : Unit) → is_slice u ≡ false → through_slices (us ++ u ∷ []) ≡ through_slices us
-through_other us u is = search (rules, take_while, reverse-append, reverse, goes_on, one_less)
+through_other us u is =
+    ap through (reverse-append us (u ∷ [])) ∙ ap (λ others. behind others (u ∷ reverse us)) (goes_on is_other u (reverse us) (ap not is))
+    ∙ one_less (take_while is_other (reverse us)) (reverse us) u
 
 front_and_rest : {X : Type 0} (p : X → Bool) (xs : List X) → take_while p xs ++ drop (length (take_while p xs)) xs ≡ xs
 front_and_rest p [] = refl
@@ -119,7 +127,18 @@ pub rest_written : (after : List Unit) (n kept : ℕ) (old one both : List ℕ) 
     → one ≡ old ++ flat_map written (take kept (take n after)) → both ≡ one ++ flat_map written (filter (λ u. not (is_left_out u)) (take (length (take n after) - kept) (drop kept (take n after))))
     → both ≡ old ++ flat_map written (rest_of_piece after)
 rest_written after n kept old one both is low is_kept first second =
-    search (rules, through_is_front, after_is_rest, filter, rest_cut, written, part_from, append_assoc, flat_map-append)
+    let us = take n after in
+    let front = through_slices us in
+    let left = filter stays (after_slices us) in
+    let rest : rest_of_piece after ≡ front ++ left =
+    rest_cut after (subst (λ k. k < length after) is low)
+    ∙ ap (λ k. through_slices (take k after) ++ filter stays (after_slices (take k after))) (sym is) in
+    let through_front : take kept us ≡ front = ap (λ k. take k us) is_kept ∙ sym (through_is_front us) in
+    let behind_front : take (length us - kept) (drop kept us) ≡ after_slices us = part_from kept us ∙ ap (λ k. drop k us) is_kept ∙ sym (after_is_rest us) in
+    second ∙ ap (λ l. one ++ flat_map written (filter stays l)) behind_front
+    ∙ ap (λ l. l ++ flat_map written left) (first ∙ ap (λ l. old ++ flat_map written l) through_front)
+    ∙ append_assoc old (flat_map written front) (flat_map written left)
+    ∙ ap (λ l. old ++ l) (sym (flat_map-append written front left) ∙ ap (flat_map written) (sym rest))
 
 -- ---- one piece unit by unit is what the definition says: stages
 
@@ -447,12 +466,22 @@ refused_id part id b why f = refused_by part id b why (part b) refl f
 
 -- ---- one set is put
 
+one_put : (hit accepted : Bool) (unit : List ℕ) (old : Option (List ℕ)) → (if hit then (if accepted then Some unit else None) else old) ≡ replaced hit accepted unit old
+one_put true true unit old = refl
+one_put true false unit old = refl
+one_put false accepted unit old = refl
+
 -- by one of either kind, which has this id and was accepted or not
 pub put_by : {A : Type 0} (has_id : ℕ → SetUnit → Bool) (record_of : Option SetUnit → Option A) (o : Option SetUnit) (id : Option ℕ) (accepted_so : Bool) (unit : List ℕ) (old new : List (Option (List ℕ)))
     → ((k : ℕ) → satisfies (has_id k) o ≡ is_id k id) → is_some (record_of o) ≡ accepted_so → length new ≡ length old
     → ((k : ℕ) → k < length old → stored new k ≡ (if is_id k id then (if accepted_so then Some unit else None) else stored old k))
     → AreReplaced has_id record_of o unit old new
-put_by has_id record_of o id accepted_so unit old new same is long put = search (rules)
+put_by has_id record_of o id accepted_so unit old new same is long put = record {
+  long = long;
+  each = λ k low.
+      put k low ∙ one_put (is_id k id) accepted_so unit (stored old k) ∙ ap (λ b. replaced b accepted_so unit (stored old k)) (sym (same k))
+      ∙ ap (λ b. replaced (satisfies (has_id k) o) b unit (stored old k)) (sym is);
+}
 
 -- the id that a set was read with
 abbrev pub read_id : {A : Type 0} → (A → ℕ) → Result A SetFault → Option ℕ
@@ -548,7 +577,10 @@ sets_next us i u old new low at h sps_put pps_put =
     subst (λ before. HasSets before new) front (sets_more (take i us) u old new h sps_put pps_put)
 
 kept_none : (count : ℕ) (kept : List (Option (List ℕ))) → kept ≡ replicate count None → AreKept count (λ id. []) kept
-kept_none count kept is = search (rules, length-replicate, get_or-replicate)
+kept_none count kept is = record {
+  long = ap length is ∙ length-replicate count None;
+  each = λ id low. ap (λ l. kept_bytes (stored l id)) is ∙ ap kept_bytes (get_or-replicate count id None None low);
+}
 
 pub sets_none : (sets : SetsInForce) → sets.sps.items ≡ replicate 32 None → sets.pps.items ≡ replicate 256 None → HasSets [] sets
 sets_none sets sps_are pps_are = record { sps = kept_none 32 _ sps_are; pps = kept_none 256 _ pps_are }
@@ -618,7 +650,15 @@ pieces_first before u after = by_start (is_start u) (flat_map written (piece bef
 
 pub pieces_more : (us : List Unit) (i : ℕ) (u : Unit) (all more : List (List ℕ)) → i < length us → u ≡ get_or us i u → all ++ pieces_from (take i us) (drop i us) ≡ pieces_from [] us
     → more ≡ all ++ pieces_at us i → more ++ pieces_from (take (i + 1) us) (drop (i + 1) us) ≡ pieces_from [] us
-pieces_more us i u all more low at sum is = search (rules, drop_more, take_more, append_assoc, pieces_first)
+pieces_more us i u all more low at sum is =
+    let before = take i us in
+    let after = drop (i + 1) us in
+    let here : drop i us ≡ u ∷ after = drop_more us i u low ∙ ap (λ v. v ∷ after) (sym at) in
+    let front : take (i + 1) us ≡ before ++ u ∷ [] = take_more us i u low ∙ ap (λ v. before ++ v ∷ []) (sym at) in
+    let split : pieces_from before (drop i us) ≡ pieces_at us i ++ pieces_from (take (i + 1) us) after =
+    ap (pieces_from before) here ∙ pieces_first before u after ∙ ap (λ here. pieces_in before here ++ pieces_from (before ++ u ∷ []) after) (sym here)
+    ∙ ap (λ front. pieces_at us i ++ pieces_from front after) (sym front) in
+    ap (λ l. l ++ pieces_from (take (i + 1) us) after) is ∙ append_assoc all (pieces_at us i) (pieces_from (take (i + 1) us) after) ∙ ap (λ l. all ++ l) (sym split) ∙ sum
 
 one_piece : (before here : List Unit) (starts : List Bool) (b : Bool) → b ∷ starts ≡ map is_start here → pieces_in before here ≡ elim b [ true ↦ piece_in before here ∷ [] | false ↦ [] ]
 one_piece before [] starts b e = cc
