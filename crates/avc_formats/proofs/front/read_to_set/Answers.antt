@@ -1,6 +1,6 @@
 use Rattle.avc_formats.proofs.Fronts.{◌∙◌, ap, arith, length-take, refl, rules, unwrap_or, NoFront, front_ended, front_found, looking_more, no_memory, err_with, unread_on}
 use Rattle.avc_console.specs.declared.fault.RunFault.TheVariants as faults
-use Rattle.avc_formats.proofs.front.read_front.Goals as goal
+use Rattle.avc_formats.proofs.front.read_to_set.Goals as goal
 
 pub returns-in_err-find_set-clause-err : goal.returns-in_err-find_set-clause-err
 returns-in_err-find_set-clause-err g c =
