@@ -1,6 +1,7 @@
 -- The edges of macroblocks at the strengths of their info, in the order of the standard.
 pub mod EdgesOnPlane
 unfoldable pub use EdgesOnPlane.*
+use Rattle.std.proofs.Common.{ap₂}
 use Rattle.avc_neigh.specs.declared.neighbour_info.Motion.TheVariants.{Inter as inter_motion}
 
 -- ---- the macroblocks and blocks on both sides of a place of an edge, and the setting of its line: addresses
@@ -505,13 +506,32 @@ named_both : (c : Coded) (pa qa r s : ℕ) (u v : Mv) (x y : ℕ) → picture_na
     moves_differently c pa qa (inter_motion r u) (inter_motion s v) ≡ (not (x == y) || are_far u v)
 named_both c pa qa r s u v x y e f = rw (e, f) (or_assoc (not (x == y)) (nat_le 4 (nat_abs (u.x -ℤ v.x))) (nat_le 4 (nat_abs (u.y -ℤ v.y))))
 
+in_that_case : (b : Bool) (m n : ℕ) → b ≡ true → (if b then m else n) ≡ m
+in_that_case b m n e = ap (λ (a : Bool). if a then m else n) e
+
+otherwise : (b : Bool) (m n : ℕ) → b ≡ false → (if b then m else n) ≡ n
+otherwise b m n e = ap (λ (a : Bool). if a then m else n) e
+
 pub inter_between : (c : Coded) (motion : List (List Motion)) (names : Names) (pa qa : ℕ) (p : MbInfo) (kp : ℕ) (q : MbInfo) (kq : ℕ) → kp < 16 → kq < 16 →
     HasInfo c motion names pa p → HasInfo c motion names qa q → p.is_intra ≡ false → q.is_intra ≡ false → inter_strength p kp q kq ≡ strength_between c motion pa kp qa kq
-inter_between c motion names pa qa p kp q kq kp_low kq_low hp hq np nq = grind (arith, nat_tests, named_both, same_index)
+inter_between c motion names pa qa p kp q kq kp_low kq_low hp hq np nq =
+    let of_p = hp.motion_is np kp kp_low in
+    let of_q = hq.motion_is nq kq kq_low in
+    let u : Mv = slice_index_or p.vectors kp zero_vector in
+    let v : Mv = slice_index_or q.vectors kq zero_vector in
+    let far : Bool = are_far u v in
+    let levels = ap₂ (λ (a b : Bool). a || b) (hp.coefficients_is kp kp_low) (hq.coefficients_is kq kq_low) in
+    let moved : moves_differently c pa qa (slice_index_or (slice_index_or motion pa []) kp absent) (slice_index_or (slice_index_or motion qa []) kq absent)
+    ≡ (not (slice_index p.pictures (kp / 4) == slice_index q.pictures (kq / 4)) || far) =
+    rw (of_p.is, of_q.is) (named_both c pa qa of_p.reference of_q.reference u v _ _ of_p.picture of_q.picture
+    ∙ ap (λ (same : Bool). not same || far) (same_index names _ _ of_p.named of_q.named)) in
+    ap₂ (λ (some differ : Bool). if some then 2 else (if differ then 1 else 0)) levels (sym moved)
+    ∙ sym (otherwise (is_intra (mb_at c pa).mb.syntax || is_intra (mb_at c qa).mb.syntax) _ _ (ap₂ (λ (a b : Bool). a || b) (sym hp.intra_is ∙ np) (sym hq.intra_is ∙ nq)))
 
 pub intra_between : (c : Coded) (motion : List (List Motion)) (names : Names) (pa qa : ℕ) (p : MbInfo) (kp : ℕ) (q : MbInfo) (kq : ℕ) →
     HasInfo c motion names pa p → HasInfo c motion names qa q → (p.is_intra || q.is_intra) ≡ true → strength_between c motion pa kp qa kq ≡ (if pa == qa then 3 else 4)
-intra_between c motion names pa qa p kp q kq hp hq either = grind (arith, nat_tests)
+intra_between c motion names pa qa p kp q kq hp hq either =
+    in_that_case (is_intra (mb_at c pa).mb.syntax || is_intra (mb_at c qa).mb.syntax) _ _ (ap₂ (λ (a b : Bool). a || b) (sym hp.intra_is) (sym hq.intra_is) ∙ either)
 
 pub both_false : (a b : Bool) → (a || b) ≡ false → (a ≡ false) × (b ≡ false)
 both_false a b e = grind (arith, nat_tests)
@@ -533,7 +553,15 @@ one_picture m = grind (arith, nat_tests)
 pub one_motion : (f : MbInfo) → f.coefficients ≡ 0 → ((k : ℕ) → k < 4 → slice_index f.pictures k ≡ slice_index f.pictures 0) →
     ((k : ℕ) → k < 16 → slice_index_or f.vectors k zero_vector ≡ slice_index_or f.vectors 0 zero_vector) →
     (j k : ℕ) → j < 16 → k < 16 → inter_strength f j f k ≡ 0
-one_motion f none pictures vectors j k j_low k_low = grind (arith, nat_tests, no_bit, one_picture, not_far)
+one_motion f none pictures vectors j k j_low k_low =
+    let bit : (i : ℕ) → has_bit f.coefficients i ≡ false = λ i. ap (λ n. has_bit n i) none ∙ no_bit i in
+    let picture = pictures (j / 4) (omega arith) ∙ sym (pictures (k / 4) (omega arith)) in
+    let vector = vectors j j_low ∙ sym (vectors k k_low) in
+    ap₂ (λ (some differ : Bool). if some then 2 else (if differ then 1 else 0))
+    (ap₂ (λ (a b : Bool). a || b) (bit j) (bit k))
+    (ap₂ (λ (same far : Bool). not same || far)
+    (ap (λ n. n == slice_index f.pictures (k / 4)) picture ∙ one_picture (slice_index f.pictures (k / 4)))
+    (ap (λ u. are_far u (slice_index_or f.vectors k zero_vector)) vector ∙ not_far (slice_index_or f.vectors k zero_vector)))
 
 -- ---- a macroblock of one motion without coefficients has no edge inside it that is filtered
 
