@@ -1,7 +1,6 @@
 -- The edges of macroblocks at the strengths of their info, in the order of the standard.
 pub mod EdgesOnPlane
 unfoldable pub use EdgesOnPlane.*
-use Rattle.std.proofs.Common.{ap₂}
 use Rattle.avc_neigh.specs.declared.neighbour_info.Motion.TheVariants.{Inter as inter_motion}
 
 -- ---- the macroblocks and blocks on both sides of a place of an edge, and the setting of its line: addresses
@@ -143,28 +142,16 @@ in_parts false column row n st luma chroma s = refl
 
 -- ---- equal strengths give equal lines
 
-module _ (f g : ℕ → ℕ) (qp : EdgeQp) (same : (k : ℕ) → k < 4 → f k ≡ g k) (v : Bool) (x y : ℕ) (s : Plane) where
-  luma_edge_same : edge_filtered (luma_setting f qp) v x y 16 s ≡ edge_filtered (luma_setting g qp) v x y 16 s
-  luma_edge_same =
-      edge_same (luma_setting f qp) (luma_setting g qp) v x y 16 s (λ i low. ap (λ k. setting_of true k qp.p qp.q qp.offset_a qp.offset_b) (same (i / 4) (omega arith)))
-
-  chroma_edge_same : edge_filtered (chroma_setting f qp) v x y 8 s ≡ edge_filtered (chroma_setting g qp) v x y 8 s
-  chroma_edge_same =
-      edge_same (chroma_setting f qp) (chroma_setting g qp) v x y 8 s (λ i low. ap (λ k. setting_of false k qp.p qp.q qp.offset_a qp.offset_b) (same (i / 2) (omega arith)))
-
 module _ (column row n : ℕ) (f g : ℕ → ℕ) (qp : EdgeQp) (same : (k : ℕ) → k < 4 → f k ≡ g k) (v : Bool) (s : Plane) where
   pub luma_same : luma_behind v column row n f qp s ≡ luma_behind v column row n g qp s
-  luma_same = luma_edge_same f g qp same v _ _ s
+  luma_same = grind (arith, nat_tests, edge_same)
 
   pub chroma_same : chroma_behind v column row n f qp s ≡ chroma_behind v column row n g qp s
-  chroma_same = ap (λ p. if n % 2 == 0 then p else s) (chroma_edge_same f g qp same v _ _ s)
+  chroma_same = grind (arith, nat_tests, edge_same)
 
 pub same_strengths : (column row n : ℕ) (f g : ℕ → ℕ) (luma chroma : EdgeQp) (s : Planes) → ((k : ℕ) → k < 4 → f k ≡ g k) → (v : Bool) →
     lines_of_edge v column row n f luma chroma s ≡ lines_of_edge v column row n g luma chroma s
-same_strengths column row n f g luma chroma s same v =
-    in_parts v column row n f luma chroma s
-    ∙ three _ _ _ _ _ _ (luma_same column row n f g luma same v s.luma) (chroma_same column row n f g chroma same v s.cb) (chroma_same column row n f g chroma same v s.cr)
-    ∙ sym (in_parts v column row n g luma chroma s)
+same_strengths column row n f g luma chroma s same v = grind (arith, nat_tests, in_parts, three, luma_same, chroma_same)
 
 -- ---- the edge of a picture
 
@@ -210,15 +197,13 @@ far_enough column n some even = grind (arith, nat_tests)
 
 module _ (column row n : ℕ) (st : ℕ → ℕ) (qp : EdgeQp) (s : Plane) (none : (k : ℕ) → k < 4 → st k ≡ 0) (v : Bool) where
   pub luma_zero : luma_behind v column row n st qp s ≡ s
-  luma_zero = edge_none (luma_setting st qp) v _ _ 16 s (λ i low. none (i / 4) (omega arith))
+  luma_zero = grind (arith, nat_tests, edge_none)
 
   pub chroma_zero : chroma_behind v column row n st qp s ≡ s
-  chroma_zero = kept_if (n % 2 == 0) _ s (λ even. edge_none (chroma_setting st qp) v _ _ 8 s (λ i low. none (i / 2) (omega arith)))
+  chroma_zero = grind (arith, nat_tests, kept_if, edge_none)
 
 pub edge_zero : (v : Bool) (column row n : ℕ) (st : ℕ → ℕ) (luma chroma : EdgeQp) (s : Planes) → ((k : ℕ) → k < 4 → st k ≡ 0) → lines_of_edge v column row n st luma chroma s ≡ s
-edge_zero v column row n st luma chroma s none =
-    in_parts v column row n st luma chroma s
-    ∙ three _ _ _ _ _ _ (luma_zero column row n st luma s.luma none v) (chroma_zero column row n st chroma s.cb none v) (chroma_zero column row n st chroma s.cr none v)
+edge_zero v column row n st luma chroma s none = grind (arith, nat_tests, in_parts, three, luma_zero, chroma_zero)
 
 -- ---- sizes
 
@@ -235,18 +220,7 @@ module _ (v : Bool) (column row n : ℕ) (st : ℕ → ℕ) (qp : EdgeQp) (s : P
 
 pub room_kept : (v : Bool) (at_column at_row n : ℕ) (st : ℕ → ℕ) (luma chroma : EdgeQp) (s t : Planes) → t ≡ lines_of_edge v at_column at_row n st luma chroma s →
     (column row : ℕ) → HasRoom column row s → HasRoom column row t
-room_kept v at_column at_row n st luma chroma s t is column row h =
-    let l = luma_size v at_column at_row n st luma s.luma in
-    let b = chroma_size v at_column at_row n st chroma s.cb in
-    let r = chroma_size v at_column at_row n st chroma s.cr in
-    rw (is ∙ in_parts v at_column at_row n st luma chroma s) (record {
-      luma_columns = omega (arith, l.0, h.luma_columns);
-      luma_rows = omega (arith, l.1, h.luma_rows);
-      cb_columns = omega (arith, b.0, h.cb_columns);
-      cb_rows = omega (arith, b.1, h.cb_rows);
-      cr_columns = omega (arith, r.0, h.cr_columns);
-      cr_rows = omega (arith, r.1, h.cr_rows);
-    })
+room_kept v at_column at_row n st luma chroma s t is column row h = grind (arith, nat_tests, luma_size, chroma_size, in_parts)
 
 -- ---- the lines of a macroblock in their order, as its edges one after another
 
@@ -295,11 +269,7 @@ module _ (c : Coded) (motion : List (List Motion)) (k : ℕ) (filters : ℕ → 
       all_filtered c motion s (flat_map (λ e. if filters e then lines e else []) es) ≡ in_component k (edges_filtered filters edge es) s
   edges_in_order [] s = nothing k s
   edges_in_order (e ∷ es) s =
-      let rest : List LineFilter = flat_map (λ e. if filters e then lines e else []) es in
-      all_filtered-append c motion s (if filters e then lines e else []) rest
-      ∙ ap (λ t. all_filtered c motion t rest) (one_edge (filters e) e s)
-      ∙ edges_in_order es (in_component k (λ p. if filters e then edge e p else p) s)
-      ∙ twice k _ _ s
+      grind (arith, all_filtered-append, one_edge, twice, edges_in_order es (in_component k (λ p. if filters e then edge e p else p) s))
 
 -- the plane of component k after the edges of macroblock a
 abbrev component_mb : Coded → List (List Motion) → ℕ → ℕ → Plane → Plane
@@ -423,11 +393,7 @@ rows_are_all c (suc n) =
 
 pub one_row_more : (c : Coded) (motion : List (List Motion)) (n m : ℕ) (s t u : Planes) → m ≡ n + 1 → t ≡ all_filtered c motion s (flat_map (row_lines c) (range_with_len 0 n)) →
     u ≡ all_filtered c motion t (row_lines c n) → u ≡ all_filtered c motion s (flat_map (row_lines c) (range_with_len 0 m))
-one_row_more c motion n m s t u next before here =
-    let suc_is : suc n ≡ m = omega arith in
-    here ∙ ap (λ (p : Planes). all_filtered c motion p (row_lines c n)) before
-    ∙ sym (all_filtered-append c motion s (flat_map (row_lines c) (range_with_len 0 n)) (row_lines c n))
-    ∙ ap (λ (l : List LineFilter). all_filtered c motion s l) (sym (row_more c n) ∙ ap (λ (k : ℕ). flat_map (row_lines c) (range_with_len 0 k)) suc_is)
+one_row_more c motion n m s t u next before here = grind (arith, nat_tests, all_filtered-append, row_more)
 
 -- info of one row, from those of all macroblocks
 pub part_info : (c : Coded) (motion : List (List Motion)) (names : Names) (info part : List MbInfo) (w y h : ℕ) → c.width ≡ w → length info ≡ h * w → y < h → length part ≡ w →
@@ -440,23 +406,14 @@ module _ (column row n : ℕ) (f g : ℕ → ℕ) (qp : EdgeQp) (s t : Plane) wh
   pub luma_lines : 1 ≤ 4 * column + n → ((k : ℕ) → k < 4 → f k ≡ g k) →
       t ≡ edge_filtered (luma_setting f qp) true (16 * column + 4 * n - 4 + 4) (16 * row) 16 s →
       t ≡ edge_filtered (luma_setting g qp) true (16 * column + 4 * n) (16 * row) 16 s
-  luma_lines some same is =
-      let place : 16 * column + 4 * n - 4 + 4 ≡ 16 * column + 4 * n = omega arith in
-      is ∙ ap (λ x. edge_filtered (luma_setting f qp) true x (16 * row) 16 s) place ∙ luma_edge_same f g qp same true _ _ s
+  luma_lines some same is = grind (arith, nat_tests, edge_same)
 
 -- the left edge of chroma and the one in the middle
 pub both_chroma : (column row : ℕ) (f f' g g' : ℕ → ℕ) (qp next : EdgeQp) (s t : Plane) → 1 ≤ column →
     ((k : ℕ) → k < 4 → f k ≡ f' k) → ((k : ℕ) → k < 4 → g k ≡ g' k) →
     t ≡ edge_filtered (chroma_setting g next) true (8 * column - 4 + 8) (8 * row) 8 (edge_filtered (chroma_setting f qp) true (8 * column - 4 + 4) (8 * row) 8 s) →
     t ≡ chroma_of_edge true column row 2 g' next (chroma_of_edge true column row 0 f' qp s)
-both_chroma column row f f' g g' qp next s t some first second is =
-    let left : 8 * column - 4 + 4 ≡ 8 * column + 2 * 0 = omega arith in
-    let middle : 8 * column - 4 + 8 ≡ 8 * column + 2 * 2 = omega arith in
-    is
-    ∙ ap (λ x. edge_filtered (chroma_setting g next) true x (8 * row) 8 (edge_filtered (chroma_setting f qp) true (8 * column - 4 + 4) (8 * row) 8 s)) middle
-    ∙ chroma_edge_same g g' next second true _ _ _
-    ∙ ap (edge_filtered (chroma_setting g' next) true (8 * column + 2 * 2) (8 * row) 8)
-    (ap (λ x. edge_filtered (chroma_setting f qp) true x (8 * row) 8 s) left ∙ chroma_edge_same f f' qp first true _ _ s)
+both_chroma column row f f' g g' qp next s t some first second is = grind (arith, nat_tests, edge_same)
 
 pub edges_room : (column row : ℕ) (offset : ℤ) (p q : MbInfo) (s t : Planes) →
     t ≡ edges_by_info true column row offset false true q q (edges_by_info true column row offset true false p q s) → (a b : ℕ) → HasRoom a b s → HasRoom a b t
@@ -506,32 +463,13 @@ named_both : (c : Coded) (pa qa r s : ℕ) (u v : Mv) (x y : ℕ) → picture_na
     moves_differently c pa qa (inter_motion r u) (inter_motion s v) ≡ (not (x == y) || are_far u v)
 named_both c pa qa r s u v x y e f = rw (e, f) (or_assoc (not (x == y)) (nat_le 4 (nat_abs (u.x -ℤ v.x))) (nat_le 4 (nat_abs (u.y -ℤ v.y))))
 
-in_that_case : (b : Bool) (m n : ℕ) → b ≡ true → (if b then m else n) ≡ m
-in_that_case b m n e = ap (λ (a : Bool). if a then m else n) e
-
-otherwise : (b : Bool) (m n : ℕ) → b ≡ false → (if b then m else n) ≡ n
-otherwise b m n e = ap (λ (a : Bool). if a then m else n) e
-
 pub inter_between : (c : Coded) (motion : List (List Motion)) (names : Names) (pa qa : ℕ) (p : MbInfo) (kp : ℕ) (q : MbInfo) (kq : ℕ) → kp < 16 → kq < 16 →
     HasInfo c motion names pa p → HasInfo c motion names qa q → p.is_intra ≡ false → q.is_intra ≡ false → inter_strength p kp q kq ≡ strength_between c motion pa kp qa kq
-inter_between c motion names pa qa p kp q kq kp_low kq_low hp hq np nq =
-    let of_p = hp.motion_is np kp kp_low in
-    let of_q = hq.motion_is nq kq kq_low in
-    let u : Mv = slice_index_or p.vectors kp zero_vector in
-    let v : Mv = slice_index_or q.vectors kq zero_vector in
-    let far : Bool = are_far u v in
-    let levels = ap₂ (λ (a b : Bool). a || b) (hp.coefficients_is kp kp_low) (hq.coefficients_is kq kq_low) in
-    let moved : moves_differently c pa qa (slice_index_or (slice_index_or motion pa []) kp absent) (slice_index_or (slice_index_or motion qa []) kq absent)
-    ≡ (not (slice_index p.pictures (kp / 4) == slice_index q.pictures (kq / 4)) || far) =
-    rw (of_p.is, of_q.is) (named_both c pa qa of_p.reference of_q.reference u v _ _ of_p.picture of_q.picture
-    ∙ ap (λ (same : Bool). not same || far) (same_index names _ _ of_p.named of_q.named)) in
-    ap₂ (λ (some differ : Bool). if some then 2 else (if differ then 1 else 0)) levels (sym moved)
-    ∙ sym (otherwise (is_intra (mb_at c pa).mb.syntax || is_intra (mb_at c qa).mb.syntax) _ _ (ap₂ (λ (a b : Bool). a || b) (sym hp.intra_is ∙ np) (sym hq.intra_is ∙ nq)))
+inter_between c motion names pa qa p kp q kq kp_low kq_low hp hq np nq = grind (arith, nat_tests, named_both, same_index)
 
 pub intra_between : (c : Coded) (motion : List (List Motion)) (names : Names) (pa qa : ℕ) (p : MbInfo) (kp : ℕ) (q : MbInfo) (kq : ℕ) →
     HasInfo c motion names pa p → HasInfo c motion names qa q → (p.is_intra || q.is_intra) ≡ true → strength_between c motion pa kp qa kq ≡ (if pa == qa then 3 else 4)
-intra_between c motion names pa qa p kp q kq hp hq either =
-    in_that_case (is_intra (mb_at c pa).mb.syntax || is_intra (mb_at c qa).mb.syntax) _ _ (ap₂ (λ (a b : Bool). a || b) (sym hp.intra_is) (sym hq.intra_is) ∙ either)
+intra_between c motion names pa qa p kp q kq hp hq either = grind (arith, nat_tests)
 
 pub both_false : (a b : Bool) → (a || b) ≡ false → (a ≡ false) × (b ≡ false)
 both_false a b e = grind (arith, nat_tests)
@@ -553,42 +491,22 @@ one_picture m = grind (arith, nat_tests)
 pub one_motion : (f : MbInfo) → f.coefficients ≡ 0 → ((k : ℕ) → k < 4 → slice_index f.pictures k ≡ slice_index f.pictures 0) →
     ((k : ℕ) → k < 16 → slice_index_or f.vectors k zero_vector ≡ slice_index_or f.vectors 0 zero_vector) →
     (j k : ℕ) → j < 16 → k < 16 → inter_strength f j f k ≡ 0
-one_motion f none pictures vectors j k j_low k_low =
-    let bit : (i : ℕ) → has_bit f.coefficients i ≡ false = λ i. ap (λ n. has_bit n i) none ∙ no_bit i in
-    let picture = pictures (j / 4) (omega arith) ∙ sym (pictures (k / 4) (omega arith)) in
-    let vector = vectors j j_low ∙ sym (vectors k k_low) in
-    ap₂ (λ (some differ : Bool). if some then 2 else (if differ then 1 else 0))
-    (ap₂ (λ (a b : Bool). a || b) (bit j) (bit k))
-    (ap₂ (λ (same far : Bool). not same || far)
-    (ap (λ n. n == slice_index f.pictures (k / 4)) picture ∙ one_picture (slice_index f.pictures (k / 4)))
-    (ap (λ u. are_far u (slice_index_or f.vectors k zero_vector)) vector ∙ not_far (slice_index_or f.vectors k zero_vector)))
+one_motion f none pictures vectors j k j_low k_low = grind (arith, nat_tests, no_bit, one_picture, not_far)
 
 -- ---- a macroblock of one motion without coefficients has no edge inside it that is filtered
 
--- along an edge of no intra macroblock
-inter_along : (p q : MbInfo) (v : Bool) (n k : ℕ) → (p.is_intra || q.is_intra) ≡ false → strength_of p q v n k ≡ inter_strength p (edge_block v ((n + 3) % 4) k) q (edge_block v n k)
-inter_along p q v n k inter = ap (λ b. if b then (if n == 0 then 4 else 3) else inter_strength p (edge_block v ((n + 3) % 4) k) q (edge_block v n k)) inter
-
 module _ (column row : ℕ) (offset : ℤ) (f : MbInfo) (inter : f.is_intra ≡ false) (none : (j k : ℕ) → j < 16 → k < 16 → inter_strength f j f k ≡ 0) (v : Bool) where
   still_edge : (n : ℕ) → suc n < 4 → (s : Planes) → edge_by_info v column row (suc n) offset f f s ≡ s
-  still_edge n low s =
-      edge_zero v column row (suc n) (strength_of f f v (suc n)) (luma_qp_of f f) (chroma_qp_of offset f f) s (λ k k_low.
-      inter_along f f v (suc n) k (ap (λ b. b || b) inter) ∙ none _ _ (low_block v ((suc n + 3) % 4) k (omega arith) k_low) (low_block v (suc n) k low k_low))
+  still_edge n low s = grind (arith, edge_zero, low_block)
 
   still_edges : (inner : Bool) (s : Planes) → edges_by_info v column row offset false inner f f s ≡ s
-  still_edges false s = refl
-  still_edges true s =
-      ap (λ t. edge_by_info v column row 3 offset f f (edge_by_info v column row 2 offset f f t)) (still_edge 0 (omega arith) s)
-      ∙ ap (edge_by_info v column row 3 offset f f) (still_edge 1 (omega arith) s) ∙ still_edge 2 (omega arith) s
+  still_edges inner s = grind (arith, still_edge)
 
 -- Edges inside a macroblock that is still can go.
 pub without_still : (column row : ℕ) (offset : ℤ) (f : MbInfo) (still : Bool) → (still ≡ true → f.is_intra ≡ false) →
     (still ≡ true → (j k : ℕ) → j < 16 → k < 16 → inter_strength f j f k ≡ 0) → (v inner : Bool) (s : Planes) →
     edges_by_info v column row offset false (inner && not still) f f s ≡ edges_by_info v column row offset false inner f f s
-without_still column row offset f true inter none v true s = sym (still_edges column row offset f (inter refl) (none refl) v true s)
-without_still column row offset f true inter none v false s = refl
-without_still column row offset f false inter none v true s = refl
-without_still column row offset f false inter none v false s = refl
+without_still column row offset f still inter none v inner s = grind (arith, nat_tests, still_edges)
 
 -- ---- a macroblock
 
@@ -602,9 +520,7 @@ over v false i column row e p q s = refl
 outer_kept : (v : Bool) (column row : ℕ) (e : ℤ) (p q : MbInfo) (acts joins : Bool) → (acts ≡ true → joins ≡ true) →
     (acts ≡ false → joins ≡ true → (k : ℕ) → k < 4 → strength_of p q v 0 k ≡ 0) → (s : Planes) →
     edges_by_info v column row e acts false p q s ≡ edges_by_info v column row e joins false p q s
-outer_kept v column row e p q true joins on off s = ap (λ j. edges_by_info v column row e j false p q s) (sym (on refl))
-outer_kept v column row e p q false true on off s = sym (edge_zero v column row 0 (strength_of p q v 0) (luma_qp_of p q) (chroma_qp_of e p q) s (off refl refl))
-outer_kept v column row e p q false false on off s = refl
+outer_kept v column row e p q acts joins on off s = grind (arith, nat_tests, edge_zero)
 
 module _ (column row : ℕ) (e : ℤ) (left above mb : MbInfo) (still i l u : Bool)
     (inter : still ≡ true → mb.is_intra ≡ false) (none : still ≡ true → (j k : ℕ) → j < 16 → k < 16 → inter_strength mb j mb k ≡ 0)

@@ -516,9 +516,7 @@ line_here p3 q3 p2 o1 o0 r0 r1 q2 n1 n0 m0 m1 i h1 h0 g0 g1 = rw (get_or-set_sam
 
 pub wide_before : (p3 o2 o1 o0 r0 r1 r2 q3 : List ℕ) (n2 n1 n0 m0 m1 m2 i k : ℕ) → k < i →
     line_of_rows p3 o2 o1 o0 r0 r1 r2 q3 k ≡ line_of_rows p3 (slice_set o2 i n2) (slice_set o1 i n1) (slice_set o0 i n0) (slice_set r0 i m0) (slice_set r1 i m1) (slice_set r2 i m2) q3 k
-wide_before p3 o2 o1 o0 r0 r1 r2 q3 n2 n1 n0 m0 m1 m2 i k h =
-    let ne : k ≢ i = omega arith in
-    rw (get_or-set_other, get_or-set_other, get_or-set_other, get_or-set_other, get_or-set_other, get_or-set_other)
+wide_before p3 o2 o1 o0 r0 r1 r2 q3 n2 n1 n0 m0 m1 m2 i k h = grind (arith, get_or-set_other)
 
 pub wide_here : (p3 o2 o1 o0 r0 r1 r2 q3 : List ℕ) (n2 n1 n0 m0 m1 m2 i : ℕ) →
     i < length o2 → i < length o1 → i < length o0 → i < length r0 → i < length r1 → i < length r2 →
