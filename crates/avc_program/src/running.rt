@@ -18,10 +18,11 @@ use avc_shell::{
     is_output_refused, is_progress_told, is_told_more, tell_absent_picture, tell_container,
     tell_no_piece, tell_outcome, tell_reason,
 };
+use either::{Either, Left, Right};
 use std::cell::Cell;
 use std::fs::{File, metadata};
 use std::io;
-use std::io::Read;
+use std::io::Stdin;
 
 /// Does what was asked for, and answers the exit status.
 pub(crate) fn carry_out<C: Commands>(rt: &HostRuntime, commands: &C, request: &Request<'_>) -> u8
@@ -33,17 +34,18 @@ pub(crate) fn carry_out<C: Commands>(rt: &HostRuntime, commands: &C, request: &R
     if is_output_refused(rt, request) {
         return answer_status(Ok(Answer::Misuse));
     }
-    match request.input {
+    let reader = match request.input {
         Some(name) => match File::open(rt, name) {
-            Ok(file) => carry_out_on(rt, commands, request, Input::new(file)),
+            Ok(file) => Right(file),
             Err(error) => {
                 let ending = fail(RunFault::Read, &names_of(request), &mut rt.stderr());
                 tell_reason(rt, request.input, Some(error.kind()));
-                ending.status
+                return ending.status;
             }
         },
-        None => carry_out_on(rt, commands, request, Input::new(rt.stdin())),
-    }
+        None => Left(rt.stdin()),
+    };
+    carry_out_on(rt, commands, request, Input::new(reader))
 }
 
 fn names_of<'a>(request: &Request<'a>) -> Names<'a> {
@@ -53,12 +55,12 @@ fn names_of<'a>(request: &Request<'a>) -> Names<'a> {
     }
 }
 
-// Does what was asked for with this input.
-fn carry_out_on<C: Commands, R: Read + Drop>(
+// Does what was asked for with this input. It is of one type whatever it is, so that the commands are compiled once.
+fn carry_out_on<C: Commands>(
     rt: &HostRuntime,
     commands: &C,
     request: &Request<'_>,
-    mut input: Input<R>,
+    mut input: Input<Either<Stdin, File>>,
 ) -> u8 {
     let has_left = Cell::new(false);
     let progress_stands = Cell::new(false);

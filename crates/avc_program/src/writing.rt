@@ -4,9 +4,11 @@ use crate::commands::Commands;
 use avc_console::{Console, RunFault, Watch, fail, fault_status};
 use avc_request::Request;
 use avc_shell::{FromPiece, Output, OutputFile, PictureFiles};
+use avc_types::OutOfMemory;
+use either::{Either, Left, Right};
 use std::cell::Cell;
 use std::io;
-use std::io::{Read, Write};
+use std::io::{Printer, Read, Write};
 
 /// What is noted while the output is written.
 #[derive(Clone, Copy)]
@@ -39,24 +41,12 @@ pub(crate) fn write_out_from<C: Commands, R: Read, E: Write, V: Watch>(
     noted: Noted<'_>,
     console: &mut Console<'_, E, V>,
 ) -> Written {
-    let Some(number) = request.from else {
-        return write_out(rt, commands, request, reader, noted, console);
-    };
-    match FromPiece::new(rt.alloc(), number, reader) {
-        Ok(mut reader) => {
-            let written = write_out(rt, commands, request, &mut reader, noted, console);
-            Written {
-                status: if reader.is_out_of_memory() {
-                    fault_status(RunFault::Memory)
-                } else {
-                    written.status
-                },
-                fault: written.fault,
-                missing: if reader.is_missing() && written.fault.is_none() {
-                    Some(number)
-                } else {
-                    None
-                },
+    match source_of(rt, request.from, reader) {
+        Ok(mut source) => {
+            let written = write_out(rt, commands, request, &mut source, noted, console);
+            match source {
+                Left(_) => written,
+                Right(reader) => ended_from(&reader, request.from, written),
             }
         }
         Err(refused) => Written {
@@ -64,6 +54,51 @@ pub(crate) fn write_out_from<C: Commands, R: Read, E: Write, V: Watch>(
             fault: None,
             missing: None,
         },
+    }
+}
+
+// What is read, or what is read from a piece on. It is of one type, so that the commands are compiled once.
+fn source_of<'a, R>(
+    rt: &HostRuntime,
+    from: Option<u32>,
+    reader: &'a mut R,
+) -> Result<Either<&'a mut R, FromPiece<'a, R>>, OutOfMemory> {
+    match from {
+        Some(number) => Ok(Right(FromPiece::new(rt.alloc(), number, reader)?)),
+        None => Ok(Left(reader)),
+    }
+}
+
+// How it ended where it was read from a piece on.
+fn ended_from<R>(reader: &FromPiece<'_, R>, from: Option<u32>, written: Written) -> Written {
+    Written {
+        status: if reader.is_out_of_memory() {
+            fault_status(RunFault::Memory)
+        } else {
+            written.status
+        },
+        fault: written.fault,
+        missing: if reader.is_missing() && written.fault.is_none() {
+            from
+        } else {
+            None
+        },
+    }
+}
+
+// Where the output goes: to a file for each picture, to one file, or to the standard output. It is of one type, so that the
+// commands are compiled once.
+type Destination<'a> = Either<PictureFiles<'a>, Either<OutputFile<'a>, Printer<'a, HostRuntime>>>;
+
+fn destination_of<'a>(
+    rt: &'a HostRuntime,
+    request: &Request<'a>,
+    pictures: &'a Cell<u64>,
+) -> Destination<'a> {
+    match (request.numbered, request.output) {
+        (Some(name), _) => Left(PictureFiles::new(rt, name, request.input, pictures)),
+        (None, Some(name)) => Right(Left(OutputFile::new(rt, name))),
+        (None, None) => Right(Right(io::writer(rt))),
     }
 }
 
@@ -76,40 +111,12 @@ fn write_out<C: Commands, R: Read, E: Write, V: Watch>(
     noted: Noted<'_>,
     console: &mut Console<'_, E, V>,
 ) -> Written {
-    if let Some(name) = request.numbered {
-        let files = PictureFiles::new(rt, name, request.input, noted.pictures);
-        let mut output = Output::new(files, noted.has_left);
-        let status = commands
-            .carry_out_between(rt, request, reader, &mut output, console)
-            .status;
-        return Written {
-            status,
-            fault: output.fault(),
-            missing: None,
-        };
-    }
-    match request.output {
-        Some(name) => {
-            let mut output = Output::new(OutputFile::new(rt, name), noted.has_left);
-            let status = commands
-                .carry_out_between(rt, request, reader, &mut output, console)
-                .status;
-            Written {
-                status,
-                fault: output.fault(),
-                missing: None,
-            }
-        }
-        None => {
-            let mut output = Output::new(io::writer(rt), noted.has_left);
-            let status = commands
-                .carry_out_between(rt, request, reader, &mut output, console)
-                .status;
-            Written {
-                status,
-                fault: output.fault(),
-                missing: None,
-            }
-        }
+    let destination = destination_of(rt, request, noted.pictures);
+    let mut output = Output::new(destination, noted.has_left);
+    let ending = commands.carry_out_between(rt, request, reader, &mut output, console);
+    Written {
+        status: ending.status,
+        fault: output.fault(),
+        missing: None,
     }
 }
