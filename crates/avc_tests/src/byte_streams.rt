@@ -4,7 +4,7 @@
 // N`), a test ends in that error, and not at an assertion.
 use avc_annexb::{Splitter, unescape};
 use avc_types::OutOfMemory;
-use std::process::Abort;
+use std::alloc::Global;
 use std::test::Fail;
 
 const STREAM: [u8; 26] = [
@@ -12,30 +12,54 @@ const STREAM: [u8; 26] = [
     0x65, 0x88, 0x84, 0x93, 0xC0,
 ];
 
-// Where a byte is refused, so is what follows, and nothing is given.
-fn feed_bytes(rt: &impl Abort, splitter: &mut Splitter<134_217_728>) -> Result<(), OutOfMemory> {
-    for byte in STREAM {
-        let fed = splitter.feed(&[byte]);
-        if fed.is_err() {
-            assert!(rt; splitter.feed(&[byte]).is_err(), "refused once");
-            assert!(rt; splitter.next_unit().is_none(), "refused");
+// The index, the offset, the length and the header of a unit, where there is one.
+type Line = Option<(u64, u64, u64, u8)>;
+
+// The next four units.
+fn next_lines(splitter: &mut Splitter<134_217_728>) -> [Line; 4] {
+    let mut lines = [None; 4];
+    for k in 0..4 {
+        if let Some(unit) = splitter.next_unit() {
+            lines[k] = Some((unit.index, unit.offset, unit.length, unit.header));
         }
-        fed?;
     }
-    splitter.finish()
+    lines
+}
+
+// Whether a byte more is refused, and nothing is given.
+fn is_stopped(splitter: &mut Splitter<134_217_728>, byte: u8) -> bool {
+    splitter.feed(&[byte]).is_err() && splitter.next_unit().is_none()
+}
+
+// The units of the stream. Where a byte is refused, so must be what follows, and nothing be given:
+// else there are none.
+fn lines_of(splitter: &mut Splitter<134_217_728>) -> Result<[Line; 4], OutOfMemory> {
+    for byte in STREAM {
+        match splitter.feed(&[byte]) {
+            Err(refused) if is_stopped(splitter, byte) => return Err(refused),
+            Err(_) => return Ok([None; 4]),
+            Ok(()) => {}
+        }
+    }
+    splitter.finish()?;
+    Ok(next_lines(splitter))
+}
+
+fn lines_in(alloc: Global) -> Result<[Line; 4], OutOfMemory> {
+    let mut splitter = Splitter::<134_217_728>::new(alloc);
+    lines_of(&mut splitter)
 }
 
 #[test]
 fn splits_byte_by_byte(rt: HostRuntime) -> Result<(), Fail> {
-    let mut splitter = Splitter::<134_217_728>::new(rt.alloc());
-    feed_bytes(&rt, &mut splitter)?;
-    let mut lines = Vec::new(rt.alloc());
-    while let Some(unit) = splitter.next_unit() {
-        lines.push((unit.index, unit.offset, unit.length, unit.header))?;
-    }
     assert_eq!(rt;
-        lines.as_slice(),
-        [(0, 4, 6, 0x67), (1, 14, 4, 0x68), (2, 21, 5, 0x65)].as_slice()
+        lines_in(rt.alloc())?,
+        [
+            Some((0, 4, 6, 0x67)),
+            Some((1, 14, 4, 0x68)),
+            Some((2, 21, 5, 0x65)),
+            None
+        ]
     );
     Ok(())
 }

@@ -72,32 +72,61 @@ fn put_sets(table: &mut ParamTable) -> Result<(), OutOfMemory> {
     Ok(())
 }
 
-#[test]
-fn each_cut_ends_as_it_should(rt: HostRuntime) -> Result<(), Fail> {
-    let mut table = ParamTable::new(rt.alloc());
-    put_sets(&mut table)?;
-    for n in 0..BITS {
-        let count = if n < FIRST_BITS { 0 } else { 1 };
-        let fault = if n == FIRST_BITS {
-            None
-        } else {
-            Some(Fault::Truncated)
-        };
-        assert_eq!(rt; read_cut(rt.alloc(), n, &table)?, (count, fault));
+// How many macroblocks there are in so many bits, and what ends them.
+fn wanted(n: usize) -> (u32, Option<Fault>) {
+    let count = if n < FIRST_BITS { 0 } else { 1 };
+    if n == FIRST_BITS {
+        (count, None)
+    } else {
+        (count, Some(Fault::Truncated))
     }
-    assert_eq!(rt; read(rt.alloc(), &SLICE, &table)?, (2, None));
-    Ok(())
+}
+
+// The first number of bits at which it is not so.
+fn first_differing(alloc: Global, table: &ParamTable) -> Result<Option<usize>, Fail> {
+    for n in 0..BITS {
+        if read_cut(alloc, n, table)? != wanted(n) {
+            return Ok(Some(n));
+        }
+    }
+    Ok(None)
+}
+
+// The same of a new table, and what the whole slice is read as.
+fn read_in(
+    alloc: Global,
+    table: &mut ParamTable,
+) -> Result<(Option<usize>, (u32, Option<Fault>)), Fail> {
+    put_sets(table)?;
+    let differing = first_differing(alloc, table)?;
+    let whole = read(alloc, &SLICE, table)?;
+    Ok((differing, whole))
+}
+
+fn read_in_new(alloc: Global) -> Result<(Option<usize>, (u32, Option<Fault>)), Fail> {
+    let mut table = ParamTable::new(alloc);
+    read_in(alloc, &mut table)
 }
 
 #[test]
+fn each_cut_ends_as_it_should(rt: HostRuntime) -> Result<(), Fail> {
+    assert_eq!(rt; read_in_new(rt.alloc())?, (None, (2, None)));
+    Ok(())
+}
+
+// What stands in so many bits, and the stop bit.
+const CUTS: &[(usize, &[u8])] = &[
+    (FIRST_BITS, &[0x88, 0x84, 0x93, 0xC0]),
+    (BITS, &SLICE),
+    (1000, &SLICE),
+    (0, &[0x80]),
+];
+
+#[test]
 fn cuts_to_bits(rt: HostRuntime) -> Result<(), Fail> {
-    let alloc = rt.alloc();
-    assert_eq!(rt;
-        cut(alloc, FIRST_BITS)?.as_slice(),
-        [0x88, 0x84, 0x93, 0xC0].as_slice()
-    );
-    assert_eq!(rt; cut(alloc, BITS)?.as_slice(), SLICE.as_slice());
-    assert_eq!(rt; cut(alloc, 1000)?.as_slice(), SLICE.as_slice());
-    assert_eq!(rt; cut(alloc, 0)?.as_slice(), [0x80].as_slice());
+    for row in CUTS {
+        let (n, bytes) = *row;
+        assert_eq!(rt; cut(rt.alloc(), n)?.as_slice(), bytes);
+    }
     Ok(())
 }

@@ -4,7 +4,7 @@ ghost use Rattle.std.specs.Prelude.{◌<◌, ◌≤◌, ◌+◌, ◌≡◌, leng
 
 use avc_inter::{chroma, luma, six_tap_row, weight};
 use avc_plane::{PaddedPlane, Plane};
-use avc_types::{Block, Mv, OutOfMemory};
+use avc_types::{Block, Bytes, Mv, OutOfMemory};
 use std::alloc::Global;
 use std::test::Fail;
 
@@ -169,7 +169,25 @@ fn chroma_sample(p: &PaddedPlane<32>, x: i32, y: i32, fx: i32, fy: i32) -> i32 {
         >> 6
 }
 
-// the block at (x, y) of the plane
+// The block at (x, y) of the plane; zeros where that is not in the plane.
+fn luma_block<const W: usize, const H: usize>(
+    plane: &PaddedPlane<32>,
+    x: usize,
+    y: usize,
+    mv: Mv,
+) -> Block<W, H>
+    requires columns { (1 ≤ W) × (W ≤ 16) }
+    requires rows { (1 ≤ H) × (H ≤ 16) }
+    requires column { x < 100 }
+    requires row { y < 100 }
+{
+    let mut block = Block::<W, H>::new(0);
+    if x < plane.width() && y < plane.height() {
+        luma(plane, x, y, mv, &mut block);
+    }
+    block
+}
+
 fn is_luma<const W: usize, const H: usize>(
     plane: &PaddedPlane<32>,
     x: usize,
@@ -181,11 +199,7 @@ fn is_luma<const W: usize, const H: usize>(
     requires column { x < 100 }
     requires row { y < 100 }
 {
-    if x >= plane.width() || y >= plane.height() {
-        return false;
-    }
-    let mut block = Block::<W, H>::new(0);
-    luma(plane, x, y, mv, &mut block);
+    let block = luma_block::<W, H>(plane, x, y, mv);
     let left = (x as i32).wrapping_add(i32::from(mv.x >> 2));
     let top = (y as i32).wrapping_add(i32::from(mv.y >> 2));
     let mut same = true;
@@ -261,9 +275,8 @@ fn all_chroma(plane: &PaddedPlane<32>, mv: Mv) -> bool {
 // inside the plane; over each edge inside the padding; past the padding
 const WHOLE: [i16; 7] = [0, -20, -60, -2000, 20, 60, 2000];
 
-#[test]
-fn luma_is_its_table(rt: HostRuntime) -> Result<(), Fail> {
-    let plane = plane_of(rt.alloc(), 32, 48, Picture::Rough)?;
+// The first vector by which a luma block differs: how far to the right and down, and its fraction.
+fn differing_luma(plane: &PaddedPlane<32>) -> Option<(i16, i16, i16)> {
     for right in WHOLE {
         for down in WHOLE {
             for fraction in 0..16i16 {
@@ -271,16 +284,24 @@ fn luma_is_its_table(rt: HostRuntime) -> Result<(), Fail> {
                     x: right.wrapping_mul(4).wrapping_add(fraction & 3),
                     y: down.wrapping_mul(4).wrapping_add(fraction >> 2),
                 };
-                assert!(rt; all_luma(&plane, mv), "by {right} {down} at {fraction}");
+                if !all_luma(plane, mv) {
+                    return Some((right, down, fraction));
+                }
             }
         }
     }
-    Ok(())
+    None
 }
 
 #[test]
-fn chroma_is_its_formula(rt: HostRuntime) -> Result<(), Fail> {
+fn luma_is_its_table(rt: HostRuntime) -> Result<(), Fail> {
     let plane = plane_of(rt.alloc(), 32, 48, Picture::Rough)?;
+    assert_eq!(rt; differing_luma(&plane), None);
+    Ok(())
+}
+
+// The same of chroma.
+fn differing_chroma(plane: &PaddedPlane<32>) -> Option<(i16, i16, i16)> {
     for right in WHOLE {
         for down in WHOLE {
             for fraction in 0..64i16 {
@@ -288,75 +309,114 @@ fn chroma_is_its_formula(rt: HostRuntime) -> Result<(), Fail> {
                     x: right.wrapping_mul(8).wrapping_add(fraction & 7),
                     y: down.wrapping_mul(8).wrapping_add(fraction >> 3),
                 };
-                assert!(rt; all_chroma(&plane, mv), "by {right} {down} at {fraction}");
+                if !all_chroma(plane, mv) {
+                    return Some((right, down, fraction));
+                }
             }
         }
     }
+    None
+}
+
+#[test]
+fn chroma_is_its_formula(rt: HostRuntime) -> Result<(), Fail> {
+    let plane = plane_of(rt.alloc(), 32, 48, Picture::Rough)?;
+    assert_eq!(rt; differing_chroma(&plane), None);
     Ok(())
 }
 
 #[test]
 fn far_vector_gives_the_lower_left_sample(rt: HostRuntime) -> Result<(), Fail> {
+    const FAR: Mv = Mv {
+        x: -32768,
+        y: 32767,
+    };
     let plane = plane_of(rt.alloc(), 16, 16, Picture::Ramp)?;
-    if plane.width() > 0 && plane.height() > 0 {
-        let mut block = Block::<16, 16>::new(0);
-        luma(
-            &plane,
-            0,
-            0,
-            Mv {
-                x: -32768,
-                y: 32767,
-            },
-            &mut block,
-        );
-        assert_eq!(rt; block.as_slice(), [240; 256].as_slice());
-    }
+    let block = luma_block::<16, 16>(&plane, 0, 0, FAR);
+    assert_eq!(rt; block.as_slice(), [240; 256].as_slice());
     Ok(())
+}
+
+// Each row between two samples of the step.
+const OVER_A_STEP: [u8; 16] = [
+    128, 128, 128, 128, 128, 128, 128, 128, 128, 128, 128, 128, 128, 128, 127, 132,
+];
+
+fn is_over_a_step(block: &Block<16, 16>) -> bool {
+    for y in 0..16 {
+        for x in 0..16 {
+            if block.get(x, y) != OVER_A_STEP[x] {
+                return false;
+            }
+        }
+    }
+    true
 }
 
 #[test]
 fn half_a_sample_to_the_right_over_a_step(rt: HostRuntime) -> Result<(), Fail> {
     let plane = plane_of(rt.alloc(), 32, 16, Picture::Step)?;
-    if plane.width() > 0 && plane.height() > 0 {
-        let mut block = Block::<16, 16>::new(0);
-        luma(&plane, 0, 0, Mv { x: 2, y: 0 }, &mut block);
-        for y in 0..16 {
-            for x in 0..16 {
-                let expected = match x {
-                    14 => 127,
-                    15 => 132,
-                    _ => 128,
-                };
-                assert_eq!(rt; block.get(x, y), expected);
-            }
-        }
-    }
+    let block = luma_block::<16, 16>(&plane, 0, 0, Mv { x: 2, y: 0 });
+    assert!(rt; is_over_a_step(&block));
     Ok(())
+}
+
+// The sums over a step, which is between the eighth and the ninth sample.
+fn sums_over_a_step() -> [i32; 11] {
+    const STEP: [u8; 16] = [
+        128, 128, 128, 128, 128, 128, 128, 128, 136, 136, 136, 136, 136, 136, 136, 136,
+    ];
+    let mut sums = [0; 11];
+    six_tap_row(&STEP, &mut sums);
+    sums
+}
+
+fn sum_over(samples: &[u8; 6]) -> i32 {
+    let mut sums = [0; 1];
+    six_tap_row(samples, &mut sums);
+    sums[0]
 }
 
 #[test]
 fn six_taps_over_worked_rows(rt: HostRuntime) -> Result<(), Fail> {
-    let mut step = [136u8; 16];
-    for x in 0..8 {
-        step[x] = 128;
-    }
-    let mut sums = [0i32; 11];
-    six_tap_row(&step, &mut sums);
     assert_eq!(rt;
-        sums,
+        sums_over_a_step(),
         [
             4096, 4096, 4096, 4104, 4064, 4224, 4384, 4344, 4352, 4352, 4352
         ]
     );
-    let mut one = [0i32; 1];
-    six_tap_row(&[0, 255, 0, 0, 255, 0], &mut one);
-    assert_eq!(rt; one, [-2550]);
-    six_tap_row(&[255, 0, 255, 255, 0, 255], &mut one);
-    assert_eq!(rt; one, [10710]);
+    assert_eq!(rt;
+        [
+            sum_over(&[0, 255, 0, 0, 255, 0]),
+            sum_over(&[255, 0, 255, 255, 0, 255])
+        ],
+        [-2550, 10710]
+    );
     let mut none = [0i32; 0];
     six_tap_row(&[1, 2, 3, 4, 5], &mut none);
     Ok(())
+}
+
+// Whether so many sums are those of the samples, and what is behind them stays.
+fn are_sums(samples: &[u8; 45], count: usize) -> bool
+    requires { count ≤ 40 }
+{
+    let mut sums = [7i32; 40];
+    six_tap_row(&samples[..count + 5], &mut sums[..count]);
+    for x in 0..40 {
+        let plain = six(
+            i32::from(samples[x]),
+            i32::from(samples[x + 1]),
+            i32::from(samples[x + 2]),
+            i32::from(samples[x + 3]),
+            i32::from(samples[x + 4]),
+            i32::from(samples[x + 5]),
+        );
+        if sums[x] != if x < count { plain } else { 7 } {
+            return false;
+        }
+    }
+    true
 }
 
 #[test]
@@ -366,19 +426,7 @@ fn six_taps_of_every_length(rt: HostRuntime) -> Result<(), Fail> {
         samples[x] = Picture::Rough.sample(x, 3);
     }
     for count in 0..41 {
-        let mut sums = [7i32; 40];
-        six_tap_row(&samples[..count + 5], &mut sums[..count]);
-        for x in 0..40 {
-            let plain = six(
-                i32::from(samples[x]),
-                i32::from(samples[x + 1]),
-                i32::from(samples[x + 2]),
-                i32::from(samples[x + 3]),
-                i32::from(samples[x + 4]),
-                i32::from(samples[x + 5]),
-            );
-            assert_eq!(rt; sums[x], if x < count { plain } else { 7 });
-        }
+        assert!(rt; are_sums(&samples, count), "{count}");
     }
     Ok(())
 }
@@ -386,23 +434,41 @@ fn six_taps_of_every_length(rt: HostRuntime) -> Result<(), Fail> {
 #[test]
 fn weights_of_worked_samples(rt: HostRuntime) -> Result<(), Fail> {
     let grey = Block::<4, 4>::new(128);
-    assert_eq!(rt; weight(&grey, 1, 3, -4).as_slice(), [188; 16].as_slice());
-    assert_eq!(rt; weight(&grey, 0, -1, 5).as_slice(), [0; 16].as_slice());
     let white = Block::<16, 8>::new(255);
+    let weighted = [weight(&grey, 1, 3, -4), weight(&grey, 0, -1, 5)];
     assert_eq!(rt;
-        weight(&white, 7, 127, 127).as_slice(),
-        [255; 128].as_slice()
+        (
+            weighted[0].as_slice(),
+            weighted[1].as_slice(),
+            weight(&white, 7, 127, 127).as_slice()
+        ),
+        (
+            [188; 16].as_slice(),
+            [0; 16].as_slice(),
+            [255; 128].as_slice()
+        )
     );
     Ok(())
 }
 
+// How many samples are each the number of their place, up to the first that is not.
+fn in_order(samples: &[u8]) -> usize {
+    for (k, sample) in samples.iter().enumerate() {
+        if usize::from(*sample) != k {
+            return k;
+        }
+    }
+    samples.len()
+}
+
+fn bytes_of_a_ramp(alloc: Global) -> Result<Bytes, OutOfMemory> {
+    plane_of(alloc, 16, 16, Picture::Ramp)?.to_bytes(alloc)
+}
+
 #[test]
 fn a_padded_plane_keeps_its_samples(rt: HostRuntime) -> Result<(), Fail> {
-    let plane = plane_of(rt.alloc(), 16, 16, Picture::Ramp)?;
-    let bytes = plane.to_bytes(rt.alloc())?;
-    for (k, sample) in bytes.as_slice().iter().enumerate() {
-        assert_eq!(rt; usize::from(*sample), k);
-    }
-    assert_eq!(rt; bytes.as_slice().len(), 256);
+    let bytes = bytes_of_a_ramp(rt.alloc())?;
+    let samples = bytes.as_slice();
+    assert_eq!(rt; (in_order(samples), samples.len()), (256, 256));
     Ok(())
 }

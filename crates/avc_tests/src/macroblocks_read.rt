@@ -16,48 +16,55 @@ fn first() -> Context {
     }
 }
 
-#[test]
-fn reads_an_intra_16x16_macroblock(rt: HostRuntime) -> Result<(), Fail> {
-    let mut reader = BitReader::new(&[0x26, 0xB0]);
-    match read_macroblock(&mut reader, &first()) {
-        Ok(mb) => {
-            assert_eq!(rt; mb.qp, 26);
-            match &mb.syntax {
-                Syntax::I16x16 {
-                    mode,
-                    chroma_mode,
-                    luma_dc,
-                    levels,
-                } => {
-                    assert_eq!(rt; *mode, 2);
-                    assert_eq!(rt; *chroma_mode, 0);
-                    assert_eq!(rt; luma_dc.as_array()[0], 1);
-                    assert_eq!(rt; luma_dc.total_coeff(), 1);
-                    assert_eq!(rt; levels.chroma_pattern, 0);
-                }
-                _ => assert!(rt; false, "another type"),
-            }
-        }
-        Err(_) => assert!(rt; false, "a fault"),
+// Of an Intra 16x16 macroblock: QP_Y, the modes of luma and chroma, the first DC level, how many DC
+// levels there are, and the pattern of chroma.
+type Fields = (u8, u8, u8, i16, u8, u8);
+
+fn fields_of(mb: &Mb) -> Option<Fields> {
+    match &mb.syntax {
+        Syntax::I16x16 {
+            mode,
+            chroma_mode,
+            luma_dc,
+            levels,
+        } => Some((
+            mb.qp,
+            *mode,
+            *chroma_mode,
+            luma_dc.as_array()[0],
+            luma_dc.total_coeff(),
+            levels.chroma_pattern,
+        )),
+        _ => None,
     }
-    assert_eq!(rt; reader.position(), 11);
-    Ok(())
+}
+
+// What the first macroblock of an I slice is, or its fault, and where the reader stands then.
+fn read_first(bytes: &[u8]) -> (Result<Option<Fields>, Fault>, u128) {
+    let mut reader = BitReader::new(bytes);
+    let read = match read_macroblock(&mut reader, &first()) {
+        Ok(mb) => Ok(fields_of(&mb)),
+        Err(fault) => Err(fault),
+    };
+    (read, reader.position())
 }
 
 #[test]
+fn reads_an_intra_16x16_macroblock(rt: HostRuntime) -> Result<(), Fail> {
+    assert_eq!(rt;
+        read_first(&[0x26, 0xB0]),
+        (Ok(Some((26, 2, 0, 1, 1, 0))), 11)
+    );
+    Ok(())
+}
+
+// A macroblock that is cut short, and mb_type 26.
+#[test]
 fn stays_where_there_is_no_macroblock(rt: HostRuntime) -> Result<(), Fail> {
-    let mut reader = BitReader::new(&[0x26, 0xA0]);
-    match read_macroblock(&mut reader, &first()) {
-        Ok(_) => assert!(rt; false, "a macroblock that is cut short"),
-        Err(fault) => assert_eq!(rt; fault, Fault::Truncated),
-    }
-    assert_eq!(rt; reader.position(), 0);
-    let mut reader = BitReader::new(&[0x0D, 0xC0]);
-    match read_macroblock(&mut reader, &first()) {
-        Ok(_) => assert!(rt; false, "mb_type 26"),
-        Err(fault) => assert_eq!(rt; fault, Fault::OutOfRange),
-    }
-    assert_eq!(rt; reader.position(), 0);
+    assert_eq!(rt;
+        [read_first(&[0x26, 0xA0]), read_first(&[0x0D, 0xC0])],
+        [(Err(Fault::Truncated), 0), (Err(Fault::OutOfRange), 0)]
+    );
     Ok(())
 }
 
@@ -79,20 +86,24 @@ fn read_all(bytes: &[u8], is_p: bool, remaining: u32) -> (u32, Option<Fault>) {
     (4, None)
 }
 
+// Runs of 3, of 0 and of 4, and two Intra 16x16 macroblocks, of which one may be too many.
 #[test]
 fn ends_where_the_data_ends(rt: HostRuntime) -> Result<(), Fail> {
-    // runs of 3, of 0 and of 4
-    assert_eq!(rt; read_all(&[0x24], true, 3), (3, None));
-    assert_eq!(rt; read_all(&[0xC0], true, 3), (0, None));
     assert_eq!(rt;
-        read_all(&[0x2C], true, 3),
-        (0, Some(Fault::TooManyMacroblocks))
-    );
-    // two Intra 16x16 macroblocks
-    assert_eq!(rt; read_all(&[0x26, 0xA4, 0xD6], false, 2), (2, None));
-    assert_eq!(rt;
-        read_all(&[0x26, 0xA4, 0xD6], false, 1),
-        (1, Some(Fault::TooManyMacroblocks))
+        [
+            read_all(&[0x24], true, 3),
+            read_all(&[0xC0], true, 3),
+            read_all(&[0x2C], true, 3),
+            read_all(&[0x26, 0xA4, 0xD6], false, 2),
+            read_all(&[0x26, 0xA4, 0xD6], false, 1)
+        ],
+        [
+            (3, None),
+            (0, None),
+            (0, Some(Fault::TooManyMacroblocks)),
+            (2, None),
+            (1, Some(Fault::TooManyMacroblocks))
+        ]
     );
     Ok(())
 }

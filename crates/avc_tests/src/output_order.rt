@@ -1,6 +1,6 @@
 //! Which pictures go out of the decoded picture buffer at each step, by worked rows (C.4).
 
-ghost use Rattle.std.specs.Prelude.{◌≡◌, ◌≤◌};
+ghost use Rattle.std.specs.Prelude.{◌≤◌};
 
 use avc_dpb::{ArrivingFrame, Dpb, Output};
 use avc_plane::{Frame, PADDING, PictureRows, Planes, SharedPicture, SharedPlanes};
@@ -8,11 +8,27 @@ use avc_types::{Crop, Mark, OutOfMemory, PictureInfo};
 use std::alloc::{AllocError, Global};
 use std::test::Fail;
 
+/// What arrives in the buffer.
+#[derive(Clone, Copy)]
+enum Arriving {
+    /// A reference picture of this order count, where there is room for so many frames.
+    Reference(i32, usize),
+
+    /// A picture that is none.
+    Other(i32, usize),
+
+    /// A frame that stands for a missing frame number.
+    Missing(usize),
+
+    /// A reference picture, one of four for which there is room; one picture may stay needed for output.
+    OneOfFour(i32),
+}
+
 /// What happens to the buffer.
 #[derive(Clone, Copy)]
 enum Step {
     /// A frame of this number is stored, with this mark.
-    Store(u32, Option<Mark>, ArrivingFrame),
+    Store(u32, Option<Mark>, Arriving),
 
     /// The stored frame at this index is unused for reference from now on.
     Unmark(usize),
@@ -32,49 +48,22 @@ const END: u32 = u32::MAX;
 
 const SHORT: Option<Mark> = Some(Mark::Short);
 
-// A reference picture.
-const fn reference(pic_order_cnt: i32, capacity: usize) -> ArrivingFrame {
-    ArrivingFrame {
-        pic_order_cnt,
-        existing: true,
-        is_reference: true,
-        capacity,
-        max_num_reorder_frames: None,
-    }
-}
-
-// A picture that is none.
-const fn other(pic_order_cnt: i32, capacity: usize) -> ArrivingFrame
-    ensures { result.capacity ≡ capacity }
+// Room for 16 frames at most.
+fn frame_of(arriving: Arriving) -> ArrivingFrame
+    ensures { result.capacity ≤ 16 }
 {
+    let (pic_order_cnt, existing, is_reference, capacity, max_num_reorder_frames) = match arriving {
+        Arriving::Reference(order, capacity) => (order, true, true, capacity, None),
+        Arriving::Other(order, capacity) => (order, true, false, capacity, None),
+        Arriving::Missing(capacity) => (0, false, true, capacity, None),
+        Arriving::OneOfFour(order) => (order, true, true, 4, Some(1)),
+    };
     ArrivingFrame {
         pic_order_cnt,
-        existing: true,
-        is_reference: false,
-        capacity,
-        max_num_reorder_frames: None,
-    }
-}
-
-// A frame that stands for a missing frame number.
-const fn missing(capacity: usize) -> ArrivingFrame {
-    ArrivingFrame {
-        pic_order_cnt: 0,
-        existing: false,
-        is_reference: true,
-        capacity,
-        max_num_reorder_frames: None,
-    }
-}
-
-// A reference picture, one of four for which there is room; one picture may stay needed for output.
-const fn one_of_four(pic_order_cnt: i32) -> ArrivingFrame {
-    ArrivingFrame {
-        pic_order_cnt,
-        existing: true,
-        is_reference: true,
-        capacity: 4,
-        max_num_reorder_frames: Some(1),
+        existing,
+        is_reference,
+        capacity: capacity.min(16),
+        max_num_reorder_frames,
     }
 }
 
@@ -147,10 +136,9 @@ fn take_step(
     given: &mut Vec<u32>,
 ) -> Result<(), OutOfMemory> {
     match step {
-        Step::Store(number, mark, arriving) if arriving.capacity <= 16 => {
-            store(alloc, dpb, number, mark, &arriving, given)
+        Step::Store(number, mark, arriving) => {
+            store(alloc, dpb, number, mark, &frame_of(arriving), given)
         }
-        Step::Store(..) => Ok(()),
         Step::Unmark(index) => {
             unmark(dpb, index);
             Ok(())
@@ -192,114 +180,125 @@ fn gives(
     Ok(given.as_slice() == numbers && dpb.frames().len() == stored)
 }
 
-// Room for two frames, none of which is a reference: order counts 0, 4, 2, 2.
-#[test]
-fn by_order_count(rt: HostRuntime) -> Result<(), Fail> {
-    let steps = [
-        Step::Store(0, None, other(0, 2)),
-        Step::Store(1, None, other(4, 2)),
-        Step::Store(2, None, other(2, 2)),
-        Step::Store(3, None, other(2, 2)),
-        Step::Empty,
-    ];
-    let numbers = [END, END, 0, END, 2, END, 3, 1, END];
-    assert!(rt; gives(rt.alloc(), Output::Full, &steps, &numbers, 0)?);
-    Ok(())
-}
+// By name: what happens to a buffer with this output, the numbers that go out, and how many frames are stored then.
+const ROWS: &[(&str, Output, &[Step], &[u32], usize)] = &[
+    // Room for two frames, none of which is a reference: order counts 0, 4, 2, 2.
+    (
+        "by order count",
+        Output::Full,
+        &[
+            Step::Store(0, None, Arriving::Other(0, 2)),
+            Step::Store(1, None, Arriving::Other(4, 2)),
+            Step::Store(2, None, Arriving::Other(2, 2)),
+            Step::Store(3, None, Arriving::Other(2, 2)),
+            Step::Empty,
+        ],
+        &[END, END, 0, END, 2, END, 3, 1, END],
+        0,
+    ),
+    // Room for one frame: the reference picture goes out and stays, and a picture that is none finds
+    // no room until it is unmarked.
+    (
+        "references stay",
+        Output::Full,
+        &[
+            Step::Store(0, SHORT, Arriving::Reference(0, 1)),
+            Step::Store(1, None, Arriving::Other(2, 1)),
+            Step::Unmark(0),
+            Step::Store(2, None, Arriving::Other(4, 1)),
+        ],
+        &[END, 0, 1, END, END, END],
+        1,
+    ),
+    // A frame that stands for a missing number makes room and never goes out; what is dropped
+    // doesn't either.
+    (
+        "never goes out",
+        Output::Full,
+        &[
+            Step::Store(0, None, Arriving::Reference(0, 1)),
+            Step::Store(1, SHORT, Arriving::Missing(1)),
+            Step::Empty,
+            Step::Store(2, None, Arriving::Reference(0, 1)),
+            Step::DropAll,
+            Step::Empty,
+        ],
+        &[END, 0, END, END, END, END, END],
+        0,
+    ),
+    // Frames that have left are handed out once each: one that goes out for another, and all where
+    // the buffer is emptied.
+    (
+        "hands out emptied frames",
+        Output::Full,
+        &[
+            Step::TakeEmptied,
+            Step::Store(0, None, Arriving::Other(0, 2)),
+            Step::Store(1, None, Arriving::Other(4, 2)),
+            Step::Store(2, None, Arriving::Other(2, 2)),
+            Step::TakeEmptied,
+            Step::TakeEmptied,
+            Step::DropAll,
+            Step::TakeEmptied,
+            Step::TakeEmptied,
+            Step::TakeEmptied,
+            Step::Store(3, None, Arriving::Reference(0, 1)),
+            Step::Empty,
+            Step::TakeEmptied,
+        ],
+        &[
+            END, END, END, 0, END, 0, END, END, END, 1, END, 2, END, END, END, 3, END, 3, END,
+        ],
+        0,
+    ),
+    // Order counts 0, 4, 2: no room is needed.
+    (
+        "only where room is needed",
+        Output::Full,
+        &[
+            Step::Store(0, SHORT, Arriving::OneOfFour(0)),
+            Step::Store(1, SHORT, Arriving::OneOfFour(4)),
+            Step::Store(2, SHORT, Arriving::OneOfFour(2)),
+            Step::Empty,
+        ],
+        &[END, END, END, 0, 2, 1, END],
+        0,
+    ),
+    // With early output the second of two that are needed for output goes out later. The frames stay
+    // for reference.
+    (
+        "no more than may stay needed",
+        Output::Early,
+        &[
+            Step::Store(0, SHORT, Arriving::OneOfFour(0)),
+            Step::Store(1, SHORT, Arriving::OneOfFour(4)),
+            Step::Store(2, SHORT, Arriving::OneOfFour(2)),
+        ],
+        &[END, 0, END, 2, END],
+        3,
+    ),
+    // Early too, where no number is given.
+    (
+        "no limit",
+        Output::Early,
+        &[
+            Step::Store(0, SHORT, Arriving::Reference(0, 4)),
+            Step::Store(1, SHORT, Arriving::Reference(4, 4)),
+        ],
+        &[END, END],
+        2,
+    ),
+];
 
-// Room for one frame: the reference picture goes out and stays, and a picture that is none finds no
-// room until it is unmarked.
 #[test]
-fn references_stay(rt: HostRuntime) -> Result<(), Fail> {
-    let steps = [
-        Step::Store(0, SHORT, reference(0, 1)),
-        Step::Store(1, None, other(2, 1)),
-        Step::Unmark(0),
-        Step::Store(2, None, other(4, 1)),
-    ];
-    let numbers = [END, 0, 1, END, END, END];
-    assert!(rt; gives(rt.alloc(), Output::Full, &steps, &numbers, 1)?);
-    Ok(())
-}
-
-// A frame that stands for a missing number makes room and never goes out; what is dropped doesn't
-// either.
-#[test]
-fn never_goes_out(rt: HostRuntime) -> Result<(), Fail> {
-    let steps = [
-        Step::Store(0, None, reference(0, 1)),
-        Step::Store(1, SHORT, missing(1)),
-        Step::Empty,
-        Step::Store(2, None, reference(0, 1)),
-        Step::DropAll,
-        Step::Empty,
-    ];
-    let numbers = [END, 0, END, END, END, END, END];
-    assert!(rt; gives(rt.alloc(), Output::Full, &steps, &numbers, 0)?);
-    Ok(())
-}
-
-// Frames that have left are handed out once each: one that goes out for another, and all where the
-// buffer is emptied.
-#[test]
-fn hands_out_emptied_frames(rt: HostRuntime) -> Result<(), Fail> {
-    let steps = [
-        Step::TakeEmptied,
-        Step::Store(0, None, other(0, 2)),
-        Step::Store(1, None, other(4, 2)),
-        Step::Store(2, None, other(2, 2)),
-        Step::TakeEmptied,
-        Step::TakeEmptied,
-        Step::DropAll,
-        Step::TakeEmptied,
-        Step::TakeEmptied,
-        Step::TakeEmptied,
-        Step::Store(3, None, reference(0, 1)),
-        Step::Empty,
-        Step::TakeEmptied,
-    ];
-    let numbers = [
-        END, END, END, 0, END, 0, END, END, END, 1, END, 2, END, END, END, 3, END, 3, END,
-    ];
-    assert!(rt; gives(rt.alloc(), Output::Full, &steps, &numbers, 0)?);
-    Ok(())
-}
-
-// Order counts 0, 4, 2: no room is needed.
-#[test]
-fn only_where_room_is_needed(rt: HostRuntime) -> Result<(), Fail> {
-    let steps = [
-        Step::Store(0, SHORT, one_of_four(0)),
-        Step::Store(1, SHORT, one_of_four(4)),
-        Step::Store(2, SHORT, one_of_four(2)),
-        Step::Empty,
-    ];
-    let numbers = [END, END, END, 0, 2, 1, END];
-    assert!(rt; gives(rt.alloc(), Output::Full, &steps, &numbers, 0)?);
-    Ok(())
-}
-
-// With early output the second of two that are needed for output goes out later. The frames stay
-// for reference.
-#[test]
-fn no_more_than_may_stay_needed(rt: HostRuntime) -> Result<(), Fail> {
-    let steps = [
-        Step::Store(0, SHORT, one_of_four(0)),
-        Step::Store(1, SHORT, one_of_four(4)),
-        Step::Store(2, SHORT, one_of_four(2)),
-    ];
-    assert!(rt; gives(rt.alloc(), Output::Early, &steps, &[END, 0, END, 2, END], 3)?);
-    Ok(())
-}
-
-// Early too, where no number is given.
-#[test]
-fn no_limit(rt: HostRuntime) -> Result<(), Fail> {
-    let steps = [
-        Step::Store(0, SHORT, reference(0, 4)),
-        Step::Store(1, SHORT, reference(4, 4)),
-    ];
-    assert!(rt; gives(rt.alloc(), Output::Early, &steps, &[END, END], 2)?);
+fn goes_out_at_its_step(rt: HostRuntime) -> Result<(), Fail> {
+    for row in ROWS {
+        let (name, output, steps, numbers, stored) = *row;
+        assert!(rt;
+            gives(rt.alloc(), output, steps, numbers, stored)?,
+            "{name}"
+        );
+    }
     Ok(())
 }
 
@@ -314,9 +313,9 @@ fn frame_without_planes(alloc: Global) -> Result<Frame<PADDING>, OutOfMemory> {
 // Stores a picture and a frame that stands for a missing frame number, and hands out all.
 fn shown(alloc: Global, dpb: &mut Dpb) -> Result<Vec<SharedPicture>, OutOfMemory> {
     let picture = frame(alloc, 16, None)?;
-    dpb.store(picture, &other(0, 2))?;
+    dpb.store(picture, &frame_of(Arriving::Other(0, 2)))?;
     let none = frame_without_planes(alloc)?;
-    dpb.store(none, &other(2, 2))?;
+    dpb.store(none, &frame_of(Arriving::Other(2, 2)))?;
     dpb.empty()
 }
 

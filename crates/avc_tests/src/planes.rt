@@ -6,13 +6,20 @@ use avc_types::OutOfMemory;
 use std::alloc::Global;
 use std::test::Fail;
 
+// A sample that is set in new planes, the one beside it, and how long a row of Cr is.
+fn set_in_new(alloc: Global) -> Result<(u8, u8, usize), OutOfMemory> {
+    let mut planes = Planes::<0>::new(alloc, 2, 1)?;
+    planes.luma.set(31, 15, 7);
+    Ok((
+        planes.luma.get(31, 15),
+        planes.luma.get(30, 15),
+        planes.cr.row(7).len(),
+    ))
+}
+
 #[test]
 fn keeps_what_is_set(rt: HostRuntime) -> Result<(), Fail> {
-    let mut planes = Planes::<0>::new(rt.alloc(), 2, 1)?;
-    planes.luma.set(31, 15, 7);
-    assert_eq!(rt; planes.luma.get(31, 15), 7);
-    assert_eq!(rt; planes.luma.get(30, 15), 0);
-    assert_eq!(rt; planes.cr.row(7).len(), 16);
+    assert_eq!(rt; set_in_new(rt.alloc())?, (7, 0, 16));
     Ok(())
 }
 
@@ -63,11 +70,15 @@ fn left_and_new(alloc: Global, spare: &mut SparePlanes<4>) -> Result<[u8; 3], Ou
     Ok([left, other, new])
 }
 
+fn left_and_new_of_none(alloc: Global) -> Result<[u8; 3], OutOfMemory> {
+    let mut spare = SparePlanes::<4>::new();
+    left_and_new(alloc, &mut spare)
+}
+
 // Planes that are left over are taken where they have the size, and as they are.
 #[test]
 fn takes_spare_planes(rt: HostRuntime) -> Result<(), Fail> {
-    let mut spare = SparePlanes::<4>::new();
-    assert_eq!(rt; left_and_new(rt.alloc(), &mut spare)?, [7, 0, 0]);
+    assert_eq!(rt; left_and_new_of_none(rt.alloc())?, [7, 0, 0]);
     Ok(())
 }
 
@@ -80,10 +91,14 @@ fn new_and_held(alloc: Global, spare: &mut SparePlanes<4>) -> Result<[u8; 2], Ou
     Ok([new, left])
 }
 
+fn new_and_held_of_none(alloc: Global) -> Result<[u8; 2], OutOfMemory> {
+    let mut spare = SparePlanes::<4>::new();
+    new_and_held(alloc, &mut spare)
+}
+
 // Planes that another holds wait until that one has let go.
 #[test]
 fn leaves_planes_that_are_held(rt: HostRuntime) -> Result<(), Fail> {
-    let mut spare = SparePlanes::<4>::new();
-    assert_eq!(rt; new_and_held(rt.alloc(), &mut spare)?, [0, 7]);
+    assert_eq!(rt; new_and_held_of_none(rt.alloc())?, [0, 7]);
     Ok(())
 }

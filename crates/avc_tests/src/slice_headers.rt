@@ -4,7 +4,8 @@
 // N`), the test ends in that error, and not at an assertion.
 use avc_params::ParamTable;
 use avc_slice::{SliceType, read_header};
-use avc_types::Fault;
+use avc_types::{Fault, OutOfMemory};
+use std::alloc::Global;
 use std::test::Fail;
 
 // 16x16 luma samples, order count type 2, one reference frame
@@ -30,25 +31,36 @@ fn read(rbsp: &[u8], table: &ParamTable) -> Result<Fields, Fault> {
     }
 }
 
+// Whether both sets are taken, and three headers: without the sequence parameter set, and two under both sets.
+type Read = ((bool, bool), [Result<Fields, Fault>; 3]);
+
+// A P slice without the sequence parameter set and with it, and two modifications of one entry.
+fn read_under_both(table: &mut ParamTable) -> Result<Read, OutOfMemory> {
+    let is_pps_taken = table.put_pps(&PPS)?.is_none();
+    let without = read(&[0x9A, 0x22, 0xA0], table);
+    let is_sps_taken = table.put_sps(&SPS)?.is_none();
+    let plain = read(&[0x9A, 0x22, 0xA0], table);
+    let modified = read(&[0x9A, 0x2F, 0x91, 0x80], table);
+    Ok(((is_pps_taken, is_sps_taken), [without, plain, modified]))
+}
+
+fn read_in(alloc: Global) -> Result<Read, OutOfMemory> {
+    let mut table = ParamTable::new(alloc);
+    read_under_both(&mut table)
+}
+
 #[test]
 fn reads_under_the_sets_that_were_put(rt: HostRuntime) -> Result<(), Fail> {
-    let mut table = ParamTable::new(rt.alloc());
-    assert!(rt; table.put_pps(&PPS)?.is_none());
     assert_eq!(rt;
-        read(&[0x9A, 0x22, 0xA0], &table),
-        Err(Fault::NoParameterSet),
-        "a picture parameter set without its sequence parameter set"
-    );
-    assert!(rt; table.put_sps(&SPS)?.is_none());
-    assert_eq!(rt;
-        read(&[0x9A, 0x22, 0xA0], &table),
-        Ok((SliceType::AllP, 1, 1, 0, 15)),
-        "a P slice"
-    );
-    assert_eq!(rt;
-        read(&[0x9A, 0x2F, 0x91, 0x80], &table),
-        Err(Fault::BadRefList),
-        "two modifications of one entry"
+        read_in(rt.alloc())?,
+        (
+            (true, true),
+            [
+                Err(Fault::NoParameterSet),
+                Ok((SliceType::AllP, 1, 1, 0, 15)),
+                Err(Fault::BadRefList)
+            ]
+        )
     );
     Ok(())
 }

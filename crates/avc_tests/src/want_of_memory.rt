@@ -92,27 +92,44 @@ fn put_sets(table: &mut ParamTable) -> Result<(), OutOfMemory> {
 }
 
 // Whether a picture of these sets begins.
+fn begins_in(
+    alloc: Global,
+    sps: &Sps,
+    pps: &Pps,
+    memory: &mut PictureMemory<32>,
+) -> Result<bool, OutOfMemory>
+    requires sps { IsSps sps.now }
+    requires pps { IsPps pps.now }
+{
+    let picture = PictureDecoder::<32>::begin(alloc, sps, pps, &[], memory)?;
+    Ok(picture.read() == 0)
+}
+
 fn begins(alloc: Global, sps: &Sps, pps: &Pps) -> Result<bool, OutOfMemory>
     requires sps { IsSps sps.now }
     requires pps { IsPps pps.now }
 {
     let mut memory = PictureMemory::new();
-    let picture = given!(PictureDecoder::<32>::begin(alloc, sps, pps, &[], &mut memory))?;
-    Ok(picture.read() == 0)
+    given!(begins_in(alloc, sps, pps, &mut memory))
+}
+
+// The same of the sets that a table is given.
+fn begins_under(alloc: Global, table: &mut ParamTable) -> Result<bool, OutOfMemory> {
+    put_sets(table)?;
+    match (table.sps(0), table.pps(0)) {
+        (Some(sps), Some(pps)) => begins(alloc, sps, pps),
+        _ => Ok(false),
+    }
+}
+
+fn begins_under_new(alloc: Global) -> Result<bool, OutOfMemory> {
+    let mut table = ParamTable::new(alloc);
+    begins_under(alloc, &mut table)
 }
 
 #[test]
 fn pictures_begin_anew(rt: HostRuntime) -> Result<(), Fail> {
-    let alloc = rt.alloc();
-    let mut table = ParamTable::new(alloc);
-    put_sets(&mut table)?;
-    let mut is_begun = false;
-    if let Some(sps) = table.sps(0) {
-        if let Some(pps) = table.pps(0) {
-            is_begun = begins(alloc, sps, pps)?;
-        }
-    }
-    assert!(rt; is_begun);
+    assert!(rt; begins_under_new(rt.alloc())?);
     Ok(())
 }
 
@@ -127,20 +144,31 @@ fn units_of(splitter: &mut Splitter<1000>) -> Result<[bool; 4], OutOfMemory> {
     Ok([first, second, third, fourth])
 }
 
+// Whether a splitter that wanted memory wants it whatever is asked.
+fn is_stopped(splitter: &mut Splitter<1000>) -> bool {
+    splitter.feed(&[]).is_err() && splitter.finish().is_err() && splitter.next_unit().is_none()
+}
+
+// The units, or where memory is wanted, whether it is so from then on.
+fn units_or_stop(splitter: &mut Splitter<1000>) -> Result<[bool; 4], bool> {
+    match units_of(splitter) {
+        Ok(units) => Ok(units),
+        Err(_) => Err(is_stopped(splitter)),
+    }
+}
+
+fn units_in(alloc: Global) -> Result<[bool; 4], bool> {
+    let mut splitter = Splitter::<1000>::new(alloc);
+    units_or_stop(&mut splitter)
+}
+
 #[test]
 fn splitters_want_memory_from_then_on(rt: HostRuntime) -> Result<(), Fail> {
-    let mut splitter = Splitter::<1000>::new(rt.alloc());
-    let units = match units_of(&mut splitter) {
-        Ok(units) => units,
-        Err(_) => {
-            assert!(rt; splitter.feed(&[]).is_err());
-            assert!(rt; splitter.finish().is_err());
-            assert!(rt; splitter.next_unit().is_none());
-            let mut anew = Splitter::<1000>::new(rt.alloc());
-            units_of(&mut anew)?
-        }
+    let units = match units_in(rt.alloc()) {
+        Err(true) => units_in(rt.alloc()),
+        first => first,
     };
-    assert_eq!(rt; units, [true, true, true, false]);
+    assert_eq!(rt; units, Ok([true, true, true, false]));
     Ok(())
 }
 
@@ -165,13 +193,23 @@ fn put_pps_anew(table: &mut ParamTable) -> Result<bool, OutOfMemory> {
     Ok(is_none)
 }
 
+// Whether each was so, and whether both are in force then.
+fn put_anew(table: &mut ParamTable) -> Result<[bool; 4], OutOfMemory> {
+    let is_sps_none = put_sps_anew(table)?;
+    let is_pps_none = put_pps_anew(table)?;
+    let has_sps = table.sps(0).is_some();
+    let has_pps = table.pps(0).is_some();
+    Ok([is_sps_none, is_pps_none, has_sps, has_pps])
+}
+
+fn put_in_new(alloc: Global) -> Result<[bool; 4], OutOfMemory> {
+    let mut table = ParamTable::new(alloc);
+    put_anew(&mut table)
+}
+
 #[test]
 fn tables_stay_as_they_are(rt: HostRuntime) -> Result<(), Fail> {
-    let mut table = ParamTable::new(rt.alloc());
-    assert!(rt; put_sps_anew(&mut table)?);
-    assert!(rt; put_pps_anew(&mut table)?);
-    assert!(rt; table.sps(0).is_some());
-    assert!(rt; table.pps(0).is_some());
+    assert_eq!(rt; put_in_new(rt.alloc())?, [true; 4]);
     Ok(())
 }
 
@@ -185,14 +223,25 @@ fn writes(maker: &mut BitMaker) -> bool {
     true
 }
 
+// Whether it writes them, or where memory is wanted, whether it is so from then on.
+fn writes_or_stops(maker: &mut BitMaker) -> Result<(), bool> {
+    if writes(maker) {
+        return Ok(());
+    }
+    Err(maker.flag(true).is_err() && maker.put(0, 0).is_err())
+}
+
+fn writes_in(alloc: Global) -> Result<(), bool> {
+    let mut maker = BitMaker::new(alloc);
+    writes_or_stops(&mut maker)
+}
+
 #[test]
 fn bit_makers_want_memory_from_then_on(rt: HostRuntime) -> Result<(), Fail> {
-    let mut maker = BitMaker::new(rt.alloc());
-    if !writes(&mut maker) {
-        assert!(rt; maker.flag(true).is_err());
-        assert!(rt; maker.put(0, 0).is_err());
-        let mut anew = BitMaker::new(rt.alloc());
-        assert!(rt; writes(&mut anew));
-    }
+    let written = match writes_in(rt.alloc()) {
+        Err(true) => writes_in(rt.alloc()),
+        first => first,
+    };
+    assert_eq!(rt; written, Ok(()));
     Ok(())
 }

@@ -94,15 +94,25 @@ fn fault_of_size(alloc: Global, width: u16, height: u16) -> Result<Option<Fault>
     }
 }
 
+// Of three sizes that are taken, and three that are not.
+fn faults_of_sizes(alloc: Global) -> Result<[Option<Fault>; 6], Fail> {
+    Ok([
+        fault_of_size(alloc, 1055, 132)?,
+        fault_of_size(alloc, 544, 1)?,
+        fault_of_size(alloc, 1, 1055)?,
+        fault_of_size(alloc, 1055, 133)?,
+        fault_of_size(alloc, 1056, 1)?,
+        fault_of_size(alloc, 4096, 4096)?,
+    ])
+}
+
 #[test]
 fn writes_sizes_that_are_not_taken(rt: HostRuntime) -> Result<(), Fail> {
     let refused = Some(Fault::PictureSize);
-    assert_eq!(rt; fault_of_size(rt.alloc(), 1055, 132)?, None);
-    assert_eq!(rt; fault_of_size(rt.alloc(), 544, 1)?, None);
-    assert_eq!(rt; fault_of_size(rt.alloc(), 1, 1055)?, None);
-    assert_eq!(rt; fault_of_size(rt.alloc(), 1055, 133)?, refused);
-    assert_eq!(rt; fault_of_size(rt.alloc(), 1056, 1)?, refused);
-    assert_eq!(rt; fault_of_size(rt.alloc(), 4096, 4096)?, refused);
+    assert_eq!(rt;
+        faults_of_sizes(rt.alloc())?,
+        [None, None, None, refused, refused, refused]
+    );
     Ok(())
 }
 
@@ -141,19 +151,23 @@ fn only_slice(macroblocks: Macroblocks) -> CodedSlice
     }
 }
 
+// Whether there are the header, 256, 64 and 64 samples, and the stop bit.
+fn is_pcm_slice(unit: &[u8]) -> bool {
+    unit.len() == 390
+        && &unit[..5] == [0x65, 0x88, 0x84, 0x86, 0x80].as_slice()
+        && &unit[5..261] == [0x11; 256].as_slice()
+        && &unit[261..325] == [0x40; 64].as_slice()
+        && &unit[325..389] == [0xC0; 64].as_slice()
+        && unit[389] == 0x80
+}
+
 #[test]
 fn writes_a_slice(rt: HostRuntime) -> Result<(), Fail> {
     let mut list = Vec::new(rt.alloc());
     add(&mut list, 26, i_pcm())?;
     let slice = only_slice(Macroblocks::from_vec(list));
     let unit = write_slice(rt.alloc(), &slice)?;
-    let unit = unit.as_slice();
-    assert_eq!(rt; unit.len(), 390);
-    assert_eq!(rt; &unit[..5], [0x65, 0x88, 0x84, 0x86, 0x80].as_slice());
-    assert_eq!(rt; &unit[5..261], [0x11; 256].as_slice());
-    assert_eq!(rt; &unit[261..325], [0x40; 64].as_slice());
-    assert_eq!(rt; &unit[325..389], [0xC0; 64].as_slice());
-    assert_eq!(rt; unit[389], 0x80);
+    assert!(rt; is_pcm_slice(&unit));
     Ok(())
 }
 

@@ -4,7 +4,6 @@ pub use Rattle.std.proofs.Common.{Some, rules, negsuc, pos, ◌+◌}
 pub use Rattle.std.proofs.lemmas.Int.{ints}
 pub use Rattle.std.specs.List.{range_with_len}
 pub use Rattle.std.specs.Prelude.{◌==◌, nat_abs, replicate}
-pub use Rattle.avc_annexb.specs.SplitterState.{units_waiting}
 pub use Rattle.avc_make.specs.DataWriting.{CanFollow}
 pub use Rattle.avc_make.specs.MbWriting.{qp_of, IsMvd, IsRefIdx, has_ref_idx, AreBlocks}
 pub use Rattle.avc_make.specs.SliceMbs.{IsCodedSlice, earlier_mbs, own_start}
