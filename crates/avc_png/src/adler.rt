@@ -5,8 +5,8 @@ ghost use Rattle.avc_png.specs.Checksums.{adler_32};
 
 const MODULUS: u32 = 65_521;
 
-// Adler-32 of these bytes.
-pub(crate) fn adler_32(bytes: &[u8]) -> u32
+/// Adler-32 of these bytes.
+pub fn adler_32(bytes: &[u8]) -> u32
     ensures { result ≡ adler_32 bytes.now }
 {
     let mut low = 1;

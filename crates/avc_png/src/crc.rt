@@ -8,8 +8,8 @@ const POLYNOMIAL: u32 = 0xEDB8_8320;
 // How many values a byte has.
 const BYTES: usize = 256;
 
-// CRC-32 of the first bytes, the second and the third, one behind another.
-pub(crate) fn crc_32(first: &[u8], second: &[u8], third: &[u8]) -> u32
+/// CRC-32 of the first bytes, the second and the third, one behind another.
+pub fn crc_32(first: &[u8], second: &[u8], third: &[u8]) -> u32
     ensures { result ≡ crc_32 (first.now ++ second.now ++ third.now) }
 {
     let table = table();

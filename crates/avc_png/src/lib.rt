@@ -9,8 +9,7 @@ mod image;
 mod scanline;
 mod zlib;
 
+pub use adler::adler_32;
 pub use colour::Conversion;
+pub use crc::crc_32;
 pub use image::{has_png_size, to_png};
-
-#[cfg(test)]
-mod tests;

@@ -58,16 +58,29 @@ fn run_into(
     }
 }
 
+// The least room, up to that of the picture, that is not filled before a write fails.
+fn first_unfilled(
+    alloc: Global,
+    bytes: &[u8],
+    piece: usize,
+    refusal: Refusal,
+) -> Result<usize, RunFault> {
+    for room in 0..384usize {
+        if run_into(alloc, bytes, room, piece, refusal)? != (Some(RunFault::Write), 0) {
+            return Ok(room);
+        }
+    }
+    Ok(384)
+}
+
 #[test]
 fn ends_where_a_write_fails(rt: HostRuntime) -> Result<(), Fail> {
     let alloc = rt.alloc();
     let bytes = joined(alloc, &[SMALL, PLAIN, FIRST, GREY])?;
     for (piece, refusal) in [(1, Refusal::Error), (65_536, Refusal::Zero)] {
-        for room in 0..384usize {
-            let ended = run_into(alloc, &bytes, room, piece, refusal)?;
-            assert_eq!(rt; ended, (Some(RunFault::Write), 0), "{room}");
-        }
-        assert_eq!(rt; run_into(alloc, &bytes, 384, piece, refusal)?, (None, 0));
+        let unfilled = first_unfilled(alloc, &bytes, piece, refusal)?;
+        let ended = run_into(alloc, &bytes, 384, piece, refusal)?;
+        assert_eq!(rt; (unfilled, ended), (384, (None, 0)));
     }
     Ok(())
 }
@@ -123,16 +136,21 @@ fn pictures_by(alloc: Global, output: Output, bytes: &[u8]) -> Result<(usize, us
     Ok((seen.before.pictures, seen.after.pictures))
 }
 
+// The same of these parts, with full output and with early output.
+fn pictures_by_both(alloc: Global, parts: &[&[u8]]) -> Result<[(usize, usize); 2], Fail> {
+    let bytes = joined(alloc, parts)?;
+    let full = pictures_by(alloc, Output::Full, &bytes)?;
+    let early = pictures_by(alloc, Output::Early, &bytes)?;
+    Ok([full, early])
+}
+
 #[test]
 fn early_pictures_do_not_wait(rt: HostRuntime) -> Result<(), Fail> {
     let alloc = rt.alloc();
-    let one = joined(alloc, &[NO_REORDERING, PLAIN, PLAIN_IDR, DELIMITER])?;
-    assert_eq!(rt; pictures_by(alloc, Output::Full, &one)?, (0, 1));
-    assert_eq!(rt; pictures_by(alloc, Output::Early, &one)?, (1, 0));
-    let three = joined(alloc, &[ORDER_TYPE_0, PLAIN, THREE_PICTURES])?;
-    let full = pictures_by(alloc, Output::Full, &three)?;
-    assert_eq!(rt; full.0.saturating_add(full.1), 3);
-    assert_eq!(rt; pictures_by(alloc, Output::Early, &three)?, full);
+    let one = pictures_by_both(alloc, &[NO_REORDERING, PLAIN, PLAIN_IDR, DELIMITER])?;
+    assert_eq!(rt; one, [(0, 1), (1, 0)]);
+    let [full, early] = pictures_by_both(alloc, &[ORDER_TYPE_0, PLAIN, THREE_PICTURES])?;
+    assert_eq!(rt; (full.0.saturating_add(full.1), early), (3, full));
     Ok(())
 }
 
@@ -150,24 +168,24 @@ const LONG_TERM: &[u8] = &[
     0x3D, 0xF2, 0x62, 0x80, 0, 0x80, 0x36, 0, 0, 1, 1, 0xB9, 0x11, 0x26, 0x28, 0, 8, 0x0D, 0x60,
 ];
 
-// How many pictures it gives; where an allocation is refused, after a reset, and none where it has
-// gone on without one.
-fn pictures_in(alloc: Global, bytes: &[u8]) -> Result<usize, DecodeError> {
-    let seen = seen_again(alloc, bytes, 10)?;
+// How many pictures these parts give; where an allocation is refused, after a reset, and none where
+// it has gone on without one.
+fn pictures_in(alloc: Global, parts: &[&[u8]]) -> Result<usize, Fail> {
+    let bytes = joined(alloc, parts)?;
+    let seen = seen_again(alloc, &bytes, 10)?;
     Ok(seen.before.pictures.saturating_add(seen.after.pictures))
 }
 
 #[test]
 fn decodes_again_after_want_of_memory(rt: HostRuntime) -> Result<(), Fail> {
     let alloc = rt.alloc();
-    let idr = joined(alloc, &[SMALL, PLAIN, FIRST, GREY])?;
-    assert_eq!(rt; pictures_in(alloc, &idr)?, 1);
-    let gap = joined(
+    let idr = pictures_in(alloc, &[SMALL, PLAIN, FIRST, GREY])?;
+    let gap = pictures_in(
         alloc,
         &[GAPS_ALLOWED, PLAIN, PLAIN_IDR, AFTER_GAP, NEXT_IDR],
     )?;
-    assert_eq!(rt; pictures_in(alloc, &gap)?, 2);
-    assert_eq!(rt; pictures_in(alloc, LONG_TERM)?, 3);
+    let long_term = pictures_in(alloc, &[LONG_TERM])?;
+    assert_eq!(rt; [idr, gap, long_term], [1, 2, 3]);
     Ok(())
 }
 

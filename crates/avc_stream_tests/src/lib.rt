@@ -16,6 +16,8 @@ mod limited_writer;
 #[cfg(test)]
 mod macroblock_positions;
 #[cfg(test)]
+mod png_files;
+#[cfg(test)]
 mod stream_texts;
 #[cfg(test)]
 mod worked_streams;

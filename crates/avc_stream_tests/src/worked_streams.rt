@@ -70,14 +70,9 @@ fn one_picture_comes_at_the_end(rt: HostRuntime) -> Result<(), Fail> {
     let alloc = rt.alloc();
     let with_zeros = joined(alloc, &[FIRST, &[0, 0]])?;
     for piece in [1, 7, 1000] {
-        assert_eq!(rt;
-            events_of(alloc, Output::Full, FIRST, piece, 128)?,
-            ([(0, 0), (1, 0)], 1)
-        );
-        assert_eq!(rt;
-            events_of(alloc, Output::Full, &with_zeros, piece, 128)?,
-            ([(0, 0), (1, 0)], 1)
-        );
+        let plain = events_of(alloc, Output::Full, FIRST, piece, 128)?;
+        let longer = events_of(alloc, Output::Full, &with_zeros, piece, 128)?;
+        assert_eq!(rt; [plain, longer], [([(0, 0), (1, 0)], 1); 2]);
     }
     Ok(())
 }
@@ -88,26 +83,27 @@ fn one_picture_comes_at_the_end(rt: HostRuntime) -> Result<(), Fail> {
 fn one_frame_is_held(rt: HostRuntime) -> Result<(), Fail> {
     let alloc = rt.alloc();
     for piece in [1, 1000] {
+        let full = events_of(alloc, Output::Full, ONE_HELD, piece, 128)?;
+        let early = events_of(alloc, Output::Early, ONE_HELD, piece, 128)?;
         assert_eq!(rt;
-            events_of(alloc, Output::Full, ONE_HELD, piece, 128)?,
-            ([(1, 0), (1, 0)], 2)
-        );
-        assert_eq!(rt;
-            events_of(alloc, Output::Early, ONE_HELD, piece, 128)?,
-            ([(2, 0), (0, 0)], 2)
+            [full, early],
+            [([(1, 0), (1, 0)], 2), ([(2, 0), (0, 0)], 2)]
         );
     }
     Ok(())
 }
 
-// The first picture is dropped by the flag of the second, whose samples are all 0x50.
+// The rising picture, and a second whose samples are all 0x50.
+fn both_pcm(alloc: Global) -> Result<Vec<u8>, AllocError> {
+    let rising = rising(alloc)?;
+    joined(alloc, &[rising.as_slice(), SECOND_PCM, &[0x50; 384], STOP])
+}
+
+// The first picture is dropped by the flag of the second.
 #[test]
 fn the_second_drops_the_first(rt: HostRuntime) -> Result<(), Fail> {
     let alloc = rt.alloc();
-    let rising = rising(alloc)?;
-    let first = rising.as_slice();
-    let second = [0x50; 384];
-    let bytes = joined(alloc, &[first, SECOND_PCM, &second, STOP])?;
+    let bytes = both_pcm(alloc)?;
     assert_eq!(rt;
         events_of(alloc, Output::Full, &bytes, 1000, 0x50)?,
         ([(0, 0), (1, 0)], 2)
@@ -246,9 +242,11 @@ fn steps_in(alloc: Global) -> Result<[(bool, u8); 4], OutOfMemory> {
 // closes it.
 #[test]
 fn units_are_grouped(rt: HostRuntime) -> Result<(), Fail> {
-    let steps = steps_in(rt.alloc())?;
-    assert_eq!(rt; [steps[0].1, steps[1].1], [0, 0]);
-    assert_eq!(rt; [steps[2], steps[3]], [(false, 4), (true, 0)]);
+    let [sps, pps, slice, delimiter] = steps_in(rt.alloc())?;
+    assert_eq!(rt;
+        (sps.1, pps.1, slice, delimiter),
+        (0, 0, (false, 4), (true, 0))
+    );
     Ok(())
 }
 
@@ -305,23 +303,33 @@ fn rising(alloc: Global) -> Result<Vec<u8>, AllocError> {
     Ok(bytes)
 }
 
+// The ends of three runs: reading fails behind all bytes; nothing fails; and of the first stream the
+// writer takes 100 bytes and then answers 0.
+fn ends_of_runs(
+    alloc: Global,
+    bytes: &[u8],
+) -> Result<[(Option<RunFault>, usize, usize); 3], RunFault> {
+    let mut failing = FailingReader { bytes };
+    let read = run_from(alloc, &mut failing, 1000)?;
+    let mut whole = bytes;
+    let none = run_from(alloc, &mut whole, 1000)?;
+    let mut first = FIRST;
+    let written = run_from(alloc, &mut first, 100)?;
+    Ok([read, none, written])
+}
+
 // Where reading fails behind all bytes nothing is written, since the end of the last unit is not
 // seen; where the writer takes 100 bytes of 128 and then answers 0, these are written.
 #[test]
 fn a_run_ends_at_a_fault(rt: HostRuntime) -> Result<(), Fail> {
-    let alloc = rt.alloc();
-    let bytes = rising(alloc)?;
-    let mut failing = FailingReader { bytes: &bytes };
+    let bytes = rising(rt.alloc())?;
     assert_eq!(rt;
-        run_from(alloc, &mut failing, 1000)?,
-        (Some(RunFault::Read), 1000, 0)
-    );
-    let mut whole = bytes.as_slice();
-    assert_eq!(rt; run_from(alloc, &mut whole, 1000)?, (None, 616, 1));
-    let mut first = FIRST;
-    assert_eq!(rt;
-        run_from(alloc, &mut first, 100)?,
-        (Some(RunFault::Write), 0, 100)
+        ends_of_runs(rt.alloc(), &bytes)?,
+        [
+            (Some(RunFault::Read), 1000, 0),
+            (None, 616, 1),
+            (Some(RunFault::Write), 0, 100)
+        ]
     );
     Ok(())
 }
