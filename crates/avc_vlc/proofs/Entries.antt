@@ -227,6 +227,23 @@ indexed_table {A} each tail rows tables k none is there =
           ∙ get_or-map (map (map Some)) tables k none [] there;
     }
 
+-- the rows have the words of the table
+pub is_written : {A : Type 0} {same : A → A → Bool} {table : Table A} {tail : ℕ} {rows : List (List (Entry A))} →
+    map (λ row. map (entry_word same table) row) rows ≡ map (λ r. map (λ c. place_word tail r.0 c.0 c.1) (enumerate_from 0 r.1)) (enumerate_from 0 rows) →
+    list_all (λ entry. list_any (λ row. list_any (holds same entry.1) row) rows) table ≡ true → IsWritten same table tail rows
+is_written words whole = record { words = words; whole = whole }
+
+-- the rows of one of several tables have its words
+pub written_table : {A : Type 0} (same : A → A → Bool) (each : ℕ → Table A) (tail : ℕ) (tables : List (List (List (Entry A)))) (k : ℕ) (none : List (List (Entry A))) →
+    AreWritten same each tail tables → k < length tables → IsWritten same (each k) tail (get_or tables k none)
+written_table same each tail [] k none are there = absurd (omega arith)
+written_table same each tail (rows ∷ tables) zero none are there = are.0
+written_table same each tail (rows ∷ tables) (suc k) none are there = written_table same (λ i. each (suc i)) tail tables k none are.1 (omega arith)
+
+-- behind the last row there is none
+pub row_past : (rows : List (List (ℕ × ℕ))) (k : ℕ) → length rows ≤ k → row_at rows k ≡ []
+row_past rows k past = ap (λ r. elim r [ Some row ↦ row | None ↦ [] ]) (slice_get_past rows k past)
+
 -- the entry of three bits in one of several tables
 pub front_entry : {A : Type 0} (each : ℕ → Table A) (tables : List (List (Entry A))) (k n : ℕ) (ahead : List Bool) (none : List (Entry A)) (e : Entry A) → AreFronts each tables → k < length tables → n < 8 → n < length (get_or tables k none) →
     IsFrontOf ahead 3 n → Decides (each k) ahead (get_or (get_or tables k none) n e)
@@ -469,24 +486,6 @@ six_found t number small here =
     ∙ ap (λ l. get_or l number None) six_words
     ∙ get_or-map-range_with_len (λ n. elim (six_bit_entry n).value [ None ↦ None | Some own ↦ Some (bits_of 6 n) ]) 0 64 number number None small (omega arith) in
     held is_token_same t tokens_8 (six_bit_entry number) (bits_of 6 number) token_is_same placed here
-
--- ---- the classes of nC
-
-pub class_0 : (nc : ℤ) → pos 0 ≤ℤ nc → nc <ℤ pos 2 → token_table nc ≡ tokens coeff_token_0
-class_0 (negsuc n) low high = absurd (omega (arith, ints))
-class_0 (pos n) low high = rw (lt-ltb n 2 (omega (arith, ints))) refl
-
-pub class_2 : (nc : ℤ) → pos 2 ≤ℤ nc → nc <ℤ pos 4 → token_table nc ≡ tokens coeff_token_2
-class_2 (negsuc n) low high = absurd (omega (arith, ints))
-class_2 (pos n) low high = rw (le-ltb n 2 (omega (arith, ints)), lt-ltb n 4 (omega (arith, ints))) refl
-
-pub class_4 : (nc : ℤ) → pos 4 ≤ℤ nc → nc <ℤ pos 8 → token_table nc ≡ tokens coeff_token_4
-class_4 (negsuc n) low high = absurd (omega (arith, ints))
-class_4 (pos n) low high = rw (le-ltb n 2 (omega (arith, ints)), le-ltb n 4 (omega (arith, ints)), lt-ltb n 8 (omega (arith, ints))) refl
-
-pub class_chroma_dc : (nc : ℤ) → nc <ℤ pos 0 → token_table nc ≡ tokens coeff_token_chroma_dc
-class_chroma_dc (negsuc n) high = refl
-class_chroma_dc (pos n) high = absurd (omega (arith, ints))
 
 -- a number of so many bits is that of its bits
 pub number_own : (n number : ℕ) (bits : List Bool) → number < 2 ^ n → bits_of n number ≡ bits → number ≡ number_of bits

@@ -192,3 +192,8 @@ place_word tail row column entry = elim entry.value [ None ↦ None | Some own �
 pub record IsWritten {A : Type 0} (same : A → A → Bool) (table : Table A) (tail : ℕ) (rows : List (List (Entry A))) : Type 0 where
   pub words : map (λ row. map (entry_word same table) row) rows ≡ map (λ r. map (λ c. place_word tail r.0 c.0 c.1) (enumerate_from 0 r.1)) (enumerate_from 0 rows)
   pub whole : list_all (λ entry. list_any (λ row. list_any (holds same entry.1) row) rows) table ≡ true
+
+-- the rows of each of the tables in the list have the words of its table
+abbrev pub AreWritten : {A : Type 0} → (same : A → A → Bool) → (each : ℕ → Table A) → (tail : ℕ) → List (List (List (Entry A))) → Type 0
+AreWritten same each tail [] = Unit {0}
+AreWritten same each tail (rows ∷ tables) = IsWritten same (each 0) tail rows × AreWritten same (λ k. each (suc k)) tail tables

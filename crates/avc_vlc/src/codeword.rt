@@ -1,5 +1,5 @@
 //! Codewords as they are written: those of the tables that are read (9.2.1, 9.2.3).
-ghost use Rattle.std.specs.Prelude.{◌≡◌, ◌≤◌, ◌<◌, ◌^◌, length};
+ghost use Rattle.std.specs.Prelude.{◌≡◌, ◌≤◌, ◌<◌, ◌^◌, ℕ, length};
 
 use crate::entry::{Coded, Entry, column_of};
 
@@ -16,7 +16,7 @@ pub struct Codeword {
 impl Codeword {
     ghost use Rattle.std.specs.Option.{option_map};
     ghost use Rattle.avc_vlc.specs.Reading.{Table};
-    ghost use Rattle.avc_vlc.specs.Indexing.{AreShort, IsWritten, word_at};
+    ghost use Rattle.avc_vlc.specs.Indexing.{AreShort, AreWithin, AreWritten, IsWritten, word_at};
     ghost use Rattle.avc_vlc.specs.Writing.{word_bits, word_of};
 
     // the word of a place in a table whose columns have so many bits
@@ -54,5 +54,21 @@ impl Codeword {
             }
         }
         None
+    }
+    // the codeword of a value, where one of several tables has it
+    pub(crate) fn in_table<V: Coded, const N: usize, const ROWS: usize>(
+        tables: &[[[Entry<V>; N]; ROWS]],
+        table: usize,
+        tail: u32,
+        value: V,
+    ) -> Option<Codeword>
+        requires there { table < length tables.now }
+        requires rows { ROWS ≤ 16 }
+        requires tail { tail ≤ 3 }
+        requires columns { N ≡ 2 ^ tail }
+        requires short { AreWithin 16 tables.now }
+        ensures { (each : ℕ → Table V) → AreWritten V.same each tail tables.now → option_map word_bits result ≡ word_of (V.same value) (each table) }
+    {
+        Codeword::of(&tables[table], tail, value)
     }
 }

@@ -106,14 +106,8 @@ fn read_coded(reader: &mut BitReader, entry: Entry<Token>, nc: i8) -> Result<Tok
 pub fn coeff_token_word(nc: i8, token: Token) -> Option<Codeword>
     ensures { option_map word_bits result ≡ token_word nc token }
 {
-    if nc < 0 {
-        Codeword::of(&TOKENS[3], 3, token)
-    } else if nc < 2 {
-        Codeword::of(&TOKENS[0], 3, token)
-    } else if nc < 4 {
-        Codeword::of(&TOKENS[1], 3, token)
-    } else if nc < 8 {
-        Codeword::of(&TOKENS[2], 3, token)
+    if nc < 8 {
+        Codeword::in_table(&TOKENS, class_of(nc), 3, token)
     } else {
         six_bit_word(token)
     }

@@ -154,23 +154,11 @@ pub fn total_zeros_word(total: u8, chroma_dc: bool, zeros: u8) -> Option<Codewor
 fn word_4x4(total: u8, zeros: u8) -> Option<Codeword>
     ensures { option_map word_bits result ≡ zeros_word total false zeros }
 {
-    match total {
-        0..=1 => Codeword::of(&TOTAL_ZEROS[0], 2, zeros),
-        2 => Codeword::of(&TOTAL_ZEROS[1], 2, zeros),
-        3 => Codeword::of(&TOTAL_ZEROS[2], 2, zeros),
-        4 => Codeword::of(&TOTAL_ZEROS[3], 2, zeros),
-        5 => Codeword::of(&TOTAL_ZEROS[4], 2, zeros),
-        6 => Codeword::of(&TOTAL_ZEROS[5], 2, zeros),
-        7 => Codeword::of(&TOTAL_ZEROS[6], 2, zeros),
-        8 => Codeword::of(&TOTAL_ZEROS[7], 2, zeros),
-        9 => Codeword::of(&TOTAL_ZEROS[8], 2, zeros),
-        10 => Codeword::of(&TOTAL_ZEROS[9], 2, zeros),
-        11 => Codeword::of(&TOTAL_ZEROS[10], 2, zeros),
-        12 => Codeword::of(&TOTAL_ZEROS[11], 2, zeros),
-        13 => Codeword::of(&TOTAL_ZEROS[12], 2, zeros),
-        14 => Codeword::of(&TOTAL_ZEROS[13], 2, zeros),
-        15 => Codeword::of(&TOTAL_ZEROS[14], 2, zeros),
-        _ => None,
+    let table = usize::from(total.saturating_sub(1));
+    if table < TOTAL_ZEROS.len() {
+        Codeword::in_table(&TOTAL_ZEROS, table, 2, zeros)
+    } else {
+        None
     }
 }
 

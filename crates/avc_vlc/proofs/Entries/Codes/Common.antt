@@ -25,7 +25,7 @@ pub use Rattle.avc_bits.specs.Reader.{Reads, reader_bits}
 pub use Rattle.avc_bits.specs.declared.reader.BitReader.{BitReader}
 pub use Rattle.avc_types.specs.declared.fault.Fault.{Fault}
 pub use Rattle.avc_types.specs.declared.fault.Fault.TheVariants.{BadCode}
-pub use Rattle.avc_vlc.specs.Indexing.{AreRuns, AreShortRuns, entry_of_run, few_table}
+pub use Rattle.avc_vlc.specs.Indexing.{AreRuns, AreShortRuns, AreWritten, entry_of_run, few_table}
 pub use Rattle.avc_vlc.specs.declared.run_before.Run.{Run}
 pub use Rattle.std.proofs.lemmas.List.{length-map}
 pub use Rattle.avc_vlc.specs.Indexing.{begins, goes_on, word_entry, entry_from, Agree, Decides, AreFronts, AreIndexed, IsIndexed, index, entry_of, IsPlaceOf}
