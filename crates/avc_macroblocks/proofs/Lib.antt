@@ -1,4 +1,2 @@
-pub mod Floats
-pub mod ToLast
-pub mod Members
-pub mod Read
+pub mod Added
+pub mod Listed

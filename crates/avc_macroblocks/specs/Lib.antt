@@ -1,14 +1,3 @@
-pub mod Derived
-pub mod Near
-pub mod Neighbours
-pub mod Pictures
-pub mod Forms
-pub mod Listing
-pub mod Levels
-pub mod Vectors
 pub mod Lines
-pub mod JsonLines
-pub mod Json
-pub mod Asked
-pub mod Reading
+pub mod Listed
 pub mod Program

@@ -11,12 +11,13 @@ use Rattle.avc_console.specs.Telling.{Tells}
 use Rattle.avc_console.specs.declared.console.Names.{Names}
 use Rattle.avc_console.specs.declared.exit.Ending.{Ending}
 use Rattle.avc_console.specs.declared.fault.RunFault.{RunFault}
-use Rattle.avc_macroblocks.specs.Asked.{Asked, asked_by, asked_near}
-use Rattle.avc_macroblocks.specs.Listing.{has_met, has_picture, lines_so_far}
+use Rattle.avc_selection.specs.declared.selection.AtMacroblock.{AtMacroblock}
+use Rattle.avc_selection.specs.declared.selection.Selection.TheVariants.{Near}
+use Rattle.avc_reading.specs.Asked.{Asked}
+use Rattle.avc_reading.specs.Listing.{has_met, has_picture, lines_so_far}
+use Rattle.avc_reading.specs.declared.position.MacroblockPosition.{MacroblockPosition}
+use Rattle.avc_macroblocks.specs.Listed.{asked_by, asked_near}
 use Rattle.avc_macroblocks.specs.declared.listing.MacroblockListing.{MacroblockListing}
-use Rattle.avc_macroblocks.specs.declared.position.MacroblockPosition.{MacroblockPosition}
-use Rattle.avc_macroblocks.specs.declared.selection.AtMacroblock.{AtMacroblock}
-use Rattle.avc_macroblocks.specs.declared.selection.Selection.TheVariants.{Near}
 
 -- The lines that are asked for of all bytes that the reader had are written, and whether there is
 -- the picture that is asked for is answered. After a fault the same is written as in `units`.

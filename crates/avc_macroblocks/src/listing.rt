@@ -1,7 +1,7 @@
 //! What is asked of a listing of macroblocks.
 
 /// Which macroblocks are listed, and how.
-#[derive(Clone, Copy, Debug, PartialEq, Eq)]
+#[derive(Clone, Copy)]
 pub struct MacroblockListing {
     /// As objects of JSON, and not as lines for people.
     pub is_json: bool,

@@ -2,17 +2,17 @@
 
 ghost use Rattle.std.specs.Prelude.{◌≡◌, IfOk, string_bytes};
 ghost use Rattle.avc_console.specs.Telling.{Tells};
-ghost use Rattle.avc_macroblocks.specs.Asked.{selection_of};
+ghost use Rattle.avc_selection.specs.Selected.{selection_of};
 ghost use Rattle.avc_macroblocks.specs.Program.{EndsMacroblocks, ListsAsked, ListsMacroblocks};
 ghost use Rattle.avc_macroblocks.specs.Program.{ListsNear, absence_text, listing_status};
-ghost use Rattle.avc_macroblocks.specs.Reading.{asked_in};
+ghost use Rattle.avc_reading.specs.Reading.{asked_in};
 
-use crate::form::{ForPeople, ForPrograms, MacroblockForm};
+use crate::form::ForPeople;
 use crate::listing::MacroblockListing;
-use crate::position::MacroblockPosition;
-use crate::selection::{AtMacroblock, Selection};
-use crate::stream::MacroblockLines;
 use avc_console::{Console, Ending, RunFault, fail, write_stream, write_text};
+use avc_objects::ForPrograms;
+use avc_reading::{MacroblockLines, MacroblockPosition};
+use avc_selection::{AtMacroblock, MacroblockForm, Selection};
 use avc_types::OutOfMemory;
 use std::alloc::Global;
 use std::io::{Read, Write};

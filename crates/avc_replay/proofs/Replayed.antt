@@ -12,7 +12,7 @@ use Rattle.avc_annexb.specs.declared.unit.Unit.{Unit}
 use Rattle.avc_console.specs.Reading.{max_unit}
 use Rattle.avc_decoder.specs.Machine.{Machine, new_machine}
 use Rattle.avc_dpb.specs.declared.output.Output.TheVariants.{Full}
-use Rattle.avc_macroblocks.specs.declared.position.MacroblockPosition.{MacroblockPosition}
+use Rattle.avc_reading.specs.declared.position.MacroblockPosition.{MacroblockPosition}
 use Rattle.avc_replay.specs.Replaying.{prefix, CutsUnit, IsCutFrom, IsFed, IsFedTaken, IsMet, IsReplaying, Meets, ReadsOn}
 use Rattle.avc_replay.proofs.Fed.{fed_more}
 

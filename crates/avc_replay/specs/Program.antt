@@ -3,7 +3,7 @@ use Rattle.std.specs.Prelude.{ℕ, List, Option, Some, Ok}
 use Rattle.std.specs.Io.KnownBytes.{Appends}
 use Rattle.avc_difference.specs.declared.origin.SamplePair.{SamplePair}
 use Rattle.avc_macroblocks.specs.Program.{ListsNear}
-use Rattle.avc_macroblocks.specs.declared.position.MacroblockPosition.{MacroblockPosition}
+use Rattle.avc_reading.specs.declared.position.MacroblockPosition.{MacroblockPosition}
 use Rattle.avc_replay.specs.Replaying.{IsExplainedBy}
 use Rattle.avc_stages.specs.Text.{explained_text}
 use Rattle.avc_stages.specs.declared.text.Explained.{Explained}

@@ -11,7 +11,7 @@ use Rattle.avc_decoder.specs.FirstFault.{OpenPicture}
 use Rattle.avc_decoder.specs.OpenPictures.{IsDecodedBy}
 use Rattle.avc_dpb.specs.declared.output.Output.TheVariants.{Full}
 use Rattle.avc_difference.specs.declared.origin.SamplePair.{SamplePair}
-use Rattle.avc_macroblocks.specs.declared.position.MacroblockPosition.{MacroblockPosition}
+use Rattle.avc_reading.specs.declared.position.MacroblockPosition.{MacroblockPosition}
 use Rattle.avc_picture.specs.Decoding.{Decoding}
 use Rattle.avc_plane.specs.declared.frame.Frame.{Frame}
 use Rattle.avc_replay.specs.Cutting.{IsCutUnit}

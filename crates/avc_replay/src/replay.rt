@@ -13,7 +13,7 @@ use avc_annexb::{Splitter, Unit};
 use avc_console::{MAX_UNIT, PIECE, READS, RunFault, read_once};
 use avc_decoder::{Decoder, Output};
 use avc_difference::SamplePair;
-use avc_macroblocks::MacroblockPosition;
+use avc_reading::MacroblockPosition;
 use avc_plane::SharedPicture;
 use avc_stages::Explained;
 use std::alloc::Global;

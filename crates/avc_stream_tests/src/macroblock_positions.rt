@@ -1,6 +1,8 @@
 //! Where macroblocks stand in slices, and which are told with them. The bits of the slices are worked by hand.
 
-use avc_macroblocks::{AtMacroblock, MacroblockPosition, run_macroblocks_at};
+use avc_macroblocks::run_macroblocks_at;
+use avc_reading::MacroblockPosition;
+use avc_selection::AtMacroblock;
 use std::alloc::Global;
 use std::test::Fail;
 

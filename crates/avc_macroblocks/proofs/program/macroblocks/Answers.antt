@@ -1,4 +1,7 @@
-use Rattle.avc_macroblocks.proofs.Read.{Err, Memory, asked_by, untold}
+use Rattle.std.proofs.Common.{Err}
+use Rattle.avc_console.specs.declared.fault.RunFault.TheVariants.{Memory}
+use Rattle.avc_macroblocks.proofs.Listed.{untold}
+use Rattle.avc_macroblocks.specs.Listed.{asked_by}
 use Rattle.avc_macroblocks.proofs.program.macroblocks.Goals as goal
 
 pub returns-in-Err-absence_text : goal.returns-in-Err-absence_text

@@ -1,4 +1,7 @@
-use Rattle.avc_macroblocks.proofs.Read.{ListsAsked, asked_in, selection_of, by_fault, listed_asked, unlisted_counted}
+use Rattle.avc_selection.specs.Selected.{selection_of}
+use Rattle.avc_reading.specs.Reading.{asked_in}
+use Rattle.avc_macroblocks.proofs.Listed.{by_fault, listed_asked, unlisted_counted}
+use Rattle.avc_macroblocks.specs.Program.{ListsAsked}
 use Rattle.avc_macroblocks.proofs.program.run_in.Goals as goal
 
 pub returns-in_err-write_stream : goal.returns-in_err-write_stream

@@ -1,4 +1,8 @@
-use Rattle.avc_macroblocks.proofs.Read.{◌<◌, rules, ListsNear, Near, for_people, false, by_fault, listed_near, unlisted}
+use Rattle.std.proofs.Common.{◌<◌, false, rules}
+use Rattle.avc_selection.specs.declared.selection.Selection.TheVariants.{Near}
+use Rattle.avc_macroblocks.proofs.Listed.{by_fault, listed_near, unlisted}
+use Rattle.avc_macroblocks.specs.Lines.{for_people}
+use Rattle.avc_macroblocks.specs.Program.{ListsNear}
 use Rattle.avc_macroblocks.proofs.program.run_macroblocks_at.Goals as goal
 
 pub returns-in_err-write_stream : goal.returns-in_err-write_stream

@@ -1,0 +1,4 @@
+pub mod Levels
+pub mod Vectors
+pub mod Names
+pub mod Words

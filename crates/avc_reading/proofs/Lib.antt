@@ -1,0 +1,2 @@
+pub mod Had
+pub mod Read
