@@ -116,7 +116,15 @@ fn macroblock_value(
     ensures float { IfOk result (λ value. has_float (view value) ≡ false) }
 {
     let mut map = Map::new(alloc);
-    put_macroblock(&mut map, alloc, has_coefficients, place, qp, syntax, derived)?;
+    put_macroblock(
+        &mut map,
+        alloc,
+        has_coefficients,
+        place,
+        qp,
+        syntax,
+        derived,
+    )?;
     Ok(Value::Object(map))
 }
 
@@ -231,11 +239,7 @@ fn put_refused(
 }
 
 // A fault, by its name and its number.
-fn put_fault(
-    map: &mut Map<String, Value>,
-    alloc: Global,
-    fault: Fault,
-) -> Result<(), OutOfMemory>
+fn put_fault(map: &mut Map<String, Value>, alloc: Global, fault: Fault) -> Result<(), OutOfMemory>
     ensures { OnOk result (members_view map.new.entries ≡ with_fault fault (members_view map.old.entries)) }
 {
     let name = Value::try_from_str(alloc, fault.name())?;
