@@ -1,12 +1,7 @@
 -- A stream is read to its end.
-use Rattle.std.proofs.Common.{◌≡◌, ◌<◌, ◌^◌, ℕ, Bool, true, false, List, [], ◌∷◌, ◌++◌, length, Option, Some, None, Result, Ok, Err, IsErrAnd, is_some, ◌||◌, refl, ap, sym, ◌∙◌, subst, arith}
+use Rattle.std.proofs.Common.{◌≡◌, ◌<◌, ◌^◌, ℕ, Bool, true, false, List, length, Option, Some, None, Result, Ok, Err, IsErrAnd, is_some, refl, ap, sym, ◌∙◌, subst, arith}
 use Rattle.std.proofs.Math.Seq.{take-length}
 use Rattle.std.specs.Io.KnownBytes.{Appends}
-use Rattle.avc_annexb.specs.Units.{units}
-use Rattle.avc_annexb.specs.declared.unit.Unit.{Unit}
-use Rattle.avc_params.specs.Tables.{sets_after}
-use Rattle.avc_params.specs.declared.set_unit.SetUnit.{SetUnit}
-use Rattle.avc_units.specs.Grouping.{set_units}
 use Rattle.avc_tools.specs.Streams.{new_stream}
 use Rattle.avc_console.specs.Listing.{Lists}
 use Rattle.avc_console.specs.Reading.{HasRead}
@@ -14,35 +9,18 @@ use Rattle.avc_console.specs.StreamWriting.{IsWhole}
 use Rattle.avc_console.specs.declared.fault.RunFault.{RunFault}
 use Rattle.avc_console.specs.declared.fault.RunFault.TheVariants.{Memory}
 use Rattle.avc_selection.specs.Forms.{Form}
-use Rattle.avc_selection.specs.Pictures.{OpenPicture}
 use Rattle.avc_selection.specs.Selected.{selection_of}
 use Rattle.avc_selection.specs.declared.selection.AtMacroblock.{AtMacroblock}
 use Rattle.avc_selection.specs.declared.selection.Selection.{Selection}
 use Rattle.avc_selection.specs.declared.selection.Selection.TheVariants.{Near}
+use Rattle.avc_reading.proofs.NeverMet.{never_met}
 use Rattle.avc_reading.proofs.Read.{text_again}
 use Rattle.avc_reading.specs.Asked.{Asked, addresses, selection_of_text, text_number}
-use Rattle.avc_reading.specs.Listing.{Brought, ListedSoFar, brought, has_met, has_picture, is_met_by, is_met_under, lines_so_far, macroblocks, nothing, picture_after, refused}
+use Rattle.avc_reading.specs.Listing.{ListedSoFar, has_met, has_picture, lines_so_far}
 use Rattle.avc_reading.specs.Reading.{IsInRange, asked_in}
 use Rattle.avc_reading.specs.declared.position.MacroblockPosition.{MacroblockPosition}
 use Rattle.avc_macroblocks.specs.Lines.{for_people}
 use Rattle.avc_macroblocks.specs.Program.{ListsAsked, ListsNear}
-
-unmet : (s : Selection) → ((b : Brought) → is_met_by s b ≡ false) → (sets : List SetUnit) (p : Option OpenPicture) (us : List Unit) → is_met_under s sets p us ≡ false
-unmet s none sets p [] = refl
-unmet s none sets p (u ∷ us) =
-    let b = brought (sets_after sets) p u in
-    ap (λ x. x || is_met_under s (sets ++ set_units (u ∷ [])) (picture_after p b) us) (none b) ∙ unmet s none (sets ++ set_units (u ∷ [])) (picture_after p b) us
-
-never_met : (picture : Option ℕ) (bytes : List ℕ) (ended : Bool) → has_met (selection_of picture) bytes ended ≡ false
-never_met picture bytes ended = unmet (selection_of picture) (by picture) [] None (units (length bytes) bytes ended)
-  where
-    by : (picture : Option ℕ) (b : Brought) → is_met_by (selection_of picture) b ≡ false
-    by None nothing = refl
-    by None (refused f) = refl
-    by None (macroblocks p ms derived) = refl
-    by (Some number) nothing = refl
-    by (Some number) (refused f) = refl
-    by (Some number) (macroblocks p ms derived) = refl
 
 counted_range : (picture : Option ℕ) → IsInRange (selection_of picture)
 counted_range None = tt

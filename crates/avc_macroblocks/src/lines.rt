@@ -45,8 +45,8 @@ fn add_line(
     derived_modes: &[NearMode],
     vectors: &[Motion],
 ) -> Result<(), OutOfMemory>
-    ensures { OnOk result (string_bytes text.new ≡ string_bytes text.old ++ place_text place ++ type_text mb.now.syntax ++ quantiser_text mb.now.qp
-        ++ elements_text mb.now.syntax derived_modes.now vectors.now ++ coefficients_if has_coefficients mb.now.syntax ++ newline) }
+    ensures { OnOk result (string_bytes text.new ≡ string_bytes text.old ++ (place_text place ++ type_text mb.now.syntax ++ quantiser_text mb.now.qp
+        ++ elements_text mb.now.syntax derived_modes.now vectors.now ++ coefficients_if has_coefficients mb.now.syntax ++ newline)) }
 {
     add_place(text, place)?;
     add_type(text, &mb.syntax)?;

@@ -1,2 +1,3 @@
 pub mod Had
+pub mod NeverMet
 pub mod Read
