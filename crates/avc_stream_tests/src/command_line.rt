@@ -105,89 +105,6 @@ const WITHOUT_FILES: &[(&str, Task)] = &[
         Task::Tell(Subject::Info, Wording::Json),
     ),
     ("avcdec cut 4294967295", Task::Cut(4_294_967_295)),
-    (
-        "avcdec decode --skip 1 --limit 2 --early",
-        Task::Show(Showing {
-            mode: Output::Early,
-            skip: 1,
-            limit: 2,
-            form: Form::I420,
-        }),
-    ),
-    (
-        "avcdec decode --format null --limit 2",
-        Task::Show(Showing {
-            mode: Output::Full,
-            skip: 0,
-            limit: 2,
-            form: Form::Null,
-        }),
-    ),
-    (
-        "avcdec decode --format md5",
-        Task::Show(Showing {
-            mode: Output::Full,
-            skip: 0,
-            limit: u64::MAX,
-            form: Form::Md5,
-        }),
-    ),
-    (
-        "avcdec decode --format framemd5",
-        Task::Show(Showing {
-            mode: Output::Full,
-            skip: 0,
-            limit: u64::MAX,
-            form: Form::FrameMd5,
-        }),
-    ),
-    (
-        "avcdec decode --verify 000102030405060708090a0b0c0d0e0F",
-        Task::Show(Showing {
-            mode: Output::Full,
-            skip: 0,
-            limit: u64::MAX,
-            form: Form::Verify([0, 1, 2, 3, 4, 5, 6, 7, 8, 9, 10, 11, 12, 13, 14, 15]),
-        }),
-    ),
-    (
-        "avcdec decode -s 1 -l 2 -f null",
-        Task::Show(Showing {
-            mode: Output::Full,
-            skip: 1,
-            limit: 2,
-            form: Form::Null,
-        }),
-    ),
-    (
-        "avcdec decode --early -f md5",
-        Task::Show(Showing {
-            mode: Output::Early,
-            skip: 0,
-            limit: u64::MAX,
-            form: Form::Md5,
-        }),
-    ),
-    (
-        "avcdec macroblocks --picture 3 --coefficients --json",
-        Task::Tell(
-            Subject::Macroblocks(MacroblockChoice {
-                has_coefficients: true,
-                picture: Some(3),
-            }),
-            Wording::Json,
-        ),
-    ),
-    (
-        "avcdec macroblocks",
-        Task::Tell(
-            Subject::Macroblocks(MacroblockChoice {
-                has_coefficients: false,
-                picture: None,
-            }),
-            Wording::Plain,
-        ),
-    ),
 ];
 
 #[test]
@@ -199,111 +116,204 @@ fn takes_words(rt: HostRuntime) -> Result<(), Fail> {
     Ok(())
 }
 
-// Words that name files: that with which is compared, that which is read, and that which is written; and whether they name the standard output.
-const WITH_FILES: &[(&str, Task, [Option<&str>; 3], bool)] = &[
+// Words that choose pictures or their form: the mode, how many are left out, how many are decoded, and the form.
+const CHOSEN: &[(&str, Output, u64, u64, Form)] = &[
+    (
+        "avcdec decode --skip 1 --limit 2 --early",
+        Output::Early,
+        1,
+        2,
+        Form::I420,
+    ),
+    (
+        "avcdec decode --format null --limit 2",
+        Output::Full,
+        0,
+        2,
+        Form::Null,
+    ),
+    (
+        "avcdec decode --format md5",
+        Output::Full,
+        0,
+        u64::MAX,
+        Form::Md5,
+    ),
+    (
+        "avcdec decode --format framemd5",
+        Output::Full,
+        0,
+        u64::MAX,
+        Form::FrameMd5,
+    ),
+    (
+        "avcdec decode --verify 000102030405060708090a0b0c0d0e0F",
+        Output::Full,
+        0,
+        u64::MAX,
+        Form::Verify([0, 1, 2, 3, 4, 5, 6, 7, 8, 9, 10, 11, 12, 13, 14, 15]),
+    ),
+    (
+        "avcdec decode -s 1 -l 2 -f null",
+        Output::Full,
+        1,
+        2,
+        Form::Null,
+    ),
+    (
+        "avcdec decode --early -f md5",
+        Output::Early,
+        0,
+        u64::MAX,
+        Form::Md5,
+    ),
+];
+
+#[test]
+fn takes_choices_of_pictures(rt: HostRuntime) -> Result<(), Fail> {
+    for case in CHOSEN {
+        let (line, mode, skip, limit, form) = *case;
+        let task = Task::Show(Showing {
+            mode,
+            skip,
+            limit,
+            form,
+        });
+        assert!(rt; taken(rt.alloc(), line, Ok(plain(task)))?, "{line}");
+    }
+    Ok(())
+}
+
+// Which macroblocks are told of: with their levels or without, and of which picture.
+const OF_MACROBLOCKS: &[(&str, bool, Option<u64>, Wording)] = &[
+    (
+        "avcdec macroblocks --picture 3 --coefficients --json",
+        true,
+        Some(3),
+        Wording::Json,
+    ),
+    ("avcdec macroblocks", false, None, Wording::Plain),
+];
+
+#[test]
+fn takes_choices_of_macroblocks(rt: HostRuntime) -> Result<(), Fail> {
+    for case in OF_MACROBLOCKS {
+        let (line, has_coefficients, picture, wording) = *case;
+        let choice = MacroblockChoice {
+            has_coefficients,
+            picture,
+        };
+        let task = Task::Tell(Subject::Macroblocks(choice), wording);
+        assert!(rt; taken(rt.alloc(), line, Ok(plain(task)))?, "{line}");
+    }
+    Ok(())
+}
+
+// Words that name files: that which is read, and that which is written.
+const WITH_FILES: &[(&str, Task, Option<&str>, Option<&str>)] = &[
     (
         "avcdec decode in.264 -o out.yuv",
         FULL,
-        [None, Some("in.264"), Some("out.yuv")],
-        false,
+        Some("in.264"),
+        Some("out.yuv"),
     ),
-    (
-        "avcdec decode -o out.y4m",
-        Y4M,
-        [None, None, Some("out.y4m")],
-        false,
-    ),
-    (
-        "avcdec decode -o OUT.Y4M",
-        Y4M,
-        [None, None, Some("OUT.Y4M")],
-        false,
-    ),
+    ("avcdec decode -o out.y4m", Y4M, None, Some("out.y4m")),
+    ("avcdec decode -o OUT.Y4M", Y4M, None, Some("OUT.Y4M")),
     (
         "avcdec decode in.mp4 -o out.mp4.yuv",
         FULL,
-        [None, Some("in.mp4"), Some("out.mp4.yuv")],
-        false,
+        Some("in.mp4"),
+        Some("out.mp4.yuv"),
     ),
     (
         "avcdec decode --format i420 -o out.y4m",
         FULL,
-        [None, None, Some("out.y4m")],
-        false,
+        None,
+        Some("out.y4m"),
     ),
-    (
-        "avcdec decode -o out.PNG",
-        PNG,
-        [None, None, Some("out.PNG")],
-        false,
-    ),
+    ("avcdec decode -o out.PNG", PNG, None, Some("out.PNG")),
     (
         "avcdec picture 7 in.264 -o out.png",
         Task::Draw(7),
-        [None, Some("in.264"), Some("out.png")],
-        false,
+        Some("in.264"),
+        Some("out.png"),
     ),
     (
         "avcdec headers in.264",
         Task::Tell(Subject::Headers, Wording::Plain),
-        [None, Some("in.264"), None],
-        false,
+        Some("in.264"),
+        None,
     ),
     (
         "avcdec cut 0 --output piece.264 in.264",
         Task::Cut(0),
-        [None, Some("in.264"), Some("piece.264")],
-        false,
-    ),
-    ("avcdec decode - -o -", FULL, [None, None, None], true),
-    ("avcdec cut 0 -o -", Task::Cut(0), [None, None, None], true),
-    (
-        "avcdec compare a.yuv in.264",
-        Task::Compare(Comparing {
-            most: 0,
-            has_psnr: false,
-        }),
-        [Some("a.yuv"), Some("in.264"), None],
-        false,
-    ),
-    (
-        "avcdec compare --max-diff 3 - in.264",
-        Task::Compare(Comparing {
-            most: 3,
-            has_psnr: false,
-        }),
-        [None, Some("in.264"), None],
-        false,
-    ),
-    (
-        "avcdec compare a.yuv",
-        Task::Compare(Comparing {
-            most: 0,
-            has_psnr: false,
-        }),
-        [Some("a.yuv"), None, None],
-        false,
-    ),
-    (
-        "avcdec compare --psnr a.yuv in.264",
-        Task::Compare(Comparing {
-            most: 0,
-            has_psnr: true,
-        }),
-        [Some("a.yuv"), Some("in.264"), None],
-        false,
+        Some("in.264"),
+        Some("piece.264"),
     ),
 ];
 
 #[test]
 fn takes_files(rt: HostRuntime) -> Result<(), Fail> {
     for case in WITH_FILES {
-        let (line, task, [other, input, output], is_standard_output_named) = *case;
+        let (line, task, input, output) = *case;
         let mut request = plain(task);
-        request.other = other;
         request.input = input;
         request.output = output;
-        request.is_standard_output_named = is_standard_output_named;
+        assert!(rt; taken(rt.alloc(), line, Ok(request))?, "{line}");
+    }
+    Ok(())
+}
+
+// Words that name the standard output.
+const TO_STANDARD_OUTPUT: &[(&str, Task)] = &[
+    ("avcdec decode - -o -", FULL),
+    ("avcdec cut 0 -o -", Task::Cut(0)),
+];
+
+#[test]
+fn takes_standard_output(rt: HostRuntime) -> Result<(), Fail> {
+    for case in TO_STANDARD_OUTPUT {
+        let (line, task) = *case;
+        let mut request = plain(task);
+        request.is_standard_output_named = true;
+        assert!(rt; taken(rt.alloc(), line, Ok(request))?, "{line}");
+    }
+    Ok(())
+}
+
+// Words of a comparison: how far samples may lie apart, whether it is told how near pictures are, and the files, the other's first.
+const COMPARED: &[(&str, u8, bool, Option<&str>, Option<&str>)] = &[
+    (
+        "avcdec compare a.yuv in.264",
+        0,
+        false,
+        Some("a.yuv"),
+        Some("in.264"),
+    ),
+    (
+        "avcdec compare --max-diff 3 - in.264",
+        3,
+        false,
+        None,
+        Some("in.264"),
+    ),
+    ("avcdec compare a.yuv", 0, false, Some("a.yuv"), None),
+    (
+        "avcdec compare --psnr a.yuv in.264",
+        0,
+        true,
+        Some("a.yuv"),
+        Some("in.264"),
+    ),
+];
+
+#[test]
+fn takes_comparisons(rt: HostRuntime) -> Result<(), Fail> {
+    for case in COMPARED {
+        let (line, most, has_psnr, other, input) = *case;
+        let mut request = plain(Task::Compare(Comparing { most, has_psnr }));
+        request.other = other;
+        request.input = input;
         assert!(rt; taken(rt.alloc(), line, Ok(request))?, "{line}");
     }
     Ok(())
