@@ -18,7 +18,7 @@ for stream in still:391680 call:36800 cif:11880 720p:21600 1080i:16320; do
             gsub(",", "", count)
             if (/avc_(bits|vlc|cavlc|mbsyntax|neigh)::/) stage = "syntax, residual blocks, neighbours"
             else if (/avc_motion::/) stage = "motion vectors"
-            else if (/avc_inter::|avc_picture_core::(inter|parts|rectangles|shape)::/) stage = "inter prediction"
+            else if (/avc_inter::|avc_samples::|avc_picture_core::(inter|parts|rectangles|shape)::/) stage = "inter prediction"
             else if (/avc_intra::|avc_picture_core::(intra|luma4x4|luma16x16|chroma|around|sides|modes)::/) stage = "intra prediction"
             else if (/avc_transform::|avc_picture_core::residual::/) stage = "transforms and adding"
             else if (/avc_deblock::|avc_picture::filter_rows::/) stage = "deblocking"

@@ -9,7 +9,7 @@ trap 'rm -rf "$copy"' EXIT
 
 crate="$copy/crates/bench_strides"
 mkdir -p "$crate/src"
-for name in avc_types avc_plane avc_inter; do
+for name in avc_types avc_plane avc_samples avc_inter; do
     cp -a "$top/crates/$name" "$copy/crates"
     grep "^$name:" "$top/crates.txt" >>"$copy/crates.txt"
 done

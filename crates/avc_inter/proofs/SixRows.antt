@@ -4,12 +4,6 @@ unfoldable pub use Shifts.*
 
 -- ---- blocks in rows of sixteen samples, as they lie in a list: places
 
--- a place of the last row or an earlier one
-pub by_line : (columns : ℕ) (P : ℕ → Type 0) (y : ℕ) → ((k : ℕ) → k < columns * y → P k) → ((x : ℕ) → x < columns → P (columns * y + x)) → (k : ℕ) → k < columns * (y + 1) → P k
-by_line columns P y earlier here k low = ⊎_elim (earlier k) (λ above.
-    let e : columns * y + (k - columns * y) ≡ k = omega arith in
-    subst P e (here (k - columns * y) (omega (arith, mul_comm columns (y + 1), mul_comm columns y)))) (cases_lt k (columns * y))
-
 module _ (columns : ℕ) (lanes : AreLanes columns) where
   some_lines : 0 < 16 / columns
   some_lines = (le-div_iff_mul-le lanes.some).1 (omega (arith, lanes.most))
@@ -205,14 +199,6 @@ module _ (columns stride : ℕ) (lanes : AreLanes columns) (at k n : ℕ) (p : L
 -- the same sums by another word for their place
 pub sums_from : {columns stride n at first : ℕ} {p : List ℕ} {m : List ℤ} → at ≡ first → AreSumsOf columns stride n at p m → AreSumsOf columns stride n first p m
 sums_from e sums = rw (← e) sums
-
--- numbers that were moved are sums
-pub sums_left : (n row : ℕ) (old new : List ℤ) → AreSums (16 * (n + 1)) old → row < n →
-    ((k : ℕ) → k < 16 * row → slice_index_or new k (pos 0) ≡ slice_index_or old (16 + k) (pos 0)) → ((k : ℕ) → 16 * row ≤ k → slice_index_or new k (pos 0) ≡ slice_index_or old k (pos 0)) →
-    AreSums (16 * (row + 1) + 16) new
-sums_left n row old new small less moved left k low =
-    ⊎_elim (λ before. subst (λ (z : ℤ). IsSum z) (sym (moved k before)) (small (16 + k) (omega arith)))
-    (λ behind. subst (λ (z : ℤ). IsSum z) (sym (left k behind)) (small k (omega arith))) (cases_lt k (16 * row))
 
 by_fractions : (p : List ℕ) (stride k : ℕ) (s : Wide) (u v : ℤ) →
     whole p stride k ≡ s u v → whole_right p stride k ≡ s (u +ℤ pos 1) v → whole_below p stride k ≡ s u (v +ℤ pos 1) →

@@ -3,7 +3,7 @@ use Rattle.std.specs.Prelude.{ℕ, ◌+◌, ◌*◌, ◌-◌, ◌/◌, ℤ, pos,
 use Rattle.avc_types.specs.Arithmetic.{◌>>ℤ◌, low_bits}
 use Rattle.avc_types.specs.declared.vector.Mv.{Mv}
 use Rattle.avc_plane.specs.Plane.{clamped}
-use Rattle.avc_inter.specs.Luma.{Wide}
+use Rattle.avc_samples.specs.Patch.{Wide}
 
 -- between four samples, p eighths to the right and q eighths down (8.4.2.2.2)
 abbrev pub bilinear : Wide → ℤ → ℤ → ℕ → ℕ → ℕ

@@ -4,10 +4,7 @@ use Rattle.std.specs.Prelude.{ℕ, zero, suc, ℤ, pos, ◌+ℤ◌, ◌-ℤ◌, 
 use Rattle.avc_types.specs.Arithmetic.{◌>>ℤ◌, low_bits, clip1, mean_of_two}
 use Rattle.avc_types.specs.declared.vector.Mv.{Mv}
 use Rattle.avc_plane.specs.Plane.{clamped}
-
--- a sample at every place, those outside the picture too (8.4.2.2.1)
-abbrev pub Wide : Type 0
-Wide = ℤ → ℤ → ℕ
+use Rattle.avc_samples.specs.Patch.{Wide}
 
 -- the six-tap filter, before rounding (8.4.2.2.1)
 abbrev pub six_taps : ℤ → ℤ → ℤ → ℤ → ℤ → ℤ → ℤ

@@ -1,7 +1,7 @@
 -- The six-tap filter over samples that lie in a list, each a step behind the last.
-use Rattle.std.specs.Prelude.{ℕ, zero, suc, ◌+◌, ◌*◌, ◌/◌, ◌<◌, ◌≤◌, ◌≡◌, ℤ, pos, ◌+ℤ◌, List, length, slice_index, slice_index_or}
+use Rattle.std.specs.Prelude.{ℕ, zero, suc, ◌+◌, ◌*◌, ◌/◌, ◌≡◌, ℤ, pos, ◌+ℤ◌, List, slice_index, slice_index_or}
 use Rattle.avc_types.specs.Arithmetic.{◌>>ℤ◌, clip1, mean_of_two}
-use Rattle.avc_inter.specs.Luma.{Wide, six_taps}
+use Rattle.avc_inter.specs.Luma.{six_taps}
 use Rattle.avc_inter.specs.declared.bilinear.BilinearWeights.{BilinearWeights}
 
 -- the unrounded sum of six samples, a step apart (8.4.2.2.1)
@@ -97,17 +97,6 @@ quarter_of p stride k fx zero = row_0_of p stride k fx
 quarter_of p stride k fx (suc zero) = row_1_of p stride k fx
 quarter_of p stride k fx (suc (suc zero)) = row_2_of p stride k fx
 quarter_of p stride k fx (suc (suc (suc f))) = row_3_of p stride k fx
-
--- p shows the samples of the map s in so many columns from `left` on and rows from `top` on, row by
--- row
-pub record IsPatch (s : Wide) (left top : ℤ) (columns rows : ℕ) (p : List ℕ) : Type 0 where
-  pub at : (i j : ℕ) → i < columns → j < rows → slice_index p (j * columns + i) ≡ s (left +ℤ pos i) (top +ℤ pos j)
-
--- the samples of the map s in so many columns and rows from `left` and `top` on are in rows that
--- lie `stride` apart, from place `first` on
-pub record IsThere (s : Wide) (left top : ℤ) (columns count first stride : ℕ) (rows : List ℕ) : Type 0 where
-  pub row : (j : ℕ) → j < count → first + j * stride + columns ≤ length rows
-  pub at : (i j : ℕ) → i < columns → j < count → slice_index rows (first + j * stride + i) ≡ s (left +ℤ pos i) (top +ℤ pos j)
 
 -- by four weights, the mean of a sample, that right of it and the two below them
 abbrev pub blend_of : BilinearWeights → List ℕ → (stride k : ℕ) → ℕ

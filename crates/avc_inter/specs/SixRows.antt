@@ -1,7 +1,7 @@
 -- The six-tap filter over six rows of samples.
 use Rattle.std.specs.Prelude.{ℕ, ◌+◌, ◌*◌, ◌/◌, ◌%◌, ◌<◌, ◌≤◌, ◌≡◌, ℤ, pos, ◌+ℤ◌, List, length, slice_index, slice_index_or}
 use Rattle.avc_types.specs.Arithmetic.{◌>>ℤ◌, clip1}
-use Rattle.avc_inter.specs.Bounds.{IsSum}
+use Rattle.avc_samples.specs.Sums.{AreSums}
 use Rattle.avc_inter.specs.Luma.{six_taps}
 use Rattle.avc_inter.specs.Patch.{taps_along}
 
@@ -41,17 +41,7 @@ centre_of e f g h i j k =
     clip1 (six_taps (slice_index_or e k (pos 0)) (slice_index_or f k (pos 0)) (slice_index_or g k (pos 0))
     (slice_index_or h k (pos 0)) (slice_index_or i k (pos 0)) (slice_index_or j k (pos 0)) +ℤ pos 512 >>ℤ 10)
 
--- the first n numbers are unrounded sums
-abbrev pub AreSums : ℕ → List ℤ → Type 0
-AreSums n m = (k : ℕ) → k < n → IsSum (slice_index_or m k (pos 0))
-
--- they are those of the first n samples of a block whose first one is at this place (8.4.2.2.1)
+-- the first n numbers are the unrounded sums of the first n samples of a block whose first one is at this place (8.4.2.2.1)
 pub record AreSumsOf (columns stride n at : ℕ) (p : List ℕ) (m : List ℤ) : Type 0 where
   pub value : (k : ℕ) → k < n → slice_index_or m k (pos 0) ≡ taps_along p (at + place_of columns stride k) 1
   pub small : AreSums n m
-
--- u is t with the sixteen sums r as its sixteen of this number
-pub record AreSumsPut (row : ℕ) (r t u : List ℤ) : Type 0 where
-  pub inside : (i : ℕ) → i < 16 → slice_index_or u (16 * row + i) (pos 0) ≡ slice_index_or r i (pos 0)
-  pub before : (k : ℕ) → k < 16 * row → slice_index_or u k (pos 0) ≡ slice_index_or t k (pos 0)
-  pub behind : (k : ℕ) → 16 * row + 16 ≤ k → slice_index_or u k (pos 0) ≡ slice_index_or t k (pos 0)

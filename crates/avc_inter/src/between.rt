@@ -7,9 +7,9 @@ ghost use Rattle.avc_inter.specs.Luma.{quarter};
 ghost use Rattle.avc_inter.specs.Bounds.{IsMoved};
 ghost use Rattle.avc_inter.specs.SixRows.{AreLanes};
 
-use crate::patch::{fetch_held, find_within};
 use crate::positions::{count_around, quarters};
 use avc_plane::{PaddedPlane, RowsPlace};
+use avc_samples::{fetch_held, find_within};
 
 /// Lays the samples by a patch of `P` samples with each coordinate held inside the plane.
 #[cold]

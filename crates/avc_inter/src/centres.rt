@@ -9,15 +9,17 @@ ghost use Rattle.std.specs.Prelude.{◌≡◌, ℕ, ◌+◌, ◌*◌, ◌/◌, �
 ghost use Rattle.std.specs.Prelude.{slice_index_or};
 ghost use Rattle.avc_types.specs.Arithmetic.{mean_of_two};
 ghost use Rattle.avc_plane.specs.Strided.{IsRoom, IsStridedSet};
-ghost use Rattle.avc_inter.specs.Bounds.{IsSum};
+ghost use Rattle.avc_samples.specs.Bounds.{IsSum};
+ghost use Rattle.avc_samples.specs.Sums.{AreSums};
 ghost use Rattle.avc_inter.specs.Patch.{taps_along, half_along, centre_along, rounded_sum, j_of};
 ghost use Rattle.avc_inter.specs.SixRows.{place_of, HasPlaces, HasRoom, AreLanes, taps_of};
-ghost use Rattle.avc_inter.specs.SixRows.{centre_of, AreSums, AreSumsOf, AreSumsPut};
+ghost use Rattle.avc_inter.specs.SixRows.{centre_of, AreSumsOf};
 
 use crate::row::{multiples, narrow_differences, sums, widened};
 use crate::rows::{half_row, means_of, put_rows, sixteen};
 use crate::taps::{centre, rounded_half};
 use avc_plane::RowsPlace;
+use avc_samples::{move_on, put_sums, sixteen_sums};
 
 /// The unrounded sums of six rows.
 #[inline(always)]
@@ -55,18 +57,6 @@ fn sum_row<const L: usize>(p: &[u8], at: usize, stride: usize) -> [i16; 16]
     sums_of(&e, &f, &g, &h, &i, &j)
 }
 
-/// Puts sixteen sums into the window, as its sixteen of this number.
-#[inline(always)]
-fn put_sums(window: &mut [i16; 96], row: usize, r: &[i16; 16])
-    requires { row < 6 }
-    ensures { AreSumsPut row r.now window.old window.new }
-{
-    let from = 16 * row;
-    for k in 0..16 {
-        window[from + k] = r[k];
-    }
-}
-
 /// Puts the next sixteen sums behind those that the window has.
 #[inline(always)]
 fn put_sum_row<const L: usize>(
@@ -99,21 +89,6 @@ fn begin<const L: usize>(p: &[u8], at: usize, stride: usize, window: &mut [i16; 
     for row in 0..(5 * L + 15) / 16 {
         put_sum_row::<L>(p, at, stride, window, row);
     }
-}
-
-/// Sixteen sums of the window.
-#[inline(always)]
-fn sixteen_sums(window: &[i16; 96], at: usize) -> [i16; 16]
-    requires few { at + 16 ≤ 96 }
-    requires small { AreSums (at + 16) window.now }
-    ensures value { (k : ℕ) → k < 16 → slice_index_or result k (pos 0) ≡ slice_index_or window.now (at + k) (pos 0) }
-    ensures small { AreSums 16 result }
-{
-    let mut out = [0; 16];
-    for k in 0..16 {
-        out[k] = window[at + k];
-    }
-    out
 }
 
 /// The half samples j of six rows of sums.
@@ -191,19 +166,6 @@ fn rounded_row(window: &[i16; 96], at: usize) -> [u8; 16]
         out[k] = rounded_half(sums[k]);
     }
     out
-}
-
-/// Moves the window on: its first sixteen sums go.
-#[inline(always)]
-fn move_on<const L: usize>(window: &mut [i16; 96])
-    requires columns { L ≤ 16 }
-    requires small { AreSums (16 * ((5 * L + 15) / 16 + 1)) window.old }
-    ensures { (k : ℕ) → k < 16 * ((5 * L + 15) / 16) → slice_index_or window.new k (pos 0) ≡ slice_index_or window.old (16 + k) (pos 0) }
-{
-    for row in 0..(5 * L + 15) / 16 {
-        let next = sixteen_sums(window, 16 * (row + 1));
-        put_sums(window, row, &next);
-    }
 }
 
 /// The half samples j.

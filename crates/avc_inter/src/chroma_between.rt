@@ -8,8 +8,8 @@ ghost use Rattle.avc_inter.specs.Bounds.{IsMoved};
 ghost use Rattle.avc_inter.specs.SixRows.{AreLanes};
 
 use crate::bilinear::{BilinearWeights, blend_rows};
-use crate::patch::{fetch_held, find_within};
 use avc_plane::{PaddedPlane, RowsPlace};
+use avc_samples::{fetch_held, find_within};
 
 /// Lays the samples by a patch with each coordinate held inside the plane.
 #[cold]

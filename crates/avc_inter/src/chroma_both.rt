@@ -10,10 +10,10 @@ ghost use Rattle.avc_inter.specs.Chroma.{bilinear, inter_chroma};
 ghost use Rattle.avc_inter.specs.Bounds.{IsMoved};
 
 use crate::eighths::lay_both;
-use crate::patch::{fetch_held, find_within};
 use crate::vector::{chroma_fraction, chroma_place};
 use crate::whole::predict_whole;
 use avc_plane::{PaddedPlane, Plane, RowsPlace};
+use avc_samples::{fetch_held, find_within};
 use avc_types::Mv;
 
 /// Lays the samples by patches with each coordinate held inside the planes.

@@ -8,9 +8,8 @@ ghost use Rattle.avc_inter.specs.Chroma.{bilinear, inter_chroma};
 ghost use Rattle.avc_inter.specs.Bounds.{IsMoved};
 
 use crate::chroma_between::lay_eighths;
-use crate::patch::set_whole;
 use crate::vector::{chroma_fraction, chroma_place};
-use crate::whole::{predict_in_place, predict_whole};
+use crate::whole::{predict_in_place, predict_whole, set_whole};
 use avc_plane::{PaddedPlane, Plane, RowsPlace};
 use avc_types::{Block, Mv};
 

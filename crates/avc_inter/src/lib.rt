@@ -10,7 +10,6 @@ mod chroma_prediction;
 mod eighths;
 mod lines;
 mod luma_prediction;
-mod patch;
 mod positions;
 mod row;
 mod rows;

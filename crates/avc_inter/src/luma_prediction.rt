@@ -9,9 +9,8 @@ ghost use Rattle.avc_inter.specs.Bounds.{IsMoved};
 ghost use Rattle.avc_inter.specs.SixRows.{AreLanes};
 
 use crate::between::lay_between;
-use crate::patch::set_whole;
 use crate::vector::{luma_fraction, luma_place};
-use crate::whole::{predict_in_place, predict_whole};
+use crate::whole::{predict_in_place, predict_whole, set_whole};
 use avc_plane::{PaddedPlane, Plane, RowsPlace};
 use avc_types::{Block, Mv};
 

@@ -3,7 +3,8 @@
 ghost use Rattle.std.specs.Prelude.{◌≡◌, ◌-ℤ◌, ◌+ℤ◌, ◌*ℤ◌, ◌≤ℤ◌, ◌<ℤ◌, pos, neg_ℤ};
 ghost use Rattle.avc_types.specs.Arithmetic.{◌>>ℤ◌, clip1, mean_of_two};
 ghost use Rattle.avc_inter.specs.Luma.{six_taps};
-ghost use Rattle.avc_inter.specs.Bounds.{IsSum, IsPair};
+ghost use Rattle.avc_samples.specs.Bounds.{IsSum};
+ghost use Rattle.avc_inter.specs.Bounds.{IsPair};
 
 /// The taps over six samples.
 pub fn taps(e: u8, f: u8, g: u8, h: u8, i: u8, j: u8) -> i16

@@ -1,13 +1,15 @@
-//! Whole samples, laid into rows.
+//! Whole samples, laid into rows or given to a block.
 
 ghost use Rattle.std.specs.Prelude.{◌≡◌, ℕ, ◌+◌, ◌*◌, ◌<◌, ◌≤◌, pos, ◌+ℤ◌, length};
+ghost use Rattle.avc_types.specs.Blocks.{block_of};
 ghost use Rattle.avc_plane.specs.Plane.{sample, clamped, with_block};
 ghost use Rattle.avc_plane.specs.Strided.{IsRoom, IsStridedSet};
 ghost use Rattle.avc_inter.specs.Bounds.{IsMoved};
 
 use crate::lines::copy_lines;
-use crate::patch::{fetch_held, find_within, place_inside};
 use avc_plane::{PaddedPlane, Plane, RowsPlace};
+use avc_samples::{fetch_held, find_within, place_inside};
+use avc_types::Block;
 
 /// Lays whole samples, each coordinate held inside the plane.
 #[cold]
@@ -103,4 +105,42 @@ pub fn predict_in_place<const W: usize, const H: usize, const PAD: usize>(
     let to = plane.padded_place(x, y);
     let rows = plane.padded_rows_mut();
     copy_lines::<W, H>(reference.padded_rows(), from, rows, to);
+}
+
+/// Gives a block the whole samples from `left` and `top` on, each coordinate held inside the plane.
+fn set_held<const W: usize, const H: usize, const PAD: usize>(
+    plane: &PaddedPlane<PAD>,
+    left: i64,
+    top: i64,
+    block: &mut Block<W, H>,
+)
+    requires columns { W ≤ 16 }
+    requires rows { H ≤ 16 }
+    requires left { IsMoved left }
+    requires top { IsMoved top }
+    ensures { block.new ≡ block_of W H (λ i j. clamped plane.now.width plane.now.height (sample plane.now) (left +ℤ pos i) (top +ℤ pos j)) }
+{
+    let mut patch = [0; 272];
+    fetch_held(plane, left, top, W, H, &mut patch);
+    block.set_rows(&patch, 0, W);
+}
+
+/// Gives a block the whole samples from `left` and `top` on.
+#[inline(always)]
+pub fn set_whole<const W: usize, const H: usize, const PAD: usize>(
+    plane: &PaddedPlane<PAD>,
+    left: i64,
+    top: i64,
+    block: &mut Block<W, H>,
+)
+    requires columns { W ≤ 16 }
+    requires rows { H ≤ 16 }
+    requires left { IsMoved left }
+    requires top { IsMoved top }
+    ensures { block.new ≡ block_of W H (λ i j. clamped plane.now.width plane.now.height (sample plane.now) (left +ℤ pos i) (top +ℤ pos j)) }
+{
+    match find_within(plane, left, top, 16, H) {
+        Some(at) => block.set_rows(plane.padded_rows(), at.first, at.stride),
+        None => set_held(plane, left, top, block),
+    }
 }

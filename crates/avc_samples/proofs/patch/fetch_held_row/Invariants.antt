@@ -1,5 +1,5 @@
-use Rattle.avc_inter.proofs.SixRows.{◌≡◌, ℕ, ◌+◌, ◌<◌, slice_index, pos, ◌+ℤ◌, ◌-ℤ◌, nat_abs, clip3, sample}
-use Rattle.avc_inter.proofs.patch.fetch_held_row.Given as goal
+use Rattle.avc_samples.proofs.Places.{◌≡◌, ℕ, ◌+◌, ◌<◌, slice_index, pos, ◌+ℤ◌, ◌-ℤ◌, nat_abs, clip3, sample}
+use Rattle.avc_samples.proofs.patch.fetch_held_row.Given as goal
 
 abbrev pub invariant-loop-i : goal.invariant-loop-i
 invariant-loop-i g l = record {

@@ -1,6 +1,6 @@
-use Rattle.avc_inter.proofs.SixRows.{◌≡◌, ◌+◌, ◌<◌, ◌-ℤ◌, ◌+ℤ◌, pos, to_z, of_z, w64, slice_index, slice_set, length, arith, ap, ◌∙◌, nat_abs}
-use Rattle.avc_inter.proofs.SixRows.{get_or-set_same, get_or-set_other, below_more, clip3, sample, held_moved, place_back}
-use Rattle.avc_inter.proofs.patch.fetch_held_row.Goals as goal
+use Rattle.avc_samples.proofs.Places.{◌≡◌, ◌+◌, ◌<◌, ◌-ℤ◌, ◌+ℤ◌, pos, to_z, of_z, w64, slice_index, slice_set, length, arith, ap, ◌∙◌, nat_abs}
+use Rattle.avc_samples.proofs.Places.{get_or-set_same, get_or-set_other, below_more, clip3, sample, held_moved, place_back}
+use Rattle.avc_samples.proofs.patch.fetch_held_row.Goals as goal
 
 pub loop-i-preserved : goal.loop-i-preserved
 loop-i-preserved g c =

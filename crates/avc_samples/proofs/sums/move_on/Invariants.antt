@@ -1,5 +1,5 @@
-use Rattle.avc_inter.proofs.SixRows.{◌≡◌, ◌<◌, ◌≤◌, ◌+◌, ◌*◌, ℕ, slice_index_or, pos}
-use Rattle.avc_inter.proofs.centres.move_on.Given as goal
+use Rattle.avc_samples.proofs.Places.{◌≡◌, ◌<◌, ◌≤◌, ◌+◌, ◌*◌, ℕ, slice_index_or, pos}
+use Rattle.avc_samples.proofs.sums.move_on.Given as goal
 
 abbrev pub invariant-loop-row : goal.invariant-loop-row
 invariant-loop-row g l = record {

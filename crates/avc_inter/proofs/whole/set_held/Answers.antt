@@ -1,5 +1,5 @@
 use Rattle.avc_inter.proofs.SixRows.{◌+◌, ◌*◌, arith, ap, slice_index, ◌∙◌, wide_of, block_of_same, moved_at}
-use Rattle.avc_inter.proofs.patch.set_held.Goals as goal
+use Rattle.avc_inter.proofs.whole.set_held.Goals as goal
 
 pub returns : goal.returns
 returns g c =

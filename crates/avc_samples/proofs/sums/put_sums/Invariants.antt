@@ -1,5 +1,5 @@
-use Rattle.avc_inter.proofs.SixRows.{◌≡◌, ◌<◌, ◌≤◌, ◌+◌, ◌*◌, ℕ, length, slice_index_or, pos}
-use Rattle.avc_inter.proofs.centres.put_sums.Given as goal
+use Rattle.avc_samples.proofs.Places.{◌≡◌, ◌<◌, ◌≤◌, ◌+◌, ◌*◌, ℕ, length, slice_index_or, pos}
+use Rattle.avc_samples.proofs.sums.put_sums.Given as goal
 
 abbrev pub invariant-loop-k : goal.invariant-loop-k
 invariant-loop-k l = record {

@@ -1,6 +1,6 @@
-use Rattle.avc_inter.proofs.SixRows.{◌≡◌, ℕ, ◌+◌, ◌*◌, ◌<◌, ◌≤◌, ◌-ℤ◌, ◌+ℤ◌, pos, to_z, of_z, w64, slice_index, arith, ap, sym, ◌∙◌, nat_abs, row_fits, below_more}
-use Rattle.avc_inter.proofs.SixRows.{clip3, sample, clamped, held_moved, place_back, moved_sample}
-use Rattle.avc_inter.proofs.patch.fetch_held.Goals as goal
+use Rattle.avc_samples.proofs.Places.{◌≡◌, ℕ, ◌+◌, ◌*◌, ◌<◌, ◌≤◌, ◌-ℤ◌, ◌+ℤ◌, pos, to_z, of_z, w64, slice_index, arith, ap, sym, ◌∙◌, nat_abs, row_fits, below_more}
+use Rattle.avc_samples.proofs.Places.{clip3, sample, clamped, held_moved, place_back, moved_sample}
+use Rattle.avc_samples.proofs.patch.fetch_held.Goals as goal
 
 -- all rows of the patch so far, and this one
 row_there : (j columns count long : ℕ) → j < count → count * columns ≤ long → j * columns + columns ≤ long

@@ -1,5 +1,5 @@
 use Rattle.avc_inter.proofs.SixRows.{arith, ◌∙◌, wide_of, there_in, block_of_same, moved_at}
-use Rattle.avc_inter.proofs.patch.set_whole.Goals as goal
+use Rattle.avc_inter.proofs.whole.set_whole.Goals as goal
 
 pub set_rows-requires : goal.set_rows-requires
 set_rows-requires g c = (omega arith, (there_in _ _ c.in-Some.is c.find_within.ensures _ c.padded_rows.ensures).row)

@@ -4,13 +4,11 @@ ghost use Rattle.std.specs.Prelude.{◌≡◌, ℕ, ℤ, ◌+◌, ◌*◌, ◌<�
 ghost use Rattle.std.specs.Prelude.{◌-ℤ◌, ◌≤ℤ◌, IfSome, List, length, slice_index};
 ghost use Rattle.avc_types.specs.Arithmetic.{clip3};
 ghost use Rattle.avc_plane.specs.Plane.{sample, clamped};
-ghost use Rattle.avc_types.specs.Blocks.{block_of};
-ghost use Rattle.avc_inter.specs.Bounds.{IsMoved, IsPlace};
+ghost use Rattle.avc_samples.specs.Bounds.{IsPlace};
 ghost use Rattle.avc_plane.specs.Padded.{stored_place, stride_of, IsSurrounded};
-ghost use Rattle.avc_inter.specs.Patch.{IsPatch, IsThere};
+ghost use Rattle.avc_samples.specs.Patch.{IsPatch, IsThere};
 
 use avc_plane::{PaddedPlane, RowsPlace};
-use avc_types::Block;
 
 /// A coordinate held inside a size.
 fn held(place: i64, size: usize) -> usize
@@ -132,43 +130,5 @@ pub fn place_inside<const PAD: usize>(plane: &PaddedPlane<PAD>, x: usize, y: usi
     RowsPlace {
         first: (y + PAD) * stride + (x + PAD),
         stride,
-    }
-}
-
-/// Gives a block the whole samples from `left` and `top` on, each coordinate held inside the plane.
-fn set_held<const W: usize, const H: usize, const PAD: usize>(
-    plane: &PaddedPlane<PAD>,
-    left: i64,
-    top: i64,
-    block: &mut Block<W, H>,
-)
-    requires columns { W ≤ 16 }
-    requires rows { H ≤ 16 }
-    requires left { IsMoved left }
-    requires top { IsMoved top }
-    ensures { block.new ≡ block_of W H (λ i j. clamped plane.now.width plane.now.height (sample plane.now) (left +ℤ pos i) (top +ℤ pos j)) }
-{
-    let mut patch = [0; 272];
-    fetch_held(plane, left, top, W, H, &mut patch);
-    block.set_rows(&patch, 0, W);
-}
-
-/// Gives a block the whole samples from `left` and `top` on.
-#[inline(always)]
-pub fn set_whole<const W: usize, const H: usize, const PAD: usize>(
-    plane: &PaddedPlane<PAD>,
-    left: i64,
-    top: i64,
-    block: &mut Block<W, H>,
-)
-    requires columns { W ≤ 16 }
-    requires rows { H ≤ 16 }
-    requires left { IsMoved left }
-    requires top { IsMoved top }
-    ensures { block.new ≡ block_of W H (λ i j. clamped plane.now.width plane.now.height (sample plane.now) (left +ℤ pos i) (top +ℤ pos j)) }
-{
-    match find_within(plane, left, top, 16, H) {
-        Some(at) => block.set_rows(plane.padded_rows(), at.first, at.stride),
-        None => set_held(plane, left, top, block),
     }
 }

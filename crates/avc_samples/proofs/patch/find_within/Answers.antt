@@ -1,5 +1,5 @@
-use Rattle.avc_inter.proofs.SixRows.{stride_of, ◌≡◌, ◌+◌, ◌*◌, ◌≤◌, arith, row_is_there, sample_there}
-use Rattle.avc_inter.proofs.patch.find_within.Goals as goal
+use Rattle.avc_samples.proofs.Places.{stride_of, ◌≡◌, ◌+◌, ◌*◌, ◌≤◌, arith, row_is_there, sample_there}
+use Rattle.avc_samples.proofs.patch.find_within.Goals as goal
 
 pub returns : goal.returns
 returns g c rows all =

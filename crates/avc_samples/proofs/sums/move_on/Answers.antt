@@ -1,5 +1,5 @@
-use Rattle.avc_inter.proofs.SixRows.{◌*◌, ◌+◌, arith, pos, slice_index_or, ap, ◌∙◌, by_line, sums_left}
-use Rattle.avc_inter.proofs.centres.move_on.Goals as goal
+use Rattle.avc_samples.proofs.Places.{◌*◌, ◌+◌, arith, pos, slice_index_or, ap, ◌∙◌, by_line, sums_left}
+use Rattle.avc_samples.proofs.sums.move_on.Goals as goal
 
 pub sixteen_sums-next-requires-clause-small : goal.sixteen_sums-next-requires-clause-small
 sixteen_sums-next-requires-clause-small g c = sums_left _ c.loop-row.row _ _ c.requires.small c.loop-row-test.true c.loop-row.invariant.moved c.loop-row.invariant.left

@@ -1,5 +1,5 @@
-use Rattle.avc_inter.proofs.SixRows.{◌≡◌, ℕ, ◌+◌, ◌*◌, ◌<◌, slice_index, pos, ◌+ℤ◌, sample, clamped}
-use Rattle.avc_inter.proofs.patch.fetch_held.Given as goal
+use Rattle.avc_samples.proofs.Places.{◌≡◌, ℕ, ◌+◌, ◌*◌, ◌<◌, slice_index, pos, ◌+ℤ◌, sample, clamped}
+use Rattle.avc_samples.proofs.patch.fetch_held.Given as goal
 
 abbrev pub invariant-loop-j : goal.invariant-loop-j
 invariant-loop-j g l = (i j : ℕ) → i < l.columns → j < l.j →
