@@ -1,9 +1,10 @@
-//! A window of the unrounded sums of six rows, sixteen one behind the other (8.4.2.2.1).
+//! A window of unrounded sums of the six-tap filter (8.4.2.2.1), sixteen one behind the other: those of
+//! sixteen samples of a block of L columns, and of five rows more. It moves on by sixteen sums.
 
 ghost use Rattle.std.specs.Prelude.{◌≡◌, ℕ, ◌+◌, ◌*◌, ◌/◌, ◌<◌, ◌≤◌, pos, slice_index_or};
 ghost use Rattle.avc_samples.specs.Sums.{AreSums, AreSumsPut};
 
-/// Puts sixteen sums into the window, as its sixteen of this number.
+/// Puts sixteen sums into the window, as its sixteen of the number `row`.
 #[inline(always)]
 pub fn put_sums(window: &mut [i16; 96], row: usize, r: &[i16; 16])
     requires { row < 6 }
@@ -15,7 +16,7 @@ pub fn put_sums(window: &mut [i16; 96], row: usize, r: &[i16; 16])
     }
 }
 
-/// Sixteen sums of the window.
+/// Sixteen sums of the window, from place `at` on.
 #[inline(always)]
 pub fn sixteen_sums(window: &[i16; 96], at: usize) -> [i16; 16]
     requires few { at + 16 ≤ 96 }

@@ -1,11 +1,16 @@
 use Rattle.avc_inter.proofs.SixRows.{back_before, place_before, below_half, lines_few, ◌+◌, ◌*◌, ◌/◌, arith, refl, wide_of, quarter, strided_as, there_in, between_at, moved_at, room_is}
-use Rattle.avc_inter.proofs.SixRows.{rows_suffice, quarter_of}
+use Rattle.avc_inter.proofs.SixRows.{rows_suffice, quarter_of, still_moved}
 use Rattle.avc_inter.proofs.between.lay_between.Goals as goal
 
 pub find_within-requires : goal.find_within-requires
 find_within-requires g c =
     let r = c.requires in
     (below_half, (place_before _ r.left, (place_before _ r.top, (omega (arith, r.lanes.most), lines_few _ _ r.lanes c.count_around.ensures.few))))
+
+pub lay_far-requires : goal.lay_far-requires
+lay_far-requires g c =
+    let r = c.requires in
+    (below_half, (r.lanes, (r.columns, (r.low, (still_moved _ r.left, (still_moved _ r.top, ((r.patch.0, r.patch.1), (r.fx, (r.fy, (r.apart, r.room))))))))))
 
 pub quarters-requires-clause-room : goal.quarters-requires-clause-room
 quarters-requires-clause-room g c =

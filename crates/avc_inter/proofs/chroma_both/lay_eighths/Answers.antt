@@ -1,6 +1,26 @@
-use Rattle.avc_inter.proofs.SixRows.{◌+◌, ◌*◌, arith, refl, wide_of, bilinear, strided_as, there_in, back_moved, moved_at}
+use Rattle.avc_inter.proofs.SixRows.{◌+◌, ◌*◌, arith, refl, wide_of, bilinear, strided_as, there_in, back_moved, moved_at, below_half, place_moved, still_moved}
 use Rattle.avc_inter.proofs.BothRows.{eighth_shown}
 use Rattle.avc_inter.proofs.chroma_both.lay_eighths.Goals as goal
+
+pub find_within-requires : goal.find_within-requires
+find_within-requires g c =
+    let r = c.requires in
+    (below_half, (place_moved _ r.left, (place_moved _ r.top, (omega arith, omega (arith, r.few)))))
+
+pub lay_far-requires : goal.lay_far-requires
+lay_far-requires g c =
+    let r = c.requires in
+    (below_half, (r.columns, (r.few, (still_moved _ r.left, (still_moved _ r.top, (r.right, (r.down, (r.apart_cb, (r.apart_cr, (r.room_cb, r.room_cr))))))))))
+
+pub find_within-requires-2 : goal.find_within-requires-2
+find_within-requires-2 g c =
+    let r = c.requires in
+    (below_half, (place_moved _ r.left, (place_moved _ r.top, (omega arith, omega (arith, r.few)))))
+
+pub lay_far-requires-in_default-find_within : goal.lay_far-requires-in_default-find_within
+lay_far-requires-in_default-find_within g c =
+    let r = c.requires in
+    (below_half, (r.columns, (r.few, (still_moved _ r.left, (still_moved _ r.top, (r.right, (r.down, (r.apart_cb, (r.apart_cr, (r.room_cb, r.room_cr))))))))))
 
 pub returns-in_default-clause-cb : goal.returns-in_default-clause-cb
 returns-in_default-clause-cb g c =
