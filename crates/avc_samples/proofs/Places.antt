@@ -18,6 +18,9 @@ there_in found at is holds = rw is at holds
 pub place_back : (z : ℤ) → IsPlace z → to_z w64 (of_z w64 z) ≡ z
 place_back z p = omega (arith, ints, p.low, p.high)
 
+pub still_place : (z : ℤ) → IsPlace z → IsPlace (to_z w64 (of_z w64 z))
+still_place z p = rw (place_back z p) p
+
 pub moved_back : (z : ℤ) (i : ℕ) → IsPlace z → i < 2 ^ 16 → to_z w64 (of_z w64 (to_z w64 (of_z w64 z) +ℤ to_z w64 i)) ≡ z +ℤ pos i
 moved_back z i p q =
     let low = p.low in

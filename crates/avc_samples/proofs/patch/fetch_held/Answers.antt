@@ -1,5 +1,5 @@
 use Rattle.avc_samples.proofs.Places.{◌≡◌, ℕ, ◌+◌, ◌*◌, ◌<◌, ◌≤◌, ◌-ℤ◌, ◌+ℤ◌, pos, to_z, of_z, w64, slice_index, arith, ap, sym, ◌∙◌, nat_abs, row_fits, below_more}
-use Rattle.avc_samples.proofs.Places.{clip3, sample, clamped, held_moved, place_back, moved_sample}
+use Rattle.avc_samples.proofs.Places.{clip3, sample, clamped, held_moved, place_back, still_place, moved_sample}
 use Rattle.avc_samples.proofs.patch.fetch_held.Goals as goal
 
 -- all rows of the patch so far, and this one
@@ -8,6 +8,12 @@ row_there j columns count long less target = omega (arith, row_fits j columns co
 
 pub overflow_mul-j : goal.overflow_mul-j
 overflow_mul-j g c = omega (arith, row_there c.loop-j.j c.args.columns c.args.count _ c.loop-j-test.true c.requires.target)
+
+pub fetch_held_row-requires : goal.fetch_held_row-requires
+fetch_held_row-requires g c =
+    let r = c.requires in
+    let room = row_there c.loop-j.j c.args.columns c.args.count _ c.loop-j-test.true r.target in
+    (omega arith, (still_place _ r.left, (omega (arith, c.held-row.ensures.inside, c.height-height.ensures.value), (r.narrow, omega (arith, room, c.loop-j.auto.patch)))))
 
 pub loop-j-preserved : goal.loop-j-preserved
 loop-j-preserved g c i j column below =

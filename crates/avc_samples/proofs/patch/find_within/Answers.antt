@@ -1,5 +1,11 @@
-use Rattle.avc_samples.proofs.Places.{stride_of, ◌≡◌, ◌+◌, ◌*◌, ◌≤◌, arith, row_is_there, sample_there}
+use Rattle.avc_samples.proofs.Places.{stride_of, ◌≡◌, ◌+◌, ◌*◌, ◌≤◌, arith, row_is_there, sample_there, still_place}
 use Rattle.avc_samples.proofs.patch.find_within.Goals as goal
+
+pub behind_edge-column-requires-clause-place : goal.behind_edge-column-requires-clause-place
+behind_edge-column-requires-clause-place g c = still_place _ c.requires.left
+
+pub behind_edge-row-requires-clause-place : goal.behind_edge-row-requires-clause-place
+behind_edge-row-requires-clause-place g c = still_place _ c.requires.top
 
 pub returns : goal.returns
 returns g c rows all =
