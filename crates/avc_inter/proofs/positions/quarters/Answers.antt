@@ -1,6 +1,18 @@
 use Rattle.avc_inter.proofs.SixRows.{◌≡◌, arith}
 use Rattle.avc_inter.proofs.positions.quarters.Goals as goal
 
+pub row_0-requires-clause-room : goal.row_0-requires-clause-room
+row_0-requires-clause-room g c = c.requires.room
+
+pub row_1-requires-clause-room : goal.row_1-requires-clause-room
+row_1-requires-clause-room g c = c.requires.room
+
+pub row_2-requires-clause-room : goal.row_2-requires-clause-room
+row_2-requires-clause-room g c = c.requires.room
+
+pub row_3-requires-clause-room : goal.row_3-requires-clause-room
+row_3-requires-clause-room g c = c.requires.room
+
 pub returns-in-0 : goal.returns-in-0
 returns-in-0 g c = rw (c.in-0.is) c.row_0.ensures
 

@@ -10,6 +10,15 @@ centre_rows_down-requires-clause-down g c = room_for _ _ c.requires.lanes _ c.ar
 pub centre_rows_down-requires-in_default-clause-down : goal.centre_rows_down-requires-in_default-clause-down
 centre_rows_down-requires-in_default-clause-down g c = room_for _ _ c.requires.lanes _ c.args.at _ _ c.requires.room (omega arith)
 
+pub centre_rows_down-requires-clause-samples : goal.centre_rows_down-requires-clause-samples
+centre_rows_down-requires-clause-samples g c = c.requires.room
+
+pub centre_rows-requires-clause-samples : goal.centre_rows-requires-clause-samples
+centre_rows-requires-clause-samples g c = c.requires.room
+
+pub centre_rows_down-requires-in_default-clause-samples : goal.centre_rows_down-requires-in_default-clause-samples
+centre_rows_down-requires-in_default-clause-samples g c = c.requires.room
+
 pub returns-in-0 : goal.returns-in-0
 returns-in-0 g c = rw (c.in-0.is) c.half_rows.ensures
 
