@@ -1,5 +1,4 @@
-//! What the interpolation of samples reads (8.4.2.2): samples of a reference plane around a block, and the
-//! unrounded sums of six rows.
+//! What the interpolation of samples reads: samples around a block, and sums of six taps (8.4.2.2).
 #![tactic(auto)]
 
 mod patch;
