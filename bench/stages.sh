@@ -21,7 +21,7 @@ for stream in still:391680 call:36800 cif:11880 720p:21600 1080i:16320; do
             else if (/avc_inter::|avc_samples::|avc_picture_core::(inter|parts|rectangles|shape)::/) stage = "inter prediction"
             else if (/avc_intra::|avc_picture_core::(intra|luma4x4|luma16x16|chroma|around|sides|modes)::/) stage = "intra prediction"
             else if (/avc_transform::|avc_picture_core::residual::/) stage = "transforms and adding"
-            else if (/avc_deblock::|avc_picture::filter_rows::/) stage = "deblocking"
+            else if (/avc_deblock::|avc_edges::|avc_picture::filter_rows::/) stage = "deblocking"
             else if (/__mem(set|cpy|move)/) stage = "clearing and copying"
             else next
             stages[stage] += count

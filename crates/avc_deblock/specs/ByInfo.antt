@@ -5,7 +5,7 @@ use Rattle.avc_types.specs.Pictures.{Coded}
 use Rattle.avc_neigh.specs.declared.neighbour_info.Motion.{Motion}
 use Rattle.avc_plane.specs.Planes.{Planes}
 use Rattle.avc_transform.specs.Residual.{chroma_qp}
-use Rattle.avc_deblock.specs.declared.thresholds.EdgeQp.{EdgeQp}
+use Rattle.avc_edges.specs.declared.thresholds.EdgeQp.{EdgeQp}
 use Rattle.avc_deblock.specs.declared.mb_info.MbInfo.{MbInfo}
 use Rattle.avc_deblock.specs.Edges.{all_filtered, row_lines}
 use Rattle.avc_deblock.specs.FilterInfo.{Names, HasInfo, HaveInfo, IsAt, inter_strength, edge_block, filters_between, p_address}

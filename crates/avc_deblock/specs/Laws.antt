@@ -7,7 +7,7 @@ use Rattle.avc_deblock.specs.Edges.{line_filters, row_lines, mb_at, slice_at}
 use Rattle.avc_deblock.specs.FilterInfo.{Names, HaveInfo}
 use Rattle.avc_deblock.specs.declared.mb_info.MbInfo.{MbInfo}
 use Rattle.avc_plane.specs.Plane.{Plane}
-use Rattle.avc_deblock.specs.OneEdge.{lines_filtered, luma_setting}
+use Rattle.avc_edges.specs.OneEdge.{lines_filtered, luma_setting}
 use Rattle.avc_deblock.specs.ByInfo.{no_info, strength_of, luma_qp_of}
 
 -- The line filters of a picture are those of its rows of macroblocks, one row after another.

@@ -4,7 +4,7 @@ use Rattle.avc_deblock.specs.declared.mb_info.MbInfo.{MbInfo}
 use Rattle.avc_deblock.specs.declared.planes_edge.PairLimits.{PairLimits}
 use Rattle.avc_deblock.specs.declared.kept_limits.KeptLimits.{KeptLimits}
 use Rattle.avc_deblock.specs.declared.kept_limits.RowLimits.{RowLimits}
-use Rattle.avc_deblock.specs.OneEdge.{AreLimits}
+use Rattle.avc_edges.specs.OneEdge.{AreLimits}
 use Rattle.avc_deblock.specs.ByInfo.{luma_qp_of, chroma_qp_of}
 
 -- the limits of both, at this chroma_qp_index_offset

@@ -8,8 +8,8 @@ ghost use Rattle.avc_motion.specs.Motion.{zero_vector};
 ghost use Rattle.avc_deblock.specs.Edges.{strength_between};
 ghost use Rattle.avc_deblock.specs.FilterInfo.{Names, HasInfo, has_bit, are_far, inter_strength};
 
-use crate::line::either;
 use crate::mb_info::MbInfo;
+use avc_edges::either;
 use avc_types::Mv;
 
 /// The two differ by a whole sample or more.

@@ -1,22 +1,12 @@
 //! The filter strengths along an edge (8.7.2.1).
 
 ghost use Rattle.std.specs.Prelude.{◌≡◌, ℕ, ◌+◌, ◌%◌, ◌<◌, slice_index};
-ghost use Rattle.avc_deblock.specs.OneEdge.{AreStrengths, strength_along};
+ghost use Rattle.avc_edges.specs.OneEdge.{AreStrengths, strength_along};
 ghost use Rattle.avc_deblock.specs.FilterInfo.{edge_block, inter_strength};
 ghost use Rattle.avc_deblock.specs.ByInfo.{strength_of};
 
 use crate::mb_info::MbInfo;
-
-/// The filter strengths bS along one edge of a macroblock (8.7.2.1). Each is that of four luma
-/// lines, which two chroma lines share.
-#[derive(Clone, Copy)]
-pub(crate) enum Strengths {
-    /// 4 at all lines.
-    Four,
-
-    /// Each from 0 to 3.
-    BelowFour([u8; 4]),
-}
+use avc_edges::Strengths;
 
 /// The luma block on the q side of edge `n` in its quarter `k`.
 #[inline(always)]

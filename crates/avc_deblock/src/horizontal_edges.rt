@@ -6,11 +6,9 @@ ghost use Rattle.avc_deblock.specs.OneEdge.{HasRoom};
 ghost use Rattle.avc_deblock.specs.MbLimits.{ArePairLimits};
 ghost use Rattle.avc_deblock.specs.ByInfo.{edges_by_info};
 
-use crate::chroma_edge::horizontal_chroma;
-use crate::edge_strengths::Strengths;
-use crate::luma_edge::three_horizontal_luma;
 use crate::mb_info::MbInfo;
 use crate::planes_edge::{PairLimits, Place};
+use avc_edges::{Strengths, horizontal_chroma, three_horizontal_luma};
 use avc_plane::Planes;
 
 /// Filters the three horizontal edges inside intra macroblock `q`.

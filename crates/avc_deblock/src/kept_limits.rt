@@ -3,9 +3,9 @@
 ghost use Rattle.std.specs.Prelude.{◌≡◌, true};
 ghost use Rattle.avc_deblock.specs.MbLimits.{AreKept, AreRowLimits, ArePairLimits, IsFor};
 
-use crate::line::both;
 use crate::mb_info::MbInfo;
 use crate::planes_edge::{PairLimits, Place, pair_limits};
+use avc_edges::both;
 
 /// What the lines between macroblocks of two QPs are filtered with, at the offsets of one slice.
 #[derive(Clone, Copy)]

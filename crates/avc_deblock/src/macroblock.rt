@@ -9,10 +9,10 @@ ghost use Rattle.avc_deblock.specs.ByInfo.{edges_by_info, mb_by_info, strength_o
 
 use crate::horizontal_edges::inner_intra_edges;
 use crate::kept_limits::RowLimits;
-use crate::line::{all_three, both};
 use crate::mb_info::MbInfo;
 use crate::planes_edge::{PairLimits, Place, edge_between};
 use crate::vertical_edges::vertical_edges;
+use avc_edges::{all_three, both};
 use avc_plane::Planes;
 use avc_types::FilteredEdges;
 

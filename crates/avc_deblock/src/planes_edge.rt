@@ -2,17 +2,17 @@
 
 ghost use Rattle.std.specs.Prelude.{◌≡◌, ℕ, ◌+◌, ◌*◌, ◌^◌, ◌<◌, ◌≤◌, true, false};
 ghost use Rattle.avc_plane.specs.Frames.{planes_of};
-ghost use Rattle.avc_deblock.specs.OneEdge.{AreLimits, AreSpread, AreStrengths, chroma_of_edge, lines_of_edge};
-ghost use Rattle.avc_deblock.specs.OneEdge.{strength_along, HasRoom};
+ghost use Rattle.avc_edges.specs.OneEdge.{AreLimits, AreSpread, AreStrengths, strength_along};
+ghost use Rattle.avc_deblock.specs.OneEdge.{chroma_of_edge, lines_of_edge, HasRoom};
 ghost use Rattle.avc_deblock.specs.MbLimits.{ArePairLimits};
-ghost use Rattle.avc_deblock.specs.declared.thresholds.EdgeQp.{EdgeQp as Qps};
+ghost use Rattle.avc_edges.specs.declared.thresholds.EdgeQp.{EdgeQp as Qps};
 ghost use Rattle.avc_deblock.specs.ByInfo.{edge_by_info, luma_qp_of, chroma_qp_of, strength_of};
 
-use crate::chroma_edge::{horizontal_chroma, vertical_chroma};
-use crate::edge_strengths::{Strengths, edge_strengths};
-use crate::luma_edge::{horizontal_luma, vertical_luma};
+use crate::edge_strengths::edge_strengths;
 use crate::mb_info::MbInfo;
-use crate::thresholds::{EdgeQp, QpLimits};
+use avc_edges::{
+    EdgeQp, QpLimits, Strengths, horizontal_chroma, horizontal_luma, vertical_chroma, vertical_luma,
+};
 use avc_plane::{Plane, Planes};
 use avc_transform::chroma_qp;
 
@@ -28,19 +28,6 @@ pub struct Place {
 
     /// chroma_qp_index_offset of the picture (7.4.2.2): -12 to 12.
     pub chroma_qp_index_offset: i8,
-}
-
-impl Strengths {
-    #[inline(always)]
-    pub(crate) fn are_zero(&self) -> bool
-        ensures { result ≡ true → (k : ℕ) → k < 4 → strength_along self.now k ≡ 0 }
-    {
-        match self {
-            Strengths::Four => false,
-            // all four at once
-            Strengths::BelowFour(s) => u32::from_le_bytes(*s) == 0,
-        }
-    }
 }
 
 /// What all lines between two macroblocks are filtered with.

@@ -7,8 +7,8 @@ ghost use Rattle.avc_deblock.specs.FilterInfo.{edge_block, inter_strength, HaveO
 ghost use Rattle.avc_deblock.specs.ByInfo.{strength_of};
 
 use crate::edge_strengths::edge_block;
-use crate::line::{all_three, both, either};
 use crate::mb_info::MbInfo;
+use avc_edges::{all_three, both, either};
 
 impl MbInfo {
     #[inline(always)]

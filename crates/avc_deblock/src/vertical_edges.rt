@@ -3,18 +3,17 @@
 
 ghost use Rattle.std.specs.Prelude.{◌≡◌, ℕ, ◌+◌, ◌*◌, ◌^◌, ◌<◌, ◌≤◌, true, false};
 ghost use Rattle.avc_plane.specs.Frames.{planes_of};
-ghost use Rattle.avc_deblock.specs.OneEdge.{AreLimits, AreStrengths, edge_filtered, luma_setting};
-ghost use Rattle.avc_deblock.specs.OneEdge.{chroma_of_edge, luma_of_edge, strength_along, HasRoom};
+ghost use Rattle.avc_edges.specs.OneEdge.{AreLimits, AreStrengths, edge_filtered, luma_setting, strength_along};
+ghost use Rattle.avc_deblock.specs.OneEdge.{chroma_of_edge, luma_of_edge, HasRoom};
 ghost use Rattle.avc_deblock.specs.MbLimits.{ArePairLimits};
 ghost use Rattle.avc_deblock.specs.ByInfo.{edges_by_info, luma_qp_of, chroma_qp_of, strength_of};
 
-use crate::chroma_edge::two_vertical_chroma;
-use crate::edge_strengths::{Strengths, edge_strengths};
-use crate::line::both;
-use crate::luma_edge::{three_vertical_luma, vertical_luma};
+use crate::edge_strengths::edge_strengths;
 use crate::mb_info::MbInfo;
 use crate::planes_edge::{PairLimits, Place, vertical_chroma_of};
-use crate::thresholds::QpLimits;
+use avc_edges::{
+    QpLimits, Strengths, both, three_vertical_luma, two_vertical_chroma, vertical_luma,
+};
 use avc_plane::{Plane, Planes};
 
 /// Filters the luma lines across edge `n` of macroblock `q`. `p` is the macroblock on the other

@@ -27,17 +27,18 @@ pub use Rattle.std.specs.Prelude.{nat_le, ◌&&◌, ◌||◌, negsuc, ◌-ℤ◌
 pub use Rattle.avc_bits.specs.Bits.{at}
 pub use Rattle.avc_deblock.proofs.FilteredPictures.{row_acts, row_lines_filtered, row_changes, row_commutes, row_reads}
 pub use Rattle.avc_deblock.proofs.FilteredPictures.Edges.{row_more, rows_are_all, all_filtered-append}
-pub use Rattle.avc_deblock.proofs.FilteredPictures.Edges.EdgesOnPlane.{some_column, row_of}
-pub use Rattle.avc_deblock.proofs.FilteredPictures.Edges.EdgesOnPlane.EdgeLines.{each_of_eight}
 pub use Rattle.avc_deblock.specs.ByInfo.{row_by_info, AreOfRow}
-pub use Rattle.avc_deblock.specs.Edges.{filter_qp, has_coefficients, mb_at, picture_named, LineFilter, line_at, with_line, line_filtered, setting_at}
+pub use Rattle.avc_deblock.specs.Edges.{filter_qp, has_coefficients, mb_at, picture_named, LineFilter, setting_at}
 pub use Rattle.avc_deblock.specs.Edges.{step_filtered, all_filtered, line_filters, in_component, luma_per_sample, deblocked_planes}
 unfoldable pub use Rattle.avc_deblock.specs.Edges.{row_lines}
 pub use Rattle.avc_deblock.specs.FilterInfo.{Names, HasInfo, HaveInfo, HasMotion, has_bit}
-pub use Rattle.avc_deblock.specs.Line.{Line, Setting, filtered}
 pub use Rattle.avc_deblock.specs.Locality.{ChangesWithin, ChangesInRow, HasRow, AgreesAbove}
 pub use Rattle.avc_deblock.specs.OneEdge.{HasRoom}
 pub use Rattle.avc_deblock.specs.declared.mb_info.MbInfo.{MbInfo}
+pub use Rattle.avc_edges.proofs.EdgesOnPlane.{some_column, row_of}
+pub use Rattle.avc_edges.proofs.EdgesOnPlane.EdgeLines.{each_of_eight}
+pub use Rattle.avc_edges.specs.Line.{Line, Setting, filtered}
+pub use Rattle.avc_edges.specs.PlaneLine.{line_at, with_line, line_filtered}
 pub use Rattle.avc_mbsyntax.specs.Ranges.{IsSyntax}
 unfoldable pub use Rattle.avc_mbsyntax.specs.Reading.{blocks}
 pub use Rattle.avc_mbsyntax.specs.Rest.{IsHandedOut, rest_of, Follows, handed_out}

@@ -1,9 +1,0 @@
-use Rattle.avc_deblock.proofs.FilteredPictures.{◌≡◌, ◌<◌, ◌+◌, ◌*◌, ℕ, length, slice_index}
-use Rattle.avc_deblock.proofs.block.riffled.Given as goal
-
-abbrev pub invariant-loop-k : goal.invariant-loop-k
-invariant-loop-k l = record {
-  long : length l.out ≡ 128;
-  even : (k : ℕ) → k < l.k → slice_index l.out (2 * k) ≡ slice_index l.t k;
-  odd : (k : ℕ) → k < l.k → slice_index l.out (2 * k + 1) ≡ slice_index l.t (64 + k);
-}

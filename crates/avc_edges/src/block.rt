@@ -1,0 +1,231 @@
+//! Samples across a vertical edge, turned so that each line stands in a lane.
+
+ghost use Rattle.std.specs.Prelude.{◌≡◌, ℕ, ◌+◌, ◌*◌, ◌/◌, ◌%◌, ◌<◌, ◌≤◌, ◌==◌, true, false};
+ghost use Rattle.std.specs.Prelude.{if◌then◌else◌, slice_index};
+ghost use Rattle.avc_edges.specs.Line.{Setting, filtered};
+ghost use Rattle.avc_edges.specs.Rows.{IsRiffled, IsTransposed, IsRowSet, IsWeak, IsStrong};
+ghost use Rattle.avc_edges.specs.Rows.{IsNearSet, line_down, line_near};
+
+use crate::lines::{
+    Limits, StrongLimits, strong_chroma_lines, strong_lines, weak_chroma_lines, weak_lines,
+};
+use crate::pair::half;
+use std::simd::prelude::*;
+
+/// The halves of a table, one sample of each in turn.
+#[inline(always)]
+pub(crate) fn riffled(t: &[u8; 128]) -> [u8; 128]
+    ensures { IsRiffled t.now result }
+{
+    let mut out = *t;
+    for k in 0..64 {
+        out[2 * k] = t[k];
+        out[2 * k + 1] = t[64 + k];
+    }
+    out
+}
+
+/// Sixteen rows of eight samples as eight rows of sixteen.
+#[inline(always)]
+pub(crate) fn columns(t: &[u8; 128]) -> [u8; 128]
+    ensures { IsTransposed t.now result }
+{
+    let once = riffled(t);
+    let twice = riffled(&once);
+    let thrice = riffled(&twice);
+    riffled(&thrice)
+}
+
+/// Eight rows of sixteen samples as sixteen rows of eight.
+#[inline(always)]
+pub(crate) fn rows_of(t: &[u8; 128]) -> [u8; 128]
+    ensures { IsTransposed result t.now }
+{
+    let once = riffled(t);
+    let twice = riffled(&once);
+    riffled(&twice)
+}
+
+/// Each four samples as one word, the first of them lowest.
+#[inline(always)]
+fn words_of(t: &[u8; 64]) -> [u32; 16]
+    requires { (k : ℕ) → k < 64 → slice_index t.now k < 256 }
+    ensures first { (k : ℕ) → k < 16 → slice_index result k % 256 ≡ slice_index t.now (4 * k) }
+    ensures second { (k : ℕ) → k < 16 → slice_index result k / 256 % 256 ≡ slice_index t.now (4 * k + 1) }
+    ensures third { (k : ℕ) → k < 16 → slice_index result k / 65536 % 256 ≡ slice_index t.now (4 * k + 2) }
+    ensures fourth { (k : ℕ) → k < 16 → slice_index result k / 16777216 % 256 ≡ slice_index t.now (4 * k + 3) }
+{
+    u32x16::from_le_bytes(u8x64::from_array(*t)).to_array()
+}
+
+/// The samples by way of words, so that each four are stored at once.
+#[inline(always)]
+fn by_words(t: &[u8; 64]) -> [u8; 64]
+    ensures { (k : ℕ) → k < 64 → slice_index result k ≡ slice_index t.now k }
+{
+    let words = words_of(t);
+    let mut out = [0; 64];
+    for k in 0..16 {
+        let word = words[k];
+        out[4 * k] = (word % 256) as u8;
+        out[4 * k + 1] = (word / 256 % 256) as u8;
+        out[4 * k + 2] = (word / 65536 % 256) as u8;
+        out[4 * k + 3] = (word / 16777216 % 256) as u8;
+    }
+    out
+}
+
+/// The four rows in the middle of a block of eight rows of sixteen samples, each with a row of
+/// zeros below it.
+#[inline(always)]
+fn middle_apart(t: &[u8; 128]) -> [u8; 128]
+    ensures first { (k : ℕ) → k < 16 → slice_index result k ≡ slice_index t.now (32 + k) }
+    ensures second { (k : ℕ) → k < 16 → slice_index result (32 + k) ≡ slice_index t.now (48 + k) }
+    ensures third { (k : ℕ) → k < 16 → slice_index result (64 + k) ≡ slice_index t.now (64 + k) }
+    ensures fourth { (k : ℕ) → k < 16 → slice_index result (96 + k) ≡ slice_index t.now (80 + k) }
+{
+    let mut out = [0; 128];
+    for k in 0..16 {
+        out[k] = t[32 + k];
+        out[32 + k] = t[48 + k];
+        out[64 + k] = t[64 + k];
+        out[96 + k] = t[80 + k];
+    }
+    out
+}
+
+/// Those four rows as sixteen rows of four samples.
+#[inline(always)]
+pub(crate) fn rows_of_middle(t: &[u8; 128]) -> [u8; 64]
+    ensures { (r c : ℕ) → r < 16 → c < 4 → slice_index result (4 * r + c) ≡ slice_index t.now (32 + 16 * c + r) }
+{
+    let apart = middle_apart(t);
+    let once = riffled(&apart);
+    let twice = riffled(&once);
+    by_words(&half(&twice, 0))
+}
+
+/// Sixteen samples of a table.
+#[inline(always)]
+pub(crate) fn row(t: &[u8; 128], from: usize) -> [u8; 16]
+    requires { from + 16 ≤ 128 }
+    ensures { (k : ℕ) → k < 16 → slice_index result k ≡ slice_index t.now (from + k) }
+{
+    let mut out = [0; 16];
+    for k in 0..16 {
+        out[k] = t[from + k];
+    }
+    out
+}
+
+#[inline(always)]
+pub(crate) fn set_row(t: &mut [u8; 128], from: usize, r: &[u8; 16])
+    requires { from + 16 ≤ 128 }
+    ensures { IsRowSet from r.now t.old t.new }
+{
+    for k in 0..16 {
+        t[from + k] = r[k];
+    }
+}
+
+/// A value for each four lines, at each line.
+#[inline(always)]
+pub(crate) fn spread(v: &[u8; 4]) -> [u8; 16]
+    ensures { (k : ℕ) → k < 16 → slice_index result k ≡ slice_index v.now (k / 4) }
+{
+    let mut out = [0; 16];
+    for k in 0..16 {
+        out[k] = v[k / 4];
+    }
+    out
+}
+
+/// Filters the sixteen lines of luma down a block of eight rows of sixteen samples, at strengths of
+/// 0 to 3.
+#[inline(always)]
+pub(crate) fn weak_luma(t: &mut [u8; 128], limits: &Limits)
+    requires { (i : ℕ) → i < 16 → slice_index limits.now.tc0 i ≤ 92 }
+    ensures { (s : Setting) (i : ℕ) → i < 16 →
+        IsWeak true s (if slice_index limits.now.dead i == 0 then slice_index limits.now.alpha1 i + 1 else 0)
+        (slice_index limits.now.beta1 i + 1) (slice_index limits.now.tc0 i) →
+        filtered s (line_down t.old i) ≡ line_down t.new i }
+{
+    let p2 = row(t, 16);
+    let mut p1 = row(t, 32);
+    let mut p0 = row(t, 48);
+    let mut q0 = row(t, 64);
+    let mut q1 = row(t, 80);
+    let q2 = row(t, 96);
+    weak_lines(&p2, &mut p1, &mut p0, &mut q0, &mut q1, &q2, limits);
+    set_row(t, 32, &p1);
+    set_row(t, 48, &p0);
+    set_row(t, 64, &q0);
+    set_row(t, 80, &q1);
+}
+
+/// Filters the sixteen lines of luma down a block of eight rows of sixteen samples, at strength 4.
+#[inline(always)]
+pub(crate) fn strong_luma(t: &mut [u8; 128], limits: &StrongLimits)
+    requires { (i : ℕ) → i < 16 → slice_index limits.now.small1 i ≡ (slice_index limits.now.alpha1 i + 1) / 4 + 1 }
+    ensures { (s : Setting) (i : ℕ) → i < 16 →
+        IsStrong true s (slice_index limits.now.alpha1 i + 1) (slice_index limits.now.beta1 i + 1) →
+        filtered s (line_down t.old i) ≡ line_down t.new i }
+{
+    let p3 = row(t, 0);
+    let mut p2 = row(t, 16);
+    let mut p1 = row(t, 32);
+    let mut p0 = row(t, 48);
+    let mut q0 = row(t, 64);
+    let mut q1 = row(t, 80);
+    let mut q2 = row(t, 96);
+    let q3 = row(t, 112);
+    strong_lines(
+        &p3, &mut p2, &mut p1, &mut p0, &mut q0, &mut q1, &mut q2, &q3, limits,
+    );
+    set_row(t, 16, &p2);
+    set_row(t, 32, &p1);
+    set_row(t, 48, &p0);
+    set_row(t, 64, &q0);
+    set_row(t, 80, &q1);
+    set_row(t, 96, &q2);
+}
+
+/// Filters the sixteen lines of chroma down four rows of sixteen samples, which stand from a place
+/// of a table on, at strengths of 0 to 3.
+#[inline(always)]
+pub(crate) fn weak_chroma(t: &mut [u8; 128], from: usize, limits: &Limits)
+    requires tc0 { (i : ℕ) → i < 16 → slice_index limits.now.tc0 i ≤ 92 }
+    requires room { from + 64 ≤ 128 }
+    ensures lines { (p3 p2 q2 q3 : ℕ) (s : Setting) (i : ℕ) → i < 16 →
+        IsWeak false s (if slice_index limits.now.dead i == 0 then slice_index limits.now.alpha1 i + 1 else 0)
+        (slice_index limits.now.beta1 i + 1) (slice_index limits.now.tc0 i) →
+        filtered s (line_near p3 p2 q2 q3 t.old from i) ≡ line_near p3 p2 q2 q3 t.new from i }
+    ensures others { IsNearSet from t.old t.new }
+{
+    let p1 = row(t, from);
+    let mut p0 = row(t, from + 16);
+    let mut q0 = row(t, from + 32);
+    let q1 = row(t, from + 48);
+    weak_chroma_lines(&p1, &mut p0, &mut q0, &q1, limits);
+    set_row(t, from + 16, &p0);
+    set_row(t, from + 32, &q0);
+}
+
+/// Filters the sixteen lines of chroma down four rows of sixteen samples, which stand from a place
+/// of a table on, at strength 4.
+#[inline(always)]
+pub(crate) fn strong_chroma(t: &mut [u8; 128], from: usize, limits: &StrongLimits)
+    requires room { from + 64 ≤ 128 }
+    ensures lines { (p3 p2 q2 q3 : ℕ) (s : Setting) (i : ℕ) → i < 16 →
+        IsStrong false s (slice_index limits.now.alpha1 i + 1) (slice_index limits.now.beta1 i + 1) →
+        filtered s (line_near p3 p2 q2 q3 t.old from i) ≡ line_near p3 p2 q2 q3 t.new from i }
+    ensures others { IsNearSet from t.old t.new }
+{
+    let p1 = row(t, from);
+    let mut p0 = row(t, from + 16);
+    let mut q0 = row(t, from + 32);
+    let q1 = row(t, from + 48);
+    strong_chroma_lines(&p1, &mut p0, &mut q0, &q1, limits);
+    set_row(t, from + 16, &p0);
+    set_row(t, from + 32, &q0);
+}

@@ -1,0 +1,240 @@
+//! Edges of both chroma components together (8.7.2.2 to 8.7.2.4).
+
+ghost use Rattle.std.specs.Prelude.{◌≡◌, ℕ, ◌+◌, ◌*◌, ◌<◌, ◌≤◌, true, false, slice_index};
+ghost use Rattle.avc_edges.specs.Line.{filtered};
+ghost use Rattle.avc_edges.specs.Rows.{line_near, IsNearSet};
+ghost use Rattle.avc_edges.specs.OneEdge.{edge_filtered, chroma_setting, strength_along};
+ghost use Rattle.avc_edges.specs.OneEdge.{AreStrengths, AreLimits, AreSpread};
+ghost use Rattle.avc_edges.specs.declared.strengths.Strengths.TheVariants.{Four, BelowFour};
+ghost use Rattle.avc_edges.specs.declared.thresholds.EdgeQp.{EdgeQp as Qps};
+
+use crate::block::{columns, rows_of, strong_chroma, weak_chroma};
+use crate::strengths::Strengths;
+use crate::pair::{beside, half, joined, nearest};
+use crate::thresholds::{QpLimits, chroma_tc1s};
+use avc_plane::Plane;
+
+/// Filters the lines of chroma down four rows of sixteen samples, which stand from a place of a
+/// table on, at strengths of 0 to 3: eight lines of Cb, and then eight of Cr.
+#[inline(always)]
+fn filter_below_four(t: &mut [u8; 128], from: usize, strengths: &[u8; 4], limits: &QpLimits)
+    requires room { from + 64 ≤ 128 }
+    requires on { limits.now.is_on ≡ true }
+    requires spread { AreSpread limits.now }
+    requires strengths { (k : ℕ) → k < 4 → slice_index strengths.now k < 4 }
+    ensures lines { (qp : Qps) → AreLimits limits.now qp → (p3 p2 q2 q3 b i : ℕ) → b < 2 → i < 8 →
+        filtered (chroma_setting (strength_along (BelowFour strengths.now)) qp i) (line_near p3 p2 q2 q3 t.old from (8 * b + i))
+        ≡ line_near p3 p2 q2 q3 t.new from (8 * b + i) }
+    ensures others { IsNearSet from t.old t.new }
+{
+    let tc1 = chroma_tc1s(strengths, limits);
+    weak_chroma(t, from, &limits.weak(&tc1));
+}
+
+/// Filters the lines of chroma down four rows of sixteen samples at strength 4.
+#[inline(always)]
+fn filter_at_four(t: &mut [u8; 128], from: usize, limits: &QpLimits)
+    requires room { from + 64 ≤ 128 }
+    requires on { limits.now.is_on ≡ true }
+    requires spread { AreSpread limits.now }
+    ensures lines { (qp : Qps) → AreLimits limits.now qp → (p3 p2 q2 q3 b i : ℕ) → b < 2 → i < 8 →
+        filtered (chroma_setting (strength_along Four) qp i) (line_near p3 p2 q2 q3 t.old from (8 * b + i))
+        ≡ line_near p3 p2 q2 q3 t.new from (8 * b + i) }
+    ensures others { IsNearSet from t.old t.new }
+{
+    strong_chroma(t, from, &limits.strong());
+}
+
+/// Filters the lines of chroma down four rows of sixteen samples at any strengths.
+#[inline(always)]
+fn filter_chroma(t: &mut [u8; 128], from: usize, strengths: &Strengths, limits: &QpLimits)
+    requires room { from + 64 ≤ 128 }
+    requires on { limits.now.is_on ≡ true }
+    requires spread { AreSpread limits.now }
+    requires strengths { AreStrengths strengths.now }
+    ensures lines { (qp : Qps) → AreLimits limits.now qp → (p3 p2 q2 q3 b i : ℕ) → b < 2 → i < 8 →
+        filtered (chroma_setting (strength_along strengths.now) qp i) (line_near p3 p2 q2 q3 t.old from (8 * b + i))
+        ≡ line_near p3 p2 q2 q3 t.new from (8 * b + i) }
+    ensures others { IsNearSet from t.old t.new }
+{
+    match strengths {
+        Strengths::Four => filter_at_four(t, from, limits),
+        Strengths::BelowFour(s) => filter_below_four(t, from, s, limits),
+    }
+}
+
+/// Filters the eight lines of Cb and the eight of Cr across a vertical edge. The edge has `left +
+/// 4` columns left of it, and `top` rows above its first line.
+#[inline(never)]
+#[tactic(auto, using(crate::proofs::EdgesOnPlane::edge_off))]
+pub fn vertical_chroma<const PAD: usize>(
+    cb: &mut Plane<PAD>,
+    cr: &mut Plane<PAD>,
+    left: usize,
+    top: usize,
+    strengths: &Strengths,
+    limits: &QpLimits,
+)
+    requires cb_columns { left + 8 ≤ cb.old.width }
+    requires cb_rows { top + 8 ≤ cb.old.height }
+    requires cr_columns { left + 8 ≤ cr.old.width }
+    requires cr_rows { top + 8 ≤ cr.old.height }
+    requires spread { AreSpread limits.now }
+    requires strengths { AreStrengths strengths.now }
+    ensures cb { (qp : Qps) → AreLimits limits.now qp → cb.new ≡ edge_filtered (chroma_setting (strength_along strengths.now) qp) true (left + 4) top 8 cb.old }
+    ensures cr { (qp : Qps) → AreLimits limits.now qp → cr.new ≡ edge_filtered (chroma_setting (strength_along strengths.now) qp) true (left + 4) top 8 cr.old }
+{
+    if !limits.is_on {
+        return;
+    }
+    let of_cb = cb.rectangle::<8, 8, 64>(left, top);
+    let of_cr = cr.rectangle::<8, 8, 64>(left, top);
+    let block = joined(&of_cb, &of_cr);
+    let mut lines = columns(&block);
+    filter_chroma(&mut lines, 32, strengths, limits);
+    let after = rows_of(&lines);
+    let new_cb = half(&after, 0);
+    let new_cr = half(&after, 64);
+    cb.set_rectangle::<8, 8, 64>(left, top, &new_cb);
+    cr.set_rectangle::<8, 8, 64>(left, top, &new_cr);
+}
+
+/// Filters those across two vertical edges, the second four columns right of the first. The first
+/// has `left + 4` columns left of it.
+#[inline(never)]
+pub fn two_vertical_chroma<const PAD: usize>(
+    cb: &mut Plane<PAD>,
+    cr: &mut Plane<PAD>,
+    left: usize,
+    top: usize,
+    first: &Strengths,
+    first_limits: &QpLimits,
+    second: &Strengths,
+    second_limits: &QpLimits,
+)
+    requires cb_columns { left + 12 ≤ cb.old.width }
+    requires cb_rows { top + 8 ≤ cb.old.height }
+    requires cr_columns { left + 12 ≤ cr.old.width }
+    requires cr_rows { top + 8 ≤ cr.old.height }
+    requires first_on { first_limits.now.is_on ≡ true }
+    requires first_spread { AreSpread first_limits.now }
+    requires first_strengths { AreStrengths first.now }
+    requires second_on { second_limits.now.is_on ≡ true }
+    requires second_spread { AreSpread second_limits.now }
+    requires second_strengths { AreStrengths second.now }
+    ensures cb { (qp next : Qps) → AreLimits first_limits.now qp → AreLimits second_limits.now next → cb.new
+        ≡ edge_filtered (chroma_setting (strength_along second.now) next) true (left + 8) top 8
+        (edge_filtered (chroma_setting (strength_along first.now) qp) true (left + 4) top 8 cb.old) }
+    ensures cr { (qp next : Qps) → AreLimits first_limits.now qp → AreLimits second_limits.now next → cr.new
+        ≡ edge_filtered (chroma_setting (strength_along second.now) next) true (left + 8) top 8
+        (edge_filtered (chroma_setting (strength_along first.now) qp) true (left + 4) top 8 cr.old) }
+{
+    let _columns = cb.width();
+    let of_cb = cb.rectangle::<8, 8, 64>(left + 2, top);
+    let of_cr = cr.rectangle::<8, 8, 64>(left + 2, top);
+    let block = joined(&of_cb, &of_cr);
+    let mut lines = columns(&block);
+    filter_chroma(&mut lines, 0, first, first_limits);
+    filter_chroma(&mut lines, 64, second, second_limits);
+    let after = rows_of(&lines);
+    let new_cb = half(&after, 0);
+    let new_cr = half(&after, 64);
+    cb.set_rectangle::<8, 8, 64>(left + 2, top, &new_cb);
+    cr.set_rectangle::<8, 8, 64>(left + 2, top, &new_cr);
+}
+
+/// Filters the eight lines of Cb and the eight of Cr across a horizontal edge at strengths of 0 to
+/// 3. The edge has `top + 4` rows above it, and `left` columns left of its first line.
+#[inline(never)]
+fn weak_horizontal<const PAD: usize>(
+    cb: &mut Plane<PAD>,
+    cr: &mut Plane<PAD>,
+    left: usize,
+    top: usize,
+    strengths: &[u8; 4],
+    limits: &QpLimits,
+)
+    requires cb_columns { left + 8 ≤ cb.old.width }
+    requires cb_rows { top + 8 ≤ cb.old.height }
+    requires cr_columns { left + 8 ≤ cr.old.width }
+    requires cr_rows { top + 8 ≤ cr.old.height }
+    requires on { limits.now.is_on ≡ true }
+    requires spread { AreSpread limits.now }
+    requires strengths { (k : ℕ) → k < 4 → slice_index strengths.now k < 4 }
+    ensures cb { (qp : Qps) → AreLimits limits.now qp →
+        cb.new ≡ edge_filtered (chroma_setting (strength_along (BelowFour strengths.now)) qp) false left (top + 4) 8 cb.old }
+    ensures cr { (qp : Qps) → AreLimits limits.now qp →
+        cr.new ≡ edge_filtered (chroma_setting (strength_along (BelowFour strengths.now)) qp) false left (top + 4) 8 cr.old }
+{
+    let _rows = cb.height();
+    let of_cb = cb.rectangle::<8, 8, 64>(left, top);
+    let of_cr = cr.rectangle::<8, 8, 64>(left, top);
+    let mut lines = beside(&of_cb, &of_cr);
+    filter_below_four(&mut lines, 32, strengths, limits);
+    let new_cb = nearest(&lines, 0);
+    let new_cr = nearest(&lines, 8);
+    cb.set_rectangle::<8, 2, 16>(left, top + 3, &new_cb);
+    cr.set_rectangle::<8, 2, 16>(left, top + 3, &new_cr);
+}
+
+/// Filters the eight lines of Cb and the eight of Cr across a horizontal edge at strength 4.
+#[inline(never)]
+fn strong_horizontal<const PAD: usize>(
+    cb: &mut Plane<PAD>,
+    cr: &mut Plane<PAD>,
+    left: usize,
+    top: usize,
+    limits: &QpLimits,
+)
+    requires cb_columns { left + 8 ≤ cb.old.width }
+    requires cb_rows { top + 8 ≤ cb.old.height }
+    requires cr_columns { left + 8 ≤ cr.old.width }
+    requires cr_rows { top + 8 ≤ cr.old.height }
+    requires on { limits.now.is_on ≡ true }
+    requires spread { AreSpread limits.now }
+    ensures cb { (qp : Qps) → AreLimits limits.now qp →
+        cb.new ≡ edge_filtered (chroma_setting (strength_along Four) qp) false left (top + 4) 8 cb.old }
+    ensures cr { (qp : Qps) → AreLimits limits.now qp →
+        cr.new ≡ edge_filtered (chroma_setting (strength_along Four) qp) false left (top + 4) 8 cr.old }
+{
+    let _rows = cb.height();
+    let of_cb = cb.rectangle::<8, 8, 64>(left, top);
+    let of_cr = cr.rectangle::<8, 8, 64>(left, top);
+    let mut lines = beside(&of_cb, &of_cr);
+    filter_at_four(&mut lines, 32, limits);
+    let new_cb = nearest(&lines, 0);
+    let new_cr = nearest(&lines, 8);
+    cb.set_rectangle::<8, 2, 16>(left, top + 3, &new_cb);
+    cr.set_rectangle::<8, 2, 16>(left, top + 3, &new_cr);
+}
+
+/// Filters the eight lines of Cb and the eight of Cr across a horizontal edge at any strengths.
+#[inline(always)]
+#[tactic(auto, using(crate::proofs::EdgesOnPlane::edge_off))]
+pub fn horizontal_chroma<const PAD: usize>(
+    cb: &mut Plane<PAD>,
+    cr: &mut Plane<PAD>,
+    left: usize,
+    top: usize,
+    strengths: &Strengths,
+    limits: &QpLimits,
+)
+    requires cb_columns { left + 8 ≤ cb.old.width }
+    requires cb_rows { top + 8 ≤ cb.old.height }
+    requires cr_columns { left + 8 ≤ cr.old.width }
+    requires cr_rows { top + 8 ≤ cr.old.height }
+    requires spread { AreSpread limits.now }
+    requires strengths { AreStrengths strengths.now }
+    ensures cb { (qp : Qps) → AreLimits limits.now qp →
+        cb.new ≡ edge_filtered (chroma_setting (strength_along strengths.now) qp) false left (top + 4) 8 cb.old }
+    ensures cr { (qp : Qps) → AreLimits limits.now qp →
+        cr.new ≡ edge_filtered (chroma_setting (strength_along strengths.now) qp) false left (top + 4) 8 cr.old }
+{
+    if !limits.is_on {
+        return;
+    }
+    match strengths {
+        Strengths::Four => strong_horizontal(cb, cr, left, top, limits),
+        Strengths::BelowFour(s) => weak_horizontal(cb, cr, left, top, s, limits),
+    }
+}

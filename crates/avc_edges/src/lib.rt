@@ -1,0 +1,19 @@
+//! The samples across one edge, filtered at its strengths and QPs (8.7.2).
+#![tactic(auto)]
+
+mod block;
+mod bytes;
+mod chroma_edge;
+mod kernels;
+mod line;
+mod lines;
+mod luma_edge;
+mod pair;
+mod strengths;
+mod thresholds;
+
+pub use chroma_edge::{horizontal_chroma, two_vertical_chroma, vertical_chroma};
+pub use line::{all_three, both, either};
+pub use luma_edge::{horizontal_luma, three_horizontal_luma, three_vertical_luma, vertical_luma};
+pub use strengths::Strengths;
+pub use thresholds::{EdgeQp, LineLimits, QpLimits};

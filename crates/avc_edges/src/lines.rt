@@ -1,0 +1,249 @@
+//! Sixteen lines at once: their limits, and what becomes of their samples.
+
+ghost use Rattle.std.specs.Prelude.{◌≡◌, ℕ, ◌+◌, ◌-◌, ◌/◌, ◌<◌, ◌≤◌, ◌==◌, true, false};
+ghost use Rattle.std.specs.Prelude.{if◌then◌else◌, slice_index};
+ghost use Rattle.avc_edges.specs.Line.{Setting, filtered};
+ghost use Rattle.avc_edges.specs.Rows.{line_of_rows, line_within, line_inside, IsWeak, IsStrong};
+ghost use Rattle.avc_edges.specs.OneEdge.{AreSpread};
+
+use crate::bytes::less;
+use crate::line::{strong_chroma_line, strong_line, weak_chroma_line, weak_line};
+use crate::thresholds::QpLimits;
+
+/// What sixteen lines are filtered with below strength 4.
+#[derive(Clone, Copy)]
+pub(crate) struct Limits {
+    /// One less than alpha.
+    pub(crate) alpha1: [u8; 16],
+
+    /// One less than beta.
+    pub(crate) beta1: [u8; 16],
+
+    /// Not 0 where the strength is 0.
+    pub(crate) dead: [u8; 16],
+
+    pub(crate) tc0: [u8; 16],
+}
+
+/// What sixteen lines are filtered with at strength 4.
+#[derive(Clone, Copy)]
+pub(crate) struct StrongLimits {
+    /// One less than alpha.
+    pub(crate) alpha1: [u8; 16],
+
+    /// One less than beta.
+    pub(crate) beta1: [u8; 16],
+
+    /// One less than a quarter of alpha and two.
+    pub(crate) small1: [u8; 16],
+}
+
+/// One number for all lines.
+#[inline(always)]
+pub(crate) fn repeated(v: u8) -> [u8; 16]
+    ensures { (k : ℕ) → k < 16 → slice_index result k ≡ v }
+{
+    let mut out = [0; 16];
+    for k in 0..16 {
+        out[k] = v;
+    }
+    out
+}
+
+/// 1 where the number is 0.
+#[inline(always)]
+fn deads(tc1: &[u8; 16]) -> [u8; 16]
+    ensures { (k : ℕ) → k < 16 → slice_index result k ≡ 1 - slice_index tc1.now k }
+{
+    let tc1 = *tc1;
+    let mut out = [0; 16];
+    for k in 0..16 {
+        out[k] = less(1, tc1[k]);
+    }
+    out
+}
+
+/// One less than each number that is not 0.
+#[inline(always)]
+fn tc0s(tc1: &[u8; 16]) -> [u8; 16]
+    ensures { (k : ℕ) → k < 16 → slice_index result k ≡ slice_index tc1.now k - 1 }
+{
+    let tc1 = *tc1;
+    let mut out = [0; 16];
+    for k in 0..16 {
+        out[k] = less(tc1[k], 1);
+    }
+    out
+}
+
+impl QpLimits {
+    /// Those of sixteen lines; `tc1` is one more than tC0, or 0 where nothing is filtered.
+    #[inline(always)]
+    pub(crate) fn weak(&self, tc1: &[u8; 16]) -> Limits
+        requires { AreSpread self.now }
+        ensures alpha { (k : ℕ) → k < 16 → slice_index result.alpha1 k ≡ self.now.alpha1 }
+        ensures beta { (k : ℕ) → k < 16 → slice_index result.beta1 k ≡ self.now.beta1 }
+        ensures dead { (k : ℕ) → k < 16 → slice_index result.dead k ≡ 1 - slice_index tc1.now k }
+        ensures tc0 { (k : ℕ) → k < 16 → slice_index result.tc0 k ≡ slice_index tc1.now k - 1 }
+    {
+        Limits {
+            alpha1: self.lines.alpha1,
+            beta1: self.lines.beta1,
+            dead: deads(tc1),
+            tc0: tc0s(tc1),
+        }
+    }
+
+    /// Those of sixteen lines at strength 4.
+    #[inline(always)]
+    pub(crate) fn strong(&self) -> StrongLimits
+        requires { AreSpread self.now }
+        ensures alpha { (k : ℕ) → k < 16 → slice_index result.alpha1 k ≡ self.now.alpha1 }
+        ensures beta { (k : ℕ) → k < 16 → slice_index result.beta1 k ≡ self.now.beta1 }
+        ensures small { (k : ℕ) → k < 16 → slice_index result.small1 k ≡ (slice_index result.alpha1 k + 1) / 4 + 1 }
+    {
+        StrongLimits {
+            alpha1: self.lines.alpha1,
+            beta1: self.lines.beta1,
+            small1: repeated(((u16::from(self.alpha1) + 1) / 4 + 1) as u8),
+        }
+    }
+}
+
+/// The edge of sixteen lines of luma, at a strength of 0 to 3.
+#[inline(always)]
+pub(crate) fn weak_lines(
+    p2: &[u8; 16],
+    p1: &mut [u8; 16],
+    p0: &mut [u8; 16],
+    q0: &mut [u8; 16],
+    q1: &mut [u8; 16],
+    q2: &[u8; 16],
+    limits: &Limits,
+)
+    requires { (i : ℕ) → i < 16 → slice_index limits.now.tc0 i ≤ 92 }
+    ensures { (p3 q3 : ℕ) (s : Setting) (i : ℕ) → i < 16 →
+        IsWeak true s (if slice_index limits.now.dead i == 0 then slice_index limits.now.alpha1 i + 1 else 0)
+        (slice_index limits.now.beta1 i + 1) (slice_index limits.now.tc0 i) →
+        filtered s (line_within p3 q3 p2.now p1.old p0.old q0.old q1.old q2.now i) ≡ line_within p3 q3 p2.now p1.new p0.new q0.new q1.new q2.now i }
+{
+    let (p2, a1, a0, b0, b1, q2) = (*p2, *p1, *p0, *q0, *q1, *q2);
+    let (alpha1, beta1, dead, tc0) = (limits.alpha1, limits.beta1, limits.dead, limits.tc0);
+    let mut o1 = a1;
+    let mut o0 = a0;
+    let mut r0 = b0;
+    let mut r1 = b1;
+    for i in 0..16 {
+        let inner = weak_line(
+            p2[i], a1[i], a0[i], b0[i], b1[i], q2[i], alpha1[i], beta1[i], dead[i], tc0[i],
+        );
+        o1[i] = inner.p1;
+        o0[i] = inner.p0;
+        r0[i] = inner.q0;
+        r1[i] = inner.q1;
+    }
+    *p1 = o1;
+    *p0 = o0;
+    *q0 = r0;
+    *q1 = r1;
+}
+
+/// The edge of sixteen lines of luma, at strength 4.
+#[inline(always)]
+pub(crate) fn strong_lines(
+    p3: &[u8; 16],
+    p2: &mut [u8; 16],
+    p1: &mut [u8; 16],
+    p0: &mut [u8; 16],
+    q0: &mut [u8; 16],
+    q1: &mut [u8; 16],
+    q2: &mut [u8; 16],
+    q3: &[u8; 16],
+    limits: &StrongLimits,
+)
+    requires { (i : ℕ) → i < 16 → slice_index limits.now.small1 i ≡ (slice_index limits.now.alpha1 i + 1) / 4 + 1 }
+    ensures { (s : Setting) (i : ℕ) → i < 16 → IsStrong true s (slice_index limits.now.alpha1 i + 1) (slice_index limits.now.beta1 i + 1) →
+        filtered s (line_of_rows p3.now p2.old p1.old p0.old q0.old q1.old q2.old q3.now i)
+        ≡ line_of_rows p3.now p2.new p1.new p0.new q0.new q1.new q2.new q3.now i }
+{
+    let (p3, a2, a1, a0, b0, b1, b2, q3) = (*p3, *p2, *p1, *p0, *q0, *q1, *q2, *q3);
+    let (alpha1, beta1, small1) = (limits.alpha1, limits.beta1, limits.small1);
+    let mut o2 = a2;
+    let mut o1 = a1;
+    let mut o0 = a0;
+    let mut r0 = b0;
+    let mut r1 = b1;
+    let mut r2 = b2;
+    for i in 0..16 {
+        let sides = strong_line(
+            p3[i], a2[i], a1[i], a0[i], b0[i], b1[i], b2[i], q3[i], alpha1[i], beta1[i], small1[i],
+        );
+        o2[i] = sides.p2;
+        o1[i] = sides.p1;
+        o0[i] = sides.p0;
+        r0[i] = sides.q0;
+        r1[i] = sides.q1;
+        r2[i] = sides.q2;
+    }
+    *p2 = o2;
+    *p1 = o1;
+    *p0 = o0;
+    *q0 = r0;
+    *q1 = r1;
+    *q2 = r2;
+}
+
+/// Sixteen lines of chroma, at strengths of 0 to 3.
+#[inline(always)]
+pub(crate) fn weak_chroma_lines(
+    p1: &[u8; 16],
+    p0: &mut [u8; 16],
+    q0: &mut [u8; 16],
+    q1: &[u8; 16],
+    limits: &Limits,
+)
+    requires { (i : ℕ) → i < 16 → slice_index limits.now.tc0 i ≤ 92 }
+    ensures { (p3 p2 q2 q3 : ℕ) (s : Setting) (i : ℕ) → i < 16 →
+        IsWeak false s (if slice_index limits.now.dead i == 0 then slice_index limits.now.alpha1 i + 1 else 0)
+        (slice_index limits.now.beta1 i + 1) (slice_index limits.now.tc0 i) →
+        filtered s (line_inside p3 p2 q2 q3 p1.now p0.old q0.old q1.now i) ≡ line_inside p3 p2 q2 q3 p1.now p0.new q0.new q1.now i }
+{
+    let (p1, a0, b0, q1) = (*p1, *p0, *q0, *q1);
+    let (alpha1, beta1, dead, tc0) = (limits.alpha1, limits.beta1, limits.dead, limits.tc0);
+    let mut o0 = a0;
+    let mut r0 = b0;
+    for i in 0..16 {
+        let nearest = weak_chroma_line(
+            p1[i], a0[i], b0[i], q1[i], alpha1[i], beta1[i], dead[i], tc0[i],
+        );
+        o0[i] = nearest.p0;
+        r0[i] = nearest.q0;
+    }
+    *p0 = o0;
+    *q0 = r0;
+}
+
+/// Sixteen lines of chroma, at strength 4.
+#[inline(always)]
+pub(crate) fn strong_chroma_lines(
+    p1: &[u8; 16],
+    p0: &mut [u8; 16],
+    q0: &mut [u8; 16],
+    q1: &[u8; 16],
+    limits: &StrongLimits,
+)
+    ensures { (p3 p2 q2 q3 : ℕ) (s : Setting) (i : ℕ) → i < 16 → IsStrong false s (slice_index limits.now.alpha1 i + 1) (slice_index limits.now.beta1 i + 1) →
+        filtered s (line_inside p3 p2 q2 q3 p1.now p0.old q0.old q1.now i) ≡ line_inside p3 p2 q2 q3 p1.now p0.new q0.new q1.now i }
+{
+    let (p1, a0, b0, q1) = (*p1, *p0, *q0, *q1);
+    let (alpha1, beta1) = (limits.alpha1, limits.beta1);
+    let mut o0 = a0;
+    let mut r0 = b0;
+    for i in 0..16 {
+        let nearest = strong_chroma_line(p1[i], a0[i], b0[i], q1[i], alpha1[i], beta1[i]);
+        o0[i] = nearest.p0;
+        r0[i] = nearest.q0;
+    }
+    *p0 = o0;
+    *q0 = r0;
+}

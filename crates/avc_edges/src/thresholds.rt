@@ -1,0 +1,246 @@
+//! indexA, indexB, alpha, beta and tC0 (8.7.2.2, Table 8-16, Table 8-17).
+
+ghost use Rattle.std.specs.Prelude.{◌≡◌, ℕ, ◌+◌, ◌*◌, ◌/◌, ◌%◌, ◌<◌, ◌≤◌, slice_index};
+ghost use Rattle.avc_edges.specs.Line.{threshold_index, alpha_of, beta_of};
+ghost use Rattle.avc_edges.specs.OneEdge.{tc1_of, AreLimits, AreSpread};
+
+use crate::block::spread;
+use crate::bytes::less;
+use crate::line::{both, is_zero};
+use crate::lines::repeated;
+use crate::pair::spread_twice;
+use std::simd::prelude::*;
+
+// Table 8-16 by index.
+const ALPHA: [u8; 52] = [
+    0, 0, 0, 0, 0, 0, 0, 0, 0, 0, 0, 0, 0, 0, 0, 0, 4, 4, 5, 6, 7, 8, 9, 10, 12, 13, 15, 17, 20,
+    22, 25, 28, 32, 36, 40, 45, 50, 56, 63, 71, 80, 90, 101, 113, 127, 144, 162, 182, 203, 226,
+    255, 255,
+];
+
+const BETA: [u8; 52] = [
+    0, 0, 0, 0, 0, 0, 0, 0, 0, 0, 0, 0, 0, 0, 0, 0, 2, 2, 2, 3, 3, 3, 3, 4, 4, 4, 6, 6, 7, 7, 8, 8,
+    9, 9, 10, 10, 11, 11, 12, 12, 13, 13, 14, 14, 15, 15, 16, 16, 17, 17, 18, 18,
+];
+
+// Table 8-17: for each index one more than tC0 at the strengths 1 to 3; at strength 0, where
+// nothing is filtered, 0. Twelve zeros let each row be read as the first four of sixteen.
+const TC1: [u8; 220] = [
+    0, 1, 1, 1, 0, 1, 1, 1, 0, 1, 1, 1, 0, 1, 1, 1, 0, 1, 1, 1, 0, 1, 1, 1, 0, 1, 1, 1, 0, 1, 1, 1,
+    0, 1, 1, 1, 0, 1, 1, 1, 0, 1, 1, 1, 0, 1, 1, 1, 0, 1, 1, 1, 0, 1, 1, 1, 0, 1, 1, 1, 0, 1, 1, 1,
+    0, 1, 1, 1, 0, 1, 1, 2, 0, 1, 1, 2, 0, 1, 1, 2, 0, 1, 1, 2, 0, 1, 2, 2, 0, 1, 2, 2, 0, 2, 2, 2,
+    0, 2, 2, 2, 0, 2, 2, 2, 0, 2, 2, 2, 0, 2, 2, 3, 0, 2, 2, 3, 0, 2, 2, 3, 0, 2, 2, 3, 0, 2, 3, 4,
+    0, 2, 3, 4, 0, 3, 3, 4, 0, 3, 3, 5, 0, 3, 4, 5, 0, 3, 4, 5, 0, 4, 4, 6, 0, 4, 5, 7, 0, 4, 5, 7,
+    0, 5, 6, 8, 0, 5, 6, 9, 0, 5, 7, 10, 0, 6, 8, 11, 0, 7, 9, 12, 0, 7, 9, 14, 0, 8, 11, 15, 0, 9,
+    12, 17, 0, 10, 13, 19, 0, 11, 14, 21, 0, 12, 16, 24, 0, 14, 18, 26, 0, 0, 0, 0, 0, 0, 0, 0, 0,
+    0, 0, 0,
+];
+
+/// What the lines of one edge have in common, beside their strengths (8.7.2.2).
+#[derive(Clone, Copy)]
+pub struct EdgeQp {
+    /// The QP of the samples left of the edge, or above it: QP_Y, or QP_C for chroma. 0 to 51.
+    pub p: u8,
+
+    /// The QP on the other side.
+    pub q: u8,
+
+    /// FilterOffsetA of the slice of the q side.
+    pub offset_a: i8,
+
+    /// FilterOffsetB of that slice.
+    pub offset_b: i8,
+}
+
+#[derive(Clone, Copy)]
+pub(crate) struct Thresholds {
+    pub(crate) index_a: u8,
+    pub(crate) alpha: u8,
+    pub(crate) beta: u8,
+}
+
+#[inline(always)]
+fn index_of(p: u8, q: u8, offset: i8) -> u8
+    ensures value { result ≡ threshold_index ((p + q + 1) / 2) offset }
+    ensures small { result < 52 }
+{
+    let qp = (u16::from(p) + u16::from(q) + 1) / 2;
+    let sum = qp as i16 + i16::from(offset);
+    if sum < 0 {
+        0
+    } else if sum > 51 {
+        51
+    } else {
+        sum as u8
+    }
+}
+
+#[inline(always)]
+#[tactic(auto, using(crate::proofs::EdgesOnPlane::alpha_at))]
+fn alpha(index: u8) -> u8
+    requires { index < 52 }
+    ensures { result ≡ alpha_of index }
+{
+    ALPHA[usize::from(index)]
+}
+
+#[inline(always)]
+#[tactic(auto, using(crate::proofs::EdgesOnPlane::beta_at))]
+fn beta(index: u8) -> u8
+    requires { index < 52 }
+    ensures { result ≡ beta_of index }
+{
+    BETA[usize::from(index)]
+}
+
+/// The number at a place of the table: one more than tC0 at a strength of 1 to 3, and 0 at strength
+/// 0.
+#[inline(always)]
+#[tactic(auto, using(crate::proofs::EdgesOnPlane::tc1_at))]
+fn tc1(place: usize) -> u8
+    requires { place < 220 }
+    ensures value { (strength index : ℕ) → strength < 4 → index < 52 → place ≡ 4 * index + strength → result ≡ tc1_of strength index }
+    ensures small { result ≤ 26 }
+{
+    TC1[place]
+}
+
+/// Those at all strengths, in the first four of sixteen.
+#[inline(always)]
+fn each_tc1(index: u8) -> [u8; 16]
+    requires { index < 52 }
+    ensures value { (k : ℕ) → k < 4 → slice_index result k ≡ tc1_of k index }
+    ensures small { (k : ℕ) → k < 16 → slice_index result k ≤ 26 }
+{
+    let first = 4 * usize::from(index);
+    let mut out = [0; 16];
+    for k in 0..16 {
+        out[k] = tc1(first + k);
+    }
+    out
+}
+
+/// The numbers of a table at these places: one instruction.
+#[inline(always)]
+fn looked_up(table: &[u8; 16], places: &[u8; 16]) -> [u8; 16]
+    requires { (k : ℕ) → k < 16 → slice_index places.now k < 16 }
+    ensures { (k : ℕ) → k < 16 → slice_index result k ≡ slice_index table.now (slice_index places.now k) }
+{
+    u8x16::from_array(*table)
+        .swizzle_dyn(u8x16::from_array(*places))
+        .to_array()
+}
+
+/// One more than tC0 at each of sixteen strengths of 1 to 3, and 0 at strength 0.
+#[inline(always)]
+fn tc1s(strengths: &[u8; 16], limits: &QpLimits) -> [u8; 16]
+    requires strengths { (k : ℕ) → k < 16 → slice_index strengths.now k < 4 }
+    requires spread { AreSpread limits.now }
+    ensures value { (k : ℕ) → k < 16 → slice_index result k ≡ tc1_of (slice_index strengths.now k) limits.now.index_a }
+    ensures small { (k : ℕ) → k < 16 → slice_index result k ≤ 26 }
+{
+    looked_up(&limits.lines.tc1, strengths)
+}
+
+/// That of each of sixteen lines of luma.
+#[inline(always)]
+pub(crate) fn luma_tc1s(strengths: &[u8; 4], limits: &QpLimits) -> [u8; 16]
+    requires strengths { (k : ℕ) → k < 4 → slice_index strengths.now k < 4 }
+    requires spread { AreSpread limits.now }
+    ensures value { (k : ℕ) → k < 16 → slice_index result k ≡ tc1_of (slice_index strengths.now (k / 4)) limits.now.index_a }
+    ensures small { (k : ℕ) → k < 16 → slice_index result k ≤ 26 }
+{
+    tc1s(&spread(strengths), limits)
+}
+
+/// That of each of eight lines of chroma, twice.
+#[inline(always)]
+pub(crate) fn chroma_tc1s(strengths: &[u8; 4], limits: &QpLimits) -> [u8; 16]
+    requires strengths { (k : ℕ) → k < 4 → slice_index strengths.now k < 4 }
+    requires spread { AreSpread limits.now }
+    ensures value { (k : ℕ) → k < 16 → slice_index result k ≡ tc1_of (slice_index strengths.now (k % 8 / 2)) limits.now.index_a }
+    ensures small { (k : ℕ) → k < 16 → slice_index result k ≤ 26 }
+{
+    tc1s(&spread_twice(strengths), limits)
+}
+
+/// What all lines between macroblocks of two QPs are filtered with (8.7.2.2).
+#[derive(Clone, Copy)]
+pub struct QpLimits {
+    /// One less than alpha.
+    pub alpha1: u8,
+
+    /// One less than beta.
+    pub beta1: u8,
+
+    /// indexA (8.7.2.2), 0 to 51.
+    pub index_a: u8,
+
+    /// Neither alpha nor beta is 0. Where one is, nothing is filtered.
+    pub is_on: bool,
+
+    /// The same for sixteen lines at once: once made, it serves many edges.
+    pub lines: LineLimits,
+}
+
+/// What sixteen lines are filtered with: a number for each.
+#[derive(Clone, Copy)]
+pub struct LineLimits {
+    /// One less than alpha.
+    pub alpha1: [u8; 16],
+
+    /// One less than beta.
+    pub beta1: [u8; 16],
+
+    /// One more than tC0 at a strength of 1 to 3, and 0 at strength 0: four by strength.
+    pub tc1: [u8; 16],
+}
+
+#[inline(always)]
+fn line_limits(alpha1: u8, beta1: u8, index: u8) -> LineLimits
+    requires { index < 52 }
+    ensures alpha { (k : ℕ) → k < 16 → slice_index result.alpha1 k ≡ alpha1 }
+    ensures beta { (k : ℕ) → k < 16 → slice_index result.beta1 k ≡ beta1 }
+    ensures tc1 { (k : ℕ) → k < 4 → slice_index result.tc1 k ≡ tc1_of k index }
+    ensures tc1_small { (k : ℕ) → k < 16 → slice_index result.tc1 k ≤ 26 }
+{
+    LineLimits {
+        alpha1: repeated(alpha1),
+        beta1: repeated(beta1),
+        tc1: each_tc1(index),
+    }
+}
+
+impl EdgeQp {
+    #[inline(always)]
+    pub(crate) fn thresholds(&self) -> Thresholds
+        ensures index { result.index_a ≡ threshold_index ((self.now.p + self.now.q + 1) / 2) self.now.offset_a }
+        ensures small { result.index_a < 52 }
+        ensures alpha { result.alpha ≡ alpha_of (threshold_index ((self.now.p + self.now.q + 1) / 2) self.now.offset_a) }
+        ensures beta { result.beta ≡ beta_of (threshold_index ((self.now.p + self.now.q + 1) / 2) self.now.offset_b) }
+    {
+        let index_a = index_of(self.p, self.q, self.offset_a);
+        Thresholds {
+            index_a,
+            alpha: alpha(index_a),
+            beta: beta(index_of(self.p, self.q, self.offset_b)),
+        }
+    }
+
+    /// What lines between samples of these QPs are filtered with (8.7.2.2).
+    #[inline(always)]
+    pub fn limits(&self) -> QpLimits
+        ensures { AreLimits result self.now }
+    {
+        let thresholds = self.thresholds();
+        let alpha1 = less(thresholds.alpha, 1);
+        let beta1 = less(thresholds.beta, 1);
+        QpLimits {
+            alpha1,
+            beta1,
+            index_a: thresholds.index_a,
+            is_on: both(!is_zero(thresholds.alpha), !is_zero(thresholds.beta)),
+            lines: line_limits(alpha1, beta1, thresholds.index_a),
+        }
+    }
+}
