@@ -15,13 +15,13 @@ module _ (c : Coded) (motion : List (List Motion)) (names : Names) (column row a
     strength_by : (k : ℕ) → k < 4 → (e : Bool) → (p.is_intra || q.is_intra) ≡ e →
         strength_of p q v n k ≡ strength_between c motion (p_address c v n a) (edge_block v ((n + 3) % 4) k) a (edge_block v n k)
     strength_by k k_low true is =
-        ap (λ (b : Bool). if b then (if n == 0 then 4 else 3) else inter_strength p (edge_block v ((n + 3) % 4) k) q (edge_block v n k)) is
+        intra_strength p q v n k is
         ∙ other_strength (n == 0)
         ∙ ap (λ (b : Bool). if b then 3 else 4) (sym (same_mb c v column row a n at across down))
         ∙ sym (intra_between c motion names (p_address c v n a) a p (edge_block v ((n + 3) % 4) k) q (edge_block v n k) hp hq is)
     strength_by k k_low false is =
         let neither = both_false p.is_intra q.is_intra is in
-        ap (λ (b : Bool). if b then (if n == 0 then 4 else 3) else inter_strength p (edge_block v ((n + 3) % 4) k) q (edge_block v n k)) is
+        inter_strength_of p q v n k is
         ∙ inter_between c motion names (p_address c v n a) a p (edge_block v ((n + 3) % 4) k) q (edge_block v n k)
         (low_block v ((n + 3) % 4) k (omega arith) k_low) (low_block v n k low k_low) hp hq neither.0 neither.1
 

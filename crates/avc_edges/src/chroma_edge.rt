@@ -9,8 +9,8 @@ ghost use Rattle.avc_edges.specs.declared.strengths.Strengths.TheVariants.{Four,
 ghost use Rattle.avc_edges.specs.declared.thresholds.EdgeQp.{EdgeQp as Qps};
 
 use crate::block::{columns, rows_of, strong_chroma, weak_chroma};
-use crate::strengths::Strengths;
 use crate::pair::{beside, half, joined, nearest};
+use crate::strengths::Strengths;
 use crate::thresholds::{QpLimits, chroma_tc1s};
 use avc_plane::Plane;
 

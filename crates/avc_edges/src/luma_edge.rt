@@ -6,11 +6,11 @@ ghost use Rattle.avc_edges.specs.OneEdge.{AreStrengths, AreLimits, AreSpread};
 ghost use Rattle.avc_edges.specs.declared.strengths.Strengths.TheVariants.{BelowFour};
 ghost use Rattle.avc_edges.specs.declared.thresholds.EdgeQp.{EdgeQp as Qps};
 
-use crate::strengths::Strengths;
 use crate::kernels::{
     one_horizontal, one_vertical, strong_horizontal, strong_vertical, three_horizontal,
     three_vertical,
 };
+use crate::strengths::Strengths;
 use crate::thresholds::QpLimits;
 use avc_plane::Plane;
 

@@ -23,11 +23,19 @@ row_back row width some = let back : row ≡ (row - 1) + 1 = omega arith in ap (
 
 module _ (c : Coded) (column row a j : ℕ) (at : IsAt c column row a) (j_low : j < 16) where
   here : (v : Bool) (n : ℕ) → n < 4 → address_of c (along v (16 * column) (4 * n) j) (along (not v) (16 * row) (4 * n) j) ≡ a
-  here v n low = grind (arith, address_is)
+  here true n low = address_is c _ _ column row (omega arith) (omega arith) ∙ sym at.address
+  here false n low = address_is c _ _ column row (omega arith) (omega arith) ∙ sym at.address
 
   before : (v : Bool) (n : ℕ) → n < 4 → (v ≡ true → 1 ≤ 4 * column + n) → (v ≡ false → 1 ≤ 4 * row + n) →
       address_of c (before_edge v (along v (16 * column) (4 * n) j)) (before_edge (not v) (along (not v) (16 * row) (4 * n) j)) ≡ p_address c v n a
-  before v n low across down = grind (arith, nat_tests, address_is, row_back)
+  before true zero low across down =
+      let some = across refl in
+      address_is c _ _ (column - 1) row (omega arith) (omega arith) ∙ omega (arith, at.address)
+  before true (suc n) low across down = address_is c _ _ column row (omega arith) (omega arith) ∙ sym at.address
+  before false zero low across down =
+      let some = down refl in
+      address_is c _ _ column (row - 1) (omega arith) (omega arith) ∙ omega (arith, at.address, row_back row c.width (omega arith))
+  before false (suc n) low across down = address_is c _ _ column row (omega arith) (omega arith) ∙ sym at.address
 
 -- whether both sides are one macroblock
 pub same_mb : (c : Coded) (v : Bool) (column row a n : ℕ) → IsAt c column row a → (v ≡ true → 1 ≤ 4 * column + n) → (v ≡ false → 1 ≤ 4 * row + n) → (p_address c v n a == a) ≡ not (n == 0)
@@ -49,7 +57,11 @@ module _ (c : Coded) (motion : List (List Motion)) (k : ℕ) where
       luma_per_sample k * x ≡ along v (16 * column) (4 * n) j → luma_per_sample k * y ≡ along (not v) (16 * row) (4 * n) j →
       setting_at c motion (record { component = k; is_vertical = v; x = x; y = y })
       ≡ between (p_address c v n a) (edge_block v ((n + 3) % 4) (j / 4)) a (edge_block v n (j / 4))
-  setting_along true column row a n j x y at low j_low across down e f = grind (arith, four, here)
+  setting_along true column row a n j x y at low j_low across down e f =
+      let G : ℕ → ℕ → Setting = λ X Y. between (address_of c (X - 1) Y) (block_at ((X - 1) % 16) (Y % 16)) (address_of c X Y) (block_at (X % 16) (Y % 16)) in
+      let some = across refl in
+      ap (λ X. G X (luma_per_sample k * y)) e ∙ ap (G (16 * column + 4 * n)) f
+      ∙ four between _ _ _ _ _ _ _ _ (before c column row a j at j_low true n low across down) (omega arith) (here c column row a j at j_low true n low) (omega arith)
   setting_along false column row a n j x y at low j_low across down e f =
       let G : ℕ → ℕ → Setting = λ X Y. between (address_of c X (Y - 1)) (block_at (X % 16) ((Y - 1) % 16)) (address_of c X Y) (block_at (X % 16) (Y % 16)) in
       let some = down refl in
@@ -101,14 +113,22 @@ in_parts false column row n st luma chroma s = refl
 
 module _ (column row n : ℕ) (f g : ℕ → ℕ) (qp : EdgeQp) (same : (k : ℕ) → k < 4 → f k ≡ g k) (v : Bool) (s : Plane) where
   pub luma_same : luma_behind v column row n f qp s ≡ luma_behind v column row n g qp s
-  luma_same = grind (arith, nat_tests, edge_same)
+  luma_same =
+      edge_same (luma_setting f qp) (luma_setting g qp) v _ _ 16 s
+      (λ i less. ap (λ b. setting_of true b qp.p qp.q qp.offset_a qp.offset_b) (same (i / 4) (omega arith)))
 
   pub chroma_same : chroma_behind v column row n f qp s ≡ chroma_behind v column row n g qp s
-  chroma_same = grind (arith, nat_tests, edge_same)
+  chroma_same =
+      ap (λ (p : Plane). if n % 2 == 0 then p else s)
+      (edge_same (chroma_setting f qp) (chroma_setting g qp) v _ _ 8 s
+      (λ i less. ap (λ b. setting_of false b qp.p qp.q qp.offset_a qp.offset_b) (same (i / 2) (omega arith))))
 
 pub same_strengths : (column row n : ℕ) (f g : ℕ → ℕ) (luma chroma : EdgeQp) (s : Planes) → ((k : ℕ) → k < 4 → f k ≡ g k) → (v : Bool) →
     lines_of_edge v column row n f luma chroma s ≡ lines_of_edge v column row n g luma chroma s
-same_strengths column row n f g luma chroma s same v = grind (arith, nat_tests, in_parts, three, luma_same, chroma_same)
+same_strengths column row n f g luma chroma s same v =
+    in_parts v column row n f luma chroma s
+    ∙ three _ _ _ _ _ _ (luma_same column row n f g luma same v s.luma) (chroma_same column row n f g chroma same v s.cb) (chroma_same column row n f g chroma same v s.cr)
+    ∙ sym (in_parts v column row n g luma chroma s)
 
 -- ---- the edge of a picture
 
@@ -154,13 +174,15 @@ far_enough column n some even = grind (arith, nat_tests)
 
 module _ (column row n : ℕ) (st : ℕ → ℕ) (qp : EdgeQp) (s : Plane) (none : (k : ℕ) → k < 4 → st k ≡ 0) (v : Bool) where
   pub luma_zero : luma_behind v column row n st qp s ≡ s
-  luma_zero = grind (arith, nat_tests, edge_none)
+  luma_zero = edge_none (luma_setting st qp) v _ _ 16 s (λ i less. none (i / 4) (omega arith))
 
   pub chroma_zero : chroma_behind v column row n st qp s ≡ s
-  chroma_zero = grind (arith, nat_tests, kept_if, edge_none)
+  chroma_zero = kept_if (n % 2 == 0) _ s (λ even. edge_none (chroma_setting st qp) v _ _ 8 s (λ i less. none (i / 2) (omega arith)))
 
 pub edge_zero : (v : Bool) (column row n : ℕ) (st : ℕ → ℕ) (luma chroma : EdgeQp) (s : Planes) → ((k : ℕ) → k < 4 → st k ≡ 0) → lines_of_edge v column row n st luma chroma s ≡ s
-edge_zero v column row n st luma chroma s none = grind (arith, nat_tests, in_parts, three, luma_zero, chroma_zero)
+edge_zero v column row n st luma chroma s none =
+    in_parts v column row n st luma chroma s
+    ∙ three _ _ _ _ _ _ (luma_zero column row n st luma s.luma none v) (chroma_zero column row n st chroma s.cb none v) (chroma_zero column row n st chroma s.cr none v)
 
 -- ---- sizes
 
@@ -177,7 +199,18 @@ module _ (v : Bool) (column row n : ℕ) (st : ℕ → ℕ) (qp : EdgeQp) (s : P
 
 pub room_kept : (v : Bool) (at_column at_row n : ℕ) (st : ℕ → ℕ) (luma chroma : EdgeQp) (s t : Planes) → t ≡ lines_of_edge v at_column at_row n st luma chroma s →
     (column row : ℕ) → HasRoom column row s → HasRoom column row t
-room_kept v at_column at_row n st luma chroma s t is column row h = grind (arith, nat_tests, luma_size, chroma_size, in_parts)
+room_kept v at_column at_row n st luma chroma s t is column row h =
+    let l = luma_size v at_column at_row n st luma s.luma in
+    let b = chroma_size v at_column at_row n st chroma s.cb in
+    let r = chroma_size v at_column at_row n st chroma s.cr in
+    rw (is, in_parts v at_column at_row n st luma chroma s) (record {
+      luma_columns = subst (λ m. 16 * column + 16 ≤ m) (sym l.0) h.luma_columns;
+      luma_rows = subst (λ m. 16 * row + 16 ≤ m) (sym l.1) h.luma_rows;
+      cb_columns = subst (λ m. 8 * column + 8 ≤ m) (sym b.0) h.cb_columns;
+      cb_rows = subst (λ m. 8 * row + 8 ≤ m) (sym b.1) h.cb_rows;
+      cr_columns = subst (λ m. 8 * column + 8 ≤ m) (sym r.0) h.cr_columns;
+      cr_rows = subst (λ m. 8 * row + 8 ≤ m) (sym r.1) h.cr_rows;
+    })
 
 -- ---- the lines of a macroblock in their order, as its edges one after another
 
@@ -226,7 +259,12 @@ module _ (c : Coded) (motion : List (List Motion)) (k : ℕ) (filters : ℕ → 
       all_filtered c motion s (flat_map (λ e. if filters e then lines e else []) es) ≡ in_component k (edges_filtered filters edge es) s
   edges_in_order [] s = nothing k s
   edges_in_order (e ∷ es) s =
-      grind (arith, all_filtered-append, one_edge, twice, edges_in_order es (in_component k (λ p. if filters e then edge e p else p) s))
+      let one : Plane → Plane = λ p. if filters e then edge e p else p in
+      let rest = flat_map (λ e. if filters e then lines e else []) es in
+      all_filtered-append c motion s (if filters e then lines e else []) rest
+      ∙ ap (λ t. all_filtered c motion t rest) (one_edge (filters e) e s)
+      ∙ edges_in_order es (in_component k one s)
+      ∙ twice k (edges_filtered filters edge es) one s
 
 -- the plane of component k after the edges of macroblock a
 abbrev component_mb : Coded → List (List Motion) → ℕ → ℕ → Plane → Plane
@@ -263,7 +301,14 @@ module _ (c : Coded) (motion : List (List Motion)) (a : ℕ) where
   same_planes : (outer_v outer_h inner : Bool) (s : Planes) →
       record { luma = by_edges outer_v outer_h inner 0 s.luma; cb = by_edges outer_v outer_h inner 1 s.cb; cr = by_edges outer_v outer_h inner 2 s.cr }
       ≡ planes_edges c motion false outer_h inner a (planes_edges c motion true outer_v inner a s)
-  same_planes v h i s = search rules
+  same_planes true true true s = refl
+  same_planes true true false s = refl
+  same_planes true false true s = refl
+  same_planes true false false s = refl
+  same_planes false true true s = refl
+  same_planes false true false s = refl
+  same_planes false false true s = refl
+  same_planes false false false s = refl
 
   pub mb_in_order : (s : Planes) → all_filtered c motion s (flat_map (component_lines c a) (0 ∷ 1 ∷ 2 ∷ [])) ≡ planes_mb c motion a s
   mb_in_order s =
@@ -379,6 +424,24 @@ edges_room column row offset p q s t is a b h =
     λ n m r. room_kept true column row n (strength_of m q true n) (luma_qp_of m q) (chroma_qp_of offset m q) r _ refl a b in
     rw is (kept 3 q _ (kept 2 q _ (kept 1 q _ (kept 0 p s h))))
 
+-- ---- the strength of an edge by whether a macroblock at it is intra
+
+module _ (p q : MbInfo) (v : Bool) (n k : ℕ) where
+  abbrev strength_if : Bool → ℕ
+  strength_if b = if b then (if n == 0 then 4 else 3) else inter_strength p (edge_block v ((n + 3) % 4) k) q (edge_block v n k)
+
+  pub intra_strength : (p.is_intra || q.is_intra) ≡ true → strength_of p q v n k ≡ (if n == 0 then 4 else 3)
+  intra_strength e = ap strength_if e
+
+  pub inter_strength_of : (p.is_intra || q.is_intra) ≡ false → strength_of p q v n k ≡ inter_strength p (edge_block v ((n + 3) % 4) k) q (edge_block v n k)
+  inter_strength_of e = ap strength_if e
+
+pub not_first : (n : ℕ) → (n ≡ 0 → ⊥) → ◌≡◌ {A = ℕ} (if n == 0 then 4 else 3) 3
+not_first n some = grind (arith, nat_tests)
+
+pub zeros : (k : ℕ) → k < 4 → slice_index (0 ∷ 0 ∷ 0 ∷ 0 ∷ []) k ≡ 0
+zeros = same_below 4 (slice_index (0 ∷ 0 ∷ 0 ∷ 0 ∷ [])) (λ (k : ℕ). 0) refl
+
 -- ---- the edges inside an intra macroblock: all strengths are 3
 
 pub threes : (k : ℕ) → k < 4 → slice_index (3 ∷ 3 ∷ 3 ∷ 3 ∷ []) k ≡ 3
@@ -442,22 +505,36 @@ no_bit k = ap (λ n. n % 2 == 1) (zero-div (2 ^ k))
 not_far : (u : Mv) → are_far u u ≡ false
 not_far u = grind (arith, nat_tests)
 
-one_picture : (m : ℕ) → (m == m) ≡ true
+pub one_picture : (m : ℕ) → (m == m) ≡ true
 one_picture m = grind (arith, nat_tests)
+
+-- blocks of one motion without coefficients
+pub quiet : (p : MbInfo) (kp : ℕ) (q : MbInfo) (kq : ℕ) → HaveOneMotion p kp q kq → inter_strength p kp q kq ≡ 0
+quiet p kp q kq h = rw (h.no_p_levels, h.no_q_levels, h.picture, h.vector, one_picture (slice_index q.pictures (kq / 4)), not_far (slice_index_or q.vectors kq zero_vector)) refl
 
 pub one_motion : (f : MbInfo) → f.coefficients ≡ 0 → ((k : ℕ) → k < 4 → slice_index f.pictures k ≡ slice_index f.pictures 0) →
     ((k : ℕ) → k < 16 → slice_index_or f.vectors k zero_vector ≡ slice_index_or f.vectors 0 zero_vector) →
     (j k : ℕ) → j < 16 → k < 16 → inter_strength f j f k ≡ 0
-one_motion f none pictures vectors j k j_low k_low = grind (arith, nat_tests, no_bit, one_picture, not_far)
+one_motion f none pictures vectors j k j_low k_low = quiet f j f k (record {
+  no_p_levels = rw (none) (no_bit j);
+  no_q_levels = rw (none) (no_bit k);
+  picture = pictures (j / 4) (omega arith) ∙ sym (pictures (k / 4) (omega arith));
+  vector = vectors j j_low ∙ sym (vectors k k_low);
+})
 
 -- ---- a macroblock of one motion without coefficients has no edge inside it that is filtered
 
 module _ (column row : ℕ) (offset : ℤ) (f : MbInfo) (inter : f.is_intra ≡ false) (none : (j k : ℕ) → j < 16 → k < 16 → inter_strength f j f k ≡ 0) (v : Bool) where
   still_edge : (n : ℕ) → suc n < 4 → (s : Planes) → edge_by_info v column row (suc n) offset f f s ≡ s
-  still_edge n low s = grind (arith, edge_zero, low_block)
+  still_edge n low s =
+      edge_zero v column row (suc n) (strength_of f f v (suc n)) (luma_qp_of f f) (chroma_qp_of offset f f) s
+      (λ k k_low. rw (inter) (none (edge_block v ((suc n + 3) % 4) k) (edge_block v (suc n) k) (low_block v ((suc n + 3) % 4) k (omega arith) k_low) (low_block v (suc n) k low k_low)))
 
   still_edges : (inner : Bool) (s : Planes) → edges_by_info v column row offset false inner f f s ≡ s
-  still_edges inner s = grind (arith, still_edge)
+  still_edges false s = refl
+  still_edges true s =
+      ap (λ t. edge_by_info v column row 3 offset f f (edge_by_info v column row 2 offset f f t)) (still_edge 0 (omega arith) s)
+      ∙ ap (edge_by_info v column row 3 offset f f) (still_edge 1 (omega arith) s) ∙ still_edge 2 (omega arith) s
 
 -- Edges inside a macroblock that is still can go.
 pub without_still : (column row : ℕ) (offset : ℤ) (f : MbInfo) (still : Bool) → (still ≡ true → f.is_intra ≡ false) →

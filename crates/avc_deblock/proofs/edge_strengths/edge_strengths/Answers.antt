@@ -1,0 +1,19 @@
+use Rattle.avc_deblock.proofs.FilteredPictures.{◌∙◌, ℕ, ◌==◌, sym, ap, if◌then◌else◌, threes, zeros, not_first, intra_strength, inter_strength_of}
+use Rattle.avc_deblock.proofs.edge_strengths.edge_strengths.Goals as goal
+
+pub returns-then-n-eq0-clause-value : goal.returns-then-n-eq0-clause-value
+returns-then-n-eq0-clause-value c k low =
+    sym (intra_strength c.args.p.now c.args.q.now c.args.is_vertical c.args.n k c.if-p-q.true ∙ ap (λ (m : ℕ). if m == 0 then 4 else 3) c.if-n-eq0.true)
+
+pub returns-else-n-eq0-clause-value : goal.returns-else-n-eq0-clause-value
+returns-else-n-eq0-clause-value c k low =
+    threes k low ∙ sym (intra_strength c.args.p.now c.args.q.now c.args.is_vertical c.args.n k c.if-p-q.true ∙ not_first c.args.n c.if-n-eq0.false)
+
+pub returns-then-is_quiet-clause-value : goal.returns-then-is_quiet-clause-value
+returns-then-is_quiet-clause-value c k low =
+    zeros k low
+    ∙ sym (inter_strength_of c.args.p.now c.args.q.now c.args.is_vertical c.args.n k c.if-p-q.false ∙ c.is_quiet.ensures.strengths c.if-is_quiet.true k low)
+
+pub returns-else-not-has_coefficients_beside-clause-value : goal.returns-else-not-has_coefficients_beside-clause-value
+returns-else-not-has_coefficients_beside-clause-value c k low =
+    c.inter_strengths.ensures.value k low ∙ sym (inter_strength_of c.args.p.now c.args.q.now c.args.is_vertical c.args.n k c.if-p-q.false)
