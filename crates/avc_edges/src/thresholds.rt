@@ -183,7 +183,7 @@ pub struct QpLimits {
     pub lines: LineLimits,
 }
 
-/// What sixteen lines are filtered with: a number for each.
+/// What sixteen lines are filtered with, spread over a row of sixteen bytes each.
 #[derive(Clone, Copy)]
 pub struct LineLimits {
     /// One less than alpha.

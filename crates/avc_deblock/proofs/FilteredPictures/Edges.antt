@@ -436,9 +436,6 @@ module _ (p q : MbInfo) (v : Bool) (n k : ℕ) where
   pub inter_strength_of : (p.is_intra || q.is_intra) ≡ false → strength_of p q v n k ≡ inter_strength p (edge_block v ((n + 3) % 4) k) q (edge_block v n k)
   inter_strength_of e = ap strength_if e
 
-pub not_first : (n : ℕ) → (n ≡ 0 → ⊥) → ◌≡◌ {A = ℕ} (if n == 0 then 4 else 3) 3
-not_first n some = grind (arith, nat_tests)
-
 pub zeros : (k : ℕ) → k < 4 → slice_index (0 ∷ 0 ∷ 0 ∷ 0 ∷ []) k ≡ 0
 zeros = same_below 4 (slice_index (0 ∷ 0 ∷ 0 ∷ 0 ∷ [])) (λ (k : ℕ). 0) refl
 

@@ -1,13 +1,5 @@
-use Rattle.avc_deblock.proofs.FilteredPictures.{◌∙◌, ℕ, ◌==◌, sym, ap, if◌then◌else◌, threes, zeros, not_first, intra_strength, inter_strength_of}
+use Rattle.avc_deblock.proofs.FilteredPictures.{◌∙◌, sym, zeros, inter_strength_of}
 use Rattle.avc_deblock.proofs.edge_strengths.edge_strengths.Goals as goal
-
-pub returns-then-n-eq0-clause-value : goal.returns-then-n-eq0-clause-value
-returns-then-n-eq0-clause-value c k low =
-    sym (intra_strength c.args.p.now c.args.q.now c.args.is_vertical c.args.n k c.if-p-q.true ∙ ap (λ (m : ℕ). if m == 0 then 4 else 3) c.if-n-eq0.true)
-
-pub returns-else-n-eq0-clause-value : goal.returns-else-n-eq0-clause-value
-returns-else-n-eq0-clause-value c k low =
-    threes k low ∙ sym (intra_strength c.args.p.now c.args.q.now c.args.is_vertical c.args.n k c.if-p-q.true ∙ not_first c.args.n c.if-n-eq0.false)
 
 pub returns-then-is_quiet-clause-value : goal.returns-then-is_quiet-clause-value
 returns-then-is_quiet-clause-value c k low =
