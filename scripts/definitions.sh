@@ -14,7 +14,7 @@ roots() {
     done
 }
 claim='avc_decoder avc_laws'
-c=avc_c
+c='avc_c_picture avc_c'
 program='avc_yuv avc_png avc_tools avc_pieces avc_presentation avc_sequence avc_console avc_formats avc_events avc_run avc_compare avc_info avc_selection avc_elements avc_objects avc_reading avc_macroblocks avc_stages avc_replay avc_container avc_explain avc_request'
 command='avc_shell avc_progress avc_program avc_decode avc_cli'
 open_picture=avc_picture

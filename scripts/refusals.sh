@@ -11,10 +11,10 @@ trap 'rm -rf "$work"' EXIT
 
 sed '/^#/d; /^$/d' >"$work/known" <<'LINES'
 # C's status, of what the decoder answered and of what was refused to a call
-avc_c/src/status.rt: Err(DecodeError::OutOfMemory) => Status::OutOfMemory,
-avc_c/src/status.rt: Err(DecodeError::OutOfMemory) => Status::OutOfMemory,
-avc_c/src/status.rt: Err(DecodeError::OutOfMemory) => Status::OutOfMemory,
-avc_c/src/status.rt: Status::OutOfMemory
+avc_c_picture/src/status.rt: Err(DecodeError::OutOfMemory) => Status::OutOfMemory,
+avc_c_picture/src/status.rt: Err(DecodeError::OutOfMemory) => Status::OutOfMemory,
+avc_c_picture/src/status.rt: Err(DecodeError::OutOfMemory) => Status::OutOfMemory,
+avc_c_picture/src/status.rt: Status::OutOfMemory
 # the words of the command line: clap tells of a refusal by its kind
 avc_program/src/words.rt: if error.kind() == ErrorKind::OutOfMemory {
 avc_program/src/words.rt: return Err(RunFault::Memory);

@@ -10,12 +10,12 @@ use Rattle.avc_decoder.specs.declared.calls.Call.TheVariants.{Feed, Take, Flush,
 use Rattle.avc_decoder.specs.declared.calls.Reply.{Reply}
 use Rattle.avc_decoder.specs.declared.calls.Reply.TheVariants as replies
 use Rattle.avc_decoder.specs.SeenEvents.{Event}
-use Rattle.avc_c.specs.EventRecords.{call_status, picture_of, unit_status, used_by}
+use Rattle.avc_c_picture.specs.Answers.{call_status, picture_of, unit_status, used_by}
 use Rattle.avc_c.specs.Awaited.{awaited_behind}
 use Rattle.avc_c.specs.Exports.{after_mark, mark_behind, marked, new_decoder}
-use Rattle.avc_c.specs.Statuses.{number_of}
+use Rattle.avc_c_picture.specs.Statuses.{number_of}
 use Rattle.avc_c.specs.CallsOfC.{CallOfC, feeds, feeds_unit, given_by, takes, takes_dropped, flushes, resets, makes_mark, opens, looks, Told, AreAnswered, Between, after_bytes, Tells}
-use Rattle.avc_c.specs.declared.status.Status.TheVariants as statuses
+use Rattle.avc_c_picture.specs.declared.status.Status.TheVariants as statuses
 
 -- a feed of one unit is a feed of the bytes that it gave
 unit_is_feed : (old : Machine) (piece : List ℕ) (answer : Result ℕ DecodeError) (m : Machine) (status used : ℕ)

@@ -5,9 +5,9 @@ use Rattle.avc_decoder.specs.declared.error.DecodeError.{DecodeError}
 use Rattle.avc_decoder.specs.SeenEvents.{Event}
 use Rattle.avc_decoder.specs.declared.event.Event.TheVariants as events
 use Rattle.avc_c.specs.Marks.{mark_of}
-use Rattle.avc_c.specs.Statuses.{number_of}
+use Rattle.avc_c_picture.specs.Statuses.{number_of}
 use Rattle.avc_c.specs.declared.marks.Mark.{Mark}
-use Rattle.avc_c.specs.declared.status.Status.TheVariants as statuses
+use Rattle.avc_c_picture.specs.declared.status.Status.TheVariants as statuses
 
 -- the marks of which no event was taken, the oldest first; and the mark of the newest IDR picture
 -- that was taken, by its unit: of a unit before it no event comes any more (C.4.4)

@@ -9,14 +9,15 @@ use Rattle.avc_decoder.specs.declared.calls.Reply.TheVariants as replies
 use Rattle.avc_decoder.specs.declared.error.DecodeError.{DecodeError}
 use Rattle.avc_decoder.specs.SeenEvents.{Event}
 use Rattle.avc_c.specs.Awaited.{awaited_behind, none_awaited, with_awaited, AwaitedMarks, IsDroppedTold}
-use Rattle.avc_c.specs.EventRecords.{call_status, picture_of, record_of, take_status}
+use Rattle.avc_c.specs.EventRecords.{record_of}
+use Rattle.avc_c_picture.specs.Answers.{call_status, picture_of, take_status}
 use Rattle.avc_c.specs.Exports.{mark_behind, max_unit, opened, output_of, IsDroppedTaken, IsFed, IsMarkMade, IsOpened, IsReset, IsTaken, IsUnitFed}
 use Rattle.avc_c.specs.Marks.{with_mark}
-use Rattle.avc_c.specs.Statuses.{number_of}
+use Rattle.avc_c_picture.specs.Statuses.{number_of}
 use Rattle.avc_c.specs.declared.address.OpenDecoder.{OpenDecoder}
 use Rattle.avc_c.specs.declared.event.EventRecord.{EventRecord}
 use Rattle.avc_c.specs.declared.marks.Mark.{Mark}
-use Rattle.avc_c.specs.declared.status.Status.TheVariants as statuses
+use Rattle.avc_c_picture.specs.declared.status.Status.TheVariants as statuses
 
 -- A call that C makes of an open decoder. To look is to copy its picture or a plane, to be lent a
 -- plane or told of the picture, or to count; to open it changes nothing either.

@@ -7,19 +7,20 @@ use Rattle.avc_decoder.specs.Machine.{Machine, new_machine, IsCount, IsFeedAnswe
 use Rattle.avc_decoder.specs.declared.error.DecodeError.{DecodeError}
 use Rattle.avc_decoder.specs.SeenEvents.{Event}
 use Rattle.avc_c.specs.Awaited.{awaited_behind, none_awaited, with_awaited, AwaitedMarks, IsDroppedTold}
-use Rattle.avc_c.specs.Copies.{IsI420Copied, IsPlaneCopied}
-use Rattle.avc_c.specs.EventRecords.{call_status, picture_of, record_of, take_status, unit_status, used_by}
-use Rattle.avc_c.specs.InfoRecords.{IsInfoTold}
-use Rattle.avc_c.specs.Loans.{IsPlaneLent}
+use Rattle.avc_c_picture.specs.Copies.{IsI420Copied, IsPlaneCopied}
+use Rattle.avc_c.specs.EventRecords.{record_of}
+use Rattle.avc_c_picture.specs.Answers.{call_status, picture_of, take_status, unit_status, used_by}
+use Rattle.avc_c_picture.specs.InfoRecords.{IsInfoTold}
+use Rattle.avc_c_picture.specs.Loans.{IsPlaneLent}
 use Rattle.avc_c.specs.Marks.{with_mark}
-use Rattle.avc_c.specs.Statuses.{number_of}
+use Rattle.avc_c_picture.specs.Statuses.{number_of}
 use Rattle.avc_c.specs.declared.address.OpenDecoder.{OpenDecoder}
 use Rattle.avc_c.specs.declared.event.EventRecord.{EventRecord}
-use Rattle.avc_c.specs.declared.info.InfoRecord.{InfoRecord}
+use Rattle.avc_c_picture.specs.declared.info.InfoRecord.{InfoRecord}
 use Rattle.avc_c.specs.declared.marks.Mark.{Mark}
-use Rattle.avc_c.specs.declared.rows.LentRows.{LentRows}
-use Rattle.avc_c.specs.declared.status.Status.{Status}
-use Rattle.avc_c.specs.declared.status.Status.TheVariants.{Ok, OutOfMemory, Closed, IsOpen}
+use Rattle.avc_c_picture.specs.declared.rows.LentRows.{LentRows}
+use Rattle.avc_c_picture.specs.declared.status.Status.{Status}
+use Rattle.avc_c_picture.specs.declared.status.Status.TheVariants.{Ok, OutOfMemory, Closed, IsOpen}
 
 -- the most bytes of a unit
 abbrev pub max_unit : ℕ

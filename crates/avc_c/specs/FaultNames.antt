@@ -2,8 +2,8 @@
 use Rattle.std.specs.Prelude.{◌≡◌, ℕ, ◌+◌, ◌<◌, ◌≤◌, List, ◌∷◌, ◌++◌, length, drop, Option, Some, None}
 use Rattle.avc_types.specs.Faults.{name_of, number_of}
 use Rattle.avc_types.specs.declared.fault.Fault.{Fault}
-use Rattle.avc_c.specs.Statuses.{number_of as status_number}
-use Rattle.avc_c.specs.declared.status.Status.TheVariants.{Ok, NoFault, NoRoom}
+use Rattle.avc_c_picture.specs.Statuses.{number_of as status_number}
+use Rattle.avc_c_picture.specs.declared.status.Status.TheVariants.{Ok, NoFault, NoRoom}
 
 -- the fault with this number, or there is none
 abbrev pub IsNumbered : (number : ℕ) → Option Fault → Type 0

@@ -1,12 +1,8 @@
 pub mod Awaited
 pub mod CallsOfC
-pub mod Copies
 pub mod EventRecords
 pub mod Exports
 pub mod FaultNames
-pub mod InfoRecords
-pub mod Loans
 pub mod Marks
 pub mod OpenDecoders
 pub mod Owned
-pub mod Statuses

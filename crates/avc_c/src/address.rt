@@ -8,9 +8,8 @@ ghost use Rattle.avc_c.specs.Exports.{after_mark, mark_status};
 
 use crate::awaited::Awaited;
 use crate::marks::{Mark, Marks};
-use crate::picture::LastPicture;
 use crate::raw_box::RawBox;
-use crate::status::Status;
+use avc_c_picture::{LastPicture, Status};
 use avc_decoder::{DecodeError, Decoder, Event};
 use avc_plane::SharedPicture;
 use std::alloc::Global;

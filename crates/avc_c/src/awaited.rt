@@ -4,11 +4,11 @@ ghost use Rattle.std.specs.Prelude.{◌≡◌, ◌==◌, ◌++◌, ◌∷◌, []
 ghost use Rattle.avc_c.specs.Awaited.{awaited_behind, behind_mark, none_awaited, oldest_dropped};
 ghost use Rattle.avc_c.specs.Awaited.{with_awaited, with_room, without, without_oldest};
 ghost use Rattle.avc_c.specs.Awaited.{IsDroppedTold};
-ghost use Rattle.avc_c.specs.Statuses.{number_of};
+ghost use Rattle.avc_c_picture.specs.Statuses.{number_of};
 
 use crate::marks::{MOST, Mark, Marks};
-use crate::status::Status;
 use arrayvec::ArrayVec;
+use avc_c_picture::Status;
 use avc_decoder::{DecodeError, Event};
 use avc_plane::{PictureRows, SharedPicture};
 use std::marker::Model;

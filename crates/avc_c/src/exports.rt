@@ -12,11 +12,8 @@ use crate::awaited::Awaited;
 use crate::event::EventRecord;
 use crate::fault::copy_name;
 use crate::handle::DecoderHandle;
-use crate::info::InfoRecord;
 use crate::marks::Marks;
-use crate::picture::LastPicture;
-use crate::rows::LentRows;
-use crate::status::Status;
+use avc_c_picture::{InfoRecord, LastPicture, LentRows, Status};
 use avc_decoder::laws::pictures_are_whole;
 use avc_decoder::{Decoder, Output};
 use avc_types::OutOfMemory;
@@ -164,7 +161,7 @@ pub extern "C" fn avcdec_take(
     let status = Status::of_take(&answer);
     *event = EventRecord::of(&answer, &open.marks);
     open.note(&answer);
-    open.picture = LastPicture::of(answer);
+    open.picture.replace(answer);
     decoder.insert(open);
     status.number()
 }

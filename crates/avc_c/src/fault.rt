@@ -1,9 +1,9 @@
 //! The name of a fault by its number, as C reads it.
 
 ghost use Rattle.avc_c.specs.FaultNames.{IsNamed, IsNumbered, IsTextWritten};
-ghost use Rattle.avc_c.specs.Statuses.{number_of};
+ghost use Rattle.avc_c_picture.specs.Statuses.{number_of};
 
-use crate::status::Status;
+use avc_c_picture::Status;
 use avc_types::Fault;
 
 /// Copies the name of the fault with this number, and a 0 behind it.

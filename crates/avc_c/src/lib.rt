@@ -7,15 +7,12 @@ mod event;
 mod exports;
 mod fault;
 mod handle;
-mod info;
 pub mod laws;
 mod marks;
-mod picture;
 mod raw_box;
-mod rows;
-mod status;
 
 pub use address::{DecoderAddress, OpenDecoder};
+pub use avc_c_picture::{InfoRecord, LastPicture, LentRows, Status};
 pub use awaited::Awaited;
 pub use event::EventRecord;
 pub use exports::{
@@ -25,8 +22,4 @@ pub use exports::{
     avcdec_version,
 };
 pub use handle::DecoderHandle;
-pub use info::InfoRecord;
 pub use marks::{Mark, Marks};
-pub use picture::LastPicture;
-pub use rows::LentRows;
-pub use status::Status;

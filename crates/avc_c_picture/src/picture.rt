@@ -2,11 +2,11 @@
 
 ghost use Rattle.std.specs.Prelude.{◌≡◌, IfSome, Option, None};
 ghost use Rattle.avc_types.specs.Whole.{IsWhole};
-ghost use Rattle.avc_c.specs.EventRecords.{picture_of};
-ghost use Rattle.avc_c.specs.Statuses.{number_of};
-ghost use Rattle.avc_c.specs.Copies.{IsI420Copied, IsPlaneCopied, component_of};
-ghost use Rattle.avc_c.specs.InfoRecords.{IsInfoTold};
-ghost use Rattle.avc_c.specs.Loans.{IsPlaneLent};
+ghost use Rattle.avc_c_picture.specs.Answers.{picture_of};
+ghost use Rattle.avc_c_picture.specs.Statuses.{number_of};
+ghost use Rattle.avc_c_picture.specs.Copies.{IsI420Copied, IsPlaneCopied, component_of};
+ghost use Rattle.avc_c_picture.specs.InfoRecords.{IsInfoTold};
+ghost use Rattle.avc_c_picture.specs.Loans.{IsPlaneLent};
 
 use crate::info::InfoRecord;
 use crate::rows::LentRows;
@@ -36,14 +36,14 @@ impl Model for LastPicture {
 }
 
 impl LastPicture {
-    pub(crate) fn none() -> LastPicture
+    pub fn none() -> LastPicture
         ensures { result ≡ None }
     {
         LastPicture { picture: None }
     }
 
-    /// The picture of an answer of `take`.
-    pub(crate) fn of(answer: Result<Option<Event<SharedPicture>>, DecodeError>) -> LastPicture
+    // The picture of an answer of `take`.
+    fn of(answer: Result<Option<Event<SharedPicture>>, DecodeError>) -> LastPicture
         requires { IfSome (picture_of answer) IsWhole }
         ensures { result ≡ picture_of answer }
     {
@@ -57,8 +57,16 @@ impl LastPicture {
         }
     }
 
+    /// The picture of an answer of `take` takes this one's place.
+    pub fn replace(&mut self, answer: Result<Option<Event<SharedPicture>>, DecodeError>)
+        requires { IfSome (picture_of answer) IsWhole }
+        ensures { self.new ≡ picture_of answer }
+    {
+        *self = LastPicture::of(answer);
+    }
+
     /// Tells what is known of it beside its samples.
-    pub(crate) fn tell_info(&self, info: &mut InfoRecord) -> Status
+    pub fn tell_info(&self, info: &mut InfoRecord) -> Status
         ensures { IsInfoTold self.now info.old (number_of result) info.new }
     {
         let Some(picture) = &self.picture else {
@@ -69,7 +77,7 @@ impl LastPicture {
     }
 
     /// Copies what is shown, as I420.
-    pub(crate) fn copy_i420(&self, out: &mut [u8]) -> Status
+    pub fn copy_i420(&self, out: &mut [u8]) -> Status
         ensures { IsI420Copied self.now out.old (number_of result) out.new }
     {
         let Some(picture) = &self.picture else {
@@ -83,7 +91,7 @@ impl LastPicture {
     }
 
     /// Copies what is shown of one plane, a row every `stride` bytes.
-    pub(crate) fn copy_plane(&self, plane: u32, out: &mut [u8], stride: usize) -> Status
+    pub fn copy_plane(&self, plane: u32, out: &mut [u8], stride: usize) -> Status
         ensures { IsPlaneCopied self.now plane out.old stride (number_of result) out.new }
     {
         let Some(picture) = &self.picture else {
@@ -103,7 +111,7 @@ impl LastPicture {
     }
 
     /// Tells where what is shown of one plane lies.
-    pub(crate) fn lend_plane(&self, plane: u32, rows: &mut LentRows) -> Status
+    pub fn lend_plane(&self, plane: u32, rows: &mut LentRows) -> Status
         ensures { IsPlaneLent self.now plane rows.old (number_of result) rows.new }
     {
         let Some(picture) = &self.picture else {

@@ -1,8 +1,8 @@
 //! What a call answers, by the number that the header gives it.
 
 ghost use Rattle.std.specs.Prelude.{◌≡◌};
-ghost use Rattle.avc_c.specs.EventRecords.{call_status, take_status, unit_status};
-ghost use Rattle.avc_c.specs.declared.status.Status.TheVariants.{OutOfMemory as NoMemory};
+ghost use Rattle.avc_c_picture.specs.Answers.{call_status, take_status, unit_status};
+ghost use Rattle.avc_c_picture.specs.declared.status.Status.TheVariants.{OutOfMemory as NoMemory};
 
 use avc_decoder::{DecodeError, Event};
 use avc_plane::SharedPicture;
@@ -31,7 +31,7 @@ pub enum Status {
 }
 
 impl Status {
-    ghost use Rattle.avc_c.specs.Statuses.{number_of};
+    ghost use Rattle.avc_c_picture.specs.Statuses.{number_of};
 
     /// The number by which C tells statuses apart.
     pub fn number(self) -> u32
@@ -41,7 +41,7 @@ impl Status {
     }
 
     /// Of a feed or flush.
-    pub(crate) fn of_call(answer: Result<(), DecodeError>) -> Status
+    pub fn of_call(answer: Result<(), DecodeError>) -> Status
         ensures { result ≡ call_status answer }
     {
         match answer {
@@ -52,7 +52,7 @@ impl Status {
     }
 
     /// Of a feed of one unit.
-    pub(crate) fn of_unit(answer: Result<usize, DecodeError>) -> Status
+    pub fn of_unit(answer: Result<usize, DecodeError>) -> Status
         ensures { result ≡ unit_status answer }
     {
         match answer {
@@ -63,7 +63,7 @@ impl Status {
     }
 
     /// Of a take.
-    pub(crate) fn of_take(answer: &Result<Option<Event<SharedPicture>>, DecodeError>) -> Status
+    pub fn of_take(answer: &Result<Option<Event<SharedPicture>>, DecodeError>) -> Status
         ensures { result ≡ take_status answer.now }
     {
         match answer {

@@ -6,10 +6,10 @@ use Rattle.avc_types.specs.declared.picture.Picture.{Picture}
 use Rattle.avc_plane.specs.Shown.{IsLent}
 use Rattle.avc_plane.specs.declared.component.Component.{Component}
 use Rattle.avc_yuv.specs.Copying.{window_of}
-use Rattle.avc_c.specs.Copies.{component_of}
-use Rattle.avc_c.specs.Statuses.{number_of}
-use Rattle.avc_c.specs.declared.rows.LentRows.{LentRows}
-use Rattle.avc_c.specs.declared.status.Status.TheVariants.{Ok, NoPicture, NoPlane}
+use Rattle.avc_c_picture.specs.Copies.{component_of}
+use Rattle.avc_c_picture.specs.Statuses.{number_of}
+use Rattle.avc_c_picture.specs.declared.rows.LentRows.{LentRows}
+use Rattle.avc_c_picture.specs.declared.status.Status.TheVariants.{Ok, NoPicture, NoPlane}
 
 -- C is told where this slice lies. In it the sample in column x and row y of what is shown stands
 -- behind y * stride + x others; `columns` and `rows` say how many are shown.

@@ -2,9 +2,9 @@
 use Rattle.std.specs.Prelude.{◌≡◌, ℕ, Bool, true, false, Option, Some, None, is_some, unwrap_or}
 use Rattle.avc_types.specs.declared.picture.Picture.{Picture}
 use Rattle.avc_types.specs.declared.picture_info.PictureInfo.{PictureInfo}
-use Rattle.avc_c.specs.Statuses.{number_of}
-use Rattle.avc_c.specs.declared.info.InfoRecord.{InfoRecord}
-use Rattle.avc_c.specs.declared.status.Status.TheVariants.{Ok, NoPicture}
+use Rattle.avc_c_picture.specs.Statuses.{number_of}
+use Rattle.avc_c_picture.specs.declared.info.InfoRecord.{InfoRecord}
+use Rattle.avc_c_picture.specs.declared.status.Status.TheVariants.{Ok, NoPicture}
 
 -- 1 where something holds, else 0
 abbrev pub flag : Bool → ℕ

@@ -5,7 +5,7 @@ ghost use Rattle.std.specs.Ptr.{as_ptr};
 ghost use Rattle.avc_types.specs.Whole.{IsWhole};
 ghost use Rattle.avc_plane.specs.Shown.{scaled};
 ghost use Rattle.avc_yuv.specs.Copying.{window_of};
-ghost use Rattle.avc_c.specs.Loans.{IsComponentLent};
+ghost use Rattle.avc_c_picture.specs.Loans.{IsComponentLent};
 
 use avc_plane::{Component, PictureRows, SharedPicture};
 
@@ -25,7 +25,7 @@ pub struct LentRows {
 
 impl LentRows {
     /// What is shown of a component.
-    pub(crate) fn of(picture: &SharedPicture, component: Component) -> LentRows
+    pub fn of(picture: &SharedPicture, component: Component) -> LentRows
         requires { IsWhole picture.now }
         ensures { IsComponentLent picture.now component result }
     {

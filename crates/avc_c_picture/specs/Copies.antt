@@ -5,8 +5,8 @@ use Rattle.avc_yuv.specs.Copying.{laid, plane_room, shown_rows, window_of}
 use Rattle.avc_yuv.specs.I420.{i420}
 use Rattle.avc_plane.specs.declared.component.Component.{Component}
 use Rattle.avc_plane.specs.declared.component.Component.TheVariants.{Luma, Cb, Cr}
-use Rattle.avc_c.specs.Statuses.{number_of}
-use Rattle.avc_c.specs.declared.status.Status.TheVariants.{Ok, NoPicture, NoPlane, NoRoom}
+use Rattle.avc_c_picture.specs.Statuses.{number_of}
+use Rattle.avc_c_picture.specs.declared.status.Status.TheVariants.{Ok, NoPicture, NoPlane, NoRoom}
 
 -- the component of a plane's number
 abbrev pub component_of : (plane : ℕ) → Option Component

@@ -28,10 +28,10 @@ use denote.Triple.Entry.{on_entry, alive}
 use denote.Triple.Spec.{Meets, triple_of}
 use denote.Triple.Table.{entered}
 use denote.Triple.Walked.{says, Stays, stay_dropped, walk_of, ends_at, Goes-dropped, walk_Meets}
-use Rattle.avc_c.specs.contracts.rows.address_of as self
-use Rattle.avc_c.specs.contracts.rows.address_of.Key.{name as #self}
-use Rattle.avc_c.proofs.rows.address_of.Statement as stated
-use Rattle.avc_c.proofs.rows.address_of.Code as code
+use Rattle.avc_c_picture.specs.contracts.rows.address_of as self
+use Rattle.avc_c_picture.specs.contracts.rows.address_of.Key.{name as #self}
+use Rattle.avc_c_picture.proofs.rows.address_of.Statement as stated
+use Rattle.avc_c_picture.proofs.rows.address_of.Code as code
 
 abbrev stayed : Stays (self.ended).signature.params (self.ended).kept
 stayed = (stay_dropped (SliceRefOf (0 ∷ []) tt (plain (λ _. u8)) (λ _. tt)) yes, tt)

@@ -1,7 +1,7 @@
 //! What `avcdec_picture_info` tells of a picture, as the record of the header.
 
 ghost use Rattle.std.specs.Prelude.{◌≡◌};
-ghost use Rattle.avc_c.specs.InfoRecords.{flag, info_record};
+ghost use Rattle.avc_c_picture.specs.InfoRecords.{flag, info_record};
 
 use avc_types::PictureInfo;
 
@@ -29,7 +29,7 @@ pub struct InfoRecord {
 }
 
 impl InfoRecord {
-    pub(crate) fn of(info: &PictureInfo) -> InfoRecord
+    pub fn of(info: &PictureInfo) -> InfoRecord
         ensures { result ≡ info_record info.now }
     {
         let usability = info.usability;
