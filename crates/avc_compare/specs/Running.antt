@@ -4,9 +4,9 @@ use Rattle.std.specs.Io.KnownBytes.{Appends, Consumes, IsAtEnd}
 use Rattle.avc_types.specs.declared.picture.Picture.{Picture as Decoded}
 use Rattle.avc_yuv.specs.I420.{i420}
 use Rattle.avc_difference.specs.Differences.{AreSame, IsDifference}
-use Rattle.avc_difference.specs.Psnr.{IsPsnr}
-use Rattle.avc_difference.specs.Text.{psnr_line}
-use Rattle.avc_difference.specs.declared.psnr.Psnr.{Psnr}
+use Rattle.avc_report.specs.Psnr.{IsPsnr}
+use Rattle.avc_report.specs.Text.{psnr_line}
+use Rattle.avc_report.specs.declared.psnr.Psnr.{Psnr}
 use Rattle.avc_decoder.specs.Machine.{Machine}
 use Rattle.avc_decoder.specs.SeenEvents.{Event}
 use Rattle.avc_decoder.specs.declared.event.Event.TheVariants.{Picture, Refused}

@@ -6,7 +6,7 @@ use Rattle.std.specs.Borrow.{Bor}
 use Rattle.std.specs.Io.KnownBytes.{Appends}
 use Rattle.avc_annexb.specs.Units.{saturated}
 use Rattle.avc_difference.specs.Places.{macroblocks}
-use Rattle.avc_difference.specs.Text.{difference_text, newline}
+use Rattle.avc_report.specs.Text.{difference_text, newline}
 use Rattle.avc_console.specs.Program.{TellsRun}
 use Rattle.avc_console.specs.declared.console.Names.{Names}
 use Rattle.avc_console.specs.declared.exit.Ending.{Ending}

@@ -9,7 +9,7 @@ use crate::comparison::Findings;
 use crate::displaced::Displaced;
 use crate::verdict::{CompareFault, ComparedPicture, Sizes, Verdict};
 use avc_console::RunFault;
-use avc_difference::add_difference;
+use avc_report::add_difference;
 use avc_types::OutOfMemory;
 
 /// Adds what is written of what a comparison found: nothing where all is the same, and nothing behind a

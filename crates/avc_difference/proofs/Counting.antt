@@ -1,7 +1,12 @@
 -- Counting places, and marking macroblocks.
-use Rattle.std.proofs.Common.{◌≡◌, ℕ, zero, suc, ◌+◌, ◌<◌, ◌≤◌, Bool, true, false, ◌&&◌, ◌||◌, not, refl, sym, ap, ◌∙◌, arith, add-one, List, [], ◌∷◌, length, get_or, take}
+use Rattle.std.proofs.Common.{◌≡◌, ◌≢◌, ℕ, zero, suc, ◌+◌, ◌*◌, ◌/◌, ◌^◌, ◌<◌, ◌≤◌, Bool, true, false, ◌&&◌, ◌||◌, not, refl, sym, ap, ◌∙◌, arith, add-one, List, [], ◌∷◌, ◌++◌, length, get_or, set, take, drop}
 use Rattle.std.specs.Prelude.{count_by, if◌then◌else◌, ◌==◌, replicate}
 use Rattle.std.proofs.lemmas.List.Sums.{count_by_more_no, count_by_more_yes}
+use Rattle.std.proofs.lemmas.Bool.{eqb-true}
+use Rattle.std.proofs.lemmas.Bool.Decides.{nat_tests}
+use Rattle.std.proofs.lemmas.List.{get_or-set_other, get_or-set_same}
+use Rattle.std.proofs.Math.Nat.{div-lt_iff_lt-mul, mul-zero}
+use Rattle.std.proofs.Math.Seq.{take-append_seam}
 use Rattle.avc_plane.specs.declared.component.Component.{Component}
 use Rattle.avc_plane.specs.declared.component.Component.TheVariants.{Luma, Cb, Cr}
 use Rattle.avc_difference.specs.Differences.{any_below, count_below, differs_at, differs_in_chroma, differs_in_luma, is_luma, is_marked, mark_after, no_mark, with_component, AreMarks}
@@ -43,7 +48,36 @@ pub counted_more : (n count count' : ℕ) (b : Bool) (test : ℕ → Bool) → c
 counted_more n count count' b test before here is =
     is ∙ ap (λ k. k + (if b then 1 else 0)) before ∙ ap (λ t. count_below n test + (if t then 1 else 0)) here ∙ sym (count_below_more n test)
 
+-- the row of a place
+pub row_low : (number r c rows columns : ℕ) → r ≡ rows → c ≡ columns → number < rows * columns → r < 2 ^ 32 → number / c < 2 ^ 32
+row_low number r zero rows columns is_r is_c inside low = let none : number < rows * 0 = rw is_c inside in absurd (omega (arith, none, mul-zero rows))
+row_low number r (suc c) rows columns is_r is_c inside low =
+    let within : number < r * suc c = rw (is_r, is_c) inside in
+    let below : number / suc c < r = (div-lt_iff_lt-mul {k = suc c} {x = number} {y = r} (omega arith)).1 within in
+    omega (arith, below, low)
+
 -- ---- marks
+
+-- all marks are written anew
+pub all_marks : (len : ℕ) (new marks : List Mark) → length new ≡ len → take len (new ++ drop (length new) marks) ≡ new
+all_marks len new marks full = ap (λ n. take n (new ++ drop (length new) marks)) (sym full) ∙ take-append_seam new (drop (length new) marks)
+
+-- the mark of one macroblock is written
+pub mark_written : (marks : List Mark) (place : Place) (mark : Mark) → place.address < length marks → mark ≡ with_component place.component (get_or marks place.address no_mark) → (address : ℕ)
+    → get_or (set marks place.address mark) address no_mark ≡ mark_after place address (get_or marks address no_mark)
+mark_written marks place mark inside is address = by_test (place.address == address) refl
+  where
+    with_test : Bool → Mark
+    with_test t = if t then with_component place.component (get_or marks address no_mark) else get_or marks address no_mark
+
+    by_test : (t : Bool) → (place.address == address) ≡ t → get_or (set marks place.address mark) address no_mark ≡ with_test (place.address == address)
+    by_test true e =
+        let same : place.address ≡ address = eqb-true place.address address e in
+        ap (λ k. get_or (set marks place.address mark) k no_mark) (sym same) ∙ get_or-set_same marks place.address mark no_mark inside ∙ is
+        ∙ ap (λ k. with_component place.component (get_or marks k no_mark)) same ∙ sym (ap with_test e)
+    by_test false e =
+        let other : address ≢ place.address = grind (arith, nat_tests, e) in
+        get_or-set_other marks place.address address mark no_mark other ∙ sym (ap with_test e)
 
 -- one mark more is counted
 pub marked_more : (i count count' : ℕ) (b : Bool) (marks : List Mark) (d : Mark) → i < length marks → count ≡ count_by is_marked (take i marks) → b ≡ is_marked (get_or marks i d)

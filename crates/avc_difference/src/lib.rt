@@ -1,18 +1,13 @@
-//! Where two pictures differ, and what is told of it.
+//! Where two pictures differ.
 #![tactic(auto)]
 
 mod difference;
 pub mod laws;
 mod marks;
-mod natural;
 mod origin;
 mod place;
-mod psnr;
-mod text;
 
 pub use difference::{Difference, find_difference};
 pub use marks::Mark;
 pub use origin::SamplePair;
-pub use place::{Place, Shape, macroblocks};
-pub use psnr::{Psnr, measure};
-pub use text::{add_difference, add_psnr};
+pub use place::{Place, Shape, macroblock_columns, macroblock_rows, macroblocks, shown_samples};

@@ -38,7 +38,7 @@ pub struct Place {
 }
 
 /// How many samples of a component are shown.
-pub(crate) fn shown_samples(shape: Shape, component: Component) -> usize
+pub fn shown_samples(shape: Shape, component: Component) -> usize
     ensures is { result ≡ shown_samples shape component }
 {
     shown_rows(shape, component) * shown_columns(shape, component)
@@ -138,7 +138,7 @@ pub(crate) fn macroblock_side(component: Component) -> usize
 }
 
 /// How many macroblocks a row of the picture has.
-pub(crate) fn macroblock_columns(shape: Shape) -> usize
+pub fn macroblock_columns(shape: Shape) -> usize
     ensures is { result ≡ macroblock_columns shape }
     ensures narrow { result < 2 ^ 28 }
 {
@@ -146,7 +146,7 @@ pub(crate) fn macroblock_columns(shape: Shape) -> usize
 }
 
 /// How many rows of macroblocks the picture has.
-pub(crate) fn macroblock_rows(shape: Shape) -> usize
+pub fn macroblock_rows(shape: Shape) -> usize
     ensures is { result ≡ macroblock_rows shape }
     ensures low { result < 2 ^ 28 }
 {

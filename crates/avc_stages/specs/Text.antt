@@ -3,7 +3,7 @@ use Rattle.std.specs.Prelude.{ℕ, ℤ, pos, ◌+◌, ◌*◌, Bool, true, false
 use Rattle.std.specs.Fmt.{decimal, signed_decimal}
 use Rattle.avc_types.specs.declared.vector.Mv.{Mv}
 use Rattle.avc_motion.specs.Motion.{zero_vector}
-use Rattle.avc_difference.specs.Text.{newline}
+use Rattle.avc_report.specs.Text.{newline}
 use Rattle.avc_stages.specs.Stages.{stage_of}
 use Rattle.avc_stages.specs.Strengths.{no_edge}
 use Rattle.avc_stages.specs.declared.edges.Edge.{Edge}

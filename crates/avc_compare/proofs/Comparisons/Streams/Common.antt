@@ -30,9 +30,9 @@ pub use Rattle.avc_decoder.specs.declared.event.Event.TheVariants.{Picture, Refu
 pub use Rattle.avc_difference.specs.Differences.{differs, differs_at, AreSame, IsDifference}
 pub use Rattle.avc_difference.specs.declared.place.Shape.{Shape}
 pub use Rattle.avc_difference.specs.Places.{sample_count, shape_of, shown_samples}
-pub use Rattle.avc_difference.specs.Psnr.{IsPsnr}
-pub use Rattle.avc_difference.specs.Text.{psnr_line}
-pub use Rattle.avc_difference.specs.declared.psnr.Psnr.{Psnr}
+pub use Rattle.avc_report.specs.Psnr.{IsPsnr}
+pub use Rattle.avc_report.specs.Text.{psnr_line}
+pub use Rattle.avc_report.specs.declared.psnr.Psnr.{Psnr}
 pub use Rattle.avc_plane.specs.declared.component.Component.TheVariants.{Luma, Cb, Cr}
 pub use Rattle.avc_formats.specs.Formats.{StopsPicture}
 pub use Rattle.avc_events.proofs.EventReports.{is_none, report_more, run_told, stays_told, told_then}

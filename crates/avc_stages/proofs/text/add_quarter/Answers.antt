@@ -1,7 +1,7 @@
 use Rattle.std.proofs.Common.{◌≡◌, ℤ, w32, to_z, of_z, arith, ◌+◌, ◌*◌, ◌++◌, ◌∙◌, ap, pos, string_bytes}
 use Rattle.std.proofs.lemmas.Int.{ints}
 use Rattle.std.specs.Prelude.{slice_index_or}
-use Rattle.avc_difference.specs.Text.{newline}
+use Rattle.avc_report.specs.Text.{newline}
 use Rattle.avc_stages.specs.Text.{block_vector, quarter_words}
 use Rattle.avc_stages.proofs.Joining.{quarter_joined}
 use Rattle.avc_stages.proofs.text.add_quarter.Goals as goal

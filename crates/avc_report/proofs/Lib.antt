@@ -1,0 +1,3 @@
+pub mod Decibels
+pub mod Lines
+pub mod Naturals

@@ -1,0 +1,3 @@
+pub mod Psnr
+pub mod Naturals
+pub mod Text
