@@ -138,7 +138,11 @@ front_next front b = length-append front (b ∷ []) ∙ omega arith
 
 -- the entry is no shorter than the front
 entry_long : {A : Type 0} (table : Table A) (front bits : List Bool) (e : Entry A) → entry_from table front bits ≡ Some e → length front ≤ e.length
-entry_long table front [] e is = search (rules, cases, word_entry-is)
+entry_long table front [] e is = elim (cases table front None e is) [
+  | is_found f found word ↦ omega (arith, ap (λ x. x.length) (word_entry-is table front f e word).entry)
+  | is_hole none no_word same ↦ omega (arith, ap (λ x. x.length) same)
+  | is_open none word on ↦ cc
+]
 entry_long table front (b ∷ bits) e is = elim (cases table front (entry_from table (front ++ b ∷ []) bits) e is) [
   | is_found f found word ↦ omega (arith, ap (λ x. x.length) (word_entry-is table front f e word).entry)
   | is_hole none no_word same ↦ omega (arith, ap (λ x. x.length) same)
@@ -154,8 +158,16 @@ read_cut {A} table front e position none word short = search (rules, append-nil,
 
 -- The entry answers as the table does.
 pub read_entry : {A : Type 0} (table : Table A) (front bits tail : List Bool) (e : Entry A) (position : ℕ) → entry_from table front bits ≡ Some e → Agree bits tail → Answers table e position (front ++ tail)
-read_entry table front [] tail e position is agree = search (rules, cases, read_word, read_hole)
-read_entry table front (b ∷ bits) [] e position is agree = search (rules, cases, read_word, read_hole, read_cut, entry_long, front_next)
+read_entry table front [] tail e position is agree = elim (cases table front None e is) [
+  | is_found f found word ↦ read_word table front tail f e position found word
+  | is_hole none no_word same ↦ rw same (read_hole table front tail position none no_word)
+  | is_open none word on ↦ cc
+]
+read_entry table front (b ∷ bits) [] e position is agree = elim (cases table front (entry_from table (front ++ b ∷ []) bits) e is) [
+  | is_found f found word ↦ read_word table front [] f e position found word
+  | is_hole none no_word same ↦ rw same (read_hole table front [] position none no_word)
+  | is_open none word on ↦ read_cut table front e position none word (omega (arith, entry_long table (front ++ b ∷ []) bits e on, front_next front b))
+]
 read_entry table front (b ∷ bits) (t ∷ tail) e position is agree = elim (cases table front (entry_from table (front ++ b ∷ []) bits) e is) [
   | is_found f found word ↦ read_word table front (t ∷ tail) f e position found word
   | is_hole none no_word same ↦ rw same (read_hole table front (t ∷ tail) position none no_word)
@@ -486,6 +498,20 @@ six_found t number small here =
     ∙ ap (λ l. get_or l number None) six_words
     ∙ get_or-map-range_with_len (λ n. elim (six_bit_entry n).value [ None ↦ None | Some own ↦ Some (bits_of 6 n) ]) 0 64 number number None small (omega arith) in
     held is_token_same t tokens_8 (six_bit_entry number) (bits_of 6 number) token_is_same placed here
+
+pub and_false : (a b : Bool) → b ≡ false → (a && b) ≡ false
+and_false true b e = e
+and_false false b e = refl
+
+-- the number of the token is that of its entry
+abbrev pub has_six_bits : Token → Bool
+has_six_bits t = nat_lt (six_bit_number t) 64 && holds is_token_same t (six_bit_entry (six_bit_number t))
+
+six_whole : list_all (λ entry. has_six_bits entry.1) tokens_8 ≡ true
+six_whole = refl
+
+pub six_none : (t : Token) → has_six_bits t ≡ false → word_of (is_token_same t) tokens_8 ≡ None
+six_none t fails = word_none is_token_same t has_six_bits tokens_8 token_is_same six_whole fails
 
 -- a number of so many bits is that of its bits
 pub number_own : (n number : ℕ) (bits : List Bool) → number < 2 ^ n → bits_of n number ≡ bits → number ≡ number_of bits

@@ -144,6 +144,47 @@ pub i_16x16_read : (c : Context) (n chroma pattern q : ℕ) (delta d : ℤ) (dc 
     i_16x16_mb c n b ≡ Ok (record { syntax = i_16x16 (n % 4) chroma r; qp = q }, b4)
 i_16x16_read c n chroma pattern q delta d dc r b b1 b2 b3 b4 e1 e2 e3 e4 e5 e6 e7 = grind (arith, after_dc)
 
+-- ---- macroblocks that were read part by part, and what stands of them in their place
+
+pub same_16x16 : {m m' ch ch' : ℕ} {dc dc' : List ℤ} {l l' : BlockLevels 15} → I16x16 m ch dc l ≡ I16x16 m' ch' dc' l' → (m ≡ m') × (ch ≡ ch') × (dc ≡ dc')
+same_16x16 e = (cc, cc, cc)
+
+pub same_nxn : {m m' : List (Option ℕ)} {ch ch' : ℕ} {l l' : BlockLevels 16} → INxN m ch l ≡ INxN m' ch' l' → (m ≡ m') × (ch ≡ ch')
+same_nxn e = (cc, cc)
+
+pub same_inter : {t t' : PMbType} {r r' : List ℕ} {v v' : List Mvd} {l l' : BlockLevels 16} → PInter t r v l ≡ PInter t' r' v' l' → (t ≡ t') × (r ≡ r') × (v ≡ v')
+same_inter e = (cc, cc, cc)
+
+nxn_with : (modes : Read (List (Option ℕ))) (chroma_mode pattern : Read ℕ) (residual : ℕ → Read Residual) (mb : List (Option ℕ) → ℕ → Residual → Mb) (m : List (Option ℕ)) (ch n : ℕ) (r : Residual) (b b1 b2 b3 b4 : Bits) →
+    modes b ≡ Ok (m, b1) → chroma_mode b1 ≡ Ok (ch, b2) → pattern b2 ≡ Ok (n, b3) → residual n b3 ≡ Ok (r, b4) →
+    (modes >>= λ m. chroma_mode >>= λ ch. pattern >>= λ n. residual n >>= λ r. give (mb m ch r)) b ≡ Ok (mb m ch r, b4)
+nxn_with modes chroma_mode pattern residual mb m ch n r b b1 b2 b3 b4 e1 e2 e3 e4 = rw (e1, e2, e3, e4) refl
+
+pub i_nxn_read : (c : Context) (m m' : List (Option ℕ)) (ch ch' n q : ℕ) (r : Residual) (b b1 b2 b3 b4 : Bits) →
+    times 16 block_mode b ≡ Ok (m, b1) → ue_to 3 b1 ≡ Ok (ch, b2) → coded_block_pattern true b2 ≡ Ok (n, b3) → after_pattern c n b3 ≡ Ok (r, b4) → m' ≡ m → ch' ≡ ch → q ≡ qp_after c.qp r.mb_qp_delta →
+    i_nxn_mb c b ≡ Ok (record { syntax = i_nxn m' ch' r; qp = q }, b4)
+i_nxn_read c m m' ch ch' n q r b b1 b2 b3 b4 e1 e2 e3 e4 e5 e6 e7 =
+    nxn_with (times 16 block_mode) (ue_to 3) (coded_block_pattern true) (after_pattern c) (λ m ch r. with_residual c r (i_nxn m ch r)) m ch n r b b1 b2 b3 b4 e1 e2 e3 e4 ∙ rw (e5, e6, e7) refl
+
+pcm_with : {A B C : Type 0} (start : Read (Unit {0})) (luma : Read A) (cb : Read B) (cr : Read C) (mb : A → B → C → Mb) (done : Unit {0}) (x : A) (y : B) (z : C) (b b1 b2 b3 b4 : Bits) →
+    start b ≡ Ok (done, b1) → luma b1 ≡ Ok (x, b2) → cb b2 ≡ Ok (y, b3) → cr b3 ≡ Ok (z, b4) → (start >> (luma >>= λ x. cb >>= λ y. cr >>= λ z. give (mb x y z))) b ≡ Ok (mb x y z, b4)
+pcm_with start luma cb cr mb done x y z b b1 b2 b3 b4 e1 e2 e3 e4 = rw (e1, e2, e3, e4) refl
+
+pub i_pcm_read : (c : Context) (done : Unit {0}) (luma cb cr : List ℕ) (b b1 b2 b3 b4 : Bits) →
+    align b ≡ Ok (done, b1) → times 256 (u 8) b1 ≡ Ok (luma, b2) → times 64 (u 8) b2 ≡ Ok (cb, b3) → times 64 (u 8) b3 ≡ Ok (cr, b4) →
+    i_pcm_mb c b ≡ Ok (record { syntax = i_pcm luma cb cr; qp = c.qp }, b4)
+i_pcm_read c done luma cb cr b b1 b2 b3 b4 e1 e2 e3 e4 =
+    pcm_with align (times 256 (u 8)) (times 64 (u 8)) (times 64 (u 8)) (λ x y z. record { syntax = i_pcm x y z; qp = c.qp }) done luma cb cr b b1 b2 b3 b4 e1 e2 e3 e4
+
+pub p_mb_read : (c : Context) (number n q : ℕ) (t t' : PMbType) (refs refs' : List ℕ) (mvds mvds' : List Mvd) (r : Residual) (b b1 b2 b3 b4 b5 : Bits) →
+    p_mb_type number b ≡ Ok (t, b1) → ref_idx_l0 c.num_ref_idx_active t b1 ≡ Ok (take (partitions t) refs, b2) → times (length (parts_of t)) mvd_l0 b2 ≡ Ok (take (length (parts_of t)) mvds, b3) →
+    coded_block_pattern false b3 ≡ Ok (n, b4) → after_pattern c n b4 ≡ Ok (r, b5) → t' ≡ t → refs' ≡ refs → mvds' ≡ mvds → q ≡ qp_after c.qp r.mb_qp_delta →
+    p_mb c number b ≡ Ok (record { syntax = p_inter t' (take (partitions t') refs') (take (length (parts_of t')) mvds') r; qp = q }, b5)
+p_mb_read c number n q t t' refs refs' mvds mvds' r b b1 b2 b3 b4 b5 e1 e2 e3 e4 e5 e6 e7 e8 e9 = rw (e6, e7, e8, e9) (rw (e1, e2, e3, e4, e5) refl)
+
+pub refs_same : (P : ℕ → Type 0) (t t' : PMbType) (refs refs' : List ℕ) → t' ≡ t → refs' ≡ refs → All P (take (partitions t) refs) → All P (take (partitions t') refs')
+refs_same P t t' refs refs' e1 e2 all = rw (e1, e2) all
+
 -- ---- where coded_block_pattern is 0
 
 abbrev no_residual : Residual

@@ -332,7 +332,15 @@ pub zeros_back : (total : ℕ) (chroma_dc : Bool) (n : ℕ) (word : List Bool) �
 zeros_back total chroma_dc n word found = back is_number_same n (zeros_table total chroma_dc) word number_is_same (zeros_free total chroma_dc) found
 
 pub run_back : (zeros_left run : ℕ) (word : List Bool) → run_word zeros_left run ≡ Some word → IsReadBack (run_before zeros_left) word run
-run_back zeros_left run word = search (rules, nat_le)
+run_back zeros_left run word found position rest = by_test (nat_le run zeros_left) refl
+  where
+    of_test : Bool → Option (List Bool)
+    of_test t = if t then word_of (is_number_same run) (run_table zeros_left) else None
+
+    by_test : (t : Bool) → nat_le run zeros_left ≡ t →
+        run_before zeros_left (record { position = position; ahead = word ++ rest }) ≡ Ok (run, record { position = position + length word; ahead = rest })
+    by_test true e = rw (back is_number_same run (run_table zeros_left) word number_is_same (runs_free zeros_left) (sym (ap of_test e) ∙ found) position rest, e) refl
+    by_test false e = let none : None ≡ Some word = sym (ap of_test e) ∙ found in cc
 
 -- ---- which values have a word
 
@@ -371,7 +379,9 @@ token_at table most t all small few is =
 
 pub token_whole : (nc : ℤ) (t : Token) → IsToken t → (nc <ℤ pos 0 → t.total ≤ 4) → IsSome (token_word nc t)
 token_whole (negsuc n) t is few = token_at (tokens coeff_token_chroma_dc) 4 t refl (omega arith) (few (omega (arith, ints))) is
-token_whole (pos n) t is few = search (rules, token_at, each_class)
+token_whole (pos n) t is few = each_class (λ table. IsSome (word_of (is_token_same t) table))
+    (token_at (tokens coeff_token_0) 16 t refl (omega arith) is.total is) (token_at (tokens coeff_token_2) 16 t refl (omega arith) is.total is)
+    (token_at (tokens coeff_token_4) 16 t refl (omega arith) is.total is) (token_at tokens_8 16 t refl (omega arith) is.total is) n
 
 pub zeros_whole : (total n : ℕ) → 1 ≤ total → total ≤ 15 → total + n ≤ 16 → IsSome (zeros_word total false n)
 zeros_whole total n some most within = pair_at (λ t z. is_some (zeros_word t false z)) 1 15 16 16 total n refl some (omega arith) (omega arith) within

@@ -29,7 +29,7 @@ pub use Rattle.avc_vlc.specs.Indexing.{AreRuns, AreShortRuns, AreWritten, entry_
 pub use Rattle.avc_vlc.specs.declared.run_before.Run.{Run}
 pub use Rattle.std.proofs.lemmas.List.{length-map}
 pub use Rattle.avc_vlc.specs.Indexing.{begins, goes_on, word_entry, entry_from, Agree, Decides, AreFronts, AreIndexed, IsIndexed, index, entry_of, IsPlaceOf}
-pub use Rattle.avc_vlc.specs.Indexing.{IsFrontOf, place_bits, six_bit_entry, IsAhead, IsWritten, entry_word, holds, place_word, word_at}
+pub use Rattle.avc_vlc.specs.Indexing.{IsFrontOf, place_bits, six_bit_entry, six_bit_number, IsAhead, IsWritten, entry_word, holds, place_word, word_at}
 pub use Rattle.avc_vlc.specs.Laws.{IsTableRead, IsRead, IsReadBack}
 pub use Rattle.avc_vlc.specs.Reading.{Table, IsIn, after_word, is_prefix, lookup, is_prefix_free, table_code, tokens, tokens_8, token_table, row_table, row_at}
 pub use Rattle.avc_vlc.specs.Reading.{zeros_table, run_table, coeff_token, run_before, total_zeros, IsToken, token, pattern_at, coded_block_pattern}
