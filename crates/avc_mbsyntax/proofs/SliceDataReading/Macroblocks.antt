@@ -230,6 +230,18 @@ reads_same result p q old new same read = MatchResult-weaker result read (λ v r
 pub reads_into_same : {V : Type 0} (result : Result (Unit {0}) Fault) (value : V) (p q : Read V) (old new : BitReader) → ((b : Bits) → p b ≡ q b) → ReadsInto result value p old new → ReadsInto result value q old new
 reads_into_same result value p q old new same read = MatchResult-weaker result read (λ v r. (sym (same (reader_bits old)) ∙ r.0, r.1)) (λ f r. sym (same (reader_bits old)) ∙ r)
 
+-- the fault of one part is that of the whole
+pub fault_told : {T V : Type 0} {answer : Result V Fault} {f : Fault} (P : T → Type 0) (result : Result T Fault) → IsErrAnd result (λ e. e ≡ f) → answer ≡ Err f → MatchResult result P (λ fault. answer ≡ Err fault)
+fault_told P (Ok done) is e = absurd is
+fault_told P (Err g) is e = e ∙ ap Err (sym is)
+
+-- a part whose value is another's
+pub then_given : {A V : Type 0} (part : Read A) (x : A) (v : V) (b b1 : Bits) → part b ≡ Ok (x, b1) → (part >>= λ _. give v) b ≡ Ok (v, b1)
+then_given part x v b b1 e = rw e refl
+
+pub then_fault : {A V : Type 0} (part : Read A) (v : V) (b : Bits) (f : Fault) → part b ≡ Err f → (part >>= λ _. give v) b ≡ Err f
+then_fault part v b f e = rw e refl
+
 pub capped_read : (max nC : ℕ) (z : ℤ) (b : Bits) → z ≡ pos (min nC 8) → residual_block max z b ≡ block_where max true nC b
 capped_read max nC z b is = rw is (block_capped max nC b)
 
@@ -295,7 +307,11 @@ by_none p v bits e few many = absurd (eight v (ap first e) many few)
 by_some : (p v : ℕ) (bits : List Bool) → bits_of 4 v ≡ take 4 (bits ++ replicate 4 false) → v < 8 →
     block_mode (ahead p bits) ≡ (skip 4 >>= λ _. give (Some v)) (ahead p bits)
 by_some p v (true ∷ bits) e few = absurd (not_eight v (ap first e) few)
-by_some p v (false ∷ x ∷ y ∷ z ∷ bits) e few = grind (arith, number-bits_of)
+by_some p v (false ∷ x ∷ y ∷ z ∷ bits) e few =
+    let all : number_of (false ∷ x ∷ y ∷ z ∷ []) ≡ v % 2 ^ 4 = ap number_of (sym e) ∙ number-bits_of 4 v in
+    let rest : number_of (x ∷ y ∷ z ∷ []) ≡ v = omega (arith, all, few) in
+    let place : p + 1 + 3 ≡ p + 4 = omega arith in
+    ap (λ n. Ok (Some n, ahead (p + 1 + 3) bits)) rest ∙ ap (λ k. Ok (Some v, ahead k bits)) place
 by_some p v bits e few = refl
 
 pub mode_none : (b : Bits) (v : ℕ) → bits_of 4 v ≡ take 4 (b.ahead ++ replicate 4 false) → v < 16 → 8 ≤ v → block_mode b ≡ (skip 1 >>= λ _. give None) b

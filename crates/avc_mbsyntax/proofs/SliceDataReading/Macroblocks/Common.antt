@@ -13,7 +13,7 @@ pub use Rattle.std.proofs.lemmas.List.Elements.{All-replicate}
 pub use Rattle.std.proofs.lemmas.Nat.{pow_pos}
 pub use Rattle.std.specs.List.{All, range_with_len}
 pub use Rattle.std.specs.Option.{option_copied}
-pub use Rattle.std.specs.Prelude.{Option, replicate, ◌==◌, ◌||◌, nat_le, if◌then◌else◌, not, IfOk, nat_lt}
+pub use Rattle.std.specs.Prelude.{Option, replicate, ◌==◌, ◌||◌, nat_le, if◌then◌else◌, not, IfOk, nat_lt, IsErrAnd, MatchResult}
 pub use Rattle.avc_bits.proofs.Reading.{u_reads, Gives, gives-any, gives-bind, gives-check, gives-give, gives-then, times_more, times_fault, gives-each}
 pub use Rattle.avc_bits.proofs.Reading.Numbers.{number-bits_of}
 pub use Rattle.avc_bits.specs.Bits.{Bits, Read, ◌>>=◌, give, check, ◌>>◌, bits_of, number_of, times, more_data, start}

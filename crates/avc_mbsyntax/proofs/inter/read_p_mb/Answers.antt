@@ -24,3 +24,6 @@ returns-clause-range c =
 
 pub returns-clause-quantiser : goal.returns-clause-quantiser
 returns-clause-quantiser c = λ _. c.qp_after-mb-inside.ensures.most
+
+pub qp_after-mb-inside-requires : goal.qp_after-mb-inside-requires
+qp_after-mb-inside-requires c = omega (arith, ints, c.in_ok-read_after_pattern.ensures.delta)

@@ -1,5 +1,5 @@
-use Rattle.avc_mbsyntax.proofs.SliceDataReading.{◌≡◌, ◌∙◌, [], Err, refl, arith, rules, to_z, of_z, w8, ints, reader_bits, small_none, context_of}
-use Rattle.avc_mbsyntax.proofs.SliceDataReading.{after_pattern, after_delta, nothing_after, nothing_in_range}
+use Rattle.avc_mbsyntax.proofs.SliceDataReading.{◌≡◌, ◌∙◌, [], Err, refl, arith, to_z, of_z, w8, ints, reader_bits, small_none, context_of}
+use Rattle.avc_mbsyntax.proofs.SliceDataReading.{after_pattern, after_delta, fault_told, nothing_after, nothing_in_range}
 use Rattle.avc_mbsyntax.proofs.residual.read_after_pattern.Goals as goal
 
 pub returns-in_err-read_levels-clause-read : goal.returns-in_err-read_levels-clause-read
@@ -8,7 +8,7 @@ returns-in_err-read_levels-clause-read c =
     let fault : after_pattern (context_of c.args.context.now) c.args.pattern (reader_bits c.args.reader.now) ≡ Err c.in_err-read_levels.field-0.0 =
     after_delta (context_of c.args.context.now) c.args.pattern c.in_ok-mb_qp_delta.mb_qp_delta (to_z w8 (of_z w8 c.in_ok-mb_qp_delta.mb_qp_delta)) (reader_bits c.args.reader.now) (reader_bits c.read_qp_delta_where.new.reader) c.in_ok-mb_qp_delta.ensures.read.0 back
     ∙ c.in_err-read_levels.ensures.read [] in
-    search rules
+    fault_told _ c.from_residual-in_err-read_levels.result c.from_residual-in_err-read_levels.ensures.1 fault
 
 pub returns-clause-read : goal.returns-clause-read
 returns-clause-read c =
