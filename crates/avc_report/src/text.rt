@@ -8,7 +8,9 @@ ghost use Rattle.avc_report.specs.Text.{macroblock_words, map_lines, psnr_line, 
 ghost use Rattle.avc_report.specs.Text.{sample_words};
 
 use crate::psnr::Psnr;
-use avc_difference::{Difference, Mark, Place, Shape, macroblock_columns, macroblock_rows, macroblocks};
+use avc_difference::{
+    Difference, Mark, Place, Shape, macroblock_columns, macroblock_rows, macroblocks,
+};
 use avc_plane::Component;
 use avc_types::OutOfMemory;
 
