@@ -388,6 +388,27 @@ module _ (w y start stride : ℕ) (f : ℕ → ℕ → ℕ) (old mid new : List 
 pub strided_rows : (w h h' start stride : ℕ) (f : ℕ → ℕ → ℕ) (old new : List ℕ) → h ≡ h' → IsStridedSet w h start stride f old new → IsStridedSet w h' start stride f old new
 strided_rows w h h' start stride f old new same set = subst (λ n. IsStridedSet w n start stride f old new) same set
 
+-- ---- a rectangle of w columns that is read sample by sample
+
+-- a row of it ends within its samples
+pub row_room : (w h n y : ℕ) → w * h ≡ n → y < h → w * y + w ≤ n
+row_room w h n y all low = let more : w * (y + 1) ≤ w * h = mul-le-mul_left w (omega arith) in omega (arith, more, all, one_more w y)
+
+-- one sample more of row y, after x of it
+module _ (w y x : ℕ) (f : ℕ → ℕ → ℕ) (samples : List ℕ) (value : ℕ) (column : x < w) (room : w * y + w ≤ length samples) where
+  pub rows_stay : ((u v : ℕ) → u < w → v < y → slice_index samples (w * v + u) ≡ f u v)
+      → (u v : ℕ) → u < w → v < y → slice_index (set samples (w * y + x) value) (w * v + u) ≡ f u v
+  rows_stay done u v across above =
+      let earlier : w * (v + 1) ≤ w * y = mul-le-mul_left w (omega arith) in
+      get_or-set_other samples (w * y + x) (w * v + u) value 0 (omega (arith, earlier, one_more w v)) ∙ done u v across above
+
+  pub row_grows : ((u : ℕ) → u < x → slice_index samples (w * y + u) ≡ f u y) → value ≡ f x y
+      → (u : ℕ) → u < x + 1 → slice_index (set samples (w * y + x) value) (w * y + u) ≡ f u y
+  row_grows here is =
+      below_more (λ u. slice_index (set samples (w * y + x) value) (w * y + u) ≡ f u y) x
+      (λ u below. get_or-set_other samples (w * y + x) (w * y + u) value 0 (omega arith) ∙ here u below)
+      (get_or-set_same samples (w * y + x) value 0 (omega arith) ∙ is)
+
 -- ---- rows in which each place is the nearest sample are a padded plane, and the same plane
 
 module _ (pad stride width height : ℕ) (old new : List ℕ) (wide : width + 2 * pad ≤ stride) (some_column : 0 < width) (some_row : 0 < height)

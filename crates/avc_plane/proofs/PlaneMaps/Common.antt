@@ -2,7 +2,7 @@
 pub use Rattle.std.proofs.Common.{ℕ, ◌≡◌, ◌+◌, ◌*◌, ◌-◌, ◌/◌, ◌%◌, ◌<◌, length, ap, ◌∙◌, zero-add, ◌≢◌, ◌≤◌, arith, List, get_or, set, take, drop, slice_range}
 pub use Rattle.std.proofs.Common.{sym, get_or-set_same, get_or-set_other, length-set, ⊎_elim, mul_comm, true, false, ◌++◌, length-drop, refl, inl, inr, ◌^◌}
 pub use Rattle.std.proofs.Common.{Bool, slice_index, subst, get_or as slice_index_or, pos, ◌-ℤ◌, below_more, append_assoc, replicate}
-pub use Rattle.std.proofs.Math.Nat.{mul-le-mul_right, add-mul}
+pub use Rattle.std.proofs.Math.Nat.{mul-le-mul_left, mul-le-mul_right, add-mul}
 pub use Rattle.std.proofs.Math.Seq.{take-length, take-add}
 pub use Rattle.std.proofs.lemmas.Bool.{cases_eq, cases_lt, cases_Bool, both_ways}
 pub use Rattle.std.proofs.lemmas.Bool.Decides.{nat_tests}
