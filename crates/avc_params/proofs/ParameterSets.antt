@@ -424,3 +424,11 @@ in_force :
     × (pps_in_force (OfPps (0xCE ∷ 0x38 ∷ 0x80 ∷ []) ∷ OfPps (0xEE ∷ 0x38 ∷ 0x80 ∷ []) ∷ []) 0 ≡ None)
     × (pps_in_force (OfPps (0xCE ∷ 0x38 ∷ 0x80 ∷ []) ∷ OfPps [] ∷ []) 0 ≡ Some plain)
 in_force = (refl, refl, refl)
+
+-- ---- what a function that reads part by part answers
+
+-- the fault of the part that it was at
+pub answers_fault : {A : Type 0} (result : Result A Fault) (part : Read A) (old new : BitReader) (fault : Fault)
+    → IsErrAnd result (λ e. e ≡ fault) → part (reader_bits old) ≡ Err fault → Reads result part old new
+answers_fault (Ok value) part old new fault given e = absurd given
+answers_fault (Err why) part old new fault given e = e ∙ ap Err (sym given)
