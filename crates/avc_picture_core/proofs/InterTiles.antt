@@ -531,6 +531,35 @@ part_is references column row motion left top w h r v p old new left_even top_ev
     ∙ part_same column row left top w h (λ k x y. predicted_from p v k (size_of k * column + x) (size_of k * row + y)) (wanted references column row motion) old left_even top_even
     (λ k x y few e. rw (one.same (luma_place k x) (luma_place k y) e ∙ is, named) refl)
 
+-- ---- planes of which a rectangle was predicted
+
+-- cover the macroblock still
+pub cover_part : (column row left top w h : ℕ) (f : ℕ → ℕ → ℕ → ℕ) (s new : Planes) → new ≡ with_part column row left top w h f s → CoverMacroblock column row s → CoverMacroblock column row new
+cover_part column row left top w h f s new e room =
+    subst (CoverMacroblock column row) (sym e) (record {
+      luma_columns = room.luma_columns;
+      luma_rows = room.luma_rows;
+      cb_columns = room.cb_columns;
+      cb_rows = room.cb_rows;
+      cr_columns = room.cr_columns;
+      cr_rows = room.cr_rows;
+    })
+
+-- ---- one block of 4x4 samples
+
+in_block : (left x : ℕ) → left % 4 ≡ 0 → left ≤ x → x < left + 4 → x / 4 ≡ left / 4
+in_block left x even from below = omega arith
+
+-- has one motion
+pub one_block : (motion : List Motion) (left top : ℕ) → left % 4 ≡ 0 → top % 4 ≡ 0 → HaveOneMotion motion left top 4 4
+one_block motion left top left_even top_even = record {
+  same = λ x y e.
+      let b = bounds left top 4 4 x y e in
+      let across = in_block left x left_even b.0 b.1 in
+      let down = in_block top y top_even b.2 b.3 in
+      ap (block_motion motion) (omega (arith, across, down));
+}
+
 -- ---- blocks that all have one motion
 
 all_from : {X : Type 0} (p : X → Bool) (d : X) (xs : List X) → ((k : ℕ) → k < length xs → p (slice_index_or xs k d) ≡ true) → list_all p xs ≡ true
