@@ -98,12 +98,12 @@ pps_accepted rbsp p e =
 
 -- ---- an accepted sequence parameter set keeps to the ranges of its fields, and has the id that was read
 
-record IsSize (s : Size) : Type 0 where
-  width : s.pic_width_in_mbs_minus1 + 1 ≤ max_side
-  height : s.pic_height_in_map_units_minus1 + 1 ≤ max_side
+pub record IsSize (s : Size) : Type 0 where
+  pub width : s.pic_width_in_mbs_minus1 + 1 ≤ max_side
+  pub height : s.pic_height_in_map_units_minus1 + 1 ≤ max_side
   all : (s.pic_width_in_mbs_minus1 + 1) * (s.pic_height_in_map_units_minus1 + 1) ≤ max_macroblocks
 
-gives-size : Gives IsSize size
+pub gives-size : Gives IsSize size
 gives-size =
     gives-bind (λ _. Unit {0}) IsSize ue _ (gives-any ue) (λ w _.
     gives-check IsSize (nat_lt w max_side) _ _ (λ wide.
