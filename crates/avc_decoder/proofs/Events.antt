@@ -432,6 +432,24 @@ kept {output} {max} bytes' ended' p p' i unended n count =
       parts = record { works = n.works; few = n.few; passed = n.passed; decoded = d; bytes = n.bytes_are; taken = n.taken ∙ i.taken };
     }
 
+-- nothing was handled
+pub kept_new : {output : Output} {max : ℕ} {P E : Type 0} (bytes : List ℕ) (given : List E) (p : Parts max P) → bytes ≡ [] → given ≡ []
+    → IsNew max output p → IsDecoderState max (machine_of output bytes false (length given) false) (Ok p) 0
+kept_new {output} {max} bytes given p none nothing n = rw (none, nothing) (record {
+  count_is = refl;
+  parts = record {
+    works = n.works;
+    few = n.few;
+    passed = record {
+      events = ap (λ (q : QueueState). q.events) n.outgoing ∙ sym (ap (λ (t : StreamState). t.events) n.stream);
+      taken = ap (λ (t : StreamState). t.taken) n.stream ∙ sym (ap (λ (t : StreamState). length t.events) n.stream);
+    };
+    decoded = rw (n.splitter, n.stream) (record { going = refl; ends = refl; counted = refl; state = λ _. refl; events = refl; read = refl });
+    bytes = ap (λ (s : SplitterState). s.bytes) n.splitter;
+    taken = ap (λ (q : QueueState). q.taken) n.outgoing;
+  };
+})
+
 -- a piece more was handled
 pub kept_fed : {output : Output} {max : ℕ} {bytes : List ℕ} {P : Type 0} (bytes' piece : List ℕ) {ended : Bool} {taken : ℕ}
     (running running' : PartsOrRefusal max P) {read read' : ℕ}

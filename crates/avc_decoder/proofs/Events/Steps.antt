@@ -1,6 +1,7 @@
 -- The step of a unit: what it brings, and what it does to the phase.
 pub mod OpenPictures
 unfoldable pub use OpenPictures.*
+use Rattle.std.specs.Prelude.{◌||◌}
 use Rattle.avc_types.specs.Results.{◌>>=◌}
 use Rattle.avc_units.specs.Grouping.{pps as pps_kind, slice as slice_kind, sps as sps_kind, list_of}
 use Rattle.avc_decoder.specs.Events.{running as running_phase}
@@ -121,13 +122,24 @@ keeps_sets sets running open' u = by_bit (forbidden_zero_bit u.header)
 
 -- ---- a further slice
 
+-- both of two fail where one of them would do
+neither : (a b : Bool) → (a || b) ≡ false → (a ≡ false) × (b ≡ false)
+neither true b e = absurd (false≢true (sym e))
+neither false b e = (refl, e)
+
+not_so : (a : Bool) → not a ≡ false → a ≡ true
+not_so true e = refl
+not_so false e = absurd (false≢true (sym e))
+
 -- it names the picture parameter set that the slice before it names
 pub same_set : (g h : Header) → begins g h ≡ false → g.pic_parameter_set_id ≡ h.pic_parameter_set_id
-same_set g h e = grind (arith, nat_tests, e)
+same_set g h e =
+    let sets = (neither _ _ (neither _ _ (neither _ _ (neither _ _ e).0).0).0).1 in
+    eqb-true g.pic_parameter_set_id h.pic_parameter_set_id (not_so _ sets)
 
 same_some : (g h : Header) (a b : Option ℕ) → begins (record g { idr_pic_id = a }) (record h { idr_pic_id = b }) ≡ false → is_some a ≡ is_some b
-same_some g h (Some a) None e = grind (arith, e)
-same_some g h None (Some b) e = grind (arith, e)
+same_some g h (Some a) None e = absurd (false≢true (sym (neither _ true e).1))
+same_some g h None (Some b) e = absurd (false≢true (sym (neither _ true e).1))
 same_some g h _ _ e = refl
 
 -- it is one of an IDR picture where the slice before it is

@@ -76,7 +76,7 @@ pub use Rattle.avc_decoder.specs.States.{ComesTo, HasOutcome, IsOpenIn, Stops, W
 pub use Rattle.avc_decoder.specs.States.{DecodesAs, IsNamed, Works, current_in, HasAnswered, IsAnswerIn, picture_answer, with_last, IsPhase, is_waiting_in}
 pub use Rattle.avc_decoder.specs.States.{last_header_in, FitsPhase, HasStep, StreamState, after_stream_end, after_unit_in_stream, stream_state, EndsIn, FeedsIn}
 pub use Rattle.avc_decoder.specs.States.{HandlesAll, IsDecoded, IsDecoderState, after_units_in_stream, IsStream, queue_in, ArePassedOn, AreParts, IsWorking, HaveDecoded}
-pub use Rattle.avc_decoder.specs.States.{Feeds, FeedsUnit, FeedsUnitIn, Ends, PartsOrRefusal, open_picture_start, frames_in, most_frames, one_if_any}
+pub use Rattle.avc_decoder.specs.States.{Feeds, FeedsUnit, FeedsUnitIn, Ends, IsNew, PartsOrRefusal, open_picture_start, frames_in, most_frames, one_if_any}
 pub use Rattle.avc_decoder.specs.declared.parts.Fed.{Fed}
 pub use Rattle.avc_decoder.specs.declared.calls.Call.{Call}
 pub use Rattle.avc_decoder.specs.declared.calls.Reply.{Reply}
