@@ -1,14 +1,11 @@
 -- Units are taken into pieces, one after the other, and shown.
 pub mod Stages
 unfoldable pub use Stages.*
+use Rattle.std.specs.Prelude.{IfOk, OnErr, OnOk}
 use Rattle.avc_tools.specs.Stages.{waiting}
 use Rattle.avc_tools.specs.declared.cutter.CutPhase.TheVariants as phases
 
 -- ---- taking all units whose end has been seen, one after the other
-
--- a splitter that has a whole stream, of which no unit was taken
-abbrev pub whole_stream : (bytes : List ℕ) → SplitterState
-whole_stream bytes = record { bytes = bytes; ended = true; taken = 0; failed = false }
 
 no_more : (us : List Unit) (k : ℕ) → slice_get us k ≡ None → drop k us ≡ []
 no_more us k e = search (rules, drop_all, slice_get_cases)
@@ -64,6 +61,64 @@ all_taken max old s new next holds i going gives takes is =
       takes ∙ ap (λ x. after_next_unit s x) is ∙ i.state ∙ ap (λ us. record old { taken = old.taken + length us }) (sym all),
     )
 
+-- ---- an answer that is kept where it is a refusal
+
+held : {T E A : Type 0} (answer : Result T E) (refused : Bool) → OnErr answer (refused ≡ true) → OnOk answer A → refused ≡ false → A
+held (Ok x) refused err ok going = ok
+held (Err e) refused err ok going = cc
+
+-- where no memory was refused the answer has come
+pub kept : {T E A : Type 0} (r answer : Result T E) (refused : Bool) → r ≡ answer → OnErr r (refused ≡ true) → OnOk answer A → refused ≡ false → A
+kept r answer refused same err ok going = held answer refused (rw same at err) ok going
+
+both : {T E A B C : Type 0} (answer : Result T E) → OnOk answer A → OnOk answer B → (A → B → C) → OnOk answer C
+both (Ok x) a b f = f a b
+both (Err e) a b f = tt
+
+pub kept_so : {T E A B C : Type 0} (r answer : Result T E) → r ≡ answer → OnOk answer A → OnOk r B → (A → B → C) → OnOk r C
+kept_so r answer same a b f = rw same (both answer a (rw same at b) f)
+
+told : {T E : Type 0} {P Q : T → Type 0} (answer : Result T E) → IfOk answer P → ((x : T) → P x → Q x) → IfOk answer Q
+told (Ok x) p f = f x p
+told (Err e) p f = tt
+
+pub kept_if : {T E : Type 0} {P Q : T → Type 0} (r answer : Result T E) → r ≡ answer → IfOk answer P → ((x : T) → P x → Q x) → IfOk r Q
+kept_if r answer same p f = rw same (told answer p f)
+
+-- what came of the stream that a splitter takes
+abbrev so_far_of : SplitterState → (failed : Bool) → StreamSoFar
+so_far_of s failed = record { bytes = s.bytes; ended = s.ended; failed = failed }
+
+piece_came : (bytes : List ℕ) (ended : Bool) (taken : ℕ) (going failed : Bool) (piece : List ℕ)
+    → so_far_of (after_feed (splitter_at bytes ended taken going) piece) failed ≡ after_piece (so_far_of (splitter_at bytes ended taken going) failed) piece
+piece_came bytes true taken going failed piece = refl
+piece_came bytes false taken going failed piece = refl
+
+pub so_far_fed : (max : ℕ) (old new : SplitterState) (before failed : Bool) (piece : List ℕ) → new ≡ after_units_left max (after_feed old piece) → failed ≡ before
+    → so_far_of new failed ≡ after_piece (so_far_of old before) piece
+so_far_fed max old new before failed piece is same =
+    ap (λ s. so_far_of s failed) is ∙ ap (so_far_of (after_feed old piece)) same ∙ piece_came old.bytes old.ended old.taken old.failed before piece
+
+pub so_far_ended : (max : ℕ) (old new : SplitterState) (before failed : Bool) → new ≡ after_units_left max (after_finish old) → failed ≡ before
+    → so_far_of new failed ≡ after_end (so_far_of old before)
+so_far_ended max old new before failed is same = ap (λ s. so_far_of s failed) is ∙ ap (so_far_of (after_finish old)) same
+
+-- past the end nothing is taken
+none_taken : (max : ℕ) (s : SplitterState) → IsDrained max s → s ≡ after_units_left max s
+none_taken max s d =
+    let none : length (units_left max s) ≡ 0 = ap length (drop_all s.taken (units max s.bytes s.ended) (omega (arith, d.taken))) in
+    ap (λ n. record s { taken = n }) (omega (arith, none))
+
+pub taken_past_feed : (max : ℕ) (s : SplitterState) (piece : List ℕ) → IsDrained max s → s.ended ≡ true → s ≡ after_units_left max (after_feed s piece)
+taken_past_feed max s piece d e =
+    none_taken max s d ∙ ap (λ x. after_units_left max (if x then s else record s { bytes = s.bytes ++ piece })) (sym e)
+
+pub taken_past_end : (max : ℕ) (s : SplitterState) → IsDrained max s → s.ended ≡ true → s ≡ after_units_left max (after_finish s)
+taken_past_end max s d e = none_taken max s d ∙ ap (λ x. after_units_left max (record s { ended = x })) e
+
+pub nothing_added : (text added : List ℕ) → added ≡ [] → text ≡ text ++ added
+nothing_added text added none = sym (append-nil text) ∙ ap (λ l. text ++ l) (sym none)
+
 -- ---- one unit more is taken into a piece, and a piece whose stream comes is written as far as it is settled
 
 pub stands_new : (number : ℕ) (c : Cutter) → c.phase ≡ phases.Waiting → c.left ≡ number → c.sets.sps.items ≡ replicate 32 None → c.sets.pps.items ≡ replicate 256 None → c.held.items ≡ []
@@ -84,6 +139,35 @@ leading_none before u e = ap (λ us. flat_map written (filter leads us)) (after_
 
 pub leading_more : (before : List Unit) (u : Unit) (old new : List ℕ) → is_slice u ≡ false → new ≡ old ++ (if leads u then written u else []) → old ≡ leading before → new ≡ leading (before ++ u ∷ [])
 leading_more before u old new e is h = rw (is, h, after_other before u e) (sym (filtered_more leads (after_slices before) u))
+
+-- ---- what is written of a list, element by element
+
+front_more : {X : Type 0} (xs : List X) (k : ℕ) (x : X) → k < length xs → x ≡ get_or xs k x → take (k + 1) xs ≡ take k xs ++ x ∷ []
+front_more xs k x lt is = take_more xs k x lt ∙ ap (λ y. take k xs ++ y ∷ []) (sym is)
+
+added_to : (start front one old new : List ℕ) → old ≡ start ++ front → new ≡ old ++ one → new ≡ start ++ (front ++ one)
+added_to start front one old new so_far added = added ∙ ap (λ l. l ++ one) so_far ∙ append_assoc start front one
+
+pub told_more : {X Y : Type 0} (f : X → Y) (xs : List X) (k : ℕ) (x : X) (y : Y) (old new : List Y) → k < length xs → x ≡ get_or xs k x → y ≡ f x → old ≡ map f (take k xs) → new ≡ old ++ y ∷ []
+    → new ≡ map f (take (k + 1) xs)
+told_more f xs k x y old new lt is told so_far added =
+    added ∙ ap (λ l. l ++ y ∷ []) so_far ∙ ap (λ z. map f (take k xs) ++ z ∷ []) told ∙ sym (map-append f (take k xs) (x ∷ [])) ∙ ap (map f) (sym (front_more xs k x lt is))
+
+pub written_more : {X : Type 0} (f : X → List ℕ) (xs : List X) (k : ℕ) (x : X) (start old new : List ℕ) → k < length xs → x ≡ get_or xs k x → old ≡ start ++ flat_map f (take k xs) → new ≡ old ++ f x
+    → new ≡ start ++ flat_map f (take (k + 1) xs)
+written_more f xs k x start old new lt is so_far added =
+    added_to start (flat_map f (take k xs)) (f x) old new so_far added
+    ∙ ap (λ l. start ++ (flat_map f (take k xs) ++ l)) (sym (append-nil (f x)))
+    ∙ ap (λ l. start ++ l) (sym (flat_map-append f (take k xs) (x ∷ [])))
+    ∙ ap (λ l. start ++ flat_map f l) (sym (front_more xs k x lt is))
+
+pub kept_on : (p : Unit → Bool) (us : List Unit) (k : ℕ) (u : Unit) (wanted : Bool) (start old new : List ℕ) → k < length us → u ≡ get_or us k u → wanted ≡ p u
+    → old ≡ start ++ flat_map written (filter p (take k us)) → new ≡ old ++ (if wanted then written u else []) → new ≡ start ++ flat_map written (filter p (take (k + 1) us))
+kept_on p us k u wanted start old new lt is by so_far added =
+    added_to start (flat_map written (filter p (take k us))) (if wanted then written u else []) old new so_far added
+    ∙ ap (λ b. start ++ (flat_map written (filter p (take k us)) ++ (if b then written u else []))) by
+    ∙ ap (λ l. start ++ l) (sym (filtered_more p (take k us) u))
+    ∙ ap (λ l. start ++ flat_map written (filter p l)) (sym (front_more us k u lt is))
 
 -- ---- while the piece has not begun
 
@@ -284,13 +368,6 @@ text_ended max number old mid new ended c now part all h open_end left is at_end
     let off = rest t (cut (stage_of max number old) h.stands).stands in
     text_added max number old mid new ended c now part off.added t h open_end left is cut short refl (ap (text_of t) at_end ∙ off.defined)
     ∙ ap (λ l. piece_text number old.bytes old.ended ++ l) (sym off.written_on)
-
--- past the end
-pub stays_by_piece : (s : StreamSoFar) (piece : List ℕ) → s.ended ≡ true → s ≡ after_piece s piece
-stays_by_piece s piece e = ap (λ x. if x then s else record s { bytes = s.bytes ++ piece }) (sym e)
-
-pub stays_by_end : (s : StreamSoFar) → s.ended ≡ true → s ≡ after_end s
-stays_by_end s e = ap (λ x. record s { ended = x }) e
 
 -- ---- what the code tells
 

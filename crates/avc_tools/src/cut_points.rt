@@ -1,7 +1,10 @@
 //! Where the pieces of a stream begin, and how many pictures each has.
 
-ghost use Rattle.std.specs.Prelude.{◌≡◌, ◌++◌, false, length, IfOk, OnOk, string_bytes};
-ghost use Rattle.avc_tools.specs.CutPoints.{counted, counted_all, cut_point_line, cut_point_lines};
+ghost use Rattle.std.specs.Prelude.{◌≡◌, ◌++◌, ◌^◌, ◌<◌, false, true, length, IfOk, OnOk};
+ghost use Rattle.std.specs.Prelude.{string_bytes};
+ghost use Rattle.avc_annexb.specs.SplitterState.{after_feed, after_finish};
+ghost use Rattle.avc_tools.specs.CutPoints.{AreCounted, counted, counted_all, cut_point_line};
+ghost use Rattle.avc_tools.specs.CutPoints.{cut_point_lines, cut_point_lines_so_far};
 ghost use Rattle.avc_tools.specs.CutPoints.{line_of_piece, piece_over};
 ghost use Rattle.avc_tools.specs.Streams.{after_units_left, max_unit, units_left};
 
@@ -59,8 +62,6 @@ impl<F> CutPointLines<F> {
 }
 
 impl<F: ListingForm> StreamText for CutPointLines<F> {
-    ghost use Rattle.avc_tools.specs.CutPoints.{cut_point_lines_so_far};
-
     ghost so_far = { λ l. l };
 
     ghost number = { λ _. 0 };
@@ -71,40 +72,29 @@ impl<F: ListingForm> StreamText for CutPointLines<F> {
     ghost over = { λ _ _ _. false };
 
     fn feed(&mut self, piece: &[u8]) -> Result<Vec<u8>, OutOfMemory> {
-        units_stay();
         self.failed.check()?;
-        if self.ended {
-            return Ok(Vec::new(self.alloc));
-        }
-        self.failed.keep(self.splitter.feed(piece))?;
-        let lines = lines_of_units_left(
+        let lines = lines_fed(
             self.alloc,
             &self.form,
             &mut self.splitter,
             &mut self.counts,
+            self.ended,
+            piece,
         );
-        let lines = self.failed.keep(lines)?;
-        Ok(lines.into_bytes())
+        self.failed.keep(lines)
     }
 
     fn finish(&mut self) -> Result<Vec<u8>, OutOfMemory> {
-        units_stay();
         self.failed.check()?;
-        if self.ended {
-            return Ok(Vec::new(self.alloc));
-        }
-        self.failed.keep(self.splitter.finish())?;
-        let lines = lines_of_units_left(
+        let lines = lines_at_end(
             self.alloc,
             &self.form,
             &mut self.splitter,
             &mut self.counts,
+            self.ended,
         );
-        let mut lines = self.failed.keep(lines)?;
-        let last = add_line(self.alloc, &self.form, &mut lines, self.counts.piece());
-        self.failed.keep(last)?;
         self.ended = true;
-        Ok(lines.into_bytes())
+        self.failed.keep(lines)
     }
 
     fn is_over(&self) -> bool {
@@ -114,6 +104,54 @@ impl<F: ListingForm> StreamText for CutPointLines<F> {
     fn text_only_grows(&self) {
         units_stay();
     }
+}
+
+// Takes the next bytes of the stream, and makes the lines that come of them: past its end none.
+fn lines_fed<F: ListingForm>(
+    alloc: Global,
+    form: &F,
+    splitter: &mut Splitter<MAX_UNIT>,
+    counts: &mut PieceCounts,
+    ended: bool,
+    piece: &[u8],
+) -> Result<Vec<u8>, OutOfMemory>
+    requires { AreCounted max_unit splitter.old ended counts.old }
+    ensures taken { OnOk result (splitter.new ≡ after_units_left max_unit (after_feed splitter.old piece.now)) }
+    ensures counted { OnOk result (AreCounted max_unit splitter.new ended counts.new) }
+    ensures added { IfOk result (λ added. length splitter.new.bytes < 2 ^ 64 → cut_point_lines_so_far F.of_piece splitter.new.bytes splitter.new.ended
+        ≡ cut_point_lines_so_far F.of_piece splitter.old.bytes splitter.old.ended ++ added.items) }
+{
+    units_stay();
+    if ended {
+        return Ok(Vec::new(alloc));
+    }
+    splitter.feed(piece)?;
+    let lines = lines_of_units_left(alloc, form, splitter, counts)?;
+    Ok(lines.into_bytes())
+}
+
+// Takes the end of the stream, and makes the lines that are then left: past it none.
+fn lines_at_end<F: ListingForm>(
+    alloc: Global,
+    form: &F,
+    splitter: &mut Splitter<MAX_UNIT>,
+    counts: &mut PieceCounts,
+    ended: bool,
+) -> Result<Vec<u8>, OutOfMemory>
+    requires { AreCounted max_unit splitter.old ended counts.old }
+    ensures taken { OnOk result (splitter.new ≡ after_units_left max_unit (after_finish splitter.old)) }
+    ensures counted { OnOk result (AreCounted max_unit splitter.new true counts.new) }
+    ensures added { IfOk result (λ added. length splitter.new.bytes < 2 ^ 64 → cut_point_lines_so_far F.of_piece splitter.new.bytes splitter.new.ended
+        ≡ cut_point_lines_so_far F.of_piece splitter.old.bytes splitter.old.ended ++ added.items) }
+{
+    units_stay();
+    if ended {
+        return Ok(Vec::new(alloc));
+    }
+    splitter.finish()?;
+    let mut lines = lines_of_units_left(alloc, form, splitter, counts)?;
+    add_line(alloc, form, &mut lines, counts.piece())?;
+    Ok(lines.into_bytes())
 }
 
 // Takes all units whose end has been seen, and makes the lines of the pieces that are over by them.

@@ -1,15 +1,17 @@
 //! The lines of `headers`.
 
 ghost use Rattle.std.specs.Prelude.{◌≡◌, [], ◌∷◌, ◌++◌, ◌+◌, ◌-◌, ◌*◌, false, IfOk, OnOk, Some};
-ghost use Rattle.std.specs.Prelude.{string_bytes};
+ghost use Rattle.std.specs.Prelude.{◌^◌, ◌<◌, length, string_bytes};
 ghost use Rattle.std.specs.Fmt.{decimal};
 ghost use Rattle.std.specs.Option.{option_copied};
+ghost use Rattle.avc_annexb.specs.SplitterState.{after_feed, after_finish, new_splitter};
 ghost use Rattle.avc_params.specs.Tables.{sets_after};
 ghost use Rattle.avc_slice.specs.Header.{slice_qp};
 ghost use Rattle.avc_units.specs.Grouping.{set_units};
-ghost use Rattle.avc_tools.specs.Showing.{header_lines_under};
+ghost use Rattle.avc_tools.specs.Showing.{AreShown, header_lines_under};
 ghost use Rattle.avc_tools.specs.Streams.{after_units_left, max_unit, units_left};
-ghost use Rattle.avc_tools.specs.Lines.{flag_number, header_line, header_lines, line_of};
+ghost use Rattle.avc_tools.specs.Lines.{flag_number, header_line, header_lines};
+ghost use Rattle.avc_tools.specs.Lines.{header_lines_so_far, line_of};
 ghost use Rattle.avc_tools.specs.Lines.{newline, order_type, pps_fields};
 ghost use Rattle.avc_tools.specs.Lines.{pps_flags, pps_identity, pps_text, qp_number, refused_text};
 ghost use Rattle.avc_tools.specs.Lines.{set_text};
@@ -39,10 +41,22 @@ pub fn show_headers(alloc: Global, bytes: &[u8]) -> Result<String, OutOfMemory>
     ensures { IfOk result (λ text. string_bytes text ≡ header_lines bytes.now) }
 {
     let mut splitter = Splitter::<MAX_UNIT>::new(alloc);
+    show_headers_by(alloc, &mut splitter, bytes)
+}
+
+// By a splitter that has taken nothing yet.
+fn show_headers_by(
+    alloc: Global,
+    splitter: &mut Splitter<MAX_UNIT>,
+    bytes: &[u8],
+) -> Result<String, OutOfMemory>
+    requires { splitter.old ≡ new_splitter }
+    ensures { IfOk result (λ text. string_bytes text ≡ header_lines bytes.now) }
+{
     splitter.feed(bytes)?;
     splitter.finish()?;
     let mut reader = HeaderReader::new(alloc);
-    let text = lines_of_headers_left(alloc, &ForPeople, &mut splitter, &mut reader)?;
+    let text = lines_of_headers_left(alloc, &ForPeople, splitter, &mut reader)?;
     Ok(text)
 }
 
@@ -87,8 +101,6 @@ impl<F> HeaderLines<F> {
 }
 
 impl<F: ListingForm> StreamText for HeaderLines<F> {
-    ghost use Rattle.avc_tools.specs.Lines.{header_lines_so_far};
-
     ghost so_far = { λ l. l };
 
     ghost number = { λ _. 0 };
@@ -99,31 +111,21 @@ impl<F: ListingForm> StreamText for HeaderLines<F> {
     ghost over = { λ _ _ _. false };
 
     fn feed(&mut self, piece: &[u8]) -> Result<Vec<u8>, OutOfMemory> {
-        units_stay();
         self.failed.check()?;
-        self.failed.keep(self.splitter.feed(piece))?;
-        let lines = lines_of_headers_left(
+        let lines = lines_fed(
             self.alloc,
             &self.form,
             &mut self.splitter,
             &mut self.reader,
+            piece,
         );
-        let lines = self.failed.keep(lines)?;
-        Ok(lines.into_bytes())
+        self.failed.keep(lines)
     }
 
     fn finish(&mut self) -> Result<Vec<u8>, OutOfMemory> {
-        units_stay();
         self.failed.check()?;
-        self.failed.keep(self.splitter.finish())?;
-        let lines = lines_of_headers_left(
-            self.alloc,
-            &self.form,
-            &mut self.splitter,
-            &mut self.reader,
-        );
-        let lines = self.failed.keep(lines)?;
-        Ok(lines.into_bytes())
+        let lines = lines_at_end(self.alloc, &self.form, &mut self.splitter, &mut self.reader);
+        self.failed.keep(lines)
     }
 
     fn is_over(&self) -> bool {
@@ -133,6 +135,45 @@ impl<F: ListingForm> StreamText for HeaderLines<F> {
     fn text_only_grows(&self) {
         units_stay();
     }
+}
+
+// Takes the next bytes of the stream, and makes the lines that come of them.
+fn lines_fed<F: ListingForm>(
+    alloc: Global,
+    form: &F,
+    splitter: &mut Splitter<MAX_UNIT>,
+    reader: &mut HeaderReader,
+    piece: &[u8],
+) -> Result<Vec<u8>, OutOfMemory>
+    requires { AreShown max_unit splitter.old reader.old }
+    ensures taken { OnOk result (splitter.new ≡ after_units_left max_unit (after_feed splitter.old piece.now)) }
+    ensures shown { OnOk result (AreShown max_unit splitter.new reader.new) }
+    ensures added { IfOk result (λ added. length splitter.new.bytes < 2 ^ 64 → header_lines_so_far F.of_header splitter.new.bytes splitter.new.ended
+        ≡ header_lines_so_far F.of_header splitter.old.bytes splitter.old.ended ++ added.items) }
+{
+    units_stay();
+    splitter.feed(piece)?;
+    let lines = lines_of_headers_left(alloc, form, splitter, reader)?;
+    Ok(lines.into_bytes())
+}
+
+// Takes the end of the stream, and makes the lines that are then left.
+fn lines_at_end<F: ListingForm>(
+    alloc: Global,
+    form: &F,
+    splitter: &mut Splitter<MAX_UNIT>,
+    reader: &mut HeaderReader,
+) -> Result<Vec<u8>, OutOfMemory>
+    requires { AreShown max_unit splitter.old reader.old }
+    ensures taken { OnOk result (splitter.new ≡ after_units_left max_unit (after_finish splitter.old)) }
+    ensures shown { OnOk result (AreShown max_unit splitter.new reader.new) }
+    ensures added { IfOk result (λ added. length splitter.new.bytes < 2 ^ 64 → header_lines_so_far F.of_header splitter.new.bytes splitter.new.ended
+        ≡ header_lines_so_far F.of_header splitter.old.bytes splitter.old.ended ++ added.items) }
+{
+    units_stay();
+    splitter.finish()?;
+    let lines = lines_of_headers_left(alloc, form, splitter, reader)?;
+    Ok(lines.into_bytes())
 }
 
 // Takes all units whose end has been seen, makes their lines, and keeps their parameter sets.

@@ -1,8 +1,10 @@
 //! A piece of a stream that comes in pieces itself.
 
-ghost use Rattle.std.specs.Prelude.{◌≡◌, [], false, IfOk, OnOk};
-ghost use Rattle.avc_tools.specs.Stages.{IsCutOn, Stage, StandsAt, stage_after};
-ghost use Rattle.avc_tools.specs.Streams.{after_units_left, max_unit, units_left};
+ghost use Rattle.std.specs.Prelude.{◌≡◌, ◌++◌, ◌^◌, ◌<◌, [], ℕ, false, true, length, IfOk, OnOk};
+ghost use Rattle.avc_annexb.specs.SplitterState.{after_feed, after_finish};
+ghost use Rattle.avc_tools.specs.PieceSoFar.{piece_text};
+ghost use Rattle.avc_tools.specs.Stages.{IsCutOn, IsCutting, Stage, StandsAt, stage_after};
+ghost use Rattle.avc_tools.specs.Streams.{IsDrained, after_units_left, max_unit, units_left};
 
 use crate::cutter::{CutPhase, Cutter};
 use crate::stream_text::StreamText;
@@ -44,7 +46,7 @@ impl Model for PieceText {
 }
 
 impl PieceText {
-    ghost use Rattle.std.specs.Prelude.{◌^◌, ◌<◌, is_some, length};
+    ghost use Rattle.std.specs.Prelude.{is_some};
     ghost use Rattle.avc_tools.specs.PieceSoFar.{numbered_piece};
     ghost use Rattle.avc_tools.specs.Streams.{new_stream};
 
@@ -75,7 +77,7 @@ impl PieceText {
 }
 
 impl StreamText for PieceText {
-    ghost use Rattle.avc_tools.specs.PieceSoFar.{is_over, piece_text};
+    ghost use Rattle.avc_tools.specs.PieceSoFar.{is_over};
 
     ghost so_far = { λ p. p.stream };
 
@@ -86,29 +88,22 @@ impl StreamText for PieceText {
     ghost over = { is_over };
 
     fn feed(&mut self, piece: &[u8]) -> Result<Vec<u8>, OutOfMemory> {
-        units_stay();
         self.failed.check()?;
-        if self.ended {
-            return Ok(Vec::new(self.alloc));
-        }
-        self.failed.keep(self.splitter.feed(piece))?;
-        let added = cut_units_left(self.alloc, &mut self.splitter, &mut self.cutter);
-        let added = self.failed.keep(added)?;
-        Ok(added)
+        let added = cut_on(
+            self.alloc,
+            &mut self.splitter,
+            &mut self.cutter,
+            self.ended,
+            piece,
+        );
+        self.failed.keep(added)
     }
 
     fn finish(&mut self) -> Result<Vec<u8>, OutOfMemory> {
-        units_stay();
         self.failed.check()?;
-        if self.ended {
-            return Ok(Vec::new(self.alloc));
-        }
-        self.failed.keep(self.splitter.finish())?;
-        let added = cut_units_left(self.alloc, &mut self.splitter, &mut self.cutter);
-        let mut added = self.failed.keep(added)?;
-        self.failed.keep(self.cutter.write_held(&mut added))?;
+        let added = cut_off(self.alloc, &mut self.splitter, &mut self.cutter, self.ended);
         self.ended = true;
-        Ok(added)
+        self.failed.keep(added)
     }
 
     /// The next piece has begun.
@@ -122,6 +117,54 @@ impl StreamText for PieceText {
     fn text_only_grows(&self) {
         units_stay();
     }
+}
+
+// Takes the next bytes of the stream, and makes what they bring to the piece: past its end nothing.
+fn cut_on(
+    alloc: Global,
+    splitter: &mut Splitter<MAX_UNIT>,
+    cutter: &mut Cutter,
+    ended: bool,
+    piece: &[u8],
+) -> Result<Vec<u8>, OutOfMemory>
+    requires drained { IsDrained max_unit splitter.old }
+    requires ended { ended ≡ splitter.old.ended }
+    ensures taken { OnOk result (splitter.new ≡ after_units_left max_unit (after_feed splitter.old piece.now)) }
+    ensures cutting { OnOk result ((number : ℕ) → IsCutting max_unit number splitter.old ended cutter.old → IsCutting max_unit number splitter.new ended cutter.new) }
+    ensures added { IfOk result (λ added. (number : ℕ) → IsCutting max_unit number splitter.old ended cutter.old → length splitter.new.bytes < 2 ^ 64
+        → piece_text number splitter.new.bytes splitter.new.ended ≡ piece_text number splitter.old.bytes splitter.old.ended ++ added.items) }
+{
+    units_stay();
+    if ended {
+        return Ok(Vec::new(alloc));
+    }
+    splitter.feed(piece)?;
+    let added = cut_units_left(alloc, splitter, cutter)?;
+    Ok(added)
+}
+
+// Takes the end of the stream, and makes what is then left of the piece: past it nothing.
+fn cut_off(
+    alloc: Global,
+    splitter: &mut Splitter<MAX_UNIT>,
+    cutter: &mut Cutter,
+    ended: bool,
+) -> Result<Vec<u8>, OutOfMemory>
+    requires drained { IsDrained max_unit splitter.old }
+    requires ended { ended ≡ splitter.old.ended }
+    ensures taken { OnOk result (splitter.new ≡ after_units_left max_unit (after_finish splitter.old)) }
+    ensures cutting { OnOk result ((number : ℕ) → IsCutting max_unit number splitter.old ended cutter.old → IsCutting max_unit number splitter.new true cutter.new) }
+    ensures added { IfOk result (λ added. (number : ℕ) → IsCutting max_unit number splitter.old ended cutter.old → length splitter.new.bytes < 2 ^ 64
+        → piece_text number splitter.new.bytes splitter.new.ended ≡ piece_text number splitter.old.bytes splitter.old.ended ++ added.items) }
+{
+    units_stay();
+    if ended {
+        return Ok(Vec::new(alloc));
+    }
+    splitter.finish()?;
+    let mut added = cut_units_left(alloc, splitter, cutter)?;
+    cutter.write_held(&mut added)?;
+    Ok(added)
 }
 
 // Takes all units whose end has been seen, and makes what they bring to the piece.

@@ -64,10 +64,15 @@ impl SetsInForce {
     {
         let written = written_unit(alloc, unit)?;
         match set {
-            ParameterSet::OfSequence(set) => put_sps(&mut self.sps, set, written),
-            ParameterSet::OfPicture(set) => put_pps(&mut self.pps, set, written),
+            ParameterSet::OfSequence(set) => {
+                put_sps(&mut self.sps, set, written);
+                Ok(())
+            }
+            ParameterSet::OfPicture(set) => {
+                put_pps(&mut self.pps, set, written);
+                Ok(())
+            }
         }
-        Ok(())
     }
 }
 

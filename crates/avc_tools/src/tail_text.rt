@@ -1,8 +1,9 @@
 //! A stream from one of its cut points on.
 
-ghost use Rattle.std.specs.Prelude.{◌≡◌, ◌∷◌, [], false, IfOk, OnOk};
-ghost use Rattle.avc_tools.specs.Streams.{after_units_left, max_unit, units_left};
-ghost use Rattle.avc_tools.specs.Tail.{IsTailFrom};
+ghost use Rattle.std.specs.Prelude.{◌≡◌, ◌∷◌, ◌++◌, ◌^◌, ◌<◌, [], ℕ, false, length, IfOk, OnOk};
+ghost use Rattle.avc_annexb.specs.SplitterState.{after_feed, after_finish};
+ghost use Rattle.avc_tools.specs.Streams.{IsDrained, after_units_left, max_unit, units_left};
+ghost use Rattle.avc_tools.specs.Tail.{IsInTail, IsTailFrom, tail_text};
 
 use crate::cutter::{CutPhase, Cutter};
 use crate::stream_text::StreamText;
@@ -62,8 +63,6 @@ impl TailText {
 }
 
 impl StreamText for TailText {
-    ghost use Rattle.avc_tools.specs.Tail.{tail_text};
-
     ghost so_far = { λ t. t.stream };
 
     ghost number = { λ t. t.number };
@@ -74,21 +73,15 @@ impl StreamText for TailText {
     ghost over = { λ _ _ _. false };
 
     fn feed(&mut self, piece: &[u8]) -> Result<Vec<u8>, OutOfMemory> {
-        units_stay();
         self.failed.check()?;
-        self.failed.keep(self.splitter.feed(piece))?;
-        let added = tail_units_left(self.alloc, &mut self.splitter, &mut self.cutter);
-        let added = self.failed.keep(added)?;
-        Ok(added)
+        let added = tail_on(self.alloc, &mut self.splitter, &mut self.cutter, piece);
+        self.failed.keep(added)
     }
 
     fn finish(&mut self) -> Result<Vec<u8>, OutOfMemory> {
-        units_stay();
         self.failed.check()?;
-        self.failed.keep(self.splitter.finish())?;
-        let added = tail_units_left(self.alloc, &mut self.splitter, &mut self.cutter);
-        let added = self.failed.keep(added)?;
-        Ok(added)
+        let added = tail_off(self.alloc, &mut self.splitter, &mut self.cutter);
+        self.failed.keep(added)
     }
 
     fn is_over(&self) -> bool {
@@ -98,6 +91,43 @@ impl StreamText for TailText {
     fn text_only_grows(&self) {
         units_stay();
     }
+}
+
+// Takes the next bytes of the stream, and makes what they bring to the tail.
+fn tail_on(
+    alloc: Global,
+    splitter: &mut Splitter<MAX_UNIT>,
+    cutter: &mut Cutter,
+    piece: &[u8],
+) -> Result<Vec<u8>, OutOfMemory>
+    requires { IsDrained max_unit splitter.old }
+    ensures taken { OnOk result (splitter.new ≡ after_units_left max_unit (after_feed splitter.old piece.now)) }
+    ensures tail { OnOk result ((number : ℕ) → IsInTail max_unit number splitter.old cutter.old → IsInTail max_unit number splitter.new cutter.new) }
+    ensures added { IfOk result (λ added. (number : ℕ) → IsInTail max_unit number splitter.old cutter.old → length splitter.new.bytes < 2 ^ 64
+        → tail_text number splitter.new.bytes splitter.new.ended ≡ tail_text number splitter.old.bytes splitter.old.ended ++ added.items) }
+{
+    units_stay();
+    splitter.feed(piece)?;
+    let added = tail_units_left(alloc, splitter, cutter)?;
+    Ok(added)
+}
+
+// Takes the end of the stream, and makes what is then left of the tail.
+fn tail_off(
+    alloc: Global,
+    splitter: &mut Splitter<MAX_UNIT>,
+    cutter: &mut Cutter,
+) -> Result<Vec<u8>, OutOfMemory>
+    requires { IsDrained max_unit splitter.old }
+    ensures taken { OnOk result (splitter.new ≡ after_units_left max_unit (after_finish splitter.old)) }
+    ensures tail { OnOk result ((number : ℕ) → IsInTail max_unit number splitter.old cutter.old → IsInTail max_unit number splitter.new cutter.new) }
+    ensures added { IfOk result (λ added. (number : ℕ) → IsInTail max_unit number splitter.old cutter.old → length splitter.new.bytes < 2 ^ 64
+        → tail_text number splitter.new.bytes splitter.new.ended ≡ tail_text number splitter.old.bytes splitter.old.ended ++ added.items) }
+{
+    units_stay();
+    splitter.finish()?;
+    let added = tail_units_left(alloc, splitter, cutter)?;
+    Ok(added)
 }
 
 // Takes all units whose end has been seen, and makes what they bring to the tail.

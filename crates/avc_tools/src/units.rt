@@ -1,10 +1,12 @@
 //! The lines of `units`.
 
-ghost use Rattle.std.specs.Prelude.{◌≡◌, ◌++◌, false, true, length, IfOk, OnOk, string_bytes};
+ghost use Rattle.std.specs.Prelude.{◌≡◌, ◌++◌, [], false, true, length, IfOk, OnOk};
+ghost use Rattle.std.specs.Prelude.{string_bytes};
 ghost use Rattle.std.specs.List.{flat_map};
+ghost use Rattle.avc_annexb.specs.SplitterState.{after_feed, after_finish, new_splitter};
 ghost use Rattle.avc_annexb.specs.Units.{units};
-ghost use Rattle.avc_tools.specs.Lines.{line_of_unit, unit_line, unit_lines};
-ghost use Rattle.avc_tools.specs.Streams.{after_units_left, units_left};
+ghost use Rattle.avc_tools.specs.Lines.{line_of_unit, unit_line, unit_lines, unit_lines_so_far};
+ghost use Rattle.avc_tools.specs.Streams.{IsDrained, after_units_left, max_unit, units_left};
 
 use crate::listing_form::{ForPeople, ListingForm};
 use crate::stream_text::StreamText;
@@ -25,9 +27,21 @@ pub fn list_units(alloc: Global, bytes: &[u8]) -> Result<String, OutOfMemory>
     ensures { IfOk result (λ text. string_bytes text ≡ unit_lines bytes.now) }
 {
     let mut splitter = Splitter::<1>::new(alloc);
+    list_units_by(alloc, &mut splitter, bytes)
+}
+
+// By a splitter that has taken nothing yet.
+fn list_units_by(
+    alloc: Global,
+    splitter: &mut Splitter<1>,
+    bytes: &[u8],
+) -> Result<String, OutOfMemory>
+    requires { splitter.old ≡ new_splitter }
+    ensures { IfOk result (λ text. string_bytes text ≡ unit_lines bytes.now) }
+{
     splitter.feed(bytes)?;
     splitter.finish()?;
-    let text = lines_of_units_left(alloc, &ForPeople, &mut splitter)?;
+    let text = lines_of_units_left(alloc, &ForPeople, splitter)?;
     Ok(text)
 }
 
@@ -70,8 +84,6 @@ impl<F> UnitLines<F> {
 }
 
 impl<F: ListingForm> StreamText for UnitLines<F> {
-    ghost use Rattle.avc_tools.specs.Lines.{unit_lines_so_far};
-
     ghost so_far = { λ l. l };
 
     ghost number = { λ _. 0 };
@@ -82,21 +94,15 @@ impl<F: ListingForm> StreamText for UnitLines<F> {
     ghost over = { λ _ _ _. false };
 
     fn feed(&mut self, piece: &[u8]) -> Result<Vec<u8>, OutOfMemory> {
-        units_stay();
         self.failed.check()?;
-        self.failed.keep(self.splitter.feed(piece))?;
-        let lines = lines_of_units_left(self.alloc, &self.form, &mut self.splitter);
-        let lines = self.failed.keep(lines)?;
-        Ok(lines.into_bytes())
+        let lines = lines_fed(self.alloc, &self.form, &mut self.splitter, piece);
+        self.failed.keep(lines)
     }
 
     fn finish(&mut self) -> Result<Vec<u8>, OutOfMemory> {
-        units_stay();
         self.failed.check()?;
-        self.failed.keep(self.splitter.finish())?;
-        let lines = lines_of_units_left(self.alloc, &self.form, &mut self.splitter);
-        let lines = self.failed.keep(lines)?;
-        Ok(lines.into_bytes())
+        let lines = lines_at_end(self.alloc, &self.form, &mut self.splitter);
+        self.failed.keep(lines)
     }
 
     fn is_over(&self) -> bool {
@@ -106,6 +112,43 @@ impl<F: ListingForm> StreamText for UnitLines<F> {
     fn text_only_grows(&self) {
         units_stay();
     }
+}
+
+// Takes the next bytes of the stream, and makes the lines that come of them.
+fn lines_fed<F: ListingForm>(
+    alloc: Global,
+    form: &F,
+    splitter: &mut Splitter<1>,
+    piece: &[u8],
+) -> Result<Vec<u8>, OutOfMemory>
+    requires { IsDrained 1 splitter.old }
+    ensures taken { OnOk result (splitter.new ≡ after_units_left 1 (after_feed splitter.old piece.now)) }
+    ensures drained { OnOk result (IsDrained 1 splitter.new) }
+    ensures added { IfOk result (λ added. unit_lines_so_far F.of_unit splitter.new.bytes splitter.new.ended
+        ≡ unit_lines_so_far F.of_unit splitter.old.bytes splitter.old.ended ++ added.items) }
+{
+    units_stay();
+    splitter.feed(piece)?;
+    let lines = lines_of_units_left(alloc, form, splitter)?;
+    Ok(lines.into_bytes())
+}
+
+// Takes the end of the stream, and makes the lines that are then left.
+fn lines_at_end<F: ListingForm>(
+    alloc: Global,
+    form: &F,
+    splitter: &mut Splitter<1>,
+) -> Result<Vec<u8>, OutOfMemory>
+    requires { IsDrained 1 splitter.old }
+    ensures taken { OnOk result (splitter.new ≡ after_units_left 1 (after_finish splitter.old)) }
+    ensures drained { OnOk result (IsDrained 1 splitter.new) }
+    ensures added { IfOk result (λ added. unit_lines_so_far F.of_unit splitter.new.bytes splitter.new.ended
+        ≡ unit_lines_so_far F.of_unit splitter.old.bytes splitter.old.ended ++ added.items) }
+{
+    units_stay();
+    splitter.finish()?;
+    let lines = lines_of_units_left(alloc, form, splitter)?;
+    Ok(lines.into_bytes())
 }
 
 // Takes all units whose end has been seen, and makes their lines.
@@ -154,11 +197,33 @@ pub(crate) fn all_units(alloc: Global, bytes: &[u8]) -> Result<Vec<Unit>, OutOfM
     ensures { IfOk result (λ all. all.items ≡ units (length bytes.now) bytes.now true) }
 {
     let mut parts = Splitter::<MAX_UNIT>::new(alloc);
+    all_units_by(alloc, &mut parts, bytes)
+}
+
+// By a splitter that has taken nothing yet.
+fn all_units_by(
+    alloc: Global,
+    parts: &mut Splitter<MAX_UNIT>,
+    bytes: &[u8],
+) -> Result<Vec<Unit>, OutOfMemory>
+    requires { parts.old ≡ new_splitter }
+    ensures { IfOk result (λ all. all.items ≡ units (length bytes.now) bytes.now true) }
+{
     parts.feed(bytes)?;
     parts.finish()?;
     let mut all = Vec::new(alloc);
+    take_units_left(parts, &mut all)?;
+    Ok(all)
+}
+
+// Takes all units whose end has been seen.
+fn take_units_left(parts: &mut Splitter<MAX_UNIT>, all: &mut Vec<Unit>) -> Result<(), OutOfMemory>
+    requires going { parts.old.failed ≡ false }
+    requires none { all.old.items ≡ [] }
+    ensures { OnOk result (all.new.items ≡ units_left max_unit parts.old) }
+{
     while let Some(unit) = parts.next_unit() {
         all.push(unit)?;
     }
-    Ok(all)
+    Ok(())
 }

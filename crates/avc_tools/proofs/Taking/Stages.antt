@@ -372,7 +372,7 @@ left_behind max old new others d is count fails no_fewer =
     let left : units_left max new ≡ others = ap (λ n. drop n (units max new.bytes new.ended)) taken ∙ ap (drop (length before)) is ∙ drop-append_seam before others in
     record { all = is ∙ ap (λ l. before ++ l) (sym left); taken = taken; going = fails ∙ d.going; no_fewer = no_fewer }
 
-abbrev splitter_at : (bytes : List ℕ) (ended : Bool) (taken : ℕ) (failed : Bool) → SplitterState
+abbrev pub splitter_at : (bytes : List ℕ) (ended : Bool) (taken : ℕ) (failed : Bool) → SplitterState
 splitter_at bytes ended taken failed = record { bytes = bytes; ended = ended; taken = taken; failed = failed }
 
 fed : UnitsStay → (max : ℕ) (bytes : List ℕ) (ended : Bool) (taken : ℕ) (failed : Bool) (piece : List ℕ) → IsDrained max (splitter_at bytes ended taken failed)
@@ -470,6 +470,19 @@ one_put : (hit accepted : Bool) (unit : List ℕ) (old : Option (List ℕ)) → 
 one_put true true unit old = refl
 one_put true false unit old = refl
 one_put false accepted unit old = refl
+
+-- a set of the other kind replaces nothing
+pub no_pps : (o : Option SetUnit) (read : Result Sps SetFault) (unit : List ℕ) (kept : List (Option (List ℕ))) → option_map parameter_set o ≡ Some (OfSequence read)
+    → AreReplaced is_pps pps_record o unit kept kept
+no_pps (Some (OfSps rbsp)) read unit kept e = record { long = refl; each = λ id lt. refl }
+no_pps (Some (OfPps rbsp)) read unit kept e = cc
+no_pps None read unit kept e = cc
+
+pub no_sps : (o : Option SetUnit) (read : Result Pps SetFault) (unit : List ℕ) (kept : List (Option (List ℕ))) → option_map parameter_set o ≡ Some (OfPicture read)
+    → AreReplaced is_sps sps_record o unit kept kept
+no_sps (Some (OfPps rbsp)) read unit kept e = record { long = refl; each = λ id lt. refl }
+no_sps (Some (OfSps rbsp)) read unit kept e = cc
+no_sps None read unit kept e = cc
 
 -- by one of either kind, which has this id and was accepted or not
 pub put_by : {A : Type 0} (has_id : ℕ → SetUnit → Bool) (record_of : Option SetUnit → Option A) (o : Option SetUnit) (id : Option ℕ) (accepted_so : Bool) (unit : List ℕ) (old new : List (Option (List ℕ)))

@@ -1,16 +1,13 @@
-use Rattle.avc_tools.proofs.Taking.{ap, ◌∙◌, arith, max_unit, left_by_finish, header_lines_added, shown_again}
+use Rattle.avc_tools.proofs.Taking.{kept, kept_if, kept_so, so_far_ended, max_unit}
 use Rattle.avc_tools.proofs.headers.HeaderLinesStreamText.finish.Goals as goal
 
-pub invariant_of-self-2 : goal.invariant_of-self-2
-invariant_of-self-2 g c =
-    let shown = c.self.invariant c.in_ok-check.ensures.going in
-    let left = left_by_finish c.units_stay.ensures max_unit _ _ shown.drained (rw (← c.in_ok-keep.ensures.same) at c.finish.ensures.ok) in
-    λ _. shown_again max_unit _ _ _ _ _ shown left (rw (← c.in_ok-lines.ensures.same) at c.lines_of_headers_left-lines.ensures.taken) (rw (← c.in_ok-lines.ensures.same) at c.lines_of_headers_left-lines.ensures.sets)
+pub invariant_of-self : goal.invariant_of-self
+invariant_of-self g c = kept _ _ _ c.keep.ensures.same c.keep.ensures.refused c.lines_at_end-lines.ensures.shown
+
+pub returns-clause-so_far : goal.returns-clause-so_far
+returns-clause-so_far g c =
+    rw (← c.self.view_is) (kept_so _ _ c.keep.ensures.same c.lines_at_end-lines.ensures.taken c.keep.ensures.going (λ taken same. so_far_ended max_unit c.self.inside.splitter c.lines_at_end-lines.new.splitter c.self.inside.failed c.keep.new.self taken same))
 
 pub returns-clause-added : goal.returns-clause-added
 returns-clause-added g c =
-    let shown = c.self.invariant c.in_ok-check.ensures.going in
-    let left = left_by_finish c.units_stay.ensures max_unit _ _ shown.drained (rw (← c.in_ok-keep.ensures.same) at c.finish.ensures.ok) in
-    rw (← c.self.view_is)
-    (λ short. header_lines_added g.F.ListingForm.of_header max_unit _ _ _ _ _ shown left (rw (← c.in_ok-lines.ensures.same) at c.lines_of_headers_left-lines.ensures.taken)
-    (ap (λ v. v.items) c.into_bytes.ensures.value ∙ (rw (← c.in_ok-lines.ensures.same) at c.lines_of_headers_left-lines.ensures.text)) (omega (arith, short)))
+    rw (← c.self.view_is) (kept_if _ _ c.keep.ensures.same c.lines_at_end-lines.ensures.added (λ added more. more))
