@@ -1,7 +1,7 @@
 //! Parts of an RBSP (7.2).
 ghost use Rattle.std.specs.Prelude.{◌≡◌, ◌++◌, false, length, take, IfOk};
 ghost use Rattle.avc_bits.specs.Bits.{bits_before_stop};
-ghost use Rattle.avc_rbsp.specs.Made.{Puts};
+ghost use Rattle.avc_rbsp.specs.Made.{Puts, nothing};
 ghost use Rattle.avc_rbsp.specs.Rbsps.{IsRbsp};
 
 use avc_bits::BitReader;
@@ -15,7 +15,20 @@ pub fn cut_bits(alloc: Global, rbsp: &[u8], n: usize) -> Result<Vec<u8>, OutOfMe
     ensures { IfOk result (λ cut. IsRbsp (take n (bits_before_stop rbsp.now)) cut.items) }
 {
     let mut maker = BitMaker::new(alloc);
-    put_first(&mut maker, rbsp, n)?;
+    cut_by(alloc, &mut maker, rbsp, n)
+}
+
+// By a maker that has no bits yet.
+fn cut_by(
+    alloc: Global,
+    maker: &mut BitMaker,
+    rbsp: &[u8],
+    n: usize,
+) -> Result<Vec<u8>, OutOfMemory>
+    requires { maker.old ≡ nothing }
+    ensures { IfOk result (λ cut. IsRbsp (take n (bits_before_stop rbsp.now)) cut.items) }
+{
+    put_first(maker, rbsp, n)?;
     // rbsp_stop_one_bit
     maker.flag(true)?;
     let mut cut = Vec::new(alloc);

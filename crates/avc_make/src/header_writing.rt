@@ -1,6 +1,7 @@
 //! Slice headers, written (7.3.3).
 
-ghost use Rattle.std.specs.Prelude.{◌≡◌, ◌<◌, ◌≤◌, ◌++◌, false, IfSome};
+ghost use Rattle.std.specs.Prelude.{◌≡◌, ◌+◌, ◌<◌, ◌≤◌, ◌++◌, false, IfSome};
+ghost use Rattle.avc_bits.specs.Bits.{bits_of};
 ghost use Rattle.avc_rbsp.specs.Made.{Puts};
 ghost use Rattle.avc_rbsp.specs.Words.{se_word, ue_word};
 ghost use Rattle.avc_make.specs.HeaderWriting.{IsDeblocking, IsHeader, IsModification, IsOffset};
@@ -116,14 +117,13 @@ fn put_order(
                 pic_order_cnt_lsb,
                 delta_pic_order_cnt_bottom,
             },
-        ) => {
-            maker.put(
-                *log2_max_pic_order_cnt_lsb_minus4 as u32 + 4,
-                pic_order_cnt_lsb,
-            )?;
-            put_se_where(maker, bottom_present, delta_pic_order_cnt_bottom)?;
-            Ok(())
-        }
+        ) => put_lsb(
+            maker,
+            *log2_max_pic_order_cnt_lsb_minus4,
+            pic_order_cnt_lsb,
+            bottom_present,
+            delta_pic_order_cnt_bottom,
+        ),
         (
             OrderCount::Type1 {
                 delta_pic_order_always_zero_flag,
@@ -132,12 +132,45 @@ fn put_order(
             CodedOrder::Type1 { delta_0, delta_1 },
         ) => {
             let coded = !*delta_pic_order_always_zero_flag;
-            put_se_where(maker, coded, delta_0)?;
-            put_se_where(maker, coded & bottom_present, delta_1)?;
-            Ok(())
+            put_deltas(maker, coded, delta_0, coded & bottom_present, delta_1)
         }
         _ => Ok(()),
     }
+}
+
+// pic_order_cnt_lsb, and the bottom field's difference where it is coded
+fn put_lsb(
+    maker: &mut BitMaker,
+    log2_minus4: u8,
+    lsb: u32,
+    bottom_present: bool,
+    bottom: i32,
+) -> Result<(), OutOfMemory>
+    requires log2 { log2_minus4 ≤ 12 }
+    requires fits { IsSeWhere bottom_present bottom }
+    ensures { Puts result (bits_of (log2_minus4 + 4) lsb ++ se_where bottom_present bottom) maker.old maker.new }
+{
+    maker.put(log2_minus4 as u32 + 4, lsb)?;
+    put_se_where(maker, bottom_present, bottom)?;
+    Ok(())
+}
+
+// delta_pic_order_cnt, each where it is coded
+fn put_deltas(
+    maker: &mut BitMaker,
+    coded: bool,
+    delta_0: i32,
+    bottom_coded: bool,
+    delta_1: i32,
+) -> Result<(), OutOfMemory>
+    requires going { maker.old.failed ≡ false }
+    requires first { IsSeWhere coded delta_0 }
+    requires second { IsSeWhere bottom_coded delta_1 }
+    ensures { Puts result (se_where coded delta_0 ++ se_where bottom_coded delta_1) maker.old maker.new }
+{
+    put_se_where(maker, coded, delta_0)?;
+    put_se_where(maker, bottom_coded, delta_1)?;
+    Ok(())
 }
 
 // se(v), where it is coded

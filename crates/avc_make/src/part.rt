@@ -1,6 +1,6 @@
 //! Parts of the syntax that are written.
 
-ghost use Rattle.std.specs.Prelude.{◌≡◌, Bool, List, false, IfSome};
+ghost use Rattle.std.specs.Prelude.{◌≡◌, ◌++◌, Bool, List, false, IfSome};
 ghost use Rattle.std.specs.List.{flat_map};
 ghost use Rattle.avc_bits.specs.Bits.{bits_of};
 ghost use Rattle.avc_rbsp.specs.Made.{Puts};
@@ -68,6 +68,17 @@ pub(crate) fn put_each<T: Part>(maker: &mut BitMaker, parts: &[T]) -> Result<(),
     for part in parts {
         part.put(maker)?;
     }
+    Ok(())
+}
+
+/// Two of ue(v).
+pub(crate) fn put_two(maker: &mut BitMaker, first: u32, second: u32) -> Result<(), OutOfMemory>
+    requires first { IsUeValue first }
+    requires second { IsUeValue second }
+    ensures { Puts result (ue_word first ++ ue_word second) maker.old maker.new }
+{
+    maker.ue(first)?;
+    maker.ue(second)?;
     Ok(())
 }
 

@@ -2,7 +2,7 @@
 
 ghost use Rattle.std.specs.Prelude.{◌≡◌, Ok, IfOk, drop};
 ghost use Rattle.avc_annexb.specs.Escapes.{rbsp};
-ghost use Rattle.avc_rbsp.specs.Made.{Puts};
+ghost use Rattle.avc_rbsp.specs.Made.{Puts, nothing};
 ghost use Rattle.avc_rbsp.specs.Rbsps.{IsUnit};
 ghost use Rattle.avc_make.specs.PpsWriting.{default_counts_bits, pps_bits, quantisation_bits};
 ghost use Rattle.avc_make.specs.PpsWriting.{switches_bits};
@@ -10,6 +10,7 @@ ghost use Rattle.avc_make.specs.Units.{pps_header};
 ghost use Rattle.avc_params.specs.Reading.{pps_of};
 ghost use Rattle.avc_params.specs.Within.{IsPps};
 
+use crate::part::put_two;
 use crate::units::unit_of;
 use avc_params::Pps;
 use avc_rbsp::BitMaker;
@@ -26,8 +27,18 @@ pub fn write_pps(alloc: Global, pps: &Pps) -> Result<Vec<u8>, OutOfMemory>
     ensures read { IfOk result (λ unit. pps_of (rbsp (drop 1 unit.items)) ≡ Ok pps.now) }
 {
     let mut maker = BitMaker::new(alloc);
-    put_pps(&mut maker, pps)?;
-    let unit = unit_of(alloc, PPS_HEADER, &mut maker)?;
+    pps_unit(alloc, &mut maker, pps)
+}
+
+// By a maker that has no bits yet.
+fn pps_unit(alloc: Global, maker: &mut BitMaker, pps: &Pps) -> Result<Vec<u8>, OutOfMemory>
+    requires none { maker.old ≡ nothing }
+    requires pps { IsPps pps.now }
+    ensures unit { IfOk result (λ unit. IsUnit pps_header (pps_bits pps.now) unit.items) }
+    ensures read { IfOk result (λ unit. pps_of (rbsp (drop 1 unit.items)) ≡ Ok pps.now) }
+{
+    put_pps(maker, pps)?;
+    let unit = unit_of(alloc, PPS_HEADER, maker)?;
     Ok(unit)
 }
 
@@ -51,9 +62,11 @@ fn put_pps(maker: &mut BitMaker, pps: &Pps) -> Result<(), OutOfMemory>
 fn put_default_counts(maker: &mut BitMaker, pps: &Pps) -> Result<(), OutOfMemory>
     ensures { Puts result (default_counts_bits pps.now) maker.old maker.new }
 {
-    maker.ue(pps.num_ref_idx_l0_default_active_minus1 as u32)?;
-    maker.ue(pps.num_ref_idx_l1_default_active_minus1 as u32)?;
-    Ok(())
+    put_two(
+        maker,
+        pps.num_ref_idx_l0_default_active_minus1 as u32,
+        pps.num_ref_idx_l1_default_active_minus1 as u32,
+    )
 }
 
 fn put_quantisation(maker: &mut BitMaker, pps: &Pps) -> Result<(), OutOfMemory>

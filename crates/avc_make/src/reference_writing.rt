@@ -4,9 +4,12 @@ ghost use Rattle.std.specs.Prelude.{Bool};
 ghost use Rattle.avc_make.specs.HeaderWriting.{IsMarkingOf, IsModification, IsOperation};
 ghost use Rattle.avc_make.specs.HeaderWriting.{marking_bits, modification_bits, modifications_bits};
 ghost use Rattle.avc_make.specs.HeaderWriting.{operation_bits};
-ghost use Rattle.avc_make.specs.VuiWriting.{Each};
+ghost use Rattle.avc_make.specs.VuiWriting.{Each, IsUeValue};
+ghost use Rattle.avc_rbsp.specs.Made.{Puts};
+ghost use Rattle.avc_types.specs.declared.references.Marking.TheVariants.{Adaptive, Idr};
+ghost use Rattle.avc_types.specs.declared.references.Operation.TheVariants.{AssignLongTerm};
 
-use crate::part::{Part, put_each};
+use crate::part::{Part, put_each, put_two};
 use avc_rbsp::BitMaker;
 use avc_types::{Marking, Modification, Operation, OutOfMemory, UpTo};
 
@@ -17,14 +20,11 @@ impl Part for Modification {
     ghost fits = { IsModification 65536 };
 
     fn put(&self, maker: &mut BitMaker) -> Result<(), OutOfMemory> {
-        let (idc, number) = match *self {
-            Modification::Subtract(number) => (0, number),
-            Modification::Add(number) => (1, number),
-            Modification::LongTerm(number) => (2, number),
-        };
-        maker.ue(idc)?;
-        maker.ue(number)?;
-        Ok(())
+        match *self {
+            Modification::Subtract(number) => put_two(maker, 0, number),
+            Modification::Add(number) => put_two(maker, 1, number),
+            Modification::LongTerm(number) => put_two(maker, 2, number),
+        }
     }
 }
 
@@ -49,38 +49,26 @@ impl Part for Operation {
 
     fn put(&self, maker: &mut BitMaker) -> Result<(), OutOfMemory> {
         match *self {
-            Operation::UnmarkShortTerm(number) => {
-                maker.ue(1)?;
-                maker.ue(number)?;
-                Ok(())
-            }
-            Operation::UnmarkLongTerm(number) => {
-                maker.ue(2)?;
-                maker.ue(number)?;
-                Ok(())
-            }
-            Operation::AssignLongTerm(number, index) => {
-                maker.ue(3)?;
-                maker.ue(number)?;
-                maker.ue(index)?;
-                Ok(())
-            }
-            Operation::MaxLongTermFrameIdx(number) => {
-                maker.ue(4)?;
-                maker.ue(number)?;
-                Ok(())
-            }
-            Operation::UnmarkAll => {
-                maker.ue(5)?;
-                Ok(())
-            }
-            Operation::CurrentToLongTerm(index) => {
-                maker.ue(6)?;
-                maker.ue(index)?;
-                Ok(())
-            }
+            Operation::UnmarkShortTerm(number) => put_two(maker, 1, number),
+            Operation::UnmarkLongTerm(number) => put_two(maker, 2, number),
+            Operation::AssignLongTerm(number, index) => put_assignment(maker, number, index),
+            Operation::MaxLongTermFrameIdx(number) => put_two(maker, 4, number),
+            Operation::UnmarkAll => maker.ue(5),
+            Operation::CurrentToLongTerm(index) => put_two(maker, 6, index),
         }
     }
+}
+
+// the operation that gives a picture a long-term frame index
+fn put_assignment(maker: &mut BitMaker, number: u32, index: u32) -> Result<(), OutOfMemory>
+    requires number { IsUeValue number }
+    requires index { IsUeValue index }
+    ensures { Puts result (operation_bits (AssignLongTerm number index)) maker.old maker.new }
+{
+    maker.ue(3)?;
+    maker.ue(number)?;
+    maker.ue(index)?;
+    Ok(())
 }
 
 // dec_ref_pic_marking (7.3.3.3)
@@ -94,22 +82,34 @@ impl Part for Marking {
             Marking::Idr {
                 no_output_of_prior_pics_flag,
                 long_term_reference_flag,
-            } => {
-                maker.flag(*no_output_of_prior_pics_flag)?;
-                maker.flag(*long_term_reference_flag)?;
-                Ok(())
-            }
-            Marking::SlidingWindow => {
-                maker.flag(false)?;
-                Ok(())
-            }
-            Marking::Adaptive(operations) => {
-                maker.flag(true)?;
-                put_each(maker, operations.as_slice())?;
-                // the operation that ends the list
-                maker.ue(0)?;
-                Ok(())
-            }
+            } => put_idr(
+                maker,
+                *no_output_of_prior_pics_flag,
+                *long_term_reference_flag,
+            ),
+            Marking::SlidingWindow => maker.flag(false),
+            Marking::Adaptive(operations) => put_operations(maker, operations),
         }
     }
+}
+
+// the two flags of an IDR picture
+fn put_idr(maker: &mut BitMaker, no_output: bool, long_term: bool) -> Result<(), OutOfMemory>
+    ensures { Puts result (marking_bits (Idr no_output long_term)) maker.old maker.new }
+{
+    maker.flag(no_output)?;
+    maker.flag(long_term)?;
+    Ok(())
+}
+
+// the flag that they are there, and the operations
+fn put_operations(maker: &mut BitMaker, operations: &UpTo<Operation, 64>) -> Result<(), OutOfMemory>
+    requires { Each IsOperation operations.now }
+    ensures { Puts result (marking_bits (Adaptive operations.now)) maker.old maker.new }
+{
+    maker.flag(true)?;
+    put_each(maker, operations.as_slice())?;
+    // the operation that ends the list
+    maker.ue(0)?;
+    Ok(())
 }

@@ -1,7 +1,7 @@
 //! Slices (7.3.2.8, 7.3.4).
 ghost use Rattle.std.specs.Prelude.{◌≡◌, ◌+◌, ◌<◌, ◌≤◌, false, length, IfOk};
 ghost use Rattle.avc_types.specs.MacroblockFields.{syntax_of};
-ghost use Rattle.avc_rbsp.specs.Made.{Puts};
+ghost use Rattle.avc_rbsp.specs.Made.{Puts, nothing};
 ghost use Rattle.avc_rbsp.specs.Rbsps.{IsUnit};
 ghost use Rattle.avc_make.specs.DataWriting.{CanStand, data_bits, is_skip};
 ghost use Rattle.avc_make.specs.HeaderWriting.{slice_unit_header};
@@ -29,10 +29,24 @@ pub fn write_slice(alloc: Global, slice: &CodedSlice) -> Result<Vec<u8>, OutOfMe
     ensures read { IfOk result (λ unit. IsReadBack slice.now unit.items) }
 {
     let mut maker = BitMaker::new(alloc);
-    put_header(&mut maker, &slice.sps, &slice.pps, &slice.header)?;
+    slice_unit(alloc, &mut maker, slice)
+}
+
+// By a maker that has no bits yet.
+fn slice_unit(
+    alloc: Global,
+    maker: &mut BitMaker,
+    slice: &CodedSlice,
+) -> Result<Vec<u8>, OutOfMemory>
+    requires none { maker.old ≡ nothing }
+    requires slice { IsCodedSlice slice.now }
+    ensures unit { IfOk result (λ unit. IsUnit (slice_unit_header slice.now.header) (coded_slice_bits slice.now) unit.items) }
+    ensures read { IfOk result (λ unit. IsReadBack slice.now unit.items) }
+{
+    put_header(maker, &slice.sps, &slice.pps, &slice.header)?;
     let mut row = row_before(alloc, slice)?;
-    put_data(&mut maker, &mut row, slice)?;
-    let unit = unit_of(alloc, header_byte(&slice.header), &mut maker)?;
+    put_data(maker, &mut row, slice)?;
+    let unit = unit_of(alloc, header_byte(&slice.header), maker)?;
     Ok(unit)
 }
 

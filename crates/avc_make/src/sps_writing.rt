@@ -1,21 +1,23 @@
 //! Sequence parameter sets, written (7.3.2.1.1).
 
-ghost use Rattle.std.specs.Prelude.{◌≡◌, Ok, IfOk, drop};
+ghost use Rattle.std.specs.Prelude.{◌≡◌, ◌≤◌, Ok, IfOk, drop, length};
 ghost use Rattle.avc_annexb.specs.Escapes.{rbsp};
-ghost use Rattle.avc_rbsp.specs.Made.{Puts};
+ghost use Rattle.avc_rbsp.specs.Made.{Puts, nothing};
 ghost use Rattle.avc_rbsp.specs.Rbsps.{IsUnit};
-ghost use Rattle.avc_make.specs.SpsWriting.{HasSeValues, IsWritable, constraint_bits};
+ghost use Rattle.avc_make.specs.SpsWriting.{HasSeValues, IsSeValue, IsWritable, constraint_bits};
 ghost use Rattle.avc_make.specs.SpsWriting.{cropping_bits, identity_bits, order_bits, size_bits};
 ghost use Rattle.avc_make.specs.SpsWriting.{sps_bits};
 ghost use Rattle.avc_make.specs.Units.{sps_header};
 ghost use Rattle.avc_params.specs.Reading.{sps_of};
+ghost use Rattle.avc_make.specs.VuiWriting.{Each};
 ghost use Rattle.avc_params.specs.Within.{IsOrderCount, IsSps};
+ghost use Rattle.avc_params.specs.declared.sps.OrderCount.TheVariants as orders;
 
-use crate::part::{Part, put_each, put_optional};
+use crate::part::{Part, put_each, put_optional, put_two};
 use crate::units::unit_of;
 use avc_params::{ConstraintFlags, Cropping, OrderCount, Sps};
 use avc_rbsp::BitMaker;
-use avc_types::OutOfMemory;
+use avc_types::{OutOfMemory, UpTo};
 use std::alloc::Global;
 
 // nal_ref_idc 3 and nal_unit_type 7
@@ -29,8 +31,18 @@ pub fn write_sps(alloc: Global, sps: &Sps) -> Result<Vec<u8>, OutOfMemory>
     ensures read { IsSps sps.now → IfOk result (λ unit. sps_of (rbsp (drop 1 unit.items)) ≡ Ok sps.now) }
 {
     let mut maker = BitMaker::new(alloc);
-    put_sps(&mut maker, sps)?;
-    let unit = unit_of(alloc, SPS_HEADER, &mut maker)?;
+    sps_unit(alloc, &mut maker, sps)
+}
+
+// By a maker that has no bits yet.
+fn sps_unit(alloc: Global, maker: &mut BitMaker, sps: &Sps) -> Result<Vec<u8>, OutOfMemory>
+    requires none { maker.old ≡ nothing }
+    requires sps { IsWritable sps.now }
+    ensures unit { IfOk result (λ unit. IsUnit sps_header (sps_bits sps.now) unit.items) }
+    ensures read { IsSps sps.now → IfOk result (λ unit. sps_of (rbsp (drop 1 unit.items)) ≡ Ok sps.now) }
+{
+    put_sps(maker, sps)?;
+    let unit = unit_of(alloc, SPS_HEADER, maker)?;
     Ok(unit)
 }
 
@@ -80,9 +92,11 @@ fn put_constraints(maker: &mut BitMaker, flags: ConstraintFlags) -> Result<(), O
 fn put_size(maker: &mut BitMaker, sps: &Sps) -> Result<(), OutOfMemory>
     ensures { Puts result (size_bits sps.now) maker.old maker.new }
 {
-    maker.ue(sps.pic_width_in_mbs_minus1 as u32)?;
-    maker.ue(sps.pic_height_in_map_units_minus1 as u32)?;
-    Ok(())
+    put_two(
+        maker,
+        sps.pic_width_in_mbs_minus1 as u32,
+        sps.pic_height_in_map_units_minus1 as u32,
+    )
 }
 
 // pic_order_cnt_type and what it brings with it
@@ -94,32 +108,46 @@ fn put_order(maker: &mut BitMaker, order: &OrderCount) -> Result<(), OutOfMemory
     match order {
         OrderCount::Type0 {
             log2_max_pic_order_cnt_lsb_minus4,
-        } => {
-            maker.ue(0)?;
-            maker.ue(*log2_max_pic_order_cnt_lsb_minus4 as u32)?;
-            Ok(())
-        }
+        } => put_two(maker, 0, *log2_max_pic_order_cnt_lsb_minus4 as u32),
         OrderCount::Type1 {
             delta_pic_order_always_zero_flag,
             offset_for_non_ref_pic,
             offset_for_top_to_bottom_field,
             offset_for_ref_frame,
-        } => {
-            let offsets = offset_for_ref_frame.as_slice();
-            maker.ue(1)?;
-            maker.flag(*delta_pic_order_always_zero_flag)?;
-            maker.se(*offset_for_non_ref_pic)?;
-            maker.se(*offset_for_top_to_bottom_field)?;
-            // num_ref_frames_in_pic_order_cnt_cycle
-            maker.ue(offsets.len() as u32)?;
-            put_each(maker, offsets)?;
-            Ok(())
-        }
-        OrderCount::Type2 => {
-            maker.ue(2)?;
-            Ok(())
-        }
+        } => put_cycle(
+            maker,
+            *delta_pic_order_always_zero_flag,
+            *offset_for_non_ref_pic,
+            *offset_for_top_to_bottom_field,
+            offset_for_ref_frame,
+        ),
+        OrderCount::Type2 => maker.ue(2),
     }
+}
+
+// pic_order_cnt_type 1 and what it brings with it
+fn put_cycle(
+    maker: &mut BitMaker,
+    always_zero: bool,
+    non_ref: i32,
+    top_to_bottom: i32,
+    offsets: &UpTo<i32, 255>,
+) -> Result<(), OutOfMemory>
+    requires few { length offsets.now ≤ 255 }
+    requires non_ref { IsSeValue non_ref }
+    requires top_to_bottom { IsSeValue top_to_bottom }
+    requires offsets { Each IsSeValue offsets.now }
+    ensures { Puts result (order_bits (orders.Type1 always_zero non_ref top_to_bottom offsets.now)) maker.old maker.new }
+{
+    let offsets = offsets.as_slice();
+    maker.ue(1)?;
+    maker.flag(always_zero)?;
+    maker.se(non_ref)?;
+    maker.se(top_to_bottom)?;
+    // num_ref_frames_in_pic_order_cnt_cycle
+    maker.ue(offsets.len() as u32)?;
+    put_each(maker, offsets)?;
+    Ok(())
 }
 
 impl Part for Cropping {

@@ -10,7 +10,7 @@ ghost use Rattle.avc_make.specs.VuiWriting.{hrd_entry_bits, restriction_bits, sa
 ghost use Rattle.avc_make.specs.VuiWriting.{timing_bits};
 ghost use Rattle.avc_make.specs.VuiWriting.{video_signal_bits, vui_bits};
 
-use crate::part::{Part, put_each, put_optional, put_where};
+use crate::part::{Part, put_each, put_optional, put_two, put_where};
 use avc_params::{
     ChromaLocation, Colour, Hrd, HrdEntry, Restriction, SampleAspect, SampleSize, Timing,
     VideoSignal, Vui,
@@ -74,9 +74,11 @@ impl Part for ChromaLocation {
     ghost fits = { IsChromaLocation };
 
     fn put(&self, maker: &mut BitMaker) -> Result<(), OutOfMemory> {
-        maker.ue(self.chroma_sample_loc_type_top_field)?;
-        maker.ue(self.chroma_sample_loc_type_bottom_field)?;
-        Ok(())
+        put_two(
+            maker,
+            self.chroma_sample_loc_type_top_field,
+            self.chroma_sample_loc_type_bottom_field,
+        )
     }
 }
 

@@ -1,7 +1,15 @@
-use Rattle.avc_make.proofs.Slices.{append_assoc, pair}
+use Rattle.avc_make.proofs.Slices.{false, flag_bits, puts_then, ue_word}
+use Rattle.avc_make.specs.PpsWriting.{default_counts_bits, quantisation_bits}
 use Rattle.avc_make.proofs.pps_writing.put_pps.Goals as goal
 
 pub returns : goal.returns
 returns c =
-    pair c.in_ok-ue.ensures.0 (rw (c.in_ok-put_switches.ensures.1, c.in_ok-put_quantisation.ensures.1, c.in_ok-put_default_counts.ensures.1)
-    (rw (c.in_ok-ue-3.ensures.1, c.in_ok-flag-2.ensures.1, c.in_ok-flag.ensures.1, c.in_ok-ue-2.ensures.1, c.in_ok-ue.ensures.1) (simp append_assoc)))
+    let p = c.args.pps.now in
+    puts_then c.args.maker.now _ _ (ue_word p.pic_parameter_set_id) _ c.in_ok-ue.ensures
+    (puts_then _ _ _ (ue_word p.seq_parameter_set_id) _ c.in_ok-ue-2.ensures
+    (puts_then _ _ _ (flag_bits false) _ c.in_ok-flag.ensures
+    (puts_then _ _ _ (flag_bits p.bottom_field_pic_order_in_frame_present_flag) _ c.in_ok-flag-2.ensures
+    (puts_then _ _ _ (ue_word 0) _ c.in_ok-ue-3.ensures
+    (puts_then _ _ _ (default_counts_bits p) _ c.in_ok-put_default_counts.ensures
+    (puts_then _ _ _ (quantisation_bits p) _ c.in_ok-put_quantisation.ensures
+    c.in_ok-put_switches.ensures))))))

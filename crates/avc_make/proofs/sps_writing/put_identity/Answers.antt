@@ -1,7 +1,11 @@
-use Rattle.avc_make.proofs.Slices.{append_assoc, pair}
+use Rattle.avc_make.proofs.Slices.{bits_of, constraint_bits, puts_then}
 use Rattle.avc_make.proofs.sps_writing.put_identity.Goals as goal
 
 pub returns : goal.returns
 returns c =
-    pair c.in_ok-put.ensures.0 (rw (c.in_ok-ue.ensures.1, c.in_ok-put-3.ensures.1, c.in_ok-put-2.ensures.1, c.in_ok-put_constraints.ensures.1)
-    (rw c.in_ok-put.ensures.1 (simp append_assoc)))
+    let s = c.args.sps.now in
+    puts_then c.args.maker.now _ _ (bits_of 8 s.profile_idc) _ c.in_ok-put.ensures
+    (puts_then _ _ _ (constraint_bits s.constraint_flags) _ c.in_ok-put_constraints.ensures
+    (puts_then _ _ _ (bits_of 2 s.reserved_zero_2bits) _ c.in_ok-put-2.ensures
+    (puts_then _ _ _ (bits_of 8 s.level_idc) _ c.in_ok-put-3.ensures
+    c.in_ok-ue.ensures)))

@@ -8,6 +8,13 @@ pub zeros_put : (position count : ℕ) → count ≡ (8 - position % 8) % 8 → 
 zeros_put position count is = rw (is, bits_of-zero) refl
 
 -- both, where the second is long
+-- one word was put, and then another
+pub puts_then : (a b d : Made) (v w : List Bool) → (a.failed ≡ false) × (b ≡ with_bits a v) → (b.failed ≡ false) × (d ≡ with_bits b w) → (a.failed ≡ false) × (d ≡ with_bits a (v ++ w))
+puts_then a b d v w first second = (
+  first.0,
+  second.1 ∙ ap (λ m. with_bits m w) first.1 ∙ ap (λ l. record { bits = l; failed = false }) (append_assoc a.bits v w),
+)
+
 pub pair : {P Q : Type 0} → P → Q → P × Q
 pair p q = (p, q)
 
