@@ -10,7 +10,7 @@ use avc_plane::{PictureRows, SharedPicture};
 /// What C is told of an event: nothing (0), a picture (1) or a refusal (2). What does not belong to
 /// its kind is 0.
 #[repr(C)]
-#[derive(Clone, Copy, Debug, PartialEq, Eq)]
+#[derive(Clone, Copy)]
 pub struct EventRecord {
     pub kind: u32,
     /// Number of the fault of a refusal.

@@ -7,7 +7,7 @@ use avc_types::PictureInfo;
 
 /// What C is told of a picture beside its samples. A flag is 0 or 1.
 #[repr(C)]
-#[derive(Clone, Copy, Debug, PartialEq, Eq)]
+#[derive(Clone, Copy)]
 pub struct InfoRecord {
     /// The unit of its first slice, counted from 0.
     pub unit: u64,
