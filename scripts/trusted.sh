@@ -75,7 +75,7 @@ proof, and not make what is promised false. By what is promised, each list witho
 | What is promised | By the contracts of | What has to be believed for it |
 |---|---|---|
 | the claim, and the laws of whole streams: resuming, early output | avc_decoder, avc_laws | $(count 1) |
-| what C is told, and what is written into its memory | avc_c | $(count 2) more |
+| what C is told, and what is written into its memory | avc_c, avc_c_picture | $(count 2) more |
 | what the program writes and tells, and the pieces of a stream | avc_yuv, avc_png, avc_tools, avc_pieces, avc_presentation, avc_sequence, avc_console, avc_formats, avc_events, avc_run, avc_compare, avc_info, avc_selection, avc_elements, avc_objects, avc_reading, avc_macroblocks, avc_stages, avc_replay, avc_container, avc_explain, avc_request, avc_shell, avc_progress, avc_program, avc_decode, avc_cli | $(count 3) more |
 | what a picture shows that is still open | avc_picture | $(count 4) more |
 
