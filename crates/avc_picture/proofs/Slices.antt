@@ -436,6 +436,22 @@ refused-again {sps = sps} {pps = pps} {fs = fs} {slices = slices} {f = f} s kept
       cc;
 }
 
+-- what is kept once a slice is refused: its fault, and how many macroblocks have been read
+pub after-refusal : {PAD : ℕ} (sps : Sps) (pps : Pps) (fs : List (Frame PAD)) (slices : List Slice) (count read read' : ℕ) (m m' : MbsState) (s : Slice) (f : Fault)
+    → IsDecoderState sps pps fs slices count read None m → HasSameSize m m' → read' ≤ size_in_mbs sps → IsDecodedSlice sps pps fs s count read m (Err f) read' m'
+    → IsDecoderState sps pps fs (s ∷ slices) count read' (Some f) m'
+after-refusal sps pps fs slices count read read' m m' s f kept size within decoded = record {
+  of_sps = kept.of_sps;
+  of_pps = kept.of_pps;
+  of_frames = kept.of_frames;
+  width = size.width ∙ kept.width;
+  height = size.height ∙ kept.height;
+  within = within;
+  keeps = λ es stand.
+      let told = decoded es (progress (picture_start sps pps es fs) slices) stand (kept.keeps es stand) in
+      (ap (option_map (λ found. found.1)) told.0, told.1);
+}
+
 -- ---- the info of a macroblock that is kept
 
 by-test : {A : Type 0} (b : Bool) (o : Option A) (x : A) → (if b then o else None) ≡ Some x → o ≡ Some x

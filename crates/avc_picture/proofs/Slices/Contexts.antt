@@ -143,6 +143,14 @@ module _ {PAD : ℕ} (sps : Sps) (pps : Pps) (es : List ℕ) (fs : List (Frame P
       → stored_named ≡ record { decoding_index = slice_index es k; existing = true; samples = samples_of planes }
   named-picture planes marked some = rw (marked-at fs k f at, found-stored es fs k f stand at marked, some) refl
 
+-- ---- one entry more of a list that is made entry by entry
+
+pub entry-more : {A : Type 0} (P : ℕ → A → Type 0) (xs : List A) (n : ℕ) (x d : A) → n < length xs → ((k : ℕ) → k < n → P k (slice_index_or xs k d)) → P n x
+    → (k : ℕ) → k < n + 1 → P k (slice_index_or (slice_set xs n x) k d)
+entry-more P xs n x d within before here =
+    below_more (λ k. P k (slice_index_or (slice_set xs n x) k d)) n
+    (λ k low. subst (P k) (sym (get_or-set_other xs n k x d (omega (arith, low)))) (before k low)) (subst (P n) (sym (get_or-set_same xs n x d within)) here)
+
 -- ---- what the code knows of a slice
 
 some-within : {A : Type 0} (xs : List A) (k : ℕ) → k < length xs → (x : A) × (slice_get xs k ≡ Some x)

@@ -1,4 +1,5 @@
-use Rattle.avc_picture.proofs.Slices.{◌≡◌, ◌∙◌, ◌-◌, length, ap, arith, rules, w8, to_z, of_z, planes_of, row_filtered, row_sized, row_of_last}
+use Rattle.avc_picture.proofs.Slices.{◌≡◌, ◌∙◌, ◌-◌, ◌/◌, length, ap, sym, arith, rules, w8, to_z, of_z, planes_of, filtered_rows, rows_filtered}
+use Rattle.avc_picture.proofs.Slices.{row_filtered, row_sized, row_of_last}
 use Rattle.avc_picture.proofs.filter_rows.FilterRows.filter_last_row.Goals as goal
 
 pub returns-then-self-gt0-clause-sized : goal.returns-then-self-gt0-clause-sized
@@ -16,3 +17,16 @@ returns-then-self-gt0-clause-lines g c = rw (← c.self.view_is) (λ coded names
     let lines = rw (c.deref.ensures.value, c.deref-then-self-gt0.ensures.value) at c.row.ensures.lines in
     row_filtered c.self.invariant coded names (to_z w8 (of_z w8 c.args.chroma_qp_index_offset)) (rw back of) (omega (arith, c.if-self-gt0.true))
     (planes_of c.args.planes.now) (planes_of c.row.new.planes) lines)
+
+pub row-requires : goal.row-requires
+row-requires g c =
+    let k = c.self.invariant in
+    let last : length c.deref-then-self-gt0.result.now ≡ c.self.inside.width = ap length c.deref-then-self-gt0.ensures.value ∙ k.last_long in
+    let room = rw (← c.self.view_is, row_of_last k) at c.requires.room in
+    (omega arith, (ap length c.deref.ensures.value ∙ k.above_long ∙ sym last, λ column low. room column (omega (arith, low, last))))
+
+pub returns-else-self-gt0-clause-lines : goal.returns-else-self-gt0-clause-lines
+returns-else-self-gt0-clause-lines g c = rw (← c.self.view_is) (λ coded names of s old.
+    let i = c.self.inside in
+    let none : filtered_rows i.width (length i.info.items) ≡ length i.info.items / i.width = omega (arith, row_of_last c.self.invariant, c.if-self-gt0.false) in
+    old ∙ ap (λ n. rows_filtered coded n s) none)

@@ -1,6 +1,6 @@
 use Rattle.avc_picture.proofs.Slices.{arith, planes_of, AreSized}
 use Rattle.avc_picture_core.specs.Canvas.{address_of}
-use Rattle.avc_picture.proofs.StillRuns.{keeps_all}
+use Rattle.avc_picture.proofs.StillRuns.{keeps_all, one_in_place, others_copied}
 use Rattle.avc_picture.proofs.still_run.StillRun.build.Goals.{then-is_still+then-is_skipped+else-self-gt0, else-is_still}
 use Rattle.avc_picture.proofs.still_run.StillRun.build.Goals as goal
 
@@ -34,3 +34,21 @@ build-requires g c =
     let modes = rw (← c.info-2.ensures) at r.modes in
     let one = rw (← c.info-2.ensures) at r.one in
     (omega arith, (omega arith, (r.column, (r.row, (sized, (r.syntax, (r.quantiser, (modes, (one, r.references)))))))))
+
+pub build_in_place-requires : goal.build_in_place-requires
+build_in_place-requires g c =
+    let r = c.requires in
+    let still = rw (← c.info.ensures) at (c.is_still.ensures c.if-is_still.true) in
+    let some = c.if-self-gt0.true in
+    let ahead = c.go_on.ensures in
+    (omega arith, (omega arith, (r.column, (r.row, (ahead.sized, (r.references, (c.is_skipped.ensures c.if-is_skipped.true, (still, one_in_place (ahead.copied some) some))))))))
+
+pub returns-then-self-gt0-clause-copied : goal.returns-then-self-gt0-clause-copied
+returns-then-self-gt0-clause-copied g c = others_copied (c.go_on.ensures.copied c.if-self-gt0.true) _ (omega (arith, c.if-self-gt0.true))
+
+pub returns-then-self-gt0-clause-built : goal.returns-then-self-gt0-clause-built
+returns-then-self-gt0-clause-built g c = record {
+  between = planes_of c.go_on.new.planes;
+  earlier = c.go_on.ensures.earlier;
+  built = rw (c.info.ensures) at c.build_in_place.ensures;
+}

@@ -2,7 +2,7 @@
 pub use Rattle.std.proofs.Common.{◌≡◌, ◌∙◌, ℕ, List, [], ◌∷◌, ◌++◌, length, map, take, drop, refl, sym, ap, ap₂, Some, slice_get, slice_index_or, ◌<◌}
 pub use Rattle.std.proofs.Common.{nat_lt, Bool, true, false, not, ℤ, pos, ◌+ℤ◌, Option, None, subst, arith, zero, suc, ◌+◌, ◌-◌, ◌≤◌, inl, inr}
 pub use Rattle.std.proofs.Common.{add-one, ◌/◌, ◌%◌, ◌==◌, nat_abs, cond, ◌*◌, ◌^◌, Ok, Err, ◌≤ℤ◌, Result, append_assoc, length-set, mul_comm, ⊎_elim}
-pub use Rattle.std.proofs.Common.{Bor, replicate, unwrap_or, lit≤, ◌⊎◌, rules, w8, to_z, of_z, w32}
+pub use Rattle.std.proofs.Common.{Bor, replicate, unwrap_or, lit≤, ◌⊎◌, rules, w8, to_z, of_z, w32, below_more, slice_set, get_or-set_other, get_or-set_same}
 pub use Rattle.std.proofs.Math.Nat.{div-div-eq-div-mul, pow-succ', div-le_self, add-mul, mul-le-mul_right, div-lt_iff_lt-mul, div-mul-le_self}
 pub use Rattle.std.proofs.Math.Seq.{get_or-append_seam, take-append-add, take-append_seam, take-suc, take-length}
 pub use Rattle.std.proofs.lemmas.Bool.{cases_lt, ne_eqb}
@@ -119,7 +119,7 @@ pub use Rattle.avc_picture.specs.Context.{FramesStandAt, picture_start, AreNames
 pub use Rattle.avc_picture.specs.Context.{IsPictureAt, planes_at, IsListAt, HasList}
 pub use Rattle.avc_picture.specs.Decoded.{deblocked}
 pub use Rattle.avc_picture.specs.DecoderState.{CanGoOn, GoesOn, GoesOnFrom, IsDataAnswer, outcome_from, first_of, outcome, CanHaveFirst, HasFirst, IsDataOf}
-pub use Rattle.avc_picture.specs.DecoderState.{IsStateOrFault, IsWellSoFar, address_fault, number_after, IsDecoderState, IsWellSomewhere}
+pub use Rattle.avc_picture.specs.DecoderState.{IsDecodedSlice, IsStateOrFault, IsWellSoFar, address_fault, number_after, IsDecoderState, IsWellSomewhere}
 pub use Rattle.avc_picture.specs.Decoding.{AreFramesOf, Decoding, HasNoFault, Refuses, end_fault, fault_at_end, CanStandAt, start_at, with_slice_more}
 pub use Rattle.avc_picture.specs.FilterRows.{AreFrom, AreLastRows, is_in_last_rows, kept_info}
 pub use Rattle.avc_picture.specs.FirstMbs.{HasNeighbourInfo, HoldsFirst, MbsState, IsSlice, HasSameSize, IsDecoded, HasNumber, BeginsWith, HasSets}
