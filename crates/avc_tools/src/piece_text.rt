@@ -130,7 +130,8 @@ fn cut_on(
     requires drained { IsDrained max_unit splitter.old }
     requires ended { ended ≡ splitter.old.ended }
     ensures taken { OnOk result (splitter.new ≡ after_units_left max_unit (after_feed splitter.old piece.now)) }
-    ensures cutting { OnOk result ((number : ℕ) → IsCutting max_unit number splitter.old ended cutter.old → IsCutting max_unit number splitter.new ended cutter.new) }
+    ensures cutting { OnOk result ((number : ℕ) → IsCutting max_unit number splitter.old ended cutter.old
+        → IsCutting max_unit number splitter.new ended cutter.new) }
     ensures added { IfOk result (λ added. (number : ℕ) → IsCutting max_unit number splitter.old ended cutter.old → length splitter.new.bytes < 2 ^ 64
         → piece_text number splitter.new.bytes splitter.new.ended ≡ piece_text number splitter.old.bytes splitter.old.ended ++ added.items) }
 {
@@ -153,7 +154,8 @@ fn cut_off(
     requires drained { IsDrained max_unit splitter.old }
     requires ended { ended ≡ splitter.old.ended }
     ensures taken { OnOk result (splitter.new ≡ after_units_left max_unit (after_finish splitter.old)) }
-    ensures cutting { OnOk result ((number : ℕ) → IsCutting max_unit number splitter.old ended cutter.old → IsCutting max_unit number splitter.new true cutter.new) }
+    ensures cutting { OnOk result ((number : ℕ) → IsCutting max_unit number splitter.old ended cutter.old
+        → IsCutting max_unit number splitter.new true cutter.new) }
     ensures added { IfOk result (λ added. (number : ℕ) → IsCutting max_unit number splitter.old ended cutter.old → length splitter.new.bytes < 2 ^ 64
         → piece_text number splitter.new.bytes splitter.new.ended ≡ piece_text number splitter.old.bytes splitter.old.ended ++ added.items) }
 {
