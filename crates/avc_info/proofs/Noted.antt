@@ -8,6 +8,14 @@ unfoldable pub use Common.*
 pub with_one : (k : List ℕ) (d d' : Data) (old old' new : Members) → new ≡ put k d old → d ≡ d' → old ≡ old' → new ≡ put k d' old'
 with_one k d d' old old' new is value before = is ∙ ap (λ x. put k x old) value ∙ ap (put k d') before
 
+-- ---- past the end of a stream nothing comes
+
+pub stays_by_piece : (s : StreamSoFar) (piece : List ℕ) → s.ended ≡ true → s ≡ after_piece s piece
+stays_by_piece s piece e = ap (λ x. if x then s else record s { bytes = s.bytes ++ piece }) (sym e)
+
+pub stays_by_end : (s : StreamSoFar) → s.ended ≡ true → s ≡ after_end s
+stays_by_end s e = ap (λ x. record s { ended = x }) e
+
 -- ---- units are taken one after the other
 
 facts-append : (sets : List SetUnit) (us vs : List Unit) (f : StreamFacts) → facts_after sets (us ++ vs) f ≡ facts_after (sets ++ set_units us) vs (facts_after sets us f)

@@ -7,7 +7,7 @@ pub use Rattle.avc_annexb.specs.Units.{saturated, units}
 pub use Rattle.avc_annexb.specs.declared.unit.Unit.{Unit}
 pub use Rattle.avc_params.specs.Tables.{sets_after}
 pub use Rattle.avc_params.specs.declared.set_unit.SetUnit.{SetUnit}
-pub use Rattle.avc_tools.proofs.Taking.{IsDraining, all_taken, draining_begun, one_more, sets_again, feed_keeps_end, stays_by_piece, stays_by_end}
+pub use Rattle.avc_tools.proofs.Taking.{IsDraining, all_taken, draining_begun, one_more, sets_again, feed_keeps_end}
 pub use Rattle.avc_tools.proofs.Taking.Stages.{AreLeft, drained, left_by_finish, left_by_feed, whole_units}
 pub use Rattle.avc_units.proofs.SetUnits.{set_units-append, set_units_more, sets_then}
 pub use Rattle.avc_tools.specs.Streams.{StreamSoFar, after_end, after_piece, after_units_left, units_left, max_unit}
