@@ -196,6 +196,18 @@ next_failed p c w before n row first room now old mid new g f r w_is failed low 
     subst (λ (v : Window). Gathers before (window (columns_of p c) (samples_of p c) v.left v.top v.width v.height) first now old new r) w_is
     (row_failed before (columns_of p c) (samples_of p c) w.left w.top w.width w.height n row first room now old mid new g f r failed low so_far (row_in p c w n row w_is is) more)
 
+-- before the first row
+pub none_yet : (p : Picture) (c : Component) (w : Window) (before : Gathered) (first : List ℕ) (old : Option (List ℕ)) → before.waiting ≤ length first
+    → IsRowsGathered p c w before first first old old 0 before
+none_yet p c w before first old within =
+    record { out = []; all = sym (append-nil (take before.waiting first)); sent = omega arith; within = within; taken = search rules }
+
+-- after the last row
+pub rows_gathered : (p : Picture) (c : Component) (w : Window) (before : Gathered) (n : ℕ) (first room : List ℕ) (old new : Option (List ℕ)) (g : Gathered) → w ≡ window_of p c
+    → n ≡ w.height → IsRowsGathered p c w before first room old new n g → IsGathered before.written (take before.waiting first ++ shown_of p c) room old new g
+rows_gathered p c w before n first room old new g w_is all so_far =
+    subst (λ (v : Window). IsRowsGathered p c v before first room old new v.height g) w_is (subst (λ m. IsRowsGathered p c w before first room old new m g) all so_far)
+
 -- how many samples are shown of a component
 length-shown_of : (p : Picture) (c : Component) (w : Window) → w ≡ window_of p c → length (shown_of p c) ≡ w.height * w.width
 length-shown_of p c w w_is = rw w_is (length-window (columns_of p c) (samples_of p c) (window_of p c).left (window_of p c).top (window_of p c).width (window_of p c).height)
@@ -221,6 +233,10 @@ next_counted p c w before n row first room old mid g w_is so_far within counted 
 
 -- ---- the three components of a picture
 
+-- nothing waits at first
+none_gathered : (old : Option (List ℕ)) → IsGathered 0 [] [] old old (nothing_waits 0)
+none_gathered old = record { out = []; all = refl; sent = refl; within = omega arith; taken = search rules }
+
 -- all bytes of a picture can be counted
 pub picture_counted : (p : Picture) → IsWhole p → length p.luma < 2 ^ 63 → length (shown_of p Luma) + length (shown_of p Cb) + length (shown_of p Cr) < 2 ^ 64
 picture_counted p whole few =
@@ -239,27 +255,41 @@ pub all_gathered : (p : Picture) (one two three : List ℕ) (old mid late new : 
 all_gathered p one two three old mid late new g h k first second third =
     gathered_more 0 (shown_of p Luma ++ shown_of p Cb) (shown_of p Cr) two three old late new h k (both_gathered p one two old mid late g h first second) third
 
--- a fault in Cb, in Cr, and at the end
-pub cb_failed : (p : Picture) (room : List ℕ) (old mid new : Option (List ℕ)) (g : Gathered) (f : WriteFault) (r : Result (Unit {0}) WriteFault) → r ≡ Err f
-    → IsGathered 0 (shown_of p Luma) room old mid g → Writes g.written (take g.waiting room ++ shown_of p Cb) mid new (Err f) → IfErr r (λ fault. Appends old new (take fault.written (i420 p)))
-cb_failed p room old mid new g f r failed first second =
-    let all : f.written ≡ f.written - 0 = omega arith in
-    rw (failed, all) (gathered_failed 0 (shown_of p Luma) (shown_of p Cb) (shown_of p Cr) room old mid new g f first second).2
+-- a fault in luma, in Cb, in Cr, and at the end
+pub luma_failed : (p : Picture) (old new : Option (List ℕ)) (f : WriteFault) → Writes 0 (shown_of p Luma) old new (Err f) → Writes 0 (i420 p) old new (Err f)
+luma_failed p old new f w =
+    subst (λ l. Writes 0 l old new (Err f)) (sym (append_assoc (shown_of p Luma) (shown_of p Cb) (shown_of p Cr)))
+    (gathered_failed 0 [] (shown_of p Luma) (shown_of p Cb ++ shown_of p Cr) [] old old new (nothing_waits 0) f (none_gathered old) w)
 
-pub cr_failed : (p : Picture) (one two : List ℕ) (old mid late new : Option (List ℕ)) (g h : Gathered) (f : WriteFault) (r : Result (Unit {0}) WriteFault) → r ≡ Err f
+pub cb_failed : (p : Picture) (room : List ℕ) (old mid new : Option (List ℕ)) (g : Gathered) (f : WriteFault) → IsGathered 0 (shown_of p Luma) room old mid g
+    → Writes g.written (take g.waiting room ++ shown_of p Cb) mid new (Err f) → Writes 0 (i420 p) old new (Err f)
+cb_failed p room old mid new g f first second = gathered_failed 0 (shown_of p Luma) (shown_of p Cb) (shown_of p Cr) room old mid new g f first second
+
+pub cr_failed : (p : Picture) (one two : List ℕ) (old mid late new : Option (List ℕ)) (g h : Gathered) (f : WriteFault)
     → IsGathered 0 (shown_of p Luma) one old mid g → IsGathered g.written (take g.waiting one ++ shown_of p Cb) two mid late h
-    → Writes h.written (take h.waiting two ++ shown_of p Cr) late new (Err f) → IfErr r (λ fault. Appends old new (take fault.written (i420 p)))
-cr_failed p one two old mid late new g h f r failed first second third =
-    let all : f.written ≡ f.written - 0 = omega arith in
-    rw (failed, all, ← append-nil (i420 p))
-    (gathered_failed 0 (shown_of p Luma ++ shown_of p Cb) (shown_of p Cr) [] two old late new h f (both_gathered p one two old mid late g h first second) third).2
+    → Writes h.written (take h.waiting two ++ shown_of p Cr) late new (Err f) → Writes 0 (i420 p) old new (Err f)
+cr_failed p one two old mid late new g h f first second third =
+    subst (λ l. Writes 0 l old new (Err f)) (append-nil (i420 p))
+    (gathered_failed 0 (shown_of p Luma ++ shown_of p Cb) (shown_of p Cr) [] two old late new h f (both_gathered p one two old mid late g h first second) third)
 
-pub end_failed : (bytes room : List ℕ) (old mid new : Option (List ℕ)) (g : Gathered) (f : WriteFault) (r : Result (Unit {0}) WriteFault) → r ≡ Err f
-    → IsGathered 0 bytes room old mid g → Writes g.written (take g.waiting room) mid new (Err f) → IfErr r (λ fault. Appends old new (take fault.written bytes))
-end_failed bytes room old mid new g f r failed p q =
-    let all : f.written ≡ f.written - 0 = omega arith in
-    rw (failed, all, ← p.all, ← append-nil (p.out ++ take g.waiting room))
-    (second_failed 0 p.out (take g.waiting room) [] old mid new g.written f (p.sent, p.taken) q).2
+pub end_failed : (bytes room : List ℕ) (old mid new : Option (List ℕ)) (g : Gathered) (f : WriteFault)
+    → IsGathered 0 bytes room old mid g → Writes g.written (take g.waiting room) mid new (Err f) → Writes 0 bytes old new (Err f)
+end_failed bytes room old mid new g f p q =
+    rw (← p.all, ← append-nil (p.out ++ take g.waiting room))
+    (second_failed 0 p.out (take g.waiting room) [] old mid new g.written f (p.sent, p.taken) q)
+
+-- what a fault says of the bytes: how many of them were written, and that they are the first
+pub written_before_all : (bytes : List ℕ) (old new : Option (List ℕ)) (f : WriteFault) (r : Result (Unit {0}) WriteFault) → r ≡ Err f
+    → Writes 0 bytes old new (Err f) → IfErr r (λ fault. fault.written < length bytes)
+written_before_all bytes old new f r failed w = rw failed (omega (arith, w.1))
+
+pub written_first : (bytes : List ℕ) (old new : Option (List ℕ)) (f : WriteFault) (r : Result (Unit {0}) WriteFault) → r ≡ Err f
+    → Writes 0 bytes old new (Err f) → IfErr r (λ fault. Appends old new (take fault.written bytes))
+written_first bytes old new f r failed w = let all : f.written ≡ f.written - 0 = omega arith in rw (failed, all) w.2
+
+-- all of them were written, those that waited at the end
+pub all_written : (bytes room : List ℕ) (old mid new : Option (List ℕ)) (g : Gathered) → IsGathered 0 bytes room old mid g → Appends mid new (take g.waiting room) → Appends old new bytes
+all_written bytes room old mid new g p q = subst (λ l. Appends old new l) p.all (Appends-trans old mid new p.out (take g.waiting room) p.taken q)
 
 -- ---- rows laid into memory, and three planes one behind another
 
