@@ -29,6 +29,52 @@ msb_down max p lsb h k = rw (lt_no lsb p.lsb (omega (arith, ints)), lt_yes p.lsb
 pub msb_above : (max : ℤ) (p : Previous) (lsb : ℤ) → p.lsb <ℤ lsb → (pos 2 *ℤ (lsb -ℤ p.lsb)) ≤ℤ max → msb_of max p lsb ≡ p.msb
 msb_above max p lsb h k = rw (lt_no lsb p.lsb (omega (arith, ints)), lt_yes p.lsb lsb h, lt_no max (pos 2 *ℤ (lsb -ℤ p.lsb)) k)
 
+-- sums and differences of what is near 0, as they are computed
+pub difference_fits : (a b : ℤ) → IsNear 33 a → IsNear 33 b → SFits w64 (to_z w64 (of_z w64 a) -ℤ to_z w64 (of_z w64 b))
+difference_fits a b h k = omega (arith, ints, h.low, h.high, k.low, k.high)
+
+pub double_fits : (a b : ℤ) → IsNear 33 a → IsNear 33 b
+    → SFits w64 (pos 2 *ℤ to_z w64 (of_z w64 (to_z w64 (of_z w64 a) -ℤ to_z w64 (of_z w64 b))))
+double_fits a b h k = omega (arith, ints, h.low, h.high, k.low, k.high)
+
+pub msb_up_fits : (m max : ℤ) → IsNear 34 m → IsNear 17 max → SFits w64 (to_z w64 (of_z w64 m) +ℤ to_z w64 (of_z w64 max))
+msb_up_fits m max h k = omega (arith, ints, h.low, h.high, k.low, k.high)
+
+pub msb_down_fits : (m max : ℤ) → IsNear 34 m → IsNear 17 max → SFits w64 (to_z w64 (of_z w64 m) -ℤ to_z w64 (of_z w64 max))
+msb_down_fits m max h k = omega (arith, ints, h.low, h.high, k.low, k.high)
+
+pub msb_up_near : (m max : ℤ) → IsNear 34 m → IsNear 17 max → IsNear 35 (to_z w64 (of_z w64 (to_z w64 (of_z w64 m) +ℤ to_z w64 (of_z w64 max))))
+msb_up_near m max h k =
+    record { low = omega (arith, ints, h.low, h.high, k.low, k.high); high = omega (arith, ints, h.low, h.high, k.low, k.high) }
+
+pub msb_down_near : (m max : ℤ) → IsNear 34 m → IsNear 17 max → IsNear 35 (to_z w64 (of_z w64 (to_z w64 (of_z w64 m) -ℤ to_z w64 (of_z w64 max))))
+msb_down_near m max h k =
+    record { low = omega (arith, ints, h.low, h.high, k.low, k.high); high = omega (arith, ints, h.low, h.high, k.low, k.high) }
+
+pub msb_same_near : (m : ℤ) → IsNear 34 m → IsNear 35 (to_z w64 (of_z w64 m))
+msb_same_near m h = record { low = omega (arith, ints, h.low, h.high); high = omega (arith, ints, h.low, h.high) }
+
+-- the msb in each case of the choice, as it is computed
+pub up_told : (max lsb : ℤ) (p : Previous) → IsNear 17 max → IsNear 34 p.msb → IsNear 33 p.lsb → IsNear 33 lsb → int_lt (to_z w64 (of_z w64 lsb)) (to_z w64 (of_z w64 p.lsb)) ≡ true
+    → int_le (to_z w64 (of_z w64 max)) (to_z w64 (of_z w64 (pos 2 *ℤ to_z w64 (of_z w64 (to_z w64 (of_z w64 p.lsb) -ℤ to_z w64 (of_z w64 lsb)))))) ≡ true
+    → to_z w64 (of_z w64 (to_z w64 (of_z w64 p.msb) +ℤ to_z w64 (of_z w64 max))) ≡ msb_of max p lsb
+up_told max lsb p x m q l e f = omega (arith, ints) ∙ sym (msb_up max p lsb (omega (arith, ints)) (omega (arith, ints)))
+
+pub below_told : (max lsb : ℤ) (p : Previous) → IsNear 17 max → IsNear 34 p.msb → IsNear 33 p.lsb → IsNear 33 lsb → int_lt (to_z w64 (of_z w64 lsb)) (to_z w64 (of_z w64 p.lsb)) ≡ true
+    → int_le (to_z w64 (of_z w64 max)) (to_z w64 (of_z w64 (pos 2 *ℤ to_z w64 (of_z w64 (to_z w64 (of_z w64 p.lsb) -ℤ to_z w64 (of_z w64 lsb)))))) ≡ false
+    → to_z w64 (of_z w64 p.msb) ≡ msb_of max p lsb
+below_told max lsb p x m q l e f = omega (arith, ints) ∙ sym (msb_below max p lsb (omega (arith, ints)) (omega (arith, ints)))
+
+pub down_told : (max lsb : ℤ) (p : Previous) → IsNear 17 max → IsNear 34 p.msb → IsNear 33 p.lsb → IsNear 33 lsb → int_lt (to_z w64 (of_z w64 p.lsb)) (to_z w64 (of_z w64 lsb)) ≡ true
+    → int_lt (to_z w64 (of_z w64 max)) (to_z w64 (of_z w64 (pos 2 *ℤ to_z w64 (of_z w64 (to_z w64 (of_z w64 lsb) -ℤ to_z w64 (of_z w64 p.lsb)))))) ≡ true
+    → to_z w64 (of_z w64 (to_z w64 (of_z w64 p.msb) -ℤ to_z w64 (of_z w64 max))) ≡ msb_of max p lsb
+down_told max lsb p x m q l e f = omega (arith, ints) ∙ sym (msb_down max p lsb (omega (arith, ints)) (omega (arith, ints)))
+
+pub above_told : (max lsb : ℤ) (p : Previous) → IsNear 17 max → IsNear 34 p.msb → IsNear 33 p.lsb → IsNear 33 lsb → int_lt (to_z w64 (of_z w64 p.lsb)) (to_z w64 (of_z w64 lsb)) ≡ true
+    → int_lt (to_z w64 (of_z w64 max)) (to_z w64 (of_z w64 (pos 2 *ℤ to_z w64 (of_z w64 (to_z w64 (of_z w64 lsb) -ℤ to_z w64 (of_z w64 p.lsb)))))) ≡ false
+    → to_z w64 (of_z w64 p.msb) ≡ msb_of max p lsb
+above_told max lsb p x m q l e f = omega (arith, ints) ∙ sym (msb_above max p lsb (omega (arith, ints)) (omega (arith, ints)))
+
 -- from what the function says, its arguments cast
 pub msb_told : (r m l max lsb : ℤ) (p : Previous) → r ≡ msb_of (to_z w64 (of_z w64 m)) p (to_z w64 (of_z w64 l)) → IsNear 17 m → IsNear 33 l → m ≡ max → l ≡ lsb
     → r ≡ msb_of max p lsb
@@ -85,11 +131,96 @@ product_told n z a b h near e f =
     let second : to_z w128 (of_z w128 b) ≡ z = omega (arith, ints) in
     rw (first, second) refl
 
+product_fits : (m : ℤ) → IsNear 71 m → SFits w128 m
+product_fits m near = omega (arith, ints, near.low, near.high)
+
+pub product_told_fits : (n : ℕ) (z a b : ℤ) → n < 2 ^ 31 → IsNear 40 z → a ≡ pos n → b ≡ to_z w64 (of_z w64 z)
+    → SFits w128 (to_z w128 (of_z w128 a) *ℤ to_z w128 (of_z w128 b))
+product_told_fits n z a b h near e f = subst (SFits w128) (sym (product_told n z a b h near e f)) (product_fits (pos n *ℤ z) (times_near n z h near))
+
+-- a product and one more number, both cast
+sum_told : (m first p d : ℤ) → IsNear 71 m → IsNear 39 first → p ≡ m → d ≡ to_z w64 (of_z w64 first)
+    → to_z w128 (of_z w128 p) +ℤ to_z w128 (of_z w128 d) ≡ m +ℤ first
+sum_told m first p d near small e f = omega (arith, ints, near.low, near.high, small.low, small.high, e, f)
+
+sum_near : (m first : ℤ) → IsNear 71 m → IsNear 39 first → IsNear 75 (m +ℤ first)
+sum_near m first near small = record { low = omega (arith, ints, near.low, small.low); high = omega (arith, ints, near.high, small.high) }
+
+sum_fits : (m : ℤ) → IsNear 75 m → SFits w128 m
+sum_fits m near = omega (arith, ints, near.low, near.high)
+
+pub cycles_told : (n : ℕ) (whole first a b d : ℤ) → n < 2 ^ 31 → IsNear 40 whole → IsNear 39 first
+    → a ≡ pos n → b ≡ to_z w64 (of_z w64 whole) → d ≡ to_z w64 (of_z w64 first)
+    → to_z w128 (of_z w128 (to_z w128 (of_z w128 a) *ℤ to_z w128 (of_z w128 b))) +ℤ to_z w128 (of_z w128 d) ≡ pos n *ℤ whole +ℤ first
+cycles_told n whole first a b d h near small e f g =
+    sum_told (pos n *ℤ whole) first _ d (times_near n whole h near) small (product_told n whole a b h near e f) g
+
+pub cycles_near : (n : ℕ) (whole first : ℤ) → n < 2 ^ 31 → IsNear 40 whole → IsNear 39 first → IsNear 75 (pos n *ℤ whole +ℤ first)
+cycles_near n whole first h near small = sum_near (pos n *ℤ whole) first (times_near n whole h near) small
+
+pub cycles_fit : (n : ℕ) (whole first : ℤ) → n < 2 ^ 31 → IsNear 40 whole → IsNear 39 first → SFits w128 (pos n *ℤ whole +ℤ first)
+cycles_fit n whole first h near small = sum_fits (pos n *ℤ whole +ℤ first) (cycles_near n whole first h near small)
+
 -- ---- what an answer says of the counts behind it
 
 pub ok_is : (b : Bool) (p q : ℤ × ℤ) → ◌≡◌ {A = Result (ℤ × ℤ) Fault} (Ok q) (if b then Ok p else Err PocRange) → (b ≡ true) × (q ≡ p)
 ok_is true p q e = (refl, cc)
 ok_is false p q e = cc
+
+pub both_are : (a b c d : ℤ) → a ≡ c → b ≡ d → ◌≡◌ {A = ℤ × ℤ} (a, b) (c, d)
+both_are a b c d e f = ap (λ (x : ℤ). (x, b)) e ∙ ap (λ (y : ℤ). (c, y)) f
+
+number_ok : (b : Bool) (n k : ℕ) → ◌≡◌ {A = Result ℕ Fault} (Ok k) (if b then Ok n else Err PocRange) → (b ≡ true) × (k ≡ n)
+number_ok true n k e = (refl, cc)
+number_ok false n k e = cc
+
+below_from : (n m : ℕ) → nat_lt n m ≡ true → n < m
+below_from n m e = grind (arith, nat_tests)
+
+pub number_low : (n k : ℕ) → ◌≡◌ {A = Result ℕ Fault} (Ok k) (if nat_lt n (2 ^ 31) then Ok n else Err PocRange) → k < 2 ^ 31
+number_low n k e =
+    let ok = number_ok (nat_lt n (2 ^ 31)) n k e in
+    subst (λ k. k < 2 ^ 31) (sym ok.1) (below_from n (2 ^ 31) ok.0)
+
+one_ok : (b : Bool) (z r : ℤ) → ◌≡◌ {A = Result ℤ Fault} (Ok r) (if b then Ok z else Err PocRange) → (b ≡ true) × (r ≡ z)
+one_ok true z r e = (refl, cc)
+one_ok false z r e = cc
+
+-- two counts in range, from what the function says of each, its argument cast
+pub two_ok : (p : ℤ × ℤ) (a b top bottom : ℤ) → a ≡ p.0 → b ≡ p.1 → ◌≡◌ {A = Result ℤ Fault} (Ok top) (if in_32_bits a then Ok a else Err PocRange)
+    → ◌≡◌ {A = Result ℤ Fault} (Ok bottom) (if in_32_bits b then Ok b else Err PocRange)
+    → SFits w32 top → SFits w32 bottom
+    → ◌≡◌ {A = Result (ℤ × ℤ) Fault} (Ok (to_z w32 (of_z w32 top), to_z w32 (of_z w32 bottom))) (if both_in_32_bits (counts_of p) then Ok p else Err PocRange)
+two_ok p a b top bottom a_is b_is e f top_fits bottom_fits =
+    let first = one_ok (in_32_bits a) a top e in
+    let second = one_ok (in_32_bits b) b bottom f in
+    ap (λ q. Ok q) (both_are _ _ p.0 p.1 (to_z-of_z w32 top top_fits ∙ first.1 ∙ a_is) (to_z-of_z w32 bottom bottom_fits ∙ second.1 ∙ b_is))
+    ∙ sym (ap (λ t. if t && in_32_bits p.1 then Ok p else Err PocRange) (sym (ap in_32_bits a_is) ∙ first.0)
+    ∙ ap (λ t. if t then Ok p else Err PocRange) (sym (ap in_32_bits b_is) ∙ second.0))
+
+-- the counts of type 0 before any lowering
+pub raw_0 : (sps : Sps) (h : Header) (p : Previous) (n l : ℕ) (r : ℤ × ℤ) → sps.order_count ≡ orders.Type0 l → r ≡ pair (counts_0 sps h p)
+    → ◌≡◌ {A = Result (ℤ × ℤ) Fault} (Ok r) (raw_counts sps h p n)
+raw_0 sps h p n l r e f =
+    ap (λ r. Ok r) f ∙ sym (ap (λ o. if number_in_range o n then Ok (pair (counts_by o sps h p n)) else Err PocRange) e)
+
+-- those of type 1, the offsets cast
+pub raw_1 : (sps : Sps) (h : Header) (p : Previous) (n k : ℕ) (z : Bool) (a b a' b' : ℤ) (cycle cycle' : List ℤ) (r : ℤ × ℤ) → sps.order_count ≡ orders.Type1 z a b cycle
+    → ◌≡◌ {A = Result ℕ Fault} (Ok k) (if nat_lt n (2 ^ 31) then Ok n else Err PocRange) → a' ≡ a → b' ≡ b → cycle' ≡ cycle → r ≡ pair (counts_1 a' b' cycle' h k)
+    → ◌≡◌ {A = Result (ℤ × ℤ) Fault} (Ok r) (raw_counts sps h p n)
+raw_1 sps h p n k z a b a' b' cycle cycle' r e g a_is b_is same f =
+    let ok = number_ok (nat_lt n (2 ^ 31)) n k g in
+    ap (λ r. Ok r) (f ∙ ap₂ (λ l k. pair (counts_1 a' b' l h k)) same ok.1 ∙ ap₂ (λ (a b : ℤ). pair (counts_1 a b cycle h n)) a_is b_is)
+    ∙ sym (ap (λ o. if number_in_range o n then Ok (pair (counts_by o sps h p n)) else Err PocRange) e ∙ ap (λ t. if t then Ok (pair (counts_1 a b cycle h n)) else Err PocRange) ok.0)
+
+-- those of type 2
+pub raw_2 : (sps : Sps) (h : Header) (p : Previous) (n k : ℕ) (r : ℤ × ℤ) → sps.order_count ≡ orders.Type2
+    → ◌≡◌ {A = Result ℕ Fault} (Ok k) (if nat_lt n (2 ^ 31) then Ok n else Err PocRange) → r ≡ pair (counts_2 h k)
+    → ◌≡◌ {A = Result (ℤ × ℤ) Fault} (Ok r) (raw_counts sps h p n)
+raw_2 sps h p n k r e g f =
+    let ok = number_ok (nat_lt n (2 ^ 31)) n k g in
+    ap (λ r. Ok r) (f ∙ ap (λ k. pair (counts_2 h k)) ok.1)
+    ∙ sym (ap (λ o. if number_in_range o n then Ok (pair (counts_by o sps h p n)) else Err PocRange) e ∙ ap (λ t. if t then Ok (pair (counts_2 h n)) else Err PocRange) ok.0)
 
 pub counted : (r : Result Counts Fault) (p : ℤ × ℤ) → ◌≡◌ {A = Result (ℤ × ℤ) Fault} (Ok p) (count_pair r) → is_ok r ≡ true
 counted r p e = grind arith
@@ -97,6 +228,10 @@ counted r p e = grind arith
 pub in_range_lowered : (h : Header) (c : Counts) → has_operation_5 h ≡ true → both_in_32_bits c ≡ true
     → ◌≡◌ {A = Result (ℤ × ℤ) Fault} (if both_in_32_bits (lowered_by_operation_5 c) then Ok (pair (lowered_by_operation_5 c)) else Err PocRange) (count_pair (in_range h c))
 in_range_lowered h c five fit = grind arith
+
+pub in_range_kept : (h : Header) (c : Counts) → has_operation_5 h ≡ false → both_in_32_bits c ≡ true
+    → ◌≡◌ {A = Result (ℤ × ℤ) Fault} (Ok (pair c)) (count_pair (in_range h c))
+in_range_kept h c five fit = rw (five, fit) refl
 
 fits_is : (z : ℤ) → in_32_bits z ≡ true → IsNear 31 z
 fits_is z e = grind (arith, ints)
@@ -131,9 +266,6 @@ kept orders.Type2 sps h p n e near low ok = msb_unmoved (max_lsb sps.order_count
 pub msb_kept : (sps : Sps) (h : Header) (p : Previous) (n : ℕ) → IsPrevious p → IsNear 33 (lsb_of h.order) → is_ok (counts_from sps h p n) ≡ true
     → IsNear 34 (msb_of (max_lsb sps.order_count) p (lsb_of h.order))
 msb_kept sps h p n near low ok = kept sps.order_count sps h p n refl near low ok
-
-pub both_are : (a b c d : ℤ) → a ≡ c → b ≡ d → ◌≡◌ {A = ℤ × ℤ} (a, b) (c, d)
-both_are a b c d e f = ap (λ (x : ℤ). (x, b)) e ∙ ap (λ (y : ℤ). (c, y)) f
 
 -- ---- what is left by a history is all that the next order counts ask of it
 

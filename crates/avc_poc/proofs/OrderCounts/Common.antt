@@ -1,5 +1,5 @@
 -- The names that the proofs cite of std, of the crates below and of the definitions here, passed on from one place. Declares nothing.
-pub use Rattle.std.proofs.Common.{◌≡◌, ℤ, pos, ◌+ℤ◌, ◌-ℤ◌, ◌*ℤ◌, ◌<ℤ◌, ◌≤ℤ◌, int_lt, int_le, true, false, ap, ◌∙◌, arith, to_z, of_z, w64, ℕ, zero, inl, inr}
+pub use Rattle.std.proofs.Common.{◌≡◌, ℤ, pos, ◌+ℤ◌, ◌-ℤ◌, ◌*ℤ◌, ◌<ℤ◌, ◌≤ℤ◌, int_lt, int_le, true, false, ap, ap₂, ◌∙◌, arith, to_z, of_z, w64, ℕ, zero, inl, inr}
 pub use Rattle.std.proofs.Common.{suc, ◌+◌, ◌<◌, negsuc, List, [], ◌∷◌, ◌++◌, length, length-drop, get_or, drop, take, refl, sym, ◌≤◌, ◌-◌, ◌*◌, ◌/◌, ◌%◌, ◌^◌}
 pub use Rattle.std.proofs.Common.{◌==◌, neg_ℤ, Bool, ◌&&◌, if◌then◌else◌, Result, Ok, Err, subst, nat_lt, rules, w32, SFits}
 pub use Rattle.std.proofs.Math.Nat.{add-mul, zero-mul, div-eq_of_lt, mod-eq_of_lt, mod-lt}
@@ -26,9 +26,9 @@ pub use Rattle.avc_types.specs.declared.references.Operation.TheVariants.{Unmark
 pub use mir.Syntax.{w128}
 pub use Rattle.avc_poc.specs.Laws.{GapsCountAtOnce}
 pub use Rattle.avc_poc.specs.OrderCountState.{IsNear, IsPrevious, count_pair, pair, OrderCountState, order_count_state, saturated, next_offset, picture_offset}
-pub use Rattle.avc_poc.specs.OrderCountState.{after_picture, previous_after, counts_after, with_missing_from, after_missing_from, counts_of}
+pub use Rattle.avc_poc.specs.OrderCountState.{after_picture, previous_after, counts_after, with_missing_from, after_missing_from, counts_of, raw_counts}
 pub use Rattle.avc_poc.specs.OrderCounts.{msb_of, sum_ℤ, expected_order_count, Counts, both_in_32_bits, in_32_bits, final_counts, lowered_by_operation_5}
-pub use Rattle.avc_poc.specs.OrderCounts.{in_range, number_in_range, counts_by, counts_0, counts_from, max_lsb, lsb_of, Past, missing, picture}
+pub use Rattle.avc_poc.specs.OrderCounts.{in_range, number_in_range, counts_by, counts_0, counts_1, counts_2, counts_from, max_lsb, lsb_of, Past, missing, picture}
 pub use Rattle.avc_poc.specs.OrderCounts.{frame_num_offset, previous_for, previous_of, order_counts, resets_order_counts, past_number, previous_from}
 pub use Rattle.avc_poc.specs.OrderCounts.{no_previous, delta_bottom}
 pub use Rattle.avc_poc.specs.declared.most_significant.Previous.{Previous}
