@@ -20,7 +20,9 @@ predicted_elsewhere P s size a b column row here there residual other across dow
 
 -- planes with the same components
 pub planes_same : (a b : Planes) → a.luma ≡ b.luma → a.cb ≡ b.cb → a.cr ≡ b.cr → a ≡ b
-planes_same a b l u v = grind arith
+planes_same a b l u v =
+    let made : Plane → Plane → Plane → Planes = λ luma cb cr. record { luma = luma; cb = cb; cr = cr } in
+    ap (λ t. made t a.cb a.cr) l ∙ ap (λ t. made b.luma t a.cr) u ∙ ap (made b.luma b.cb) v
 
 -- ---- refusals
 
@@ -49,7 +51,10 @@ chroma_intra : (p : Place) (column row k chroma : ℕ) (sides : Sides) (residual
     → mode ≡ mode_chroma_of chroma
     → new ≡ with_block s (8 * column) (8 * row) 8 8 (λ x y. sum_of (unwrap_or (intra_chroma sides (seen_from s (8 * column) (8 * row)) mode x y) 0) (residual x y))
     → new ≡ with_macroblock p (suc k) (chroma_from p chroma (suc k) s) s
-chroma_intra p column row k chroma sides residual s new mode across down mine same of is = grind (arith, predicted_elsewhere)
+chroma_intra p column row k chroma sides residual s new mode across down mine same of is =
+    rw of at is
+    ∙ predicted_elsewhere (λ t a x y. intra_chroma t a (mode_chroma_of chroma) x y) s 8 _ _ column row sides (sides_of p.coded p.address 0) residual (residual_at p (suc k))
+    across down mine same
 
 -- ---- I_PCM
 
@@ -58,7 +63,13 @@ pub planes_pcm : (p : Place) (column row qp qp_of_chroma : ℕ) (luma cb cr : Li
     → new.cb ≡ with_block s.cb (8 * column) (8 * row) 8 8 (λ x y. slice_index cb (8 * y + x))
     → new.cr ≡ with_block s.cr (8 * column) (8 * row) 8 8 (λ x y. slice_index cr (8 * y + x))
     → (refusal p ≡ None) × (new ≡ planes_after p s)
-planes_pcm p column row qp qp_of_chroma luma cb cr at s new l b r = grind (arith, refused_by, planes_same, laid_elsewhere)
+planes_pcm p column row qp qp_of_chroma luma cb cr at s new l b r = (
+  refused_by p (i_pcm luma cb cr) true true at.syntax_is refl refl,
+  planes_same new (planes_after p s)
+      (l ∙ laid_elsewhere s.luma 16 _ _ column row (λ x y. slice_index luma (16 * y + x)) (λ x y. slice_index luma (16 * y + x)) at.column_is at.row_is (λ x y _ _. refl) ∙ sym (ap (λ t. luma_after p t s.luma) at.syntax_is))
+      (b ∙ laid_elsewhere s.cb 8 _ _ column row (λ x y. slice_index cb (8 * y + x)) (λ x y. slice_index cb (8 * y + x)) at.column_is at.row_is (λ x y _ _. refl) ∙ sym (ap (λ t. chroma_after p 1 t s.cb) at.syntax_is))
+      (r ∙ laid_elsewhere s.cr 8 _ _ column row (λ x y. slice_index cr (8 * y + x)) (λ x y. slice_index cr (8 * y + x)) at.column_is at.row_is (λ x y _ _. refl) ∙ sym (ap (λ t. chroma_after p 2 t s.cr) at.syntax_is)),
+)
 
 -- ---- sides of the macroblock as those of its first block
 
@@ -66,7 +77,12 @@ pub inside_luma : (left top width : ℕ) (sides : Sides) → AreInside (left + 0
 inside_luma left top width sides i = rw (add-zero left, add-zero top) at i
 
 pub inside_chroma : (column row width wide : ℕ) (sides : Sides) → 8 * column + 8 ≤ wide → AreInside (16 * column + 0) (16 * row + 0) width sides → AreInside (8 * column) (8 * row) wide sides
-inside_chroma column row width wide sides room i = grind arith
+inside_chroma column row width wide sides room i = record {
+  above = λ e. omega (arith, i.above e);
+  above_right = λ e. (omega (arith, (i.above_right e).0), room);
+  before = λ e. omega (arith, i.before e);
+  corner = λ e. (omega (arith, (i.corner e).0), omega (arith, (i.corner e).1));
+}
 
 -- ---- an intra macroblock that has its sides
 
@@ -132,7 +148,13 @@ has_nxn p coded chroma r readable modes mode sides are of =
 
 pub nxn_at : (p : Place) (column row width chroma qp qp_of_chroma : ℕ) (coded : List (Option ℕ)) (r : Residual) (readable : ReadableNeighbours) (modes : List NearMode)
     → IsAt column row (i_nxn coded chroma r) qp qp_of_chroma p → MayRead column row width readable p → p.modes ≡ modes → IsNxnAt column row width readable modes qp r p
-nxn_at p column row width chroma qp qp_of_chroma coded r readable modes at may are = grind arith
+nxn_at p column row width chroma qp qp_of_chroma coded r readable modes at may are = record {
+  left = ap (λ t. 16 * t) at.column_is;
+  top = ap (λ t. 16 * t) at.row_is;
+  may_read = may;
+  modes_are = are;
+  residual_is = λ x y. rw (at.syntax_is, at.qp_is) refl;
+}
 
 -- ---- inter
 
@@ -146,8 +168,16 @@ pub planes_inter : (p : Place) (column row : ℕ) (syntax : MbSyntax) (has : Boo
     → new.cb ≡ with_block s.cb (8 * column) (8 * row) 8 8 (f 1)
     → new.cr ≡ with_block s.cr (8 * column) (8 * row) 8 8 (f 2)
     → (refusal p ≡ None) × (new ≡ planes_after p s)
-planes_inter p column row syntax has across down is references sides s new of_luma of_cb of_cr f same l b r =
-    grind (arith, refused_by, planes_same, laid_elsewhere)
+planes_inter p column row syntax has across down is references sides s new of_luma of_cb of_cr f same l b r = (
+  refused_by p syntax true true is references sides,
+  planes_same new (planes_after p s)
+      (l ∙ laid_elsewhere s.luma 16 _ _ column row (f 0) (inter_at p 0) across down (λ x y. same 0 x y (omega arith)) ∙ sym of_luma
+      ∙ sym (ap (λ t. luma_after p t s.luma) is))
+      (b ∙ laid_elsewhere s.cb 8 _ _ column row (f 1) (inter_at p 1) across down (λ x y. same 1 x y (omega arith)) ∙ sym of_cb
+      ∙ sym (ap (λ t. chroma_after p 1 t s.cb) is))
+      (r ∙ laid_elsewhere s.cr 8 _ _ column row (f 2) (inter_at p 2) across down (λ x y. same 2 x y (omega arith)) ∙ sym of_cr
+      ∙ sym (ap (λ t. chroma_after p 2 t s.cr) is)),
+)
 
 -- ---- rectangles of a macroblock's components, laid into the planes: two blocks that are one
 
@@ -209,7 +239,19 @@ four_parts column row left top half all f s0 s1 s2 s3 s4 left_even top_even even
 pub part_same : (column row left top w h : ℕ) (f g : ℕ → ℕ → ℕ → ℕ) (s : Planes) → left % 2 ≡ 0 → top % 2 ≡ 0
     → ((k x y : ℕ) → k < 3 → is_inside left top w h (luma_place k x) (luma_place k y) ≡ true → f k x y ≡ g k x y)
     → with_part column row left top w h f s ≡ with_part column row left top w h g s
-part_same column row left top w h f g s left_even top_even same = grind (arith, with_block_same, inside, planes_same)
+part_same column row left top w h f g s left_even top_even same =
+    let chroma : (k x y : ℕ) → suc k < 3 → x < w / 2 → y < h / 2 → f (suc k) (left / 2 + x) (top / 2 + y) ≡ g (suc k) (left / 2 + x) (top / 2 + y) =
+    λ k x y few across down.
+    same (suc k) (left / 2 + x) (top / 2 + y) few
+    (inside left top w h (2 * (left / 2 + x)) (2 * (top / 2 + y)) (omega (arith, left_even)) (omega (arith, left_even, across)) (omega (arith, top_even)) (omega (arith, top_even, down))) in
+    planes_same (with_part column row left top w h f s) (with_part column row left top w h g s)
+    (with_block_same s.luma (16 * column + left) (16 * row + top) w h (λ x y. f 0 (left + x) (top + y)) (λ x y. g 0 (left + x) (top + y))
+    (λ x y across down.
+    same 0 (left + x) (top + y) (omega arith) (inside left top w h (left + x) (top + y) (omega arith) (omega (arith, across)) (omega arith) (omega (arith, down)))))
+    (with_block_same s.cb (8 * column + left / 2) (8 * row + top / 2) (w / 2) (h / 2) (λ x y. f 1 (left / 2 + x) (top / 2 + y)) (λ x y. g 1 (left / 2 + x) (top / 2 + y))
+    (λ x y. chroma 0 x y (omega arith)))
+    (with_block_same s.cr (8 * column + left / 2) (8 * row + top / 2) (w / 2) (h / 2) (λ x y. f 2 (left / 2 + x) (top / 2 + y)) (λ x y. g 2 (left / 2 + x) (top / 2 + y))
+    (λ x y. chroma 1 x y (omega arith)))
 
 -- ---- a whole macroblock
 
@@ -221,7 +263,12 @@ with_square column row f s = record {
 }
 
 pub whole_part : (column row : ℕ) (f : ℕ → ℕ → ℕ → ℕ) (s : Planes) → with_part column row 0 0 16 16 f s ≡ with_square column row f s
-whole_part column row f s = grind (arith, planes_same, with_block_same)
+whole_part column row f s =
+    let laid : (t : Plane) (size k : ℕ) → with_block t (size * column + 0) (size * row + 0) size size (λ x y. f k (0 + x) (0 + y)) ≡ with_block t (size * column) (size * row) size size (f k) =
+    λ t size k. rw (add-zero (size * column), add-zero (size * row))
+    (with_block_same t (size * column) (size * row) size size (λ x y. f k (0 + x) (0 + y)) (f k)
+    (λ x y _ _. ap (λ i. f k i (0 + y)) (zero-add x) ∙ ap (f k x) (zero-add y))) in
+    planes_same (with_part column row 0 0 16 16 f s) (with_square column row f s) (laid s.luma 16 0) (laid s.cb 8 1) (laid s.cr 8 2)
 
 -- ---- a rectangle that is predicted from one picture
 
@@ -237,7 +284,8 @@ module _ {PAD : ℕ} (p : ReferencePicture PAD) (v : Mv) (column row left top w 
   chroma_laid t reference b width height = with_block t (8 * column + left / 2) (8 * row + top / 2) width height (from_chroma reference b)
 
   narrowed : (t reference : Plane) (b c : Option Weight) → b ≡ c → chroma_laid t reference b cw ch ≡ chroma_laid t reference c (w / 2) (h / 2)
-  narrowed t reference b c e = grind arith
+  narrowed t reference b c e =
+      ap (λ o. chroma_laid t reference o cw ch) e ∙ ap (λ n. chroma_laid t reference c n ch) (omega (arith, wide)) ∙ ap (chroma_laid t reference c (w / 2)) (omega (arith, high))
 
   pub part_predicted : new.luma ≡ with_block s.luma (16 * column + left) (16 * row + top) w h (from_luma b0)
       → new.cb ≡ chroma_laid s.cb p.planes.now.cb b1 cw ch → new.cr ≡ chroma_laid s.cr p.planes.now.cr b2 cw ch
@@ -276,7 +324,9 @@ have_all p motion = list_all (λ m. is_picture (reference_of p.coded p.slice m))
 pub refused_inter : (p : Place) (syntax : MbSyntax) (motion : List Motion) (result : Result (Unit {0}) Fault) (f : Fault) (s new : Planes)
     → p.mb.syntax ≡ syntax → has_references p syntax ≡ have_all p p.motion → has_sides p syntax ≡ true → p.motion ≡ motion
     → result ≡ Err f → (f ≡ RefMissing) × (have_all p motion ≡ false) → ArePlanesBuilt p result s new
-refused_inter p syntax motion result f s new is references sides mine errs missing = grind (arith, refused_by)
+refused_inter p syntax motion result f s new is references sides mine errs missing =
+    subst (λ r. ArePlanesBuilt p r s new) (sym errs)
+    (refused_by p syntax false true is (references ∙ ap (have_all p) mine ∙ missing.1) sides ∙ ap Some (sym missing.0))
 
 module _ (p : Place) (column row : ℕ) (motion : List Motion) (across : p.address % p.coded.width ≡ column) (down : p.address / p.coded.width ≡ row) (mine : p.motion ≡ motion) where
   -- what is predicted_samples without a place
@@ -285,7 +335,7 @@ module _ (p : Place) (column row : ℕ) (motion : List Motion) (across : p.addre
 
   -- is the prediction at the macroblock's place
   pub predicted_there : (k x y : ℕ) → sum_of (predicted_samples k x y) (residual_at p k x y) ≡ inter_at p k x y
-  predicted_there k x y = grind arith
+  predicted_there k x y = rw (← across, ← down, ← mine) refl
 
 -- ---- without a residual
 
@@ -306,7 +356,9 @@ module _ (p : Place) (column row qp qp_of_chroma : ℕ) (motion : List Motion) (
   all = are.1 ∙ whole_part column row f s
 
   kept : (k x y : ℕ) → f k x y ≤ 255 → f k x y ≡ inter_at p k x y
-  kept k x y small = grind (arith, unchanged, predicted_there)
+  kept k x y small =
+      sym (unchanged (f k x y) (residual_at p k x y) small (ap (λ t. residual_of p.coded.chroma_qp_index_offset p.mb.qp t k x y) at.syntax_is))
+      ∙ predicted_there p column row motion at.column_is at.row_is mine k x y
 
   each_kept : (k x y : ℕ) → k < 3 → x < size_of k → y < size_of k → f k x y ≡ inter_at p k x y
   each_kept zero x y few left top = kept 0 x y (laid_small s.luma new.luma (16 * column) (16 * row) 16 (f 0) (ap (λ (t : Planes). t.luma) all) room.luma_columns room.luma_rows l x y left top)
@@ -356,7 +408,9 @@ module _ (p : Place) (column row qp qp_of_chroma : ℕ) (mb_type : PMbType) (ref
 
 -- the bounds of a place in a rectangle
 pub bounds : (quarter_left quarter_top w h x y : ℕ) → is_inside quarter_left quarter_top w h x y ≡ true → (quarter_left ≤ x) × (x < quarter_left + w) × (quarter_top ≤ y) × (y < quarter_top + h)
-bounds quarter_left quarter_top w h x y = grind (arith, by_place, false≢true)
+bounds quarter_left quarter_top w h x y =
+    by_place (λ t. t ≡ true → (quarter_left ≤ x) × (x < quarter_left + w) × (quarter_top ≤ y) × (y < quarter_top + h)) quarter_left quarter_top w h x y
+    (λ a b c d _. (a, b, c, d)) (λ none e. absurd (false≢true e))
 
 -- block k has the motion of block n
 abbrev same_as : List Motion → (n k : ℕ) → Type 0
@@ -364,14 +418,24 @@ same_as motion n k = block_motion motion k ≡ block_motion motion n
 
 have_one : (motion : List Motion) (quarter_left quarter_top w h first : ℕ) → block_at quarter_left quarter_top ≡ first
     → ((x y : ℕ) → quarter_left ≤ x → x < quarter_left + w → quarter_top ≤ y → y < quarter_top + h → same_as motion first (block_at x y)) → HaveOneMotion motion quarter_left quarter_top w h
-have_one motion quarter_left quarter_top w h first corner all = grind (arith, bounds)
+have_one motion quarter_left quarter_top w h first corner all = record {
+  same = λ x y e.
+      let b = bounds quarter_left quarter_top w h x y e in
+      all x y b.0 b.1 b.2 b.3 ∙ sym (ap (block_motion motion) corner);
+}
 
 -- ---- a quarter
 
 module _ (P : ℕ → Type 0) (q x y : ℕ) (few : q < 4) (x_low : 8 * (q % 2) ≤ x) (x_high : x < 8 * (q % 2) + 8) (y_low : 8 * (q / 2) ≤ y) (y_high : y < 8 * (q / 2) + 8) where
   by_block : (x < 8 * (q % 2) + 4 → y < 8 * (q / 2) + 4 → P (4 * q)) → (8 * (q % 2) + 4 ≤ x → y < 8 * (q / 2) + 4 → P (4 * q + 1))
       → (x < 8 * (q % 2) + 4 → 8 * (q / 2) + 4 ≤ y → P (4 * q + 2)) → (8 * (q % 2) + 4 ≤ x → 8 * (q / 2) + 4 ≤ y → P (4 * q + 3)) → P (block_at x y)
-  by_block a b c d = grind (arith, cases_lt)
+  by_block a b c d =
+      ⊎_elim
+      (λ left. ⊎_elim (λ upper. subst P (omega (arith, few, x_low, left, y_low, upper)) (a left upper))
+      (λ lower. subst P (omega (arith, few, x_low, left, y_high, lower)) (c left lower)) (cases_lt y (8 * (q / 2) + 4)))
+      (λ right. ⊎_elim (λ upper. subst P (omega (arith, few, x_high, right, y_low, upper)) (b right upper))
+      (λ lower. subst P (omega (arith, few, x_high, right, y_high, lower)) (d right lower)) (cases_lt y (8 * (q / 2) + 4)))
+      (cases_lt x (8 * (q % 2) + 4))
 
 module _ (motion : List Motion) (q : ℕ) (few : q < 4) where
   abbrev quarter_left : ℕ
@@ -381,19 +445,33 @@ module _ (motion : List Motion) (q : ℕ) (few : q < 4) where
   quarter_top = 8 * (q / 2)
 
   pub whole_quarter : IsQuarterShape motion q Whole → HaveOneMotion motion quarter_left quarter_top 8 8
-  whole_quarter s = grind (arith, have_one, by_block)
+  whole_quarter s =
+      have_one motion quarter_left quarter_top 8 8 (4 * q) (omega (arith, few))
+      (λ x y l r t u. by_block (same_as motion (4 * q)) q x y few l r t u (λ _ _. refl) (λ _ _. sym s.0) (λ _ _. sym s.2) (λ _ _. sym s.1 ∙ sym s.2))
 
   pub upper_of_quarter : IsQuarterShape motion q WideHalves → HaveOneMotion motion quarter_left quarter_top 8 4
-  upper_of_quarter s = grind (arith, have_one, by_block)
+  upper_of_quarter s =
+      have_one motion quarter_left quarter_top 8 4 (4 * q) (omega (arith, few))
+      (λ x y l r t u. by_block (same_as motion (4 * q)) q x y few l r t (omega (arith, u)) (λ _ _. refl) (λ _ _. sym s.0)
+      (λ _ v. absurd (omega (arith, u, v))) (λ _ v. absurd (omega (arith, u, v))))
 
   pub lower_of_quarter : IsQuarterShape motion q WideHalves → HaveOneMotion motion quarter_left (quarter_top + 4) 8 4
-  lower_of_quarter s = grind (arith, have_one, by_block)
+  lower_of_quarter s =
+      have_one motion quarter_left (quarter_top + 4) 8 4 (4 * q + 2) (omega (arith, few))
+      (λ x y l r t u. by_block (same_as motion (4 * q + 2)) q x y few l r (omega (arith, t)) (omega (arith, u))
+      (λ _ v. absurd (omega (arith, t, v))) (λ _ v. absurd (omega (arith, t, v))) (λ _ _. refl) (λ _ _. sym s.1))
 
   pub left_of_quarter : IsQuarterShape motion q TallHalves → HaveOneMotion motion quarter_left quarter_top 4 8
-  left_of_quarter s = grind (arith, have_one, by_block)
+  left_of_quarter s =
+      have_one motion quarter_left quarter_top 4 8 (4 * q) (omega (arith, few))
+      (λ x y l r t u. by_block (same_as motion (4 * q)) q x y few l (omega (arith, r)) t u (λ _ _. refl)
+      (λ v _. absurd (omega (arith, r, v))) (λ _ _. sym s.0) (λ v _. absurd (omega (arith, r, v))))
 
   pub right_of_quarter : IsQuarterShape motion q TallHalves → HaveOneMotion motion (quarter_left + 4) quarter_top 4 8
-  right_of_quarter s = grind (arith, have_one, by_block)
+  right_of_quarter s =
+      have_one motion (quarter_left + 4) quarter_top 4 8 (4 * q + 1) (omega (arith, few))
+      (λ x y l r t u. by_block (same_as motion (4 * q + 1)) q x y few (omega (arith, l)) (omega (arith, r)) t u
+      (λ v _. absurd (omega (arith, l, v))) (λ _ _. refl) (λ v _. absurd (omega (arith, l, v))) (λ _ _. sym s.1))
 
 -- in as few rectangles as the shape of a quarter allows
 pub ruleset quarter_parts = (whole_quarter, upper_of_quarter, lower_of_quarter, left_of_quarter, right_of_quarter)
@@ -407,33 +485,58 @@ one_of_four P first k low high a b c d = grind (arith, cases_lt)
 module _ (motion : List Motion) (whole : HasWholeQuarters motion) where
   -- a block has the motion of the first block of its quarter
   in_quarter : (k : ℕ) → k < 16 → same_as motion (4 * (k / 4)) k
-  in_quarter k few = grind (arith, one_of_four)
+  in_quarter k few =
+      let q = k / 4 in
+      let w = whole q (omega (arith, few)) in
+      one_of_four (same_as motion (4 * q)) (4 * q) k (omega arith) (omega arith) refl (sym w.0) (sym w.2) (sym w.1 ∙ sym w.2)
 
   by_quarter : (n x y : ℕ) → x < 16 → y < 16 → (x < 8 → y < 8 → same_as motion n 0) → (8 ≤ x → y < 8 → same_as motion n 4)
       → (x < 8 → 8 ≤ y → same_as motion n 8) → (8 ≤ x → 8 ≤ y → same_as motion n 12) → same_as motion n (block_at x y)
-  by_quarter n x y column row a b c d = grind (arith, in_quarter, cases_lt)
+  by_quarter n x y column row a b c d =
+      let at : (m : ℕ) → 4 * (block_at x y / 4) ≡ m → same_as motion n m → same_as motion n (block_at x y) =
+      λ m e s. in_quarter (block_at x y) (omega (arith, column, row)) ∙ ap (block_motion motion) e ∙ s in
+      ⊎_elim
+      (λ left. ⊎_elim (λ upper. at 0 (omega (arith, left, upper)) (a left upper)) (λ lower. at 8 (omega (arith, left, lower, row)) (c left lower)) (cases_lt y 8))
+      (λ right. ⊎_elim (λ upper. at 4 (omega (arith, column, right, upper)) (b right upper)) (λ lower. at 12 (omega (arith, column, right, lower, row)) (d right lower)) (cases_lt y 8))
+      (cases_lt x 8)
 
 pub whole_macroblock : (motion : List Motion) → IsMacroblockShape motion Whole → HaveOneMotion motion 0 0 16 16
-whole_macroblock motion s = grind (arith, have_one, by_quarter)
+whole_macroblock motion s =
+    have_one motion 0 0 16 16 0 refl
+    (λ x y _ r _ u. by_quarter motion s.0 0 x y (omega (arith, r)) (omega (arith, u)) (λ _ _. refl) (λ _ _. sym s.1.0) (λ _ _. sym s.1.2) (λ _ _. sym s.1.1 ∙ sym s.1.2))
 
 pub upper_half : (motion : List Motion) → IsMacroblockShape motion WideHalves → HaveOneMotion motion 0 0 16 8
-upper_half motion s = grind (arith, have_one, by_quarter)
+upper_half motion s =
+    have_one motion 0 0 16 8 0 refl
+    (λ x y _ r _ u. by_quarter motion s.0 0 x y (omega (arith, r)) (omega (arith, u)) (λ _ _. refl) (λ _ _. sym s.1.0)
+    (λ _ v. absurd (omega (arith, u, v))) (λ _ v. absurd (omega (arith, u, v))))
 
 pub lower_half : (motion : List Motion) → IsMacroblockShape motion WideHalves → HaveOneMotion motion 0 8 16 8
-lower_half motion s = grind (arith, have_one, by_quarter)
+lower_half motion s =
+    have_one motion 0 8 16 8 8 refl
+    (λ x y _ r t u. by_quarter motion s.0 8 x y (omega (arith, r)) (omega (arith, u)) (λ _ v. absurd (omega (arith, t, v))) (λ _ v. absurd (omega (arith, t, v)))
+    (λ _ _. refl) (λ _ _. sym s.1.1))
 
 pub left_half : (motion : List Motion) → IsMacroblockShape motion TallHalves → HaveOneMotion motion 0 0 8 16
-left_half motion s = grind (arith, have_one, by_quarter)
+left_half motion s =
+    have_one motion 0 0 8 16 0 refl
+    (λ x y _ r _ u. by_quarter motion s.0 0 x y (omega (arith, r)) (omega (arith, u)) (λ _ _. refl) (λ v _. absurd (omega (arith, r, v)))
+    (λ _ _. sym s.1.0) (λ v _. absurd (omega (arith, r, v))))
 
 pub right_half : (motion : List Motion) → IsMacroblockShape motion TallHalves → HaveOneMotion motion 8 0 8 16
-right_half motion s = grind (arith, have_one, by_quarter)
+right_half motion s =
+    have_one motion 8 0 8 16 4 refl
+    (λ x y l r _ u. by_quarter motion s.0 4 x y (omega (arith, r)) (omega (arith, u)) (λ v _. absurd (omega (arith, l, v))) (λ _ _. refl)
+    (λ v _. absurd (omega (arith, l, v))) (λ _ _. sym s.1.1))
 
 -- in as few rectangles as the shape of a macroblock allows
 pub ruleset macroblock_parts = (whole_macroblock, upper_half, lower_half, left_half, right_half)
 
 -- all blocks are the same
 pub whole_blocks : (motion : List Motion) → IsMacroblockShape motion Whole → (k : ℕ) → k < 16 → same_as motion 0 k
-whole_blocks motion s k few = grind (arith, in_quarter, one_of_four)
+whole_blocks motion s k few =
+    in_quarter motion s.0 k few
+    ∙ one_of_four (λ q. same_as motion 0 (4 * q)) 0 (k / 4) (omega arith) (omega (arith, few)) refl (sym s.1.0) (sym s.1.2) (sym s.1.1 ∙ sym s.1.2)
 
 -- blocks that have one motion are predicted at once
 pub one_shape : (motion : List Motion) → AreOfOneMotion motion → IsMacroblockShape motion Whole
@@ -451,11 +554,22 @@ one_shape motion one =
 -- ---- which reference pictures there are
 
 usable_on : {PAD : ℕ} (w h column row : ℕ) (p : ReferencePicture PAD) → column < w → row < h → IsUsable w h p → IsUsableAt column row p
-usable_on w h column row p a b u = grind arith
+usable_on w h column row p a b u = record {
+  planes = record {
+    luma_columns = omega (arith, a, u.sized.luma_width);
+    luma_rows = omega (arith, b, u.sized.luma_height);
+    cb_columns = omega (arith, a, u.sized.cb_width);
+    cb_rows = omega (arith, b, u.sized.cb_height);
+    cr_columns = omega (arith, a, u.sized.cr_width);
+    cr_rows = omega (arith, b, u.sized.cr_height);
+  };
+  weights = u.weights;
+}
 
 -- what holds of each entry that is there
 pub some_at : {X : Type 0} (P : X → Type 0) (xs : List (Option X)) (r : ℕ) → All (λ o. IfSome o P) xs → IfSome (slice_index_or xs r None) P
-some_at P xs r all = grind (arith, cases_lt r (length xs), all, get_or_past)
+some_at P xs r all =
+    ⊎_elim (λ low. All-get_or (λ o. IfSome o P) xs r None low all) (λ off. subst (λ o. IfSome o P) (sym (get_or_past xs r None off)) tt) (cases_lt r (length xs))
 
 -- ---- pictures of a coded picture and of the list
 
@@ -474,7 +588,8 @@ same_all p q e (x ∷ xs) = rw (e x, same_all p q e xs) refl
 
 pub pictures_shown : {PAD : ℕ} (c : Coded) (slice : ℕ) (references : List (Option (ReferencePicture PAD))) (motion : List Motion) → AreReferences c slice references
     → list_all (λ m. is_picture (reference_of c slice m)) motion ≡ have_pictures references motion
-pictures_shown c slice references motion are = grind (arith, same_all, is_shown)
+pictures_shown c slice references motion are =
+    same_all (λ m. is_picture (reference_of c slice m)) (λ m. is_some (picture_in references m)) (is_shown c slice references are) motion
 
 -- ---- samples
 
@@ -489,7 +604,9 @@ module _ {PAD : ℕ} (c : Coded) (slice r w h : ℕ) (p : ReferencePicture PAD) 
 
   from_is : (k x y : ℕ) → predicted_from p v k x y ≡ inter_predicted c slice (motions.Inter r v) k x y
   unfolding predicted_from
-  from_is k x y = grind (arith, fetched_is)
+  from_is k x y =
+      ap (weighted_by (option_map (component_weight k) p.weights)) (fetched_is k x y)
+      ∙ ap (λ o. weighted_by (option_map (component_weight k) o) (fetched c slice (motions.Inter r v) k x y)) (sym shows.weights)
 
 by_entry : {PAD : ℕ} (c : Coded) (slice r w h : ℕ) (v : Mv) (k x y : ℕ) → c.width ≡ w → c.height ≡ h → (o : Option (ReferencePicture PAD)) → (references : List (Option (ReferencePicture PAD)))
     → slice_index_or references r None ≡ o → ShowsReference c slice r o → IfSome o (IsUsable w h) → is_some o ≡ true
@@ -499,7 +616,8 @@ by_entry c slice r w h v k x y wide high (Some p) references e shows usable ther
 
 predicted_is : {PAD : ℕ} (c : Coded) (slice w h : ℕ) (references : List (Option (ReferencePicture PAD))) (k x y : ℕ) → c.width ≡ w → c.height ≡ h → AreReferences c slice references → AreUsable w h references
     → (m : Motion) → is_some (picture_in references m) ≡ true → predicted_in references m k x y ≡ inter_predicted c slice m k x y
-predicted_is c slice w h references k x y wide high are all (motions.Inter r v) there = grind (arith, by_entry, some_at (IsUsable w h) references r all, there)
+predicted_is c slice w h references k x y wide high are all (motions.Inter r v) there =
+    by_entry c slice r w h v k x y wide high (slice_index_or references r None) references refl (are.each r) (some_at (IsUsable w h) references r all) there
 predicted_is c slice w h references k x y wide high are all m there = absurd (false≢true there)
 
 -- a block has a picture where all have
@@ -572,7 +690,8 @@ as_first p motion long shape false e = e ∙ sym (list_all_at p motion 0 motions
 
 pub all_as_first : {PAD : ℕ} (references : List (Option (ReferencePicture PAD))) (motion : List Motion) → length motion ≡ 16 → IsMacroblockShape motion Whole
     → is_some (picture_in references (block_motion motion 0)) ≡ have_pictures references motion
-all_as_first references motion long shape = grind (arith, as_first)
+all_as_first references motion long shape =
+    as_first (λ m. is_some (picture_in references m)) motion long shape (is_some (picture_in references (block_motion motion 0))) refl
 
 -- the picture of a block can be predicted from
 pub usable_in : {PAD : ℕ} (w h column row : ℕ) (references : List (Option (ReferencePicture PAD))) (m : Motion) (p : ReferencePicture PAD) → AreUsable w h references → column < w → row < h

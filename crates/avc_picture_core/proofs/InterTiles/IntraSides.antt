@@ -218,17 +218,42 @@ on_picture c a k l there off = true≢false (sym there ∙ ap (is_there c a k) o
 pub sides_inside : (c : Coded) (a k : ℕ) → AreInside (16 * (a % c.width) + block_x k) (16 * (a / c.width) + block_y k) (16 * c.width) (sides_of c a k)
 sides_inside c a k = grind (arith, ints, pos, cases_lt, on_picture, up_off, left_off, right_off)
 
+-- the same under other words
+inside_as : (c : Coded) (width address here k : ℕ) (s : Sides) → c.width ≡ width → here ≡ address → sides_of c here k ≡ s
+    → AreInside (16 * (address % width) + block_x k) (16 * (address / width) + block_y k) (16 * width) s
+inside_as c width address here k s wide at are =
+    let in_plane = λ (w a : ℕ) (t : Sides). AreInside (16 * (a % w) + block_x k) (16 * (a / w) + block_y k) (16 * w) t in
+    subst (in_plane width address) are
+    (subst (λ w. in_plane w address (sides_of c here k)) wide (subst (λ a. in_plane c.width a (sides_of c here k)) at (sides_inside c here k)))
+
 -- ---- all of it
 
 module _ {PAD : ℕ} (canvas : CanvasState) (address qp_of_chroma : ℕ) (mb : Mb) (info : NeighbourInfo) (n : MacroblocksAround) (r : ReadableNeighbours)
     (references : List (Option (ReferencePicture PAD))) (p : Place) (on : IsPlaceOn canvas address mb info n references p) where
   -- what its blocks may read
   place_reads : is_intra mb.syntax ≡ true → r ≡ readable_near canvas.constrained_intra_pred n → MayRead (address % canvas.width) (address / canvas.width) (16 * canvas.width) r p
-  place_reads intra near = grind (arith, near_readable, sides_inside)
+  place_reads intra near =
+      let are : (k : ℕ) → k < 16 → sides_of p.coded p.address k ≡ readable_sides r k =
+      λ k few. on.sides intra k few ∙ near_readable canvas.constrained_intra_pred n k ∙ ap (λ t. readable_sides t k) (sym near) in
+      record { sides = are; inside = λ k few. inside_as p.coded canvas.width address p.address k (readable_sides r k) on.width on.address_is (are k few) }
 
   place_in : qp_of_chroma ≡ chroma_qp canvas.chroma_qp_index_offset mb.qp → (is_intra mb.syntax ≡ true → r ≡ readable_near canvas.constrained_intra_pred n)
       → IsPlaceIn (address % canvas.width) (address / canvas.width) canvas.width canvas.height mb.syntax mb.qp qp_of_chroma info r references p
-  place_in chroma near = grind (arith, place_reads)
+  place_in chroma near = record {
+    at = record {
+      column_is = ap (λ a. a % p.coded.width) on.address_is ∙ ap (λ w. address % w) on.width;
+      row_is = ap (λ a. a / p.coded.width) on.address_is ∙ ap (λ w. address / w) on.width;
+      syntax_is = ap (λ (m : Mb). m.syntax) on.mb_is;
+      qp_is = ap (λ (m : Mb). m.qp) on.mb_is;
+      chroma_is = ap (λ o. chroma_qp o p.mb.qp) on.offset ∙ ap (λ (m : Mb). chroma_qp canvas.chroma_qp_index_offset m.qp) on.mb_is ∙ sym chroma;
+    };
+    may_read = λ intra. place_reads intra (near intra);
+    width_is = on.width;
+    height_is = on.height;
+    modes_are = on.modes;
+    motion_is = on.motion;
+    references_are = on.references_are;
+  }
 
   module _ (column row : ℕ) (narrow : column < canvas.width) (at : address ≡ row * canvas.width + column)
       (chroma : qp_of_chroma ≡ chroma_qp canvas.chroma_qp_index_offset mb.qp) (near : is_intra mb.syntax ≡ true → r ≡ readable_near canvas.constrained_intra_pred n) where
@@ -344,7 +369,9 @@ module _ (c : Coded) (h a k : ℕ) (some : 0 < c.width) (room : a / c.width < h)
 
   read : (x y u v : ℕ) (p q : ℤ) → nat_abs (pos left +ℤ p) ≡ x → nat_abs (pos top +ℤ q) ≡ y → x < 16 * c.width → y < 16 * h
       → x / 4 ≡ u / 4 → y / 4 ≡ v / 4 → IsEarlier c.width a k u v → seen_from s left top p q ≡ seen_from t left top p q
-  read x y u v p q e f column row i j earlier = grind (arith, ints, nat_tests, nat_abs, pos, together)
+  read x y u v p q e f column row i j earlier =
+      let at : (o : Plane) → seen_from o left top p q ≡ sample o x y = λ o. ap (λ m. sample o m (nat_abs (pos top +ℤ q))) e ∙ ap (sample o x) f in
+      at s ∙ agree.samples x y column row (together c.width a k x y u v i j earlier) ∙ sym (at t)
 
   beside4x4 : AgreeBeside 4 (sides_of c a k) (seen_from s left top) (seen_from t left top)
   beside4x4 =
@@ -403,7 +430,15 @@ module _ (c : Coded) (size h a : ℕ) (big : 8 ≤ size) (some : 0 < c.width) (r
     read_mb : (u v i j : ℕ) (p q : ℤ) → nat_abs (pos (size * column) +ℤ p) ≡ size * u + i → nat_abs (pos (size * row) +ℤ q) ≡ size * v + j
         → u < c.width → v < h → i < size → j < size → v * c.width + u < a
         → seen_from s (size * column) (size * row) p q ≡ seen_from t (size * column) (size * row) p q
-    read_mb u v i j p q e f narrow low across down earlier = grind (arith, ints, nat_tests, mul_comm, address_in, nat_abs, pos, less_in, narrow)
+    read_mb u v i j p q e f narrow low across down earlier =
+        let x = size * u + i in
+        let y = size * v + j in
+        let at : (o : Plane) → seen_from o (size * column) (size * row) p q ≡ sample o x y =
+        λ o. ap (λ m. sample o m (nat_abs (pos (size * row) +ℤ q))) e ∙ ap (sample o x) f in
+        let address_is : address_at size c.width x y ≡ v * c.width + u =
+        ap (λ m. address_at size c.width (m + i) y) (mul_comm size u) ∙ ap (λ m. address_at size c.width (u * size + i) (m + j)) (mul_comm size v)
+        ∙ address_in size c.width u v i j across down in
+        at s ∙ agree.samples x y (less_in size c.width i u narrow across) (less_in size h j v low down) (subst (λ m. m < a) (sym address_is) earlier) ∙ sym (at t)
 
     before : (n : ℕ) → 0 < n → size * n ≡ size * (n - 1) + size
     before n more = ap (λ k. size * k) (omega (arith, more)) ∙ mul-add size (n - 1) 1 ∙ omega arith

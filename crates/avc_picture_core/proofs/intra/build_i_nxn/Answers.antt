@@ -1,5 +1,5 @@
 use Rattle.avc_picture_core.proofs.InterTiles.{◌≡◌, ◌+◌, ◌*◌, true, false, slice_index_or, refl, ap, sym, subst, ◌∙◌, arith, [], and_parts, i_nxn, absent}
-use Rattle.avc_picture_core.proofs.InterTiles.{planes_of, can_predict4x4, mode4x4_of, luma_after, mode_number, sides_of, AreInside, readable_sides}
+use Rattle.avc_picture_core.proofs.InterTiles.{planes_of, can_predict4x4, can_predict_chroma, mode4x4_of, luma_after, mode_number, sides_of, AreInside, readable_sides}
 use Rattle.avc_picture_core.proofs.InterTiles.{each_sixteen, has_nxn, nxn_at, planes_intra, refused_by}
 use Rattle.avc_types.specs.MacroblockFields.{residual_of}
 use Rattle.avc_picture_core.proofs.intra.build_i_nxn.Goals as goal
@@ -12,10 +12,38 @@ build_luma4x4-requires g c =
     (omega arith, (r.room.luma_columns, (r.room.luma_rows, (r.luma, (r.levels, (r.modes, can))))))
 
 pub build_component-requires : goal.build_component-requires
-build_component-requires g c = grind (arith, and_parts)
+build_component-requires g c =
+    let r = c.requires in (
+      omega arith,
+      (
+        r.room.cb_columns,
+        (
+          r.room.cb_rows,
+          (
+            subst (λ t. can_predict_chroma t c.mode_chroma-mode.result ≡ true) (sym c.sides-sides.ensures)
+                (and_parts _ _ (sym c.has_sides_nxn.ensures ∙ c.if-not-has_sides_nxn.false)).1,
+            (r.chroma, (r.levels.dc_of_cb, r.levels.blocks_of_cb)),
+          ),
+        ),
+      ),
+    )
 
 pub build_component-requires-2 : goal.build_component-requires-2
-build_component-requires-2 g c = grind (arith, and_parts)
+build_component-requires-2 g c =
+    let r = c.requires in (
+      omega arith,
+      (
+        r.room.cr_columns,
+        (
+          r.room.cr_rows,
+          (
+            subst (λ t. can_predict_chroma t c.mode_chroma-mode.result ≡ true) (sym c.sides-sides.ensures)
+                (and_parts _ _ (sym c.has_sides_nxn.ensures ∙ c.if-not-has_sides_nxn.false)).1,
+            (r.chroma, (r.levels.dc_of_cr, r.levels.blocks_of_cr)),
+          ),
+        ),
+      ),
+    )
 
 pub returns-then-not-has_sides_nxn-clause-built : goal.returns-then-not-has_sides_nxn-clause-built
 returns-then-not-has_sides_nxn-clause-built g c = λ p coded at may modes.
