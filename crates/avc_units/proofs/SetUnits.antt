@@ -243,6 +243,24 @@ pub brought-by : (sets : Sets) (u : Unit) (k : Kind) (read : Option (List ℕ)) 
     → brought_by sets u.header k read ≡ brought sets u
 brought-by sets u k read low is has = rw (brought, is_allowed u.header low, is, has) refl
 
+-- a unit whose forbidden_zero_bit is 1
+pub forbidden_brought : (sets : Sets) (u : Unit) → 128 ≤ u.header → brings_kinds.Refused faults.ForbiddenBit ≡ brought sets u
+forbidden_brought sets u high = rw (brought, is_forbidden u.header high) refl
+
+pub forbidden_sets : (before : List SetUnit) (u : Unit) → 128 ≤ u.header → before ≡ before ++ set_units (u ∷ [])
+forbidden_sets before u high = sym (append-nil before) ∙ ap (λ s. before ++ (list_of s ++ [])) (no_set u high)
+
+-- a unit whose RBSP is read
+pub read_brought : (result : Result Brought OutOfMemory) (table before : List SetUnit) → table ≡ before → (u : Unit) (k : Kind) (rbsp seen : List ℕ) → u.header < 128 → k ≡ kind u
+    → Some rbsp ≡ rbsp_of u → seen ≡ rbsp → IfOk result (λ b. b ≡ brought_by (sets_after table) u.header k (Some seen)) → IfOk result (λ b. b ≡ brought (sets_after before) u)
+read_brought result table before same_table u k rbsp seen low is has same read =
+    subst (λ v. IfOk result (λ b. b ≡ v)) (brought-by (sets_after table) u k (Some seen) low is (ap (λ bytes. Some bytes) same ∙ has) ∙ ap (λ sets. brought (sets_after sets) u) same_table) read
+
+pub read_sets : (result : Result Brought OutOfMemory) (table before after : List SetUnit) → table ≡ before → (u : Unit) (k : Kind) (rbsp seen : List ℕ) → u.header < 128 → k ≡ kind u
+    → Some rbsp ≡ rbsp_of u → seen ≡ rbsp → OnOk result (after ≡ table ++ list_of (set_of k (Some seen))) → OnOk result (after ≡ before ++ set_units (u ∷ []))
+read_sets result table before after same_table u k rbsp seen low is has same read =
+    subst (λ v. OnOk result (after ≡ v)) (more_sets table u k (Some seen) low is (ap (λ bytes. Some bytes) same ∙ has) ∙ ap (λ sets. sets ++ set_units (u ∷ [])) same_table) read
+
 -- ---- parameter sets that are sent again: sets come alike
 
 alike : {A B : Type 0} (record_of : Option B → A) (these those more : List B) → record_of (last these) ≡ record_of (last those)
@@ -504,6 +522,54 @@ pub slice_or_start-under : (step : Step) (running : Bool) (open_picture : Option
     → IfOk read (IsSliceUnder sets) → IfSlice step.next (IsSliceUnder sets)
 slice_or_start-under step running open_picture starts read sets same kept =
     rw same (slice_or_start-kept (IsSliceUnder sets) running open_picture starts read kept)
+
+-- ---- what a unit does, by its first byte and its kind
+
+-- what a slice brings where it is no slice
+pub slice_or_start-if : (P : Slice → Type 0) (step : Step) (running : Bool) (open_picture : Option OpenPictureFacts) (starts : Bool) (read : Result Slice Fault)
+    → step ≡ slice_or_start running open_picture starts read → IfOk read P → IfSlice step.next P
+slice_or_start-if P step running open_picture starts read same kept = rw same (slice_or_start-kept P running open_picture starts read kept)
+
+pub partition_step : (running : Bool) (open_picture : Option OpenPictureFacts) (sets : Sets) (u : Unit) → slice_or_start running open_picture false (Err faults.DataPartition)
+    ≡ elim running [ true ↦ running_step sets open_picture u partition | false ↦ waiting_step sets u partition ]
+partition_step true open_picture sets u = refl
+partition_step false open_picture sets u = refl
+
+-- what holds anyway
+pub always_kept : (next : Next) (P : Type 0) → P → IfSlice next (λ _. P)
+always_kept Nothing P p = tt
+always_kept (Refusal f) P p = tt
+always_kept (FaultOfOpen f) P p = tt
+always_kept (FaultOfOwn f) P p = tt
+always_kept (Begins s) P p = p
+always_kept (Continues s) P p = p
+
+pub always_brought : (r : Result Step OutOfMemory) (P : Type 0) → P → IfOk r (λ s. IfSlice s.next (λ _. P))
+always_brought (Ok s) P p = always_kept s.next P p
+always_brought (Err e) P p = tt
+
+pub on-ok : {A E : Type 0} (r : Result A E) (P : Type 0) → P → OnOk r P
+on-ok (Ok x) P p = p
+on-ok (Err e) P p = tt
+
+pub step-by : (r : Result Step OutOfMemory) (sets : Sets) (context : UnitContext) (u : Unit) (k : Kind) → u.header < 128 → k ≡ kind u
+    → IfOk r (λ s. s ≡ step_by context sets u k) → IfOk r (λ s. s ≡ step sets context.running (open_picture_in context) u)
+step-by r sets context u k low is did = subst (λ v. IfOk r (λ s. s ≡ v)) (here is) did
+  where
+    here : k ≡ kind u → step_by context sets u k ≡ step sets context.running (open_picture_in context) u
+    here same = rw (step, is_allowed u.header low, same) refl
+
+pub step_sets : (r : Result Step OutOfMemory) (before after : List SetUnit) (u : Unit) (k : Kind) → u.header < 128 → k ≡ kind u
+    → OnOk r (after ≡ before ++ list_of (set_of k (rbsp_of u))) → OnOk r (after ≡ before ++ set_units (u ∷ []))
+step_sets r before after u k low is did = subst (λ v. OnOk r (after ≡ v)) (more_sets before u k (rbsp_of u) low is refl) did
+
+pub step_wants : (r : Result Step OutOfMemory) (u : Unit) (k : Kind) → u.header < 128 → k ≡ kind u → OnErr r (is_some u.body ≡ true) → OnErr r (is_read k ≡ true) → OnErr r (MayWantMemory u)
+step_wants (Ok s) u k low is body read = tt
+step_wants (Err e) u k low is body read = may_want u k low is read body
+
+pub forbidden_step : (sets : Sets) (running : Bool) (open_picture : Option OpenPictureFacts) (u : Unit) → 128 ≤ u.header
+    → record { closes = false; next = Refusal faults.ForbiddenBit; even_after_fault = true } ≡ step sets running open_picture u
+forbidden_step sets running open_picture u high = rw (step, is_forbidden u.header high) refl
 
 -- ---- the units that brought the parameter sets in force are no more than the units of the stream: each brings a set of one id
 

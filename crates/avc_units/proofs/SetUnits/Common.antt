@@ -1,8 +1,8 @@
 -- The names that the proofs cite of std, of the crates below and of the definitions here, passed on from one place. Declares nothing.
 pub use Rattle.std.proofs.Common.{◌≡◌, ◌+◌, ◌<◌, ◌≤◌, ℕ, zero, suc, Bool, true, false, cond, List, [], ◌∷◌, ◌++◌, map, Option, All, Some, None, filter, refl}
-pub use Rattle.std.proofs.Common.{ap, sym, ◌∙◌, append_assoc, append-nil, ◌⊎◌, arith, length, nat_le, nat_lt, ◌&&◌, Result, Ok, Err, IfOk, OnErr, is_some, ◌==◌}
+pub use Rattle.std.proofs.Common.{ap, sym, ◌∙◌, append_assoc, append-nil, ◌⊎◌, arith, length, nat_le, nat_lt, ◌&&◌, Result, Ok, Err, IfOk, OnErr, OnOk, is_some, ◌==◌}
 pub use Rattle.std.proofs.Common.{if◌then◌else◌, IsTrue, slice_get, length-append}
-pub use Rattle.std.proofs.Math.Path.{fun_ext}
+pub use Rattle.std.proofs.Math.Path.{fun_ext, subst}
 pub use Rattle.std.proofs.lemmas.Bool.{eqb-true, le-leb, lt-leb}
 pub use Rattle.std.proofs.lemmas.Bool.Decides.{nat_tests}
 pub use Rattle.std.proofs.lemmas.List.Elements.{filter-append, filter_passes, All-head, All-tail, All-nil, All-append, All-weaker, All-cons, All-filter}
@@ -26,13 +26,14 @@ pub use Rattle.avc_slice.specs.declared.header.Header.{Header}
 pub use Rattle.avc_slice.specs.declared.slice.Slice.{Slice}
 pub use Rattle.avc_types.specs.declared.fault.Fault.{Fault}
 pub use Rattle.avc_types.specs.declared.memory.OutOfMemory.{OutOfMemory}
-pub use Rattle.avc_units.specs.Bringing.{brought, brought_by, parameter_set, slice_brought}
+pub use Rattle.avc_units.specs.Bringing.{IfHeader, brought, brought_by, parameter_set, slice_brought}
 pub use Rattle.avc_units.specs.GrouperState.{IfSlice, IsSliceUnder}
 pub use Rattle.avc_units.specs.Grouping.{is_read, MayWantMemory}
 pub use Rattle.avc_units.specs.Grouping.{list_of, set_unit, set_units, ends_picture, fault_in, pps, rbsp_of, refusal_of, set_fault, sps, Kind, kind, set_of}
 pub use Rattle.avc_units.specs.Grouping.{step, tables, slice, partition, boundary, OpenPictureFacts, is_start, kind_of, reads_zero, readable, running_step}
 pub use Rattle.avc_units.specs.Grouping.{slice_in, slice_step, unreadable, waiting_step, with_header}
-pub use Rattle.avc_units.specs.Kinds.{meant, slice_or_start, open_picture_in}
+pub use Rattle.avc_units.specs.Kinds.{meant, slice_or_start, open_picture_in, step_by}
+pub use Rattle.avc_units.specs.declared.step_cases.UnitContext.{UnitContext}
 pub use Rattle.avc_units.specs.Laws.{IsSetOf, SetsAreInForceAgain, SetsComeAlike, SetsInForceAreUnits, SetsInForceAreFew}
 pub use Rattle.avc_units.specs.Resuming.{deciding_unit, satisfies, unit_list}
 pub use Rattle.avc_units.specs.declared.header_reader.Brought.{Brought}
@@ -40,5 +41,5 @@ pub use Rattle.avc_units.specs.declared.kinds.UnitKind.{UnitKind}
 pub use Rattle.avc_units.specs.declared.set_reading.ParameterSet.{ParameterSet}
 pub use Rattle.avc_units.specs.declared.set_reading.ParameterSet.TheVariants.{OfPicture, OfSequence}
 pub use Rattle.avc_units.specs.declared.step.Next.{Next}
-pub use Rattle.avc_units.specs.declared.step.Next.TheVariants.{Nothing}
+pub use Rattle.avc_units.specs.declared.step.Next.TheVariants.{Nothing, Refusal, FaultOfOpen, FaultOfOwn, Begins, Continues}
 pub use Rattle.avc_units.specs.declared.step.Step.{Step}
