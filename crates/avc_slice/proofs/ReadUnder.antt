@@ -612,3 +612,23 @@ refused_weights = (refl, refl, refl, refl)
 -- an I slice has no table
 intra_unweighted : weighted_at 0x65 (0x88 ∷ 0x84 ∷ 0x93 ∷ 0xC0 ∷ []) ≡ header_at 0x65 (0x88 ∷ 0x84 ∷ 0x93 ∷ 0xC0 ∷ [])
 intra_unweighted = refl
+
+-- ---- what is answered where a part is not read
+
+pub fills_fault : {V : Type 0} (result : Result (Prim.Unit {0}) Fault) (place : V) (part : Read V) (old new : BitReader) (fault : Fault) → IsErrAnd result (λ e. e ≡ fault)
+    → part (reader_bits old) ≡ Err fault → Fills result place part old new
+fills_fault (Ok done) place part old new fault given e = absurd given
+fills_fault (Err why) place part old new fault given e = e ∙ ap Err (sym given)
+
+pub filled_fault : {V : Type 0} (result : Result (Prim.Unit {0}) Fault) (place : V) (read : Result V Fault) (fault : Fault) → IsErrAnd result (λ e. e ≡ fault) → read ≡ Err fault → filled result place ≡ read
+filled_fault (Ok done) place read fault given e = absurd given
+filled_fault (Err why) place read fault given e = ap Err given ∙ sym e
+
+pub filled_by : (result : Result (Prim.Unit {0}) Fault) (place : Header) (part : Read Header) (old new : BitReader) (whole : Result Header Fault) → Fills result place part old new
+    → value_or_fault (part (reader_bits old)) ≡ whole → filled result place ≡ whole
+filled_by (Ok done) place part old new whole given is = sym (ap value_or_fault given.0) ∙ is
+filled_by (Err why) place part old new whole given is = sym (ap value_or_fault given) ∙ is
+
+-- what the tests ask of first_mb_in_slice
+pub in_picture : (first most size : ℕ) → first < most → most ≡ size → nat_lt first size ≡ true
+in_picture first most size low is = rw (← is) (le-leb (suc first) most low)

@@ -1,8 +1,8 @@
 -- The names that the proofs cite of std, of the crates below and of the definitions here, passed on from one place. Declares nothing.
 pub use Rattle.std.proofs.Common.{◌≡◌, ◌+◌, ℕ, ℤ, zero, suc, Bool, true, false, nat_lt, [], ◌∷◌, List, length, Option, Some, None, Result, Ok, Err}
-pub use Rattle.std.proofs.Common.{refl, ap, sym, ◌∙◌, arith, ◌==◌, ◌++◌, append_assoc, append-nil, ◌≤◌, pos, negsuc, IfSome, ◌<◌, ◌/◌, ◌%◌, ◌&&◌}
+pub use Rattle.std.proofs.Common.{IsErrAnd, to_z, of_z, w32, refl, ap, sym, ◌∙◌, arith, ◌==◌, ◌++◌, append_assoc, append-nil, ◌≤◌, pos, negsuc, IfSome, ◌<◌, ◌/◌, ◌%◌, ◌&&◌}
 pub use Rattle.std.proofs.Common.{◌||◌, not, int_le, is_some, IfOk, if◌then◌else◌, drop, ◌-◌, rules}
-pub use Rattle.std.proofs.lemmas.Bool.{ne_eqb, eq-eqb, ltb-true, and_parts, false≢true}
+pub use Rattle.std.proofs.lemmas.Bool.{le-leb, ne_eqb, eq-eqb, ltb-true, and_parts, false≢true}
 pub use Rattle.std.proofs.lemmas.Grind.{common_steps}
 pub use Rattle.std.proofs.lemmas.Int.{ints}
 pub use Rattle.std.specs.List.{All, list_any}
@@ -12,7 +12,7 @@ pub use Rattle.avc_bits.proofs.Reading.{gives-check, gives-then, gives-where_set
 pub use Rattle.avc_bits.specs.Bits.{Bits, Read, ◌>>=◌, ◌>>◌, give, refuse, check, where_set, number_of, times, start, bits_before_stop}
 pub use Rattle.avc_bits.specs.Codes.{split, bits, zeros, zeros_before_one, signed_value, flag, ue, ue_to, se_within, se, u}
 pub use Rattle.avc_bits.specs.Reader.{reader_bits, reader_bytes}
-pub use Rattle.avc_params.proofs.ParameterSets.{gives-optional, parts_give}
+pub use Rattle.avc_params.proofs.ParameterSets.{answers_fault, gives-optional, parts_give}
 pub use Rattle.avc_params.specs.Limits.{max_frame_num, size_in_mbs}
 pub use Rattle.avc_params.specs.Parsing.{optional}
 pub use Rattle.avc_params.specs.Tables.{Sets, sets_after}
@@ -28,7 +28,8 @@ pub use Rattle.avc_types.specs.declared.references.Marking.{Marking}
 pub use Rattle.avc_types.specs.declared.references.Marking.TheVariants.{Adaptive, Idr, SlidingWindow}
 pub use Rattle.avc_types.specs.declared.weight.Weight.{Weight}
 pub use Rattle.avc_slice.specs.Begins.{begins}
-pub use Rattle.avc_slice.specs.Filling.{filled, empty_header}
+pub use Rattle.avc_slice.specs.Filling.{Fills, filled, empty_header}
+pub use Rattle.avc_bits.specs.declared.reader.BitReader.{BitReader}
 pub use Rattle.avc_slice.specs.Header.{is_idr, is_idr_marking, is_reference, has_idr_marking, is_p_type, slice_qp, is_unmark_all}
 pub use Rattle.avc_slice.specs.Reading.{up_to, num_ref_idx_active, active_override, back, coded_order, deblocking, filtering, found, front}
 pub use Rattle.avc_slice.specs.Reading.{header_in_rbsp, header_of, idr_pic_id, is_qp, list_part, marking, modification, modification_list}
