@@ -2,7 +2,10 @@ use Rattle.avc_make.proofs.Slices.{pair, ◌≡◌, ◌≤◌, w8, to_z, of_z, s
 use Rattle.avc_make.proofs.block_writing.write_block.Goals as goal
 
 pub put_token-requires-clause-chroma_dc : goal.put_token-requires-clause-chroma_dc
-put_token-requires-clause-chroma_dc g c = grind (arith, to_z, w8, of_z)
+put_token-requires-clause-chroma_dc g c = λ below.
+    let same : to_z w8 (of_z w8 c.args.nc) ≡ c.args.nc = omega (arith, ints, c.ranges.nc.sfits) in
+    let few = c.requires.chroma_dc (rw same at below) in
+    omega (arith, few, c.of-found.ensures.size, c.len.ensures.value)
 
 pub put_levels-requires-clause-some : goal.put_levels-requires-clause-some
 put_levels-requires-clause-some g c =

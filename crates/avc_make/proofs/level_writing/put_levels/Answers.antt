@@ -1,4 +1,4 @@
-use Rattle.avc_make.proofs.Slices.{◌≡◌, ◌≤◌, pos, nat_abs, to_z, of_z, w16, ap, ◌∙◌, arith, append_assoc, ints, length-map}
+use Rattle.avc_make.proofs.Slices.{◌≡◌, ◌≤◌, pos, nat_abs, to_z, of_z, w16, ap, ◌∙◌, arith, append_assoc, ints, length-map, drop_all, put_all, values_of}
 use Rattle.avc_make.proofs.Slices.{code_of_level, next_suffix_length, level_most, levels_at}
 use Rattle.avc_make.proofs.level_writing.put_levels.Goals as goal
 
@@ -28,3 +28,14 @@ levels-preserved c =
       few = c.next_suffix_length-suffix_length.ensures.few;
       first = λ t. cc;
     }
+
+pub level-level-requires : goal.level-level-requires
+level-level-requires c = omega (arith, c.levels-test.true, c.len-k-end.ensures.value)
+
+pub put_level-requires-clause-length : goal.put_level-requires-clause-length
+put_level-requires-clause-length c = c.levels.invariant.few
+
+pub returns : goal.returns
+returns c =
+    let none = drop_all c.levels.k (values_of c.args.found.now) (omega (arith, c.levels-test.false, c.len-k-end.ensures.value, length-map c.args.found.now (λ p. p.0))) in
+    (c.requires.going, put_all c.args.maker.now c.levels.maker _ c.levels.invariant.going (rw none at c.levels.invariant.put))

@@ -18,6 +18,17 @@ puts_then a b d v w first second = (
 pub pair : {P Q : Type 0} → P → Q → P × Q
 pair p q = (p, q)
 
+-- a value of se(v) is a number of 32 bits
+pub same_i32 : (v : ℤ) → IsSeValue v → to_z w32 (of_z w32 v) ≡ v
+same_i32 v is = omega (arith, ints, is.0, is.1)
+
+-- one that is small
+pub small_se : (v : ℤ) → negsuc 25 ≤ℤ v → v ≤ℤ pos 25 → IsSeValue v
+small_se v low high = (omega (arith, ints, low), omega (arith, ints, high))
+
+pub chroma_se : (v : ℤ) → negsuc 11 ≤ℤ v → v ≤ℤ pos 12 → IsSeValue v
+chroma_se v low high = (omega (arith, ints, low), omega (arith, ints, high))
+
 -- all was put
 pub put_all : (old new : Made) (all : List Bool) → new.failed ≡ false → new.bits ++ [] ≡ old.bits ++ all → new ≡ with_bits old all
 put_all old new all going same = ap (λ b. record { bits = new.bits; failed = b }) going ∙ ap (λ t. record { bits = t; failed = false }) (sym (append-nil new.bits) ∙ same)

@@ -1,7 +1,7 @@
 -- The names that the proofs cite of std, of the crates below and of the definitions here, passed on from one place. Declares nothing.
 pub use Rattle.std.proofs.Common.{◌≡◌, ◌≢◌, ℕ, zero, suc, ◌+◌, ◌-◌, ◌<◌, ◌≤◌, ◌<ℤ◌, ℤ, pos, negsuc, neg_ℤ, nat_abs, List, [], ◌∷◌, ◌++◌, length, take, drop}
 pub use Rattle.std.proofs.Common.{reverse, Bool, true, false, refl, ap, subst, ◌∙◌, sym, arith, inl, inr, append_assoc, append-nil, length-append, Option, Some}
-pub use Rattle.std.proofs.Common.{None, ◌||◌, nat_lt, ◌^◌, map, Result, Ok, Err, get_or, ◌*◌, ◌%◌, not, IfSome, lit<, w8, min, to_z, of_z, w16, rules, eqb}
+pub use Rattle.std.proofs.Common.{None, ◌||◌, nat_lt, ◌^◌, map, Result, Ok, Err, get_or, ◌*◌, ◌%◌, not, IfSome, lit<, w8, min, to_z, of_z, w16, w32, rules, eqb}
 pub use Rattle.std.proofs.Common.{is_some, nat_le, ◌/◌, ◌&&◌, ◌≤ℤ◌, length-set, set}
 pub use Rattle.std.proofs.Math.ListN.{drop_of_length-le}
 pub use Rattle.std.proofs.Math.Nat.{pow-succ', pow-le-pow_right, div-lt_iff_lt-mul, mod-add-div, mod-lt}
