@@ -3,7 +3,7 @@
 use avc_types::Bytes;
 
 /// A unit of a byte stream (a NAL unit, 7.3.1).
-#[derive(Debug, Drop)]
+#[derive(Drop)]
 pub struct Unit {
     /// Its place among the stream's units, from 0.
     pub index: u64,

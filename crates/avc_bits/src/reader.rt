@@ -13,7 +13,7 @@ use crate::bytes::{bits_at, bytes_at, eight_bytes, field_of_eight, stop_bit};
 use avc_types::Fault;
 
 /// Reads the bits of an RBSP up to its stop bit (7.2).
-#[derive(Clone, Copy, Debug)]
+#[derive(Clone, Copy)]
 pub struct BitReader<'a> {
     bytes: &'a [u8],
     // the byte of the next bit, and how many bits of that byte were passed
@@ -36,7 +36,7 @@ pub struct BitReader<'a> {
 
 /// The 57 bits that a reader had ahead when it was asked, so that several elements can be looked at
 /// before the reader passes them.
-#[derive(Clone, Copy, Debug)]
+#[derive(Clone, Copy)]
 pub struct Window {
     // the bits, the first one the most significant; those behind the 57 have any value
     bits: u64,

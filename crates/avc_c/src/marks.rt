@@ -7,7 +7,7 @@ use arrayvec::ArrayVec;
 use std::marker::Model;
 
 /// A value of all units from one on, up to that of the next mark.
-#[derive(Clone, Copy, Debug, Default, PartialEq, Eq)]
+#[derive(Clone, Copy, Default)]
 pub struct Mark {
     /// The first unit that has it, counted from 0.
     pub unit: u64,

@@ -9,7 +9,7 @@ use avc_plane::SharedPicture;
 use avc_types::OutOfMemory;
 
 /// What a call answers to C.
-#[derive(Clone, Copy, Debug, PartialEq, Eq)]
+#[derive(Clone, Copy)]
 pub enum Status {
     Ok = 0,
     /// Of feed, flush and take until the decoder is reset or closed.

@@ -22,7 +22,7 @@ use std::alloc::Global;
 use std::io::{Read, Write};
 
 /// How a stream is compared.
-#[derive(Clone, Copy, Debug, PartialEq, Eq)]
+#[derive(Clone, Copy)]
 pub struct Comparison {
     /// When pictures go out.
     pub output: Output,

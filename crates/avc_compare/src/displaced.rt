@@ -12,7 +12,7 @@ use std::alloc::Global;
 use std::marker::Model;
 
 /// A picture of the other's that is one of ours of another number.
-#[derive(Clone, Copy, Debug, PartialEq, Eq)]
+#[derive(Clone, Copy)]
 pub struct Displaced {
     /// Its number among the other's pictures, from 0; the greatest number, once there.
     pub number: u64,

@@ -9,7 +9,7 @@ use avc_types::PictureInfo;
 use thiserror::Error;
 
 /// What becomes of the comparison of a stream's pictures with another decoder's.
-#[derive(Debug, Drop)]
+#[derive(Drop)]
 pub enum Verdict {
     /// All pictures are the same.
     Same,
@@ -29,21 +29,21 @@ pub enum Verdict {
 }
 
 /// How many columns and rows of luma samples are shown of a picture.
-#[derive(Clone, Copy, Debug, PartialEq, Eq)]
+#[derive(Clone, Copy)]
 pub struct PictureSize {
     pub width: u64,
     pub height: u64,
 }
 
 /// Two sizes that are not the same.
-#[derive(Clone, Copy, Debug, PartialEq, Eq)]
+#[derive(Clone, Copy)]
 pub struct Sizes {
     pub ours: PictureSize,
     pub theirs: PictureSize,
 }
 
 /// Which picture is compared.
-#[derive(Clone, Copy, Debug, PartialEq, Eq)]
+#[derive(Clone, Copy)]
 pub struct ComparedPicture {
     /// Its number in output order, from 0; the greatest number, once there.
     pub number: u64,
@@ -54,7 +54,7 @@ pub struct ComparedPicture {
 }
 
 /// A picture that differs.
-#[derive(Debug, Drop)]
+#[derive(Drop)]
 pub struct Differing {
     pub picture: ComparedPicture,
 
@@ -68,7 +68,7 @@ pub struct Differing {
 }
 
 /// What ended a comparison before its end.
-#[derive(Clone, Copy, Debug, PartialEq, Eq, Error)]
+#[derive(Clone, Copy, Debug, Error)]
 pub enum CompareFault {
     /// A fault of decoding the stream, or want of memory.
     #[error("{0}")]

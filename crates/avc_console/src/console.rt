@@ -5,7 +5,7 @@ use crate::reporter::Counts;
 use avc_types::Fault;
 
 /// The files that a command reads and writes, by name, where they are no standard streams.
-#[derive(Clone, Copy, Debug, PartialEq, Eq)]
+#[derive(Clone, Copy)]
 pub struct Names<'a> {
     pub input: Option<&'a str>,
 
@@ -50,7 +50,7 @@ pub trait Watch {
 }
 
 /// Nobody watches.
-#[derive(Clone, Copy, Debug)]
+#[derive(Clone, Copy)]
 pub struct Unwatched;
 
 impl Watch for Unwatched {

@@ -10,7 +10,7 @@ use crate::fault::RunFault;
 use crate::report::Report;
 
 /// How words of the command line that name nothing to do are answered.
-#[derive(Clone, Copy, Debug, PartialEq, Eq)]
+#[derive(Clone, Copy)]
 pub enum Answer {
     /// The help that they ask for was printed.
     Help,
@@ -20,7 +20,7 @@ pub enum Answer {
 }
 
 /// How a command ended.
-#[derive(Clone, Copy, Debug, PartialEq, Eq)]
+#[derive(Clone, Copy)]
 pub struct Ending {
     /// The exit status.
     pub status: u8,

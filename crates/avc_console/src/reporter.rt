@@ -11,7 +11,7 @@ use avc_types::Fault;
 use std::io::Write;
 
 /// How many pictures and refusals there were so far.
-#[derive(Clone, Copy, Debug, PartialEq, Eq)]
+#[derive(Clone, Copy)]
 pub struct Counts {
     /// Pictures that went out; the greatest number, once there.
     pub pictures: u64,

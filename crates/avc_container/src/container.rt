@@ -4,7 +4,7 @@ ghost use Rattle.std.specs.Prelude.{◌≡◌};
 ghost use Rattle.avc_container.specs.Containers.{container_of, has_at, has_signature};
 
 /// A file that holds video in a form of its own, or a picture.
-#[derive(Clone, Copy, Debug, PartialEq, Eq)]
+#[derive(Clone, Copy)]
 pub enum Container {
     Mp4,
 

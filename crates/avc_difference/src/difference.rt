@@ -12,7 +12,7 @@ use avc_types::OutOfMemory;
 use std::alloc::Global;
 
 /// What is told of two pictures that differ.
-#[derive(Debug, Drop)]
+#[derive(Drop)]
 pub struct Difference {
     /// Where the first sample stands that differs: luma comes first, then Cb, then Cr, each row by
     /// row.

@@ -12,7 +12,7 @@ use avc_types::OutOfMemory;
 use std::alloc::Global;
 
 /// Whether something differs in a macroblock: some luma samples, and some chroma samples.
-#[derive(Clone, Copy, Debug)]
+#[derive(Clone, Copy)]
 pub struct Mark {
     pub luma: bool,
     pub chroma: bool,

@@ -15,7 +15,7 @@ use avc_types::OutOfMemory;
 use std::alloc::Global;
 
 /// One sample of two pictures.
-#[derive(Clone, Copy, Debug)]
+#[derive(Clone, Copy)]
 pub struct SamplePair {
     pub place: Place,
 

@@ -11,7 +11,7 @@ use avc_plane::Component;
 use avc_types::Crop;
 
 /// The size of a coded picture in luma samples, and what is not shown of it.
-#[derive(Clone, Copy, Debug, PartialEq, Eq)]
+#[derive(Clone, Copy)]
 pub struct Shape {
     pub width: u32,
     pub height: u32,
@@ -20,7 +20,7 @@ pub struct Shape {
 
 /// Where a sample stands: in what is shown of its component, in the coded component, and in which
 /// macroblock (6.4.1). Everything is counted from 0, columns and rows in samples of the component.
-#[derive(Clone, Copy, Debug)]
+#[derive(Clone, Copy)]
 pub struct Place {
     pub component: Component,
 

@@ -2,7 +2,7 @@
 
 /// What output asks of a frame that comes into the buffer: a decoded picture, or a non-existing
 /// frame, which stands for a missing frame number.
-#[derive(Clone, Copy, Debug)]
+#[derive(Clone, Copy)]
 pub struct ArrivingFrame {
     /// PicOrderCnt; any number for a non-existing frame.
     pub pic_order_cnt: i32,

@@ -1,7 +1,7 @@
 //! When pictures go out.
 
 /// When pictures go out of the buffer.
-#[derive(Clone, Copy, Debug, PartialEq, Eq)]
+#[derive(Clone, Copy, PartialEq, Eq)]
 pub enum Output {
     /// Only where room is needed (C.4.5.3).
     Full,

@@ -38,7 +38,7 @@ pub trait PictureFormat {
 }
 
 /// I420 of every picture.
-#[derive(Clone, Copy, Debug)]
+#[derive(Clone, Copy)]
 pub struct I420;
 
 impl PictureFormat for I420 {

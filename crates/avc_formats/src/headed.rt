@@ -20,7 +20,7 @@ use std::io::Write;
 
 /// A format with a head in front of the first picture, or of each, which says how pictures are
 /// shown. All pictures have the size that it says.
-#[derive(Clone, Copy, Debug, PartialEq, Eq)]
+#[derive(Clone, Copy)]
 pub enum HeadedFormat {
     /// YUV4MPEG2: each picture as I420 behind a line of its own.
     Y4m,

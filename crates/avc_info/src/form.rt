@@ -23,7 +23,7 @@ pub trait InfoForm {
 }
 
 /// Lines of JSON (RFC 8259).
-#[derive(Clone, Copy, Debug)]
+#[derive(Clone, Copy)]
 pub struct ForPrograms;
 
 impl InfoForm for ForPeople {

@@ -11,7 +11,7 @@ use std::marker::Model;
 const MOST_KINDS: usize = 47;
 
 /// A unit that is refused.
-#[derive(Clone, Copy, Debug, PartialEq, Eq)]
+#[derive(Clone, Copy)]
 pub struct Refusal {
     /// Its place among the stream's units, from 0.
     pub unit: u64,
@@ -20,7 +20,7 @@ pub struct Refusal {
 }
 
 /// The units that are refused with one fault.
-#[derive(Clone, Copy, Debug, PartialEq, Eq)]
+#[derive(Clone, Copy)]
 pub struct RefusalKind {
     pub fault: Fault,
 

@@ -19,7 +19,7 @@ use avc_types::Fault;
 use avc_units::HeaderReader;
 
 /// What a sequence parameter set begins with (7.3.2.1.1), also one of a profile that is not taken.
-#[derive(Clone, Copy, Debug, PartialEq, Eq)]
+#[derive(Clone, Copy)]
 pub struct SetHead {
     pub profile_idc: u8,
 

@@ -21,7 +21,7 @@ use avc_plane::RowsPlace;
 use avc_types::Fault;
 
 /// The prediction of the chroma samples of an intra macroblock (Table 8-5).
-#[derive(Clone, Copy, Debug, PartialEq, Eq)]
+#[derive(Clone, Copy)]
 pub enum ModeChroma {
     Dc,
     Horizontal,
@@ -45,7 +45,7 @@ impl ModeChroma {
 
 /// The samples of one chroma component around a macroblock, before deblocking. What stands on a
 /// side that is not available counts for nothing.
-#[derive(Clone, Copy, Debug)]
+#[derive(Clone, Copy)]
 pub struct AroundChroma {
     /// The samples above, from left to right.
     pub above: [u8; 8],

@@ -20,7 +20,7 @@ use avc_plane::RowsPlace;
 use avc_types::Fault;
 
 /// The prediction of the luma samples of an Intra 16x16 macroblock (Table 8-4).
-#[derive(Clone, Copy, Debug, PartialEq, Eq)]
+#[derive(Clone, Copy)]
 pub enum Mode16x16 {
     Vertical,
     Horizontal,
@@ -44,7 +44,7 @@ impl Mode16x16 {
 
 /// The samples around the luma of a macroblock, before deblocking. What stands on a side that is
 /// not available counts for nothing.
-#[derive(Clone, Copy, Debug)]
+#[derive(Clone, Copy)]
 pub struct Around16x16 {
     /// The samples above, from left to right.
     pub above: [u8; 16],

@@ -17,7 +17,7 @@ use avc_plane::RowsPlace;
 use avc_types::Fault;
 
 /// The prediction of a 4x4 luma block (Table 8-2).
-#[derive(Clone, Copy, Debug, PartialEq, Eq)]
+#[derive(Clone, Copy)]
 pub enum Mode4x4 {
     Vertical,
     Horizontal,
@@ -48,7 +48,7 @@ impl Mode4x4 {
 
 /// The samples around a 4x4 luma block, before deblocking. What stands on a side that is not
 /// available counts for nothing.
-#[derive(Clone, Copy, Debug)]
+#[derive(Clone, Copy)]
 pub struct Around4x4 {
     /// The four samples above the block and the four above to the right, from left to right.
     pub above: [u8; 8],

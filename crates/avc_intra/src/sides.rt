@@ -2,7 +2,7 @@
 
 /// The sides of a block whose samples are available for intra prediction (clauses 8.3.1.2, 8.3.3
 /// and 8.3.4). A side is of one block or macroblock, so its samples are available together.
-#[derive(Clone, Copy, Debug, PartialEq, Eq)]
+#[derive(Clone, Copy)]
 pub struct Sides {
     /// The samples above the block.
     pub above: bool,

@@ -9,7 +9,7 @@ use avc_types::{CurrentFrameNum, Mark, MarkedFrame, has_long_term_frame_idx};
 
 /// What marking asks of a frame that comes to the buffer: of a decoded picture, or of one that
 /// stands for a missing frame number.
-#[derive(Clone, Copy, Debug, PartialEq, Eq)]
+#[derive(Clone, Copy)]
 pub struct NewFrame {
     /// Its frame_num, and MaxFrameNum of its sequence parameter set.
     pub current: CurrentFrameNum,

@@ -6,7 +6,7 @@ ghost use Rattle.avc_mbsyntax.specs.Steps.{context_of};
 use avc_neigh::TotalCoeffs;
 
 /// What reading a macroblock asks of its slice and of its neighbours.
-#[derive(Clone, Copy, Debug)]
+#[derive(Clone, Copy)]
 pub struct Context {
     /// Whether the slice is a P slice.
     pub is_p: bool,

@@ -15,7 +15,7 @@ use avc_neigh::TotalCoeffs;
 use avc_types::{Fault, Mb, Syntax};
 
 /// The data of a slice that is being read. It keeps no macroblock.
-#[derive(Clone, Copy, Debug)]
+#[derive(Clone, Copy)]
 pub struct SliceData<'a> {
     reader: BitReader<'a>,
     is_p: bool,

@@ -7,7 +7,7 @@ ghost use Rattle.avc_mbsyntax.specs.Stages.{stage_after};
 use avc_bits::BitReader;
 
 /// What comes next in the data.
-#[derive(Clone, Copy, Debug)]
+#[derive(Clone, Copy)]
 pub enum Stage {
     /// A macroblock of an I slice, or mb_skip_run of a P slice.
     Next,

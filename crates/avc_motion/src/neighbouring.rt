@@ -11,7 +11,7 @@ ghost use Rattle.avc_motion.specs.Motion.{neighbours_of};
 use avc_neigh::{Motion, NeighbourInfo, Neighbours};
 
 /// What the neighbouring partitions of a part of a macroblock have (6.4.11.7).
-#[derive(Clone, Copy, Debug, PartialEq, Eq)]
+#[derive(Clone, Copy)]
 pub struct NeighbouringPartitions {
     /// On the left.
     pub a: Motion,

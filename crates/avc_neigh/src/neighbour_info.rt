@@ -5,7 +5,7 @@ ghost use Rattle.std.specs.Prelude.{◌≡◌};
 use avc_types::Mv;
 
 /// total_coeff of each block of a macroblock (9.2.1), in block order.
-#[derive(Clone, Copy, Debug, PartialEq, Eq)]
+#[derive(Clone, Copy)]
 pub struct TotalCoeffs {
     /// Of the luma blocks.
     pub luma: [u8; 16],
@@ -18,7 +18,7 @@ pub struct TotalCoeffs {
 }
 
 /// What a luma block is to the prediction of its neighbours' 4x4 intra modes (8.3.1.1).
-#[derive(Clone, Copy, Debug, PartialEq, Eq)]
+#[derive(Clone, Copy)]
 pub enum NearMode {
     /// Not available.
     Absent,
@@ -32,7 +32,7 @@ pub enum NearMode {
 }
 
 /// What a luma block has for inter prediction (8.4.1.3.2).
-#[derive(Clone, Copy, Debug, PartialEq, Eq)]
+#[derive(Clone, Copy)]
 pub enum Motion {
     /// Not available.
     Absent,
@@ -45,7 +45,7 @@ pub enum Motion {
 }
 
 /// What later macroblocks ask of a decoded one.
-#[derive(Clone, Copy, Debug, PartialEq, Eq)]
+#[derive(Clone, Copy)]
 pub struct NeighbourInfo {
     /// The number of its slice in the picture, from 0.
     pub slice: u32,

@@ -1,7 +1,7 @@
 //! Samples of a plane, lent to be read.
 
 /// Samples of a plane, lent to be read where they lie.
-#[derive(Clone, Copy, Debug)]
+#[derive(Clone, Copy)]
 pub struct LentPlane<'a> {
     /// From the first sample on. Between the rows stand other samples of the plane and its padding.
     pub samples: &'a [u8],

@@ -7,7 +7,7 @@ use avc_types::VideoUsability;
 
 /// How samples become red, green and blue: how much a value more of a sample adds to a colour, in
 /// 65,536ths, or takes from it, of green by Cb and Cr.
-#[derive(Clone, Copy, Debug, PartialEq, Eq)]
+#[derive(Clone, Copy)]
 pub struct Conversion {
     /// The luma sample of black.
     pub black: u8,

@@ -12,7 +12,7 @@ use avc_tools::{shown_height, shown_width};
 
 /// Where a chroma sample lies among the four luma samples that it stands for (figure E-1), as far
 /// as Y4M has a word for it.
-#[derive(Clone, Copy, Debug, PartialEq, Eq)]
+#[derive(Clone, Copy)]
 pub enum ChromaSite {
     /// In the middle of the left two: type 0.
     Left,
@@ -25,7 +25,7 @@ pub enum ChromaSite {
 }
 
 /// How the pictures of a sequence are shown (7.4.2.1.1, E.2.1).
-#[derive(Clone, Copy, Debug, PartialEq, Eq)]
+#[derive(Clone, Copy)]
 pub struct Presentation {
     /// In luma samples, after cropping.
     pub width: u64,

@@ -5,7 +5,7 @@ ghost use Rattle.std.specs.Int.{IsGcd};
 ghost use Rattle.avc_presentation.specs.Ratios.{IsLowest};
 
 /// One number to another.
-#[derive(Clone, Copy, Debug, PartialEq, Eq)]
+#[derive(Clone, Copy)]
 pub struct Ratio {
     pub numerator: u64,
     pub denominator: u64,

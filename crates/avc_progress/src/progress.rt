@@ -15,7 +15,7 @@ use std::cell::Cell;
 use std::time::Instant;
 
 /// How far reading is.
-#[derive(Clone, Copy, Debug, PartialEq, Eq)]
+#[derive(Clone, Copy)]
 pub struct Place {
     /// How many bytes were read.
     pub read: u64,

@@ -8,14 +8,14 @@ use avc_params::{Colour, Cropping, Sps, Timing};
 use avc_presentation::{Presentation, Ratio};
 
 /// A width and a height, in luma samples.
-#[derive(Clone, Copy, Debug, Default, PartialEq, Eq)]
+#[derive(Clone, Copy, Default, PartialEq, Eq)]
 pub struct Size {
     pub width: u64,
     pub height: u64,
 }
 
 /// What is cropped at each side, in luma samples (7.4.2.1.1).
-#[derive(Clone, Copy, Debug, PartialEq, Eq)]
+#[derive(Clone, Copy)]
 pub struct Crop {
     pub left: u64,
     pub right: u64,
@@ -24,7 +24,7 @@ pub struct Crop {
 }
 
 /// What a sequence parameter set says (7.3.2.1.1, E.1.1).
-#[derive(Clone, Copy, PartialEq)]
+#[derive(Clone, Copy)]
 pub struct SequenceFacts {
     /// In luma samples, after cropping.
     pub width: u64,

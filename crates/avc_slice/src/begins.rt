@@ -7,7 +7,7 @@ use crate::header::{CodedOrder, Header};
 
 /// What of a slice header the next slice's is compared with, to find the first slice of a new
 /// picture (7.4.1.2.4).
-#[derive(Clone, Copy, Debug)]
+#[derive(Clone, Copy)]
 pub struct PictureFields {
     pub nal_ref_idc: u8,
     pub pic_parameter_set_id: u8,

@@ -28,7 +28,7 @@ pub enum SliceType {
 }
 
 /// What a picture's order count is told by (7.3.3), for each kind of order counts.
-#[derive(Clone, Copy, Debug, PartialEq, Eq)]
+#[derive(Clone, Copy, PartialEq, Eq)]
 pub enum CodedOrder {
     /// delta_pic_order_cnt_bottom is 0 where it is not coded.
     Type0 {
@@ -46,7 +46,7 @@ pub enum CodedOrder {
 }
 
 /// The deblocking fields (7.3.3). The offsets are -6 to 6, and 0 where no edge is filtered.
-#[derive(Clone, Copy, Debug, PartialEq, Eq)]
+#[derive(Clone, Copy)]
 pub struct Deblocking {
     pub disable_deblocking_filter_idc: FilteredEdges,
     pub slice_alpha_c0_offset_div2: i32,

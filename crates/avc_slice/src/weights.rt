@@ -6,7 +6,7 @@ ghost use Rattle.avc_slice.specs.Weights.{weight_of, weights_of};
 use avc_types::{UpTo, Weight, Weights};
 
 /// A weight and an offset as they are coded (7.4.3.2), each -128 to 127.
-#[derive(Clone, Copy, Debug, Default, PartialEq, Eq)]
+#[derive(Clone, Copy, Default)]
 pub struct CodedWeight {
     /// In parts of two to the power of the component's denominator.
     pub weight: i32,
@@ -16,14 +16,14 @@ pub struct CodedWeight {
 }
 
 /// Those of Cb and of Cr.
-#[derive(Clone, Copy, Debug, Default, PartialEq, Eq)]
+#[derive(Clone, Copy, Default)]
 pub struct ChromaWeights {
     pub cb: CodedWeight,
     pub cr: CodedWeight,
 }
 
 /// What is coded for one reference index.
-#[derive(Clone, Copy, Debug, Default, PartialEq, Eq)]
+#[derive(Clone, Copy, Default)]
 pub struct EntryWeights {
     /// Where luma_weight_l0_flag is 1.
     pub luma: Option<CodedWeight>,

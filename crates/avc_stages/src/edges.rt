@@ -10,7 +10,7 @@ use avc_deblock::{MbInfo, strength};
 use avc_types::FilteredEdges;
 
 /// An edge of a macroblock (8.7).
-#[derive(Clone, Copy, Debug, PartialEq, Eq)]
+#[derive(Clone, Copy)]
 pub struct Edge {
     /// Whether it is filtered: an edge of the picture, or of a slice, need not be.
     pub is_filtered: bool,
@@ -20,7 +20,7 @@ pub struct Edge {
 }
 
 /// The edges of a macroblock, from its left and from its upper one on, four luma samples apart (8.7).
-#[derive(Clone, Copy, Debug, PartialEq, Eq)]
+#[derive(Clone, Copy)]
 pub struct MacroblockEdges {
     pub vertical: [Edge; 4],
     pub horizontal: [Edge; 4],

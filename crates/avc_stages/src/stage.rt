@@ -6,7 +6,7 @@ ghost use Rattle.avc_stages.specs.Stages.{counts_of, stage_of};
 use crate::traced::TracedSample;
 
 /// The stages of decoding that are told apart (clause 8).
-#[derive(Clone, Copy, Debug, PartialEq, Eq)]
+#[derive(Clone, Copy)]
 pub enum Stage {
     /// All of the other's samples are ours before deblocking: its filter changes none of them.
     Unfiltered,
@@ -19,7 +19,7 @@ pub enum Stage {
 }
 
 /// How many samples of a macroblock are of some kind.
-#[derive(Clone, Copy, Debug, PartialEq, Eq)]
+#[derive(Clone, Copy)]
 pub struct Counts {
     /// All that are shown.
     pub shown: usize,

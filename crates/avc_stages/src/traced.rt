@@ -1,7 +1,7 @@
 //! A sample before and after deblocking, and the other's.
 
 /// A sample of a macroblock of two decoders.
-#[derive(Clone, Copy, Debug, PartialEq, Eq)]
+#[derive(Clone, Copy)]
 pub struct TracedSample {
     /// Ours, after deblocking (8.7).
     pub ours: u8,

@@ -62,7 +62,7 @@ pub trait ListingForm {
 }
 
 /// Words and numbers in decimal, with spaces between them.
-#[derive(Clone, Copy, Debug)]
+#[derive(Clone, Copy)]
 pub struct ForPeople;
 
 impl ListingForm for ForPeople {

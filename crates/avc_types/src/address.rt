@@ -6,7 +6,7 @@ use std::marker::Model;
 
 /// The address of a macroblock (mbAddr, 6.4.1): its place in the raster scan of the picture's
 /// macroblocks, from 0 on. A contract sees it as that number.
-#[derive(Clone, Copy, Debug, PartialEq, Eq, PartialOrd, Ord)]
+#[derive(Clone, Copy)]
 pub struct MbAddr {
     address: u32,
 }

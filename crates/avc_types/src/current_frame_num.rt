@@ -4,7 +4,7 @@ ghost use Rattle.std.specs.Prelude.{◌≡◌};
 ghost use Rattle.avc_types.specs.References.{pic_num_of};
 
 /// What PicNum is derived from (8.2.4.1): frame_num of the current picture, and MaxFrameNum.
-#[derive(Clone, Copy, Debug, PartialEq, Eq)]
+#[derive(Clone, Copy)]
 pub struct CurrentFrameNum {
     pub frame_num: u32,
     pub max_frame_num: u32,

@@ -1,7 +1,7 @@
 //! disable_deblocking_filter_idc (7.4.3).
 
 /// disable_deblocking_filter_idc (7.4.3): which edges of a slice's macroblocks are filtered.
-#[derive(Clone, Copy, Debug, PartialEq, Eq)]
+#[derive(Clone, Copy)]
 pub enum FilteredEdges {
     /// 0.
     All,

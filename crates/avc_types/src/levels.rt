@@ -8,7 +8,7 @@ use std::marker::Model;
 
 /// The MAXN transform coefficient levels of a block from the lowest frequency on, seen as their
 /// list.
-#[derive(Clone, Copy, Debug)]
+#[derive(Clone, Copy)]
 pub struct Levels<const MAXN: usize> {
     levels: [i16; MAXN],
     // how many of them are not 0

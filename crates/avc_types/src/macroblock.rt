@@ -2,7 +2,7 @@
 
 /// sub_mb_type of a P macroblock (Table 7-17): how one of its 8x8 quarters is cut into parts with a
 /// vector each.
-#[derive(Clone, Copy, Debug, PartialEq, Eq)]
+#[derive(Clone, Copy, PartialEq, Eq)]
 pub enum SubMbType {
     /// P_L0_8x8: one part.
     Sub8x8,
@@ -19,7 +19,7 @@ pub enum SubMbType {
 
 /// mb_type 0 to 4 of a P macroblock (Table 7-13): how it is cut into partitions with a reference
 /// index each.
-#[derive(Clone, Copy, Debug, PartialEq, Eq)]
+#[derive(Clone, Copy, PartialEq, Eq)]
 pub enum PMbType {
     /// P_L0_16x16.
     P16x16,
@@ -39,7 +39,7 @@ pub enum PMbType {
 }
 
 /// mvd_l0 of one part (7.4.5.1): its vector less the prediction, in quarter luma samples.
-#[derive(Clone, Copy, Debug, PartialEq, Eq)]
+#[derive(Clone, Copy, PartialEq, Eq)]
 pub struct Mvd {
     /// To the right.
     pub x: i32,
@@ -49,7 +49,7 @@ pub struct Mvd {
 }
 
 /// A rectangle inside a macroblock that has one vector (6.4.2), in luma samples.
-#[derive(Clone, Copy, Debug, PartialEq, Eq)]
+#[derive(Clone, Copy)]
 pub struct Part {
     /// Of the upper left sample, from the left.
     pub x: u8,

@@ -11,7 +11,7 @@ use crate::references::Mark;
 
 /// What reference lists and marking know of a frame in the decoded picture buffer: of a decoded
 /// picture, or of one that stands for a missing frame number.
-#[derive(Clone, Copy, Debug, Default, PartialEq, Eq)]
+#[derive(Clone, Copy, Default)]
 pub struct MarkedFrame {
     /// FrameNum.
     pub frame_num: u32,

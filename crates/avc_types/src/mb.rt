@@ -7,7 +7,7 @@ use std::marker::Model;
 /// The coded differences of one macroblock (7.3.5.3). Where a block is not coded its levels are all
 /// 0. MAXN is how many levels a luma block has: 16, and 15 in an Intra 16x16 macroblock, whose DC
 /// levels stand apart.
-#[derive(Clone, Copy, Debug)]
+#[derive(Clone, Copy)]
 pub struct BlockLevels<const MAXN: usize> {
     /// CodedBlockPatternLuma, 0 to 15: a bit for each 8x8 quarter.
     pub luma_pattern: u8,

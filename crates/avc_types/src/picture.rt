@@ -14,7 +14,7 @@ pub struct Crop {
 
 /// A decoded picture at 4:2:0 with samples of eight bits. All coded samples are there; `crop` says
 /// which are shown.
-#[derive(Debug, Drop)]
+#[derive(Drop)]
 pub struct Picture {
     /// Of the coded picture, in luma samples. A chroma plane is half as wide and half as high.
     pub width: u32,

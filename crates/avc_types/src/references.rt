@@ -4,7 +4,7 @@ use crate::up_to::UpTo;
 
 /// One entry of ref_pic_list_modification (7.3.3.1): modification_of_pic_nums_idc 0, 1 or 2 with
 /// its number.
-#[derive(Clone, Copy, Debug, PartialEq, Eq)]
+#[derive(Clone, Copy)]
 pub enum Modification {
     /// 0, with abs_diff_pic_num_minus1.
     Subtract(u32),
@@ -24,7 +24,7 @@ impl Default for Modification {
 }
 
 /// One memory_management_control_operation, 1 to 6 (7.3.3.3).
-#[derive(Clone, Copy, Debug, Default, PartialEq, Eq)]
+#[derive(Clone, Copy, Default)]
 pub enum Operation {
     /// 1: a short-term frame becomes unused, by difference_of_pic_nums_minus1.
     UnmarkShortTerm(u32),
@@ -64,7 +64,7 @@ pub enum Marking {
 }
 
 /// How a reference frame is marked (8.2.5).
-#[derive(Clone, Copy, Debug, PartialEq, Eq)]
+#[derive(Clone, Copy)]
 pub enum Mark {
     /// For short-term reference.
     Short,

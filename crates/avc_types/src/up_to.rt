@@ -7,7 +7,7 @@ use arrayvec::ArrayVec;
 use std::marker::Model;
 
 /// At most `MAX` items, in order. A contract sees them as their list.
-#[derive(Debug, Drop)]
+#[derive(Drop)]
 pub struct UpTo<T, const MAX: usize> {
     items: ArrayVec<T, MAX>,
 }

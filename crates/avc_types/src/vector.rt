@@ -1,7 +1,7 @@
 //! Motion vectors (8.4.1).
 
 /// A motion vector (8.4.1), in quarter luma samples.
-#[derive(Clone, Copy, Debug, PartialEq, Eq)]
+#[derive(Clone, Copy)]
 pub struct Mv {
     /// To the right.
     pub x: i16,

@@ -2,7 +2,7 @@
 
 /// By what the prediction samples of one component are weighted (8.4.2.3.2): w0 over two to the
 /// power of logWD, and an offset.
-#[derive(Clone, Copy, Debug, PartialEq, Eq)]
+#[derive(Clone, Copy)]
 pub struct Weight {
     /// logWD, 0 to 7.
     pub log2_denom: u8,
@@ -15,7 +15,7 @@ pub struct Weight {
 }
 
 /// By what the predictions from one reference index are weighted.
-#[derive(Clone, Copy, Debug, PartialEq, Eq)]
+#[derive(Clone, Copy)]
 pub struct Weights {
     pub luma: Weight,
     pub cb: Weight,

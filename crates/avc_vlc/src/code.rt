@@ -7,7 +7,7 @@ ghost use Rattle.avc_bits.specs.Reader.{IsWindow, reader_bits};
 use avc_bits::{BitReader, Window};
 
 /// The next bits of a reader, at most N of them (N at most 16), and how many they are.
-#[derive(Clone, Copy, Debug)]
+#[derive(Clone, Copy)]
 pub struct Code<const N: usize> {
     // the next 32 bits, zeros from the stop bit on
     word: u32,

@@ -4,7 +4,7 @@ ghost use Rattle.std.specs.Prelude.{◌≡◌, ◌≤◌, ◌<◌, ◌^◌, ℕ,
 use crate::entry::{Coded, Entry, column_of};
 
 /// A codeword: its bits as a number, the most significant first.
-#[derive(Clone, Copy, Debug)]
+#[derive(Clone, Copy)]
 pub struct Codeword {
     /// How many bits.
     pub length: u8,

@@ -18,7 +18,7 @@ use avc_bits::{BitReader, Window};
 use avc_types::Fault;
 
 /// What coeff_token says of a block (9.2.1).
-#[derive(Clone, Copy, Debug, PartialEq, Eq)]
+#[derive(Clone, Copy)]
 pub struct Token {
     /// TotalCoeff: how many levels are not 0, at most 16.
     pub total: u8,
@@ -27,7 +27,7 @@ pub struct Token {
 }
 
 /// A codeword of coeff_token.
-#[derive(Clone, Copy, Debug)]
+#[derive(Clone, Copy)]
 pub struct TokenCode {
     /// How many bits it has.
     pub length: u8,

@@ -13,7 +13,7 @@ use avc_bits::BitReader;
 use avc_types::Fault;
 
 /// What the front of some bits decides: it is a codeword, or no codeword begins with it.
-#[derive(Clone, Copy, Debug)]
+#[derive(Clone, Copy)]
 pub(crate) struct Entry<V> {
     /// The number of bits of the front.
     pub(crate) length: u8,

@@ -18,7 +18,7 @@ use avc_bits::{BitReader, Window};
 use avc_types::Fault;
 
 /// A codeword of run_before or of total_zeros.
-#[derive(Clone, Copy, Debug)]
+#[derive(Clone, Copy)]
 pub struct Run {
     /// How many bits it has.
     pub length: u8,
