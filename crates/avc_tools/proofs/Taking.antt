@@ -8,7 +8,7 @@ use Rattle.avc_tools.specs.declared.cutter.CutPhase.TheVariants as phases
 -- ---- taking all units whose end has been seen, one after the other
 
 no_more : (us : List Unit) (k : ℕ) → slice_get us k ≡ None → drop k us ≡ []
-no_more us k e = search (rules, drop_all, slice_get_cases)
+no_more us k e = drop_all k us (⊎_elim (λ at. absurd (none-some at.0 (sym e ∙ at.2))) (λ past. past.0) (slice_get_cases us k).1)
 
 -- From this state some units were taken, of which this holds.
 pub record IsDraining (max : ℕ) (old now : SplitterState) (holds : List Unit → Type 0) : Type 0 where

@@ -1,7 +1,7 @@
 //! What a stream loses behind refusals.
 
 ghost use Rattle.std.specs.Prelude.{◌≡◌, ◌+◌, true, false, ◌&&◌, not, if◌then◌else◌, IfOk, OnErr};
-ghost use Rattle.std.specs.Prelude.{OnOk};
+ghost use Rattle.std.specs.Prelude.{OnOk, Some};
 ghost use Rattle.avc_annexb.specs.SplitterState.{after_feed, after_finish, next_unit_of};
 ghost use Rattle.avc_annexb.specs.Units.{saturated};
 ghost use Rattle.avc_tools.specs.Losses.{behind, behind_loss, is_passed, new_followed, seen};
@@ -79,14 +79,10 @@ impl<const MAX: usize> Losses<MAX> {
         match self.splitter.next_unit() {
             Some(unit) => {
                 let starts = is_start(self.alloc, &unit)?;
-                if self.waits && is_passed(&unit, starts) {
-                    self.passed = self.passed.saturating_add(1);
-                }
-                self.waits = self.waits && !starts;
-                Ok(Some(SeenUnit {
-                    index: unit.index,
-                    is_slice: is_slice(&unit),
-                }))
+                let passed = self.waits & is_passed(&unit, starts);
+                self.passed = passed_behind(self.passed, passed);
+                self.waits = self.waits & !starts;
+                Ok(Some(seen(&unit)))
             }
             None => Ok(None),
         }
@@ -104,6 +100,27 @@ impl<const MAX: usize> Losses<MAX> {
         ensures { result ≡ self.now.passed }
     {
         self.passed
+    }
+}
+
+// What is told of a unit.
+fn seen(unit: &Unit) -> SeenUnit
+    ensures { Some result ≡ seen (Some unit.now) }
+{
+    SeenUnit {
+        index: unit.index,
+        is_slice: is_slice(unit),
+    }
+}
+
+// How many slices were passed over, behind a unit that is one of them or not.
+fn passed_behind(before: u64, passed: bool) -> u64
+    ensures { result ≡ (if passed then saturated (before + 1) else before) }
+{
+    if passed {
+        before.saturating_add(1)
+    } else {
+        before
     }
 }
 

@@ -19,7 +19,10 @@ piece_made index u whole = record {
 same_units : (few many index : ℕ) (us : List PlacedUnit) → few ≤ many → All (IsShort few) us → numbered many index us ≡ numbered few index us
 same_units few many index [] le short = refl
 same_units few many index (u ∷ us) le short =
-    search (rules, All-head, IsShort, nat_le, All-tail, same_units few many (index + 1) us le (All-tail (IsShort few) u us short))
+    let here = (All-head (IsShort few) u us short).few in
+    ap₂ (λ whole others. piece_made index u whole ∷ others)
+    (le-leb (length u.bytes) many (omega (arith, here, le)) ∙ sym (le-leb (length u.bytes) few here))
+    (same_units few many (index + 1) us le (All-tail (IsShort few) u us short))
 
 -- So they are all there, where the greatest length is that of the stream or more.
 pub whole_units : (many : ℕ) (bytes : List ℕ) (ended : Bool) → length bytes ≤ many → units many bytes ended ≡ units (length bytes) bytes ended
@@ -451,7 +454,10 @@ sps_id_is law rbsp set is =
     id ∙ ap Some (sym kept.id_is)
 
 pps_id_is : PpsInForceKeepsLimits → (rbsp : List ℕ) (set : Pps) → pps_of rbsp ≡ Ok set → pps_id rbsp ≡ Some set.pic_parameter_set_id
-pps_id_is law rbsp set is = search (rules, first_by, pps_id, start, OfPps, pps_alone, accepted)
+pps_id_is law rbsp set is =
+    let id = first_by (ue_to 255) pps_after (pps_id rbsp) (start rbsp) set _ refl is in
+    let kept = law (OfPps rbsp ∷ []) id.0 set (pps_alone rbsp id.0 id.1 ∙ ap accepted is) in
+    id.1 ∙ ap Some (sym kept.id_is)
 
 abbrev id_in : {A : Type 0} → SetFault → Result A SetFault → Option ℕ
 id_in why (Ok x) = why.id

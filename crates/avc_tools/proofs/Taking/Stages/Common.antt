@@ -1,9 +1,9 @@
 -- The names that the proofs cite of std, of the crates below and of the definitions here, passed on from one place. Declares nothing.
 pub use Rattle.std.proofs.Common.{◌≡◌, ◌+◌, ◌≤◌, ℕ, Bool, true, false, List, [], ◌∷◌, length, drop, Some, None, nat_le, All, refl, ap, sym, ◌∙◌, arith}
 pub use Rattle.std.proofs.Common.{slice_index, ◌-◌, ◌<◌, suc, not, ◌++◌, map, reverse, take, if◌then◌else◌, append_assoc, cond, zero, ◌||◌, is_some, append-nil}
-pub use Rattle.std.proofs.Common.{length-append, Option, Result, Ok, Err, subst, get_or, inl, inr, rules, string_bytes, ◌⊎◌, ◌^◌, ap₂, ◌&&◌, ◌==◌}
+pub use Rattle.std.proofs.Common.{⊎_elim, length-append, Option, Result, Ok, Err, subst, get_or, inl, inr, rules, string_bytes, ◌⊎◌, ◌^◌, ap₂, ◌&&◌, ◌==◌}
 pub use Rattle.std.proofs.Math.Seq.{drop-append_seam, take-append_seam, take-length}
-pub use Rattle.std.proofs.lemmas.Bool.{eq-eqb, eqb-true}
+pub use Rattle.std.proofs.lemmas.Bool.{eq-eqb, eqb-true, le-leb}
 pub use Rattle.std.proofs.lemmas.Bool.Decides.{nat_tests}
 pub use Rattle.std.proofs.lemmas.Grind.{flat_map-append}
 pub use Rattle.std.proofs.lemmas.List.{length-drop, length-reverse, reverse-append, reverse-reverse, take_more, get_or-replicate, length-replicate, drop-map}
@@ -12,7 +12,7 @@ pub use Rattle.std.proofs.lemmas.List.Elements.{All-head, All-tail, filter-appen
 pub use Rattle.std.proofs.lemmas.List.Elements.{All-filter, All-weaker, All-map}
 pub use Rattle.std.proofs.lemmas.List.Folds.{list_any-append, list_all-append}
 pub use Rattle.std.proofs.lemmas.List.Sums.{take_while-cons}
-pub use Rattle.std.proofs.lemmas.Option.{slice_get_cases, slice_get_within, get_or_from_slice_get, slice_get-get_or}
+pub use Rattle.std.proofs.lemmas.Option.{none-some, slice_get_cases, slice_get_within, get_or_from_slice_get, slice_get-get_or}
 pub use Rattle.std.specs.Fmt.{decimal}
 unfoldable pub use Rattle.std.specs.Fmt.{digits}
 pub use Rattle.std.specs.List.{filter, flat_map, list_any, take_while, slice_get, range_with_len, prefix_len, list_all}
