@@ -198,7 +198,42 @@ two_ok p a b top bottom a_is b_is e f top_fits bottom_fits =
     ∙ sym (ap (λ t. if t && in_32_bits p.1 then Ok p else Err PocRange) (sym (ap in_32_bits a_is) ∙ first.0)
     ∙ ap (λ t. if t then Ok p else Err PocRange) (sym (ap in_32_bits b_is) ∙ second.0))
 
--- the counts of type 0 before any lowering
+-- ---- what an answer says where a count is out of range
+
+pub err_is : {A : Type 0} (r : Result A Fault) (f : Fault) → IsErrAnd r (λ e. e ≡ f) → r ≡ Err f
+err_is (Ok done) f is = absurd is
+err_is (Err e) f is = ap (λ e. Err e) is
+
+refused : {A : Type 0} (b : Bool) (x : A) (f : Fault) → ◌≡◌ {A = Result A Fault} (Err f) (if b then Ok x else Err PocRange) → (b ≡ false) × (f ≡ PocRange)
+refused true x f e = cc
+refused false x f e = (refl, cc)
+
+and_false : (a b : Bool) → b ≡ false → (a && b) ≡ false
+and_false true b e = e
+and_false false b e = refl
+
+pub top_refused : (p : ℤ × ℤ) (a : ℤ) (f : Fault) → a ≡ p.0 → ◌≡◌ {A = Result ℤ Fault} (Err f) (if in_32_bits a then Ok a else Err PocRange)
+    → ◌≡◌ {A = Result (ℤ × ℤ) Fault} (Err f) (if both_in_32_bits (counts_of p) then Ok p else Err PocRange)
+top_refused p a f same e =
+    let out = refused (in_32_bits a) a f e in
+    ap (λ e. Err e) out.1 ∙ sym (ap (λ t. if t && in_32_bits p.1 then Ok p else Err PocRange) (sym (ap in_32_bits same) ∙ out.0))
+
+pub bottom_refused : (p : ℤ × ℤ) (b : ℤ) (f : Fault) → b ≡ p.1 → ◌≡◌ {A = Result ℤ Fault} (Err f) (if in_32_bits b then Ok b else Err PocRange)
+    → ◌≡◌ {A = Result (ℤ × ℤ) Fault} (Err f) (if both_in_32_bits (counts_of p) then Ok p else Err PocRange)
+bottom_refused p b f same e =
+    let out = refused (in_32_bits b) b f e in
+    ap (λ e. Err e) out.1 ∙ sym (ap (λ t. if t then Ok p else Err PocRange) (and_false (in_32_bits p.0) (in_32_bits p.1) (sym (ap in_32_bits same) ∙ out.0)))
+
+pub range_refused : (h : Header) (p : ℤ × ℤ) (f : Fault) → ◌≡◌ {A = Result (ℤ × ℤ) Fault} (Err f) (if both_in_32_bits (counts_of p) then Ok p else Err PocRange)
+    → ◌≡◌ {A = Result (ℤ × ℤ) Fault} (Err f) (count_pair (in_range h (counts_of p)))
+range_refused h p f e =
+    let c : Counts = counts_of p in
+    let out = refused (both_in_32_bits c) p f e in
+    ap (λ e. Err e) out.1 ∙ sym (ap (λ t. count_pair (if t && both_in_32_bits (final_counts h c) then Ok (final_counts h c) else Err PocRange)) out.0)
+
+-- ---- counts before any lowering
+
+-- those of type 0
 pub raw_0 : (sps : Sps) (h : Header) (p : Previous) (n l : ℕ) (r : ℤ × ℤ) → sps.order_count ≡ orders.Type0 l → r ≡ pair (counts_0 sps h p)
     → ◌≡◌ {A = Result (ℤ × ℤ) Fault} (Ok r) (raw_counts sps h p n)
 raw_0 sps h p n l r e f =

@@ -11,7 +11,7 @@ pub use Rattle.std.proofs.lemmas.Nat.{mul-le, div-add-mod', div-mul-add, mod-mul
 pub use Rattle.std.specs.Int.{int_min}
 pub use Rattle.std.specs.Int.RustNames.{unsigned_abs}
 pub use Rattle.std.specs.Prelude.{Some, None}
-pub use Rattle.std.specs.Result.{is_ok}
+pub use Rattle.std.specs.Result.{IsErrAnd, is_ok}
 pub use Rattle.avc_params.specs.Limits.{max_frame_num}
 pub use Rattle.avc_params.specs.declared.sps.OrderCount.{OrderCount}
 pub use Rattle.avc_params.specs.declared.sps.Sps.{Sps}
