@@ -421,20 +421,19 @@ const COMMANDS: &[CommandWords] = &[
 
 /// What words the program takes.
 pub(crate) fn grammar<'a>(alloc: Global) -> Result<Grammar<'a>, AllocError> {
-    with_commands(alloc, program_alone(alloc)?, COMMANDS)
-}
-
-// The program without its commands.
-fn program_alone<'a>(alloc: Global) -> Result<Grammar<'a>, AllocError> {
-    Grammar::new(alloc, "avcdec")
+    let program = Grammar::new(alloc, "avcdec")
         .version("0.2.0")
         .about("Reads an H.264 byte stream (Annex B)")
         .after_help(STATUSES)
-        .subcommand_required(true)
-        .bin_name("avcdec")
+        .subcommand_required(true);
+    with_commands(alloc, program, commands())
 }
 
-// The program, with these commands.
+fn commands() -> &'static [CommandWords] {
+    COMMANDS
+}
+
+// The program by its name, with these commands.
 fn with_commands<'a>(
     alloc: Global,
     mut program: Grammar<'a>,
@@ -443,7 +442,7 @@ fn with_commands<'a>(
     for command in commands {
         program = program.subcommand(command_of(alloc, command)?)?;
     }
-    Ok(program)
+    program.bin_name("avcdec")
 }
 
 fn command_of<'a>(alloc: Global, command: &CommandWords) -> Result<Grammar<'a>, AllocError> {
@@ -473,10 +472,7 @@ fn arg_of<'a>(alloc: Global, word: &Word) -> Result<Arg<'a>, AllocError> {
     if let Some(parser) = parser_of(word.kind) {
         arg = arg.value_parser(parser);
     }
-    for other in word.conflicts {
-        arg = arg.conflicts_with(*other)?;
-    }
-    Ok(arg)
+    arg.conflicts_with_all(word.conflicts)
 }
 
 // Whether it may not be left out.
