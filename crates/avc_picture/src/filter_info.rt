@@ -1,8 +1,8 @@
 //! What the deblocking filter asks of one macroblock (8.7).
 
-ghost use Rattle.std.specs.Prelude.{◌≡◌, ℕ, ◌*◌, ◌<◌, true, not, ◌==◌, [], List, length, map};
+ghost use Rattle.std.specs.Prelude.{◌≡◌, ℕ, ◌*◌, ◌<◌, true, not, ◌==◌, length, map};
 ghost use Rattle.std.specs.Prelude.{slice_index, slice_index_or};
-ghost use Rattle.avc_types.specs.Macroblock.{total_coeff};
+ghost use Rattle.avc_neigh.specs.TotalCoeffs.{total_coeffs_of};
 ghost use Rattle.avc_neigh.specs.declared.neighbour_info.Motion.TheVariants.{Absent as absent};
 ghost use Rattle.avc_motion.specs.Motion as motions;
 ghost use Rattle.avc_deblock.specs.Edges as edges;
@@ -13,31 +13,30 @@ ghost use Rattle.avc_picture.specs.MacroblockInfo.{number_of, IsFilterInfo};
 use crate::slice_context::SliceContext;
 use avc_deblock::MbInfo;
 use avc_motion::has_one_motion;
-use avc_neigh::Motion;
-use avc_types::{BlockLevels, Mb, Mv, Syntax};
+use avc_neigh::{Motion, NeighbourInfo};
+use avc_types::{Mb, Mv, Syntax};
+use std::simd::prelude::*;
 
 /// The luma blocks of a macroblock.
 const BLOCKS: usize = 16;
 
-/// Bit k is set where luma block `k` has a level that is not 0.
-fn coded_blocks(levels: &BlockLevels<16>) -> u16
-    ensures { (k : ℕ) → k < 16 → has_bit result k ≡ not (total_coeff (slice_index_or levels.now.luma k []) == 0) }
+/// Bit k is set where total_coeff of block `k` is not 0.
+fn coded_blocks(total_coeffs: &[u8; BLOCKS]) -> u16
+    ensures { (k : ℕ) → k < 16 → has_bit result k ≡ not (slice_index total_coeffs.now k == 0) }
 {
-    let mut bits = 0;
-    for i in 0..BLOCKS {
-        let block = &levels.luma[BLOCKS - 1 - i];
-        bits = 2 * bits + u16::from(block.total_coeff() != 0);
-    }
-    bits
+    u8x16::from_array(*total_coeffs)
+        .simd_ne(u8x16::splat(0))
+        .to_bitmask() as u16
 }
 
 /// Bit k is set where luma block `k` of a macroblock has a level that is not 0; of an intra
-/// macroblock none is.
-fn coefficients(mb: &Mb) -> u16
+/// macroblock none is. `total_coeffs` are those of the luma blocks.
+fn coefficients(mb: &Mb, total_coeffs: &[u8; BLOCKS]) -> u16
+    requires { total_coeffs.now ≡ (total_coeffs_of mb.now.syntax).luma }
     ensures { (k : ℕ) → k < 16 → has_bit result k ≡ has_coefficients mb.now.syntax k }
 {
     match &mb.syntax {
-        Syntax::PInter { levels, .. } => coded_blocks(levels),
+        Syntax::PInter { .. } => coded_blocks(total_coeffs),
         Syntax::PSkip | Syntax::IPcm { .. } | Syntax::INxN { .. } | Syntax::I16x16 { .. } => 0,
     }
 }
@@ -124,6 +123,7 @@ fn set_motion(
     requires { has_one_motion ≡ true → motions.AreOfOneMotion motion.now }
     ensures pictures { (q : ℕ) → q < 4 → slice_index pictures.new q ≡ number_of frame_numbers.now (slice_index_or motion.now (4 * q) absent) }
     ensures vectors { vectors.new ≡ map motions.vector_of motion.now }
+    ensures blocks { length motion.now ≡ 16 }
 {
     if has_one_motion {
         *pictures = [frame_number(motion[0], frame_numbers); 4];
@@ -134,23 +134,24 @@ fn set_motion(
     }
 }
 
-/// Writes into `info` what the filter asks of a macroblock with this motion.
+/// Writes into `info` what the filter asks of a macroblock of which neighbours are told this.
 pub(crate) fn set_filter_info<const PAD: usize>(
     info: &mut MbInfo,
     mb: &Mb,
-    motion: &[Motion; 16],
+    neighbour_info: &NeighbourInfo,
     slice: &SliceContext<'_, PAD>,
 )
-    requires { motions.has_one_motion mb.now.syntax ≡ true → motions.AreOfOneMotion motion.now }
-    ensures info { IsFilterInfo mb.now motion.now slice.now info.new }
-    ensures blocks { length motion.now ≡ 16 }
+    requires total_coeffs { neighbour_info.now.total_coeffs ≡ total_coeffs_of mb.now.syntax }
+    requires one { motions.has_one_motion mb.now.syntax ≡ true → motions.AreOfOneMotion neighbour_info.now.motion }
+    ensures info { IsFilterInfo mb.now neighbour_info.now.motion slice.now info.new }
+    ensures blocks { length neighbour_info.now.motion ≡ 16 }
 {
     info.is_intra = is_intra(mb);
-    info.coefficients = coefficients(mb);
+    info.coefficients = coefficients(mb, &neighbour_info.total_coeffs.luma);
     set_motion(
         &mut info.pictures,
         &mut info.vectors,
-        motion,
+        &neighbour_info.motion,
         has_one_motion(mb),
         &slice.frame_numbers,
     );

@@ -8,13 +8,14 @@ ghost use Rattle.avc_deblock.specs.OneEdge.{HasRoom};
 ghost use Rattle.avc_picture_core.specs.Canvas.{address_of};
 ghost use Rattle.avc_picture.specs.RowLate.{filtered_rows, AreInfoOf, FiltersUpTo};
 ghost use Rattle.avc_motion.specs.Motion.{AreOfOneMotion, has_one_motion};
+ghost use Rattle.avc_neigh.specs.TotalCoeffs.{total_coeffs_of};
 ghost use Rattle.std.specs.Option.{option_copied};
 ghost use Rattle.avc_picture.specs.FilterRows.{kept_info, AddsInfo};
 
 use crate::filter_info::set_filter_info;
 use crate::slice_context::SliceContext;
 use avc_deblock::{MbInfo, row};
-use avc_neigh::Motion;
+use avc_neigh::NeighbourInfo;
 use avc_picture_core::MbPlace;
 use avc_plane::Planes;
 use avc_types::{FilteredEdges, History, Mb, Mv, OutOfMemory};
@@ -176,19 +177,21 @@ impl FilterRows {
         }
     }
 
-    /// Adds the info of the macroblock that comes next. It has this motion.
+    /// Adds the info of the macroblock that comes next, of which neighbours are told this.
     pub(crate) fn put<const PAD: usize>(
         &mut self,
         mb: &Mb,
-        motion: &[Motion; 16],
+        neighbour_info: &NeighbourInfo,
         slice: &SliceContext<'_, PAD>,
     )
         requires small { length self.old.info < 2 ^ 32 }
-        requires one { has_one_motion mb.now.syntax ≡ true → AreOfOneMotion motion.now }
-        ensures info { AddsInfo mb.now motion.now slice.now self.old self.new }
-        ensures blocks { length motion.now ≡ 16 }
+        requires total_coeffs { neighbour_info.now.total_coeffs ≡ total_coeffs_of mb.now.syntax }
+        requires one { has_one_motion mb.now.syntax ≡ true → AreOfOneMotion neighbour_info.now.motion }
+        ensures info { AddsInfo mb.now neighbour_info.now.motion slice.now self.old self.new }
+        ensures blocks { length neighbour_info.now.motion ≡ 16 }
     {
-        set_filter_info(&mut self.current[self.column], mb, motion, slice);
+        let info = &mut self.current[self.column];
+        set_filter_info(info, mb, neighbour_info, slice);
         self.info = self.info.with(&self.current[self.column]);
         self.column += 1;
         if self.column == self.width {

@@ -205,7 +205,7 @@ impl<const PAD: usize> Macroblocks<PAD> {
         let info = info.info();
         self.filter_rows
             .filter_late(&mut self.planes, self.canvas.chroma_qp_index_offset);
-        self.filter_rows.put(mb, &info.motion, slice);
+        self.filter_rows.put(mb, info, slice);
         self.row.put(info);
         self.next += 1;
         Ok(())

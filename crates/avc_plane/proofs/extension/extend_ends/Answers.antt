@@ -8,15 +8,15 @@ loop-y-preserved c =
     let stride = c.args.stride in
     let row = c.loop-y.y in
     let old = c.loop-y.invariant in
-    let first = c.copy.ensures in
-    let second = c.copy-in-loop-y.ensures in
+    let first = c.copy_before.ensures in
+    let second = c.copy_behind.ensures in
     let fits = λ (a m : ℕ) (less : a < m). row_fits a stride m stride less (omega arith) in
     record {
       above = λ x y column below. second.before (y * stride + x) (omega (arith, fits y (pad + height + row) (omega arith)))
-          ∙ below_more (λ y. slice_index c.copy.new.stored (y * stride + x) ≡ slice_index c.args.stored.now (pad * stride + x)) row
+          ∙ below_more (λ y. slice_index c.copy_before.new.stored (y * stride + x) ≡ slice_index c.args.stored.now (pad * stride + x)) row
           (λ y less. first.before (y * stride + x) (omega (arith, fits y row less)) ∙ old.above x y column less)
           (first.here x column ∙ old.between (pad * stride + x) (omega arith) (omega (arith, fits pad (pad + height) (omega arith)))) y below;
-      below = λ x y column below. below_more (λ y. slice_index c.copy-in-loop-y.new.stored ((pad + height + y) * stride + x) ≡ slice_index c.args.stored.now ((pad + height - 1) * stride + x)) row
+      below = λ x y column below. below_more (λ y. slice_index c.copy_behind.new.stored ((pad + height + y) * stride + x) ≡ slice_index c.args.stored.now ((pad + height - 1) * stride + x)) row
           (λ y less. second.before ((pad + height + y) * stride + x) (omega (arith, fits (pad + height + y) (pad + height + row) (omega arith)))
           ∙ first.after ((pad + height + y) * stride + x) (omega (arith, fits row (pad + height + y) (omega arith)))
           ∙ old.below x y column less)

@@ -340,31 +340,6 @@ module _ {PAD : ℕ} (c : Coded) (names : Names) (s : SliceContext PAD) (slice :
     offset_b_is = told.offset_b_is ∙ slice.offset_b ∙ ap (λ x. (slice_info c x.slice).filter_offset_b) (sym mb_is);
   }
 
--- ---- a mask that grows by a bit at its lower end
-
-bit_small : (b : Bool) → bool_byte b < 2
-bit_small true = omega arith
-bit_small false = omega arith
-
-half : (x b p : ℕ) → b < 2 → (2 * x + b) / (2 * p) ≡ x / p
-half x b p h = sym (div-div-eq-div-mul (2 * x + b) 2 p) ∙ ap (λ n. n / p) (omega arith)
-
-pub upper_bit : (x b j : ℕ) → b < 2 → has_bit (2 * x + b) (suc j) ≡ has_bit x j
-upper_bit x b j h = ap (λ n. n % 2 == 1) (ap (λ n. (2 * x + b) / n) (pow-succ' 2 j) ∙ half x b (2 ^ j) h)
-
-pub lowest_bit : (x : ℕ) (b : Bool) → has_bit (2 * x + bool_byte b) 0 ≡ b
-lowest_bit x true = grind (arith, nat_tests)
-lowest_bit x false = grind (arith, nat_tests)
-
-pub mask_small : (x i : ℕ) (b : Bool) → x < 2 ^ i → 2 * x + bool_byte b < 2 ^ (i + 1)
-mask_small x i b h = omega (arith, bit_small b, pow-succ' 2 i, ap (λ k. 2 ^ k) (add-one i))
-
--- What holds of the bits of a mask, the lowest that of the last place, holds over one place more.
-pub mask_more : (f : ℕ → Bool) (x i : ℕ) → i < 16 → ((j : ℕ) → j < i → has_bit x j ≡ f (16 - i + j))
-    → (j : ℕ) → j < i + 1 → has_bit (2 * x + bool_byte (f (15 - i))) j ≡ f (16 - (i + 1) + j)
-mask_more f x i h done zero k = lowest_bit x (f (15 - i)) ∙ ap f (omega arith)
-mask_more f x i h done (suc j) k = grind (arith, nat_tests, upper_bit, bit_small)
-
 is_zero : (z : ℤ) → (cond (not (nat_abs z == 0)) 1 0 == 0) ≡ (z ==ℤ pos 0)
 is_zero (pos n) = grind (arith, nat_tests)
 is_zero (negsuc n) = grind (arith, nat_tests)

@@ -3,7 +3,7 @@ pub use Rattle.std.proofs.Common.{◌≡◌, ◌∙◌, ℕ, List, [], ◌∷◌
 pub use Rattle.std.proofs.Common.{nat_lt, Bool, true, false, not, ℤ, pos, ◌+ℤ◌, Option, None, subst, arith, zero, suc, ◌+◌, ◌-◌, ◌≤◌, inl, inr}
 pub use Rattle.std.proofs.Common.{add-one, ◌/◌, ◌%◌, ◌==◌, nat_abs, cond, ◌*◌, ◌^◌, Ok, Err, ◌≤ℤ◌, Result, append_assoc, length-set, mul_comm, ⊎_elim}
 pub use Rattle.std.proofs.Common.{Bor, replicate, unwrap_or, lit≤, ◌⊎◌, rules, w8, to_z, of_z, w32, below_more, slice_set, get_or-set_other, get_or-set_same}
-pub use Rattle.std.proofs.Math.Nat.{div-div-eq-div-mul, pow-succ', div-le_self, add-mul, mul-le-mul_right, div-lt_iff_lt-mul, div-mul-le_self}
+pub use Rattle.std.proofs.Math.Nat.{div-le_self, add-mul, mul-le-mul_right, div-lt_iff_lt-mul, div-mul-le_self}
 pub use Rattle.std.proofs.Math.Seq.{get_or-append_seam, take-append-add, take-append_seam, take-suc, take-length}
 pub use Rattle.std.proofs.lemmas.Bool.{cases_lt, ne_eqb}
 pub use Rattle.std.proofs.lemmas.Bool.Decides.{nat_tests}
@@ -114,7 +114,6 @@ pub use Rattle.avc_types.specs.declared.macroblock.SubMbType.TheVariants.{Sub8x8
 pub use Rattle.avc_types.specs.declared.references.Modification.{Modification}
 pub use Rattle.avc_types.specs.declared.references.Modification.TheVariants.{Subtract, Add, LongTerm}
 pub use Rattle.avc_types.specs.declared.weight.Weights.{Weights}
-pub use mir.Val.{bool_byte}
 pub use Rattle.avc_picture.specs.Context.{FramesStandAt, picture_start, AreNames, ArePicturesAt, ArePlacesIn, HasPlaces, IsContextAt, IsContextOf}
 pub use Rattle.avc_picture.specs.Context.{IsPictureAt, planes_at, IsListAt, HasList}
 pub use Rattle.avc_picture.specs.Decoded.{deblocked}
