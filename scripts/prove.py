@@ -8,7 +8,7 @@ Crates that don't stand on each other are proved side by side, one a processor a
 others behind them. What a crate has proved is kept for those above it as statements alone, which are read sooner than proofs; a crate for
 which all others wait gets the processors that nobody else has. The toolchain's compiler is called for each as `rt lib` calls it.
 What was proved before is not proved again, also after an interrupt. Every half minute a line on standard error says what is being proved, and
-how long is left by the times of scripts/proof-times.txt.
+how long is left by the times of scripts/proof-times.txt and by how much longer or shorter the proofs so far took here.
 
 --plan shows the order and how long it takes, and proves nothing. --times writes what each crate's proof took, for that list. --at-once tells how
 many proofs this machine has processors and memory for, and proves nothing."""
@@ -27,6 +27,7 @@ GIB = 1 << 30
 NEED = 3 * GIB  # the memory of one proof
 EVERY = 30  # seconds from one line to the next
 UNKNOWN = 60  # the seconds of a proof that the list of times doesn't have
+TRUSTED = 60  # for so many seconds of proofs the list counts as right, before what was seen here
 
 
 def say(text):
@@ -87,6 +88,9 @@ class Kit:
         # how long the proof of each crate takes on one processor, in seconds
         self.seconds = {name: int(it) for name, it in rows if name != "toolchain"}
 
+    def needs(self, name):
+        return self.seconds.get(name, UNKNOWN)
+
     def look(self):
         if shutil.which("rt") is None:
             say("the toolchain Rattle is not there: no `rt` on the path. It proves and builds the decoder. Whoever only wants to decode takes")
@@ -105,8 +109,13 @@ class Room:
         cache = os.environ.get("XDG_CACHE_HOME") or os.path.expanduser("~/.cache")
         self.at = f"{cache}/avcdec/{hashlib.sha256(TOP.encode()).hexdigest()[:16]}"
         self.kit, self.crates, self.sums = kit, crates, {}
-        # the processor seconds of each crate that was proved
-        self.used = {}
+        # the seconds of each crate that was proved by one processor, by the clock, and those of the processor
+        self.took, self.used = {}, {}
+
+    def pace(self):
+        """How long proofs take here, as a part of what the list says."""
+        took = dict(self.took)
+        return (TRUSTED + sum(took.values())) / (TRUSTED + sum(self.kit.needs(it) for it in took))
 
     def library(self, name):
         return f"{self.at}/{name}.rlib"
@@ -157,9 +166,12 @@ class Room:
         if os.path.lexists(mark):
             os.remove(mark)
         sum_before = self.sum_of(name)
+        started = time.time()
         with open(f"{self.at}/{name}.log", "w", encoding="utf-8") as log:
             status = self.call(name, ["--statements", "--jobs", str(jobs), "-o", self.library(name)], log)
         if status == 0:
+            if jobs == 1:
+                self.took[name] = time.time() - started
             with open(mark, "w", encoding="utf-8") as file:
                 file.write(sum_before)
         return status
@@ -175,15 +187,12 @@ class Proofs:
     """The libraries that are still to be proved, in their order."""
 
     def __init__(self, room, wanted, last):
-        self.room, self.crates, self.seconds = room, room.crates, room.kit.seconds
+        self.room, self.crates, self.needs = room, room.crates, room.kit.needs
         self.wanted, self.last = wanted, sum(self.needs(it) for it in last)
         self.everything = [*wanted, *last]
         self.done, self.failed, self.running = set(), None, {}
         self.change, self.started = threading.Condition(), time.time()
         self.jobs = len(os.sched_getaffinity(0))
-
-    def needs(self, name):
-        return self.seconds.get(name, UNKNOWN)
 
     def way(self, name):
         """The longest way from a crate to the end, in seconds."""
@@ -221,12 +230,12 @@ class Proofs:
 
     def left(self):
         """In minutes: the longest way, or all work by the processors, and what is proved where it is built."""
-        now = time.time()
-        so_far = {name: min(now - since, self.needs(name)) for name, since in self.running.items()}
+        now, pace = time.time(), self.room.pace()
+        so_far = {name: min((now - since) / pace, self.needs(name)) for name, since in self.running.items()}
         left = [it for it in self.wanted if it not in self.done]
         work = sum(self.needs(it) for it in left) - sum(so_far.values())
         way = max((self.way(it) - so_far.get(it, 0) for it in left), default=self.last)
-        return max(way, work / self.jobs + self.last) / 60
+        return pace * max(way, work / self.jobs + self.last) / 60
 
     def tell(self):
         with self.change:
@@ -272,7 +281,7 @@ def build(room, name, given, jobs):
     flags = [f"--cpu={given.cpu}"] if given.cpu else ["--target", given.target] if given.target else []
     flags += ["--test"] if given.tests else ["--crate-type", "staticlib"] if room.crates.is_static(name) else []
     os.makedirs(out, exist_ok=True)
-    started, whole = time.time(), f" of about {room.kit.seconds.get(name, UNKNOWN) / 60:.0f}"
+    started, whole = time.time(), f" of about {room.pace() * room.kit.needs(name) / 60:.0f}"
     with Spoken(lambda: say(f"{name} is proved and built, for {(time.time() - started) / 60:.1f}{whole} min")):
         with open(f"{room.at}/{name}.log", "w", encoding="utf-8") as log:
             toolchain = ["--toolchain", given.toolchain or f"{room.kit.at}/toolchain"]

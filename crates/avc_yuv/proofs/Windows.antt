@@ -231,6 +231,37 @@ next_counted p c w before n row first room old mid g w_is so_far within counted 
       length-shown_of p c w w_is,
     )
 
+-- after so many rows, one more was put behind them
+pub put_more : (p : Picture) (c : Component) (w : Window) (first n place : ℕ) (row old mid new : List ℕ) → w ≡ window_of p c → row ≡ shown_of_row p c (w.top + (first + n)) → length row ≡ w.width
+    → take (place + n * w.width) mid ≡ take place old ++ window (columns_of p c) (samples_of p c) w.left (w.top + first) w.width n
+    → take (place + n * w.width + length row) new ≡ take (place + n * w.width) mid ++ row
+    → take (place + (n + 1) * w.width) new ≡ take place old ++ window (columns_of p c) (samples_of p c) w.left (w.top + first) w.width (n + 1)
+put_more p c w first n place row old mid new w_is is long so_far put_is =
+    let part = part_of_row (columns_of p c) (samples_of p c) w.left w.width in
+    let end : place + (n + 1) * w.width ≡ place + n * w.width + length row = omega (arith, long) in
+    let y : w.top + first + n ≡ w.top + (first + n) = omega arith in
+    rw (end, put_is, so_far, rows_more part (w.top + first) n, y, ← row_in p c w (first + n) row w_is is)
+    (append_assoc (take place old) (window (columns_of p c) (samples_of p c) w.left (w.top + first) w.width n) row)
+
+-- rows were put behind those that wait, and none was written
+pub rows_put : (p : Picture) (c : Component) (w : Window) (before : Gathered) (n count : ℕ) (first room now : List ℕ) (old new : Option (List ℕ)) (g : Gathered) → IsRowsGathered p c w before first room old new n g
+    → count * w.width ≤ length room - g.waiting → length now ≡ length room
+    → take (g.waiting + count * w.width) now ≡ take g.waiting room ++ window (columns_of p c) (samples_of p c) w.left (w.top + n) w.width count
+    → IsRowsGathered p c w before first now old new (n + count) (record { written = g.written; waiting = g.waiting + count * w.width })
+rows_put p c w before n count first room now old new g so_far fit long put_is =
+    let win = window (columns_of p c) (samples_of p c) w.left in
+    let ahead = take before.waiting first in
+    record {
+      out = so_far.out;
+      all =
+          ap (λ l. so_far.out ++ l) put_is ∙ sym (append_assoc so_far.out (take g.waiting room) (win (w.top + n) w.width count))
+          ∙ ap (λ l. l ++ win (w.top + n) w.width count) so_far.all ∙ append_assoc ahead (win w.top w.width n) (win (w.top + n) w.width count)
+          ∙ ap (λ l. ahead ++ l) (sym (window_split (columns_of p c) (samples_of p c) w.left w.top w.width n count));
+      sent = so_far.sent;
+      within = omega (arith, so_far.within, fit, long);
+      taken = so_far.taken;
+    }
+
 -- ---- the three components of a picture
 
 -- nothing waits at first

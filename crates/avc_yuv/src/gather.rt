@@ -1,12 +1,14 @@
 //! Rows that are gathered into large writes.
 
-ghost use Rattle.std.specs.Prelude.{◌≡◌, ◌+◌, ◌++◌, ◌<◌, ◌≤◌, ◌^◌, length, take};
+ghost use Rattle.std.specs.Prelude.{◌≡◌, ◌+◌, ◌*◌, ◌++◌, ◌<◌, ◌≤◌, ◌^◌, length, take};
 ghost use Rattle.avc_types.specs.Whole.{IsWhole};
-ghost use Rattle.avc_yuv.specs.Copying.{shown_of};
+ghost use Rattle.avc_plane.specs.Shown.{columns_of, samples_of};
+ghost use Rattle.avc_yuv.specs.Copying.{shown_of, window_of, IsInside};
+ghost use Rattle.avc_yuv.specs.I420.{window};
 ghost use Rattle.avc_yuv.specs.Gathering.{nothing_waits, Gathers};
 
 use crate::bytes::write_bytes;
-use crate::shown::{shown_row, window_of};
+use crate::shown::{Window, shown_row, window_of};
 use crate::write::WriteFault;
 use avc_plane::{Component, PictureRows};
 use std::io::Write;
@@ -18,7 +20,8 @@ pub struct Gathered {
     pub waiting: usize,
 }
 
-// Gathers the rows of a component that are shown.
+// Gathers the rows of a component that are shown: again and again one, and then all that have room
+// behind it, which need no test each.
 pub(crate) fn gather_component<P: PictureRows, W: Write>(
     picture: &P,
     component: Component,
@@ -35,11 +38,59 @@ pub(crate) fn gather_component<P: PictureRows, W: Write>(
 {
     let of = window_of(picture, component);
     let mut gathered = before;
-    'rows: for number in 0..of.height {
+    let mut number = 0;
+    'rows: while number < of.height {
         let row = shown_row(picture, component, of, number);
-        gathered = gather(row, room, gathered, writer)?;
+        let one = gather(row, room, gathered, writer)?;
+        let next = number + 1;
+        let count = rows_that_fit(of.height - next, of.width, room.len() - one.waiting);
+        put_rows(picture, component, of, next, count, room, one.waiting);
+        gathered = Gathered {
+            written: one.written,
+            waiting: one.waiting + count * of.width,
+        };
+        number = next + count;
     }
     Ok(gathered)
+}
+
+// How many of so many rows have room together.
+fn rows_that_fit(rows: usize, width: usize, room: usize) -> usize
+    ensures few { result ≤ rows }
+    ensures fit { result * width ≤ room }
+{
+    if width == 0 {
+        return rows;
+    }
+    rows.min(room / width)
+}
+
+// Puts so many rows of a component into the room, one behind another, from this place on. In a call
+// of its own it is small enough that the component is chosen once for all rows.
+#[inline(never)]
+fn put_rows<P: PictureRows>(
+    picture: &P,
+    component: Component,
+    of: Window,
+    first: usize,
+    count: usize,
+    room: &mut [u8],
+    at: usize,
+)
+    requires whole { IsWhole (P.picture picture.now) }
+    requires window { of ≡ window_of (P.picture picture.now) component }
+    requires inside { IsInside (P.picture picture.now) component of }
+    requires shown { first + count ≤ of.height }
+    requires room { at + count * of.width ≤ length room.old }
+    ensures same_length { length room.new ≡ length room.old }
+    ensures rows { take (at + count * of.width) room.new ≡ take at room.old
+        ++ window (columns_of (P.picture picture.now) component) (samples_of (P.picture picture.now) component)
+        of.left (of.top + first) of.width count }
+{
+    'rows: for number in 0..count {
+        let row = shown_row(picture, component, of, first + number);
+        put(room, at + number * of.width, row);
+    }
 }
 
 // Puts a row behind those that wait. Where it has no room there, they go out first.
@@ -96,5 +147,15 @@ fn put(room: &mut [u8], at: usize, bytes: &[u8])
     ensures length { length room.new ≡ length room.old }
     ensures front { take (at + length bytes.now) room.new ≡ take at room.old ++ bytes.now }
 {
-    room[at..at + bytes.len()].copy_from_slice(bytes);
+    copy_bytes(&mut room[at..at + bytes.len()], bytes);
+}
+
+// In a call of its own, since the code for slices that overlap, which comes with each copy, would
+// crowd the loop over rows.
+#[inline(never)]
+fn copy_bytes(target: &mut [u8], bytes: &[u8])
+    requires { length target.old ≡ length bytes.now }
+    ensures { target.new ≡ bytes.now }
+{
+    target.copy_from_slice(bytes);
 }
