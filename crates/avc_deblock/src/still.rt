@@ -1,14 +1,16 @@
 //! Strengths of an edge, by the info of its macroblocks; most are known without looking at blocks.
 
-ghost use Rattle.std.specs.Prelude.{◌≡◌, ℕ, ◌+◌, ◌%◌, ◌<◌, slice_index, slice_index_or, true};
-ghost use Rattle.std.specs.Prelude.{false};
+ghost use Rattle.std.specs.Prelude.{◌≡◌, ℕ, ◌+◌, ◌%◌, ◌<◌, ◌≤◌, slice_index, slice_index_or, true};
+ghost use Rattle.std.specs.Prelude.{false, ◌/◌};
 ghost use Rattle.avc_motion.specs.Motion.{zero_vector};
-ghost use Rattle.avc_deblock.specs.FilterInfo.{edge_block, inter_strength, HaveOneMotion, IsStill};
+ghost use Rattle.avc_deblock.specs.FilterInfo.{edge_block, has_bit, inter_strength, HaveOneMotion, IsStill};
 ghost use Rattle.avc_deblock.specs.ByInfo.{strength_of};
 
 use crate::edge_strengths::edge_block;
 use crate::mb_info::MbInfo;
 use avc_edges::{all_three, both, either};
+use avc_types::Mv;
+use std::simd::prelude::*;
 
 impl MbInfo {
     #[inline(always)]
@@ -23,6 +25,20 @@ impl MbInfo {
         same
     }
 
+    /// Four blocks from this one on have this vector: one look at all their components.
+    #[inline(always)]
+    fn four_have(&self, k: usize, v: Mv) -> bool
+        requires { k + 4 ≤ 16 }
+        ensures one { result ≡ true → (j : ℕ) → j < 4 → slice_index_or self.now.vectors (k + j) zero_vector ≡ v }
+        ensures found { ((j : ℕ) → j < 4 → slice_index_or self.now.vectors (k + j) zero_vector ≡ v) → result ≡ true }
+    {
+        let vectors = &self.vectors;
+        let (a, b, c, d) = (vectors[k], vectors[k + 1], vectors[k + 2], vectors[k + 3]);
+        let here = i16x8::from_array([a.x, a.y, b.x, b.y, c.x, c.y, d.x, d.y]);
+        let same = i16x8::from_array([v.x, v.y, v.x, v.y, v.x, v.y, v.x, v.y]);
+        here.simd_eq(same).all()
+    }
+
     #[inline(always)]
     fn has_one_vector(&self) -> bool
         ensures one { result ≡ true → (k : ℕ) → k < 16 →
@@ -31,13 +47,8 @@ impl MbInfo {
             slice_index_or self.now.vectors k zero_vector ≡ slice_index_or self.now.vectors 0 zero_vector) → result ≡ true }
     {
         let mut same = true;
-        for k in 0..16 {
-            // both components at once
-            let here = both(
-                self.vectors[k].x == self.vectors[0].x,
-                self.vectors[k].y == self.vectors[0].y,
-            );
-            same = both(same, here);
+        for quarter in 0..4 {
+            same = both(same, self.four_have(4 * quarter, self.vectors[0]));
         }
         same
     }
@@ -57,19 +68,19 @@ impl MbInfo {
 }
 
 impl MbInfo {
-    /// The blocks have no coefficients, one picture and one vector.
+    /// The blocks have one picture and one vector.
     #[inline(always)]
     fn moves_as(&self, block: usize, q: &MbInfo, q_block: usize) -> bool
         requires p { block < 16 }
         requires q { q_block < 16 }
-        ensures strength { result ≡ true → inter_strength self.now block q.now q_block ≡ 0 }
+        ensures picture { result ≡ true → slice_index self.now.pictures (block / 4) ≡ slice_index q.now.pictures (q_block / 4) }
+        ensures vector { result ≡ true →
+            slice_index_or self.now.vectors block zero_vector ≡ slice_index_or q.now.vectors q_block zero_vector }
         ensures found { HaveOneMotion self.now block q.now q_block → result ≡ true }
     {
         let (u, v) = (self.vectors[block], q.vectors[q_block]);
-        let same_vector = both(u.x == v.x, u.y == v.y);
         let same_picture = self.pictures[block / 4] == q.pictures[q_block / 4];
-        let any = either(self.has_coefficients(block), q.has_coefficients(q_block));
-        all_three(same_vector, same_picture, !any)
+        all_three(u.x == v.x, u.y == v.y, same_picture)
     }
 
     /// The strengths along edge `n` of `q`, of which `self` is the other side, are 0, as one look
@@ -82,32 +93,39 @@ impl MbInfo {
         ensures found { ((k : ℕ) → k < 4 →
             HaveOneMotion self.now (edge_block is_vertical ((n + 3) % 4) k) q.now (edge_block is_vertical n k)) → result ≡ true }
     {
-        let mut quiet = true;
+        let mut moves = true;
         for k in 0..4 {
             let here = self.moves_as(
                 edge_block(is_vertical, (n + 3) % 4, k),
                 q,
                 edge_block(is_vertical, n, k),
             );
-            quiet = both(quiet, here);
+            moves = both(moves, here);
         }
-        quiet
+        both(moves, !self.has_coefficients_beside(q, is_vertical, n))
     }
 
-    /// A block beside edge `n` of `q` has coefficients.
+    /// A block beside edge `n` of `q` has coefficients. The bits of each side by themselves, so that
+    /// they are looked at together.
     #[inline(always)]
     pub(crate) fn has_coefficients_beside(&self, q: &MbInfo, is_vertical: bool, n: usize) -> bool
         requires { n < 4 }
-        ensures { ((k : ℕ) → k < 4 →
+        ensures none { result ≡ false → (k : ℕ) → k < 4 →
+            (has_bit self.now.coefficients (edge_block is_vertical ((n + 3) % 4) k) ≡ false)
+            × (has_bit q.now.coefficients (edge_block is_vertical n k) ≡ false) }
+        ensures found { ((k : ℕ) → k < 4 →
             HaveOneMotion self.now (edge_block is_vertical ((n + 3) % 4) k) q.now (edge_block is_vertical n k)) → result ≡ false }
     {
-        let mut any = false;
+        let mut on_p = false;
+        let mut on_q = false;
         for k in 0..4 {
-            let on_p = self.has_coefficients(edge_block(is_vertical, (n + 3) % 4, k));
-            let on_q = q.has_coefficients(edge_block(is_vertical, n, k));
-            any = either(any, either(on_p, on_q));
+            on_p = either(
+                on_p,
+                self.has_coefficients(edge_block(is_vertical, (n + 3) % 4, k)),
+            );
+            on_q = either(on_q, q.has_coefficients(edge_block(is_vertical, n, k)));
         }
-        any
+        either(on_p, on_q)
     }
 
     /// The strengths along the edge from `self` to `q`, which is another macroblock without

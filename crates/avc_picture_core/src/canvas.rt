@@ -13,7 +13,7 @@ ghost use Rattle.avc_picture_core.specs.References.{AreUsable};
 ghost use Rattle.avc_picture_core.specs.Sides.{readable_near};
 
 use crate::inter::ReferencePicture;
-use crate::macroblock::build_macroblock;
+use crate::macroblock::{build_macroblock, build_p_skip};
 use crate::places::{MbPlace, PictureSize};
 use crate::residual::Quantisers;
 use crate::sides::ReadableNeighbours;
@@ -95,6 +95,10 @@ impl Canvas {
             width: self.width,
             height: self.height,
         };
+        // there is nothing to scale
+        if let Syntax::PSkip = &mb.syntax {
+            return build_p_skip(planes, place, size, &info.motion, sources.references);
+        }
         let qp = Quantisers {
             luma: mb.qp,
             chroma: chroma_qp(self.chroma_qp_index_offset, mb.qp),

@@ -112,7 +112,7 @@ fn add_residual<const PAD: usize>(
 }
 
 /// Builds a skipped macroblock. RefMissing where a block has no reference picture.
-fn build_p_skip<const PAD: usize>(
+pub(crate) fn build_p_skip<const PAD: usize>(
     planes: &mut Planes<PAD>,
     place: MbPlace,
     size: PictureSize,
