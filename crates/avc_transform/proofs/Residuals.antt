@@ -17,25 +17,6 @@ below_two P a b zero h = a
 below_two P a b (suc zero) h = b
 below_two P a b (suc (suc x)) h = absurd (omega arith)
 
--- ---- four columns that are written one row at a time
-
-module _ (out : List ℤ) (y : ℕ) (v : ℕ → ℤ) (long : length out ≡ 16) (row : y < 4) where
-  abbrev pub with_row : List ℤ
-  with_row = set (set (set (set out y (v 0)) (4 + y) (v 1)) (8 + y) (v 2)) (12 + y) (v 3)
-
-  written : (x : ℕ) → x < 4 → get_or with_row (4 * x + y) (pos 0) ≡ v x
-  written = below_four _ (grind (arith, common_steps)) (grind (arith, common_steps)) (grind (arith, common_steps)) (grind (arith, common_steps))
-
-  other : (x k : ℕ) → x < 4 → k < y → get_or with_row (4 * x + k) (pos 0) ≡ get_or out (4 * x + k) (pos 0)
-  other x k column above = grind (arith, common_steps)
-
-  -- what held of the rows before y, and holds of this one, holds of the rows up to y
-  pub columns_more : (P : ℕ → ℕ → ℤ → Type 0) → ((x k : ℕ) → x < 4 → k < y → P x k (get_or out (4 * x + k) (pos 0))) → ((x : ℕ) → x < 4 → P x y (v x))
-      → (x k : ℕ) → x < 4 → k < y + 1 → P x k (get_or with_row (4 * x + k) (pos 0))
-  columns_more P old new x k column =
-      below_more (λ k. P x k (get_or with_row (4 * x + k) (pos 0))) y
-      (λ k above. rw (other x k column above) (old x k column above)) (rw (written x column) (new x column)) k
-
 -- ---- numbers that are small enough for their 32 bits
 
 pub IsBelow-more : (m n : ℕ) (z : ℤ) → m ≤ n → IsBelow m z → IsBelow n z
@@ -49,6 +30,14 @@ IsBelow-sub m n a b p q = record { low = omega (arith, ints); high = omega (arit
 
 pub AllBelow-more : {c m n : ℕ} (l : List ℤ) → m ≤ n → AllBelow c m l → AllBelow c n l
 AllBelow-more {c} {m} {n} l h all i less = IsBelow-more m n (slice_index_or l i (pos 0)) h (all i less)
+
+pub more_lines : {m n : ℕ} (l : Lines) → m ≤ n → AreBelow m l → AreBelow n l
+more_lines l le all = record {
+  zeroth = AllBelow-more l.d0 le all.zeroth;
+  first = AllBelow-more l.d1 le all.first;
+  second = AllBelow-more l.d2 le all.second;
+  third = AllBelow-more l.d3 le all.third;
+}
 
 -- a small number is what its 32 bits say
 pub cast_small : {n : ℕ} {z : ℤ} → n ≤ 2 ^ 31 → IsBelow n z → to_z w32 (of_z w32 z) ≡ z
@@ -99,6 +88,9 @@ pub four_levels : {n : ℕ} (l : List ℤ) → AllBelow n (2 ^ 12) l → (a b d 
 four_levels l all a b d e ha hb hd he =
     below_four _ (level_stored _ (all a ha)) (level_stored _ (all b hb)) (level_stored _ (all d hd)) (level_stored _ (all e he))
 
+pub four_back : (c l r : ℕ → ℤ) → ((y : ℕ) → y < 4 → r y ≡ l y) → ((y : ℕ) → y < 4 → l y ≡ c y) → (y : ℕ) → y < 4 → r y ≡ c y
+four_back c l r told back y h = told y h ∙ back y h
+
 -- one factor after the other
 neg_times : (m b : ℕ) → neg_ℤ (pos m) *ℤ pos b ≡ neg_ℤ (pos (m * b))
 neg_times zero b = rw zero-mul
@@ -118,23 +110,109 @@ scaled_line qp x c l r s told el es y h = scaled_of qp (c y) x y (told y h) (el 
 
 -- ---- the DC values of luma and of chroma
 
-pub scale_below : (a p e k : ℕ) → a ≤ 288 → p ≡ 2 ^ e → e ≤ k → a * p ≤ 288 * 2 ^ k
-scale_below a p e k few is less = mul-le-mul few (rw is (pow-le-pow_right (omega arith) less))
+-- a factor goes out of both a number and what divides it
+fewer : (m n : ℕ) (w z : ℤ) → z ≡ w *ℤ pos (suc m) → shr_z z (suc m * n) ≡ shr_z w n
+fewer m n (pos a) z told =
+    rw told (ap pos (sym (div-div-eq-div-mul (a * suc m) (suc m) n) ∙ ap (λ b. b / n) (mul-div_cancel a (omega arith))))
+fewer m n (negsuc a) z told =
+    let product : suc a * suc m ≡ suc (a * suc m + m) = omega arith in
+    let below : z ≡ negsuc (a * suc m + m) = told ∙ ap (λ k. neg_ℤ (pos k)) product in
+    rw below (ap negsuc (sym (div-div-eq-div-mul (a * suc m + m) (suc m) n) ∙ ap (λ b. b / n) (div-mul-add a (suc m) m (omega arith))))
 
-pub luma_rounded : (qp : ℕ) (f v r : ℤ) (a : ℕ) → qp < 36 → a ≡ 16 * even_scale (qp % 6) → v ≡ f *ℤ pos a
-    → r ≡ (v +ℤ pos (2 ^ (6 - qp / 6 - 1)) >>ℤ 6 - qp / 6) → r ≡ luma_dc_scaled qp f
-luma_rounded qp f v r a below ea ev told =
-    let test : nat_lt qp 36 ≡ true = grind (arith, nat_tests) in
-    let half : 6 - qp / 6 - 1 ≡ 5 - qp / 6 = omega (arith, below) in
-    rw (test, told, half, ev, ea) refl
+-- a shift by two by its two bounds
+quarter_low : (z : ℤ) → (pos 4 *ℤ (z >>ℤ 2)) ≤ℤ z
+quarter_low (pos a) = omega (arith, ints)
+quarter_low (negsuc a) = omega (arith, ints)
 
-pub luma_shifted : (qp : ℕ) (f r : ℤ) (a p : ℕ) → 36 ≤ qp → a ≡ 16 * even_scale (qp % 6) → p ≡ 2 ^ (qp / 6 - 6) → r ≡ f *ℤ pos (a * p) → r ≡ luma_dc_scaled qp f
-luma_shifted qp f r a p from ea ep told =
-    let test : nat_lt qp 36 ≡ false = grind (arith, nat_tests) in
-    rw (test, told, ea, ep) (sym (times_times f (16 * even_scale (qp % 6)) (2 ^ (qp / 6 - 6))))
+quarter_high : (z : ℤ) → z <ℤ (pos 4 *ℤ (z >>ℤ 2) +ℤ pos 4)
+quarter_high (pos a) = omega (arith, ints)
+quarter_high (negsuc a) = omega (arith, ints)
 
-pub chroma_shifted : (qp : ℕ) (f v r : ℤ) (a p : ℕ) → a ≡ 16 * even_scale (qp % 6) → p ≡ 2 ^ (qp / 6) → v ≡ f *ℤ pos (a * p) → r ≡ (v >>ℤ 5) → r ≡ chroma_dc_scaled qp f
-chroma_shifted qp f v r a p ea ep told last = rw (last, told, ea, ep, times_times f (16 * even_scale (qp % 6)) (2 ^ (qp / 6)))
+-- a quarter of what is raised by QP / 6, rounded, is what the standard shifts right
+quarter_right : (q : ℕ) (z : ℤ) → q < 6 → (z *ℤ pos (2 ^ q) +ℤ pos 2 >>ℤ 2) ≡ (z *ℤ pos 16 +ℤ pos (2 ^ (5 - q)) >>ℤ 6 - q)
+quarter_right zero z h = sym (fewer 15 4 _ _ (omega (arith, ints)))
+quarter_right (suc zero) z h = sym (fewer 7 4 _ _ (omega (arith, ints)))
+quarter_right (suc (suc zero)) z h = sym (fewer 3 4 _ _ (omega (arith, ints)))
+quarter_right (suc (suc (suc zero))) z h = sym (fewer 1 4 _ _ (omega (arith, ints)))
+quarter_right (suc (suc (suc (suc zero)))) z h = refl
+quarter_right (suc (suc (suc (suc (suc zero))))) z h = fewer 1 2 _ _ (omega (arith, ints))
+quarter_right (suc (suc (suc (suc (suc (suc q)))))) z h = absurd (omega (arith, h))
+
+-- or left
+quarter_left : (e : ℕ) (z : ℤ) → e < 3 → (z *ℤ pos (2 ^ (6 + e)) +ℤ pos 2 >>ℤ 2) ≡ z *ℤ pos 16 *ℤ pos (2 ^ e)
+quarter_left zero z h = omega (arith, ints, quarter_low (z *ℤ pos 64 +ℤ pos 2), quarter_high (z *ℤ pos 64 +ℤ pos 2))
+quarter_left (suc zero) z h = omega (arith, ints, quarter_low (z *ℤ pos 128 +ℤ pos 2), quarter_high (z *ℤ pos 128 +ℤ pos 2))
+quarter_left (suc (suc zero)) z h = omega (arith, ints, quarter_low (z *ℤ pos 256 +ℤ pos 2), quarter_high (z *ℤ pos 256 +ℤ pos 2))
+quarter_left (suc (suc (suc e))) z h = absurd (omega (arith, h))
+
+-- the scale of the first place, raised
+even_small : (m : ℕ) → m < 6 → even_scale m < 19
+even_small m below = ltb-true _ _ (agree_below_at (λ m. nat_lt (even_scale m) 19) (λ _. true) 6 m refl below)
+
+pub scale_below : (m e k : ℕ) → m < 6 → e ≤ k → even_scale m * 2 ^ e ≤ 18 * 2 ^ k
+scale_below m e k below less = mul-le-mul (omega (arith, even_small m below)) (pow-le-pow_right (omega arith) less)
+
+-- a number times it
+pub dc_product : {n s : ℕ} {f v : ℤ} → n ≤ 2 ^ 31 → IsBelow n f → s ≤ 18 * 2 ^ 8 → ((m k : ℕ) → IsBelow m (to_z w32 (of_z w32 f)) → s < k → IsBelow (m * k) v)
+    → IsBelow (n * 4609) v
+dc_product {n} few small scale grows = grows n 4609 (small_cast few small) (omega (arith, scale))
+
+-- a quarter of that passes through its bits
+module _ (f v : ℤ) (s : ℕ) (small : IsBelow (2 ^ 16) f) (below : IsBelow (2 ^ 16 * 4609) v) (told : v ≡ to_z w32 (of_z w32 f) *ℤ pos s) where
+  more : IsBelow (2 ^ 29) (v +ℤ pos 2)
+  more = record { low = omega (arith, ints, below); high = omega (arith, ints, below) }
+
+  quarter : IsBelow (2 ^ 27) (v +ℤ pos 2 >>ℤ 2)
+  quarter =
+      let low = quarter_low (v +ℤ pos 2) in
+      let high = quarter_high (v +ℤ pos 2) in
+      record { low = omega (arith, ints, below, low, high); high = omega (arith, ints, below, low, high) }
+
+  sum_stored : to_z w32 (of_z w32 (to_z w32 (of_z w32 v) +ℤ pos 2)) ≡ v +ℤ pos 2
+  sum_stored = rw (cast_small (omega arith) below) (cast_small (omega arith) more)
+
+  pub quarter_stored : to_z w32 (of_z w32 (to_z w32 (of_z w32 (to_z w32 (of_z w32 v) +ℤ pos 2)) >>ℤ 2)) ≡ (f *ℤ pos s +ℤ pos 2 >>ℤ 2)
+  quarter_stored =
+      ap (λ z. to_z w32 (of_z w32 (z >>ℤ 2))) sum_stored ∙ cast_small (omega arith) quarter
+      ∙ ap (λ (z : ℤ). z +ℤ pos 2 >>ℤ 2) (told ∙ ap (λ (z : ℤ). z *ℤ pos s) (cast_small (omega arith) small))
+
+  pub quarter_small : IsBelow (2 ^ 27) (to_z w32 (of_z w32 (to_z w32 (of_z w32 (to_z w32 (of_z w32 v) +ℤ pos 2)) >>ℤ 2)))
+  quarter_small = rw sum_stored (small_cast (omega arith) quarter)
+
+-- what both sides of a test give
+either : (b : Bool) (v l r : ℤ) → (b ≡ true → v ≡ l) → (b ≡ false → v ≡ r) → v ≡ (if b then l else r)
+either true v l r low high = low refl
+either false v l r low high = high refl
+
+-- a value of the product times that scale, raised: a quarter of it for luma, and a half for chroma
+module _ (qp : ℕ) (f : ℤ) where
+  abbrev product : ℤ
+  product = f *ℤ pos (even_scale (qp % 6))
+
+  raised_is : f *ℤ pos (even_scale (qp % 6) * 2 ^ (qp / 6)) ≡ product *ℤ pos (2 ^ (qp / 6))
+  raised_is = sym (times_times f (even_scale (qp % 6)) (2 ^ (qp / 6)))
+
+  level_is : product *ℤ pos 16 ≡ f *ℤ pos (16 * even_scale (qp % 6))
+  level_is =
+      let turned : even_scale (qp % 6) * 16 ≡ 16 * even_scale (qp % 6) = omega arith in
+      times_times f (even_scale (qp % 6)) 16 ∙ ap (λ n. f *ℤ pos n) turned
+
+  pub luma_scaled : qp ≤ 51 → (f *ℤ pos (even_scale (qp % 6) * 2 ^ (qp / 6)) +ℤ pos 2 >>ℤ 2) ≡ luma_dc_scaled qp f
+  luma_scaled small =
+      ap (λ (z : ℤ). z +ℤ pos 2 >>ℤ 2) raised_is
+      ∙ either (nat_lt qp 36) _ _ _
+      (λ low. let below = ltb-true qp 36 low in
+      quarter_right (qp / 6) product (omega arith) ∙ ap (λ (z : ℤ). z +ℤ pos (2 ^ (5 - qp / 6)) >>ℤ 6 - qp / 6) level_is)
+      (λ high. let from = ltb-false qp 36 high in
+      let again : qp / 6 ≡ 6 + (qp / 6 - 6) = omega arith in
+      ap (λ e. product *ℤ pos (2 ^ e) +ℤ pos 2 >>ℤ 2) again
+      ∙ quarter_left (qp / 6 - 6) product (omega arith) ∙ ap (λ (z : ℤ). z *ℤ pos (2 ^ (qp / 6 - 6))) level_is)
+
+  pub chroma_scaled : (f *ℤ pos (even_scale (qp % 6) * 2 ^ (qp / 6)) >>ℤ 1) ≡ chroma_dc_scaled qp f
+  chroma_scaled =
+      let scale = even_scale (qp % 6) * 2 ^ (qp / 6) in
+      let turned : 16 * even_scale (qp % 6) * 2 ^ (qp / 6) ≡ even_scale (qp % 6) * 2 ^ (qp / 6) * 16 = omega arith in
+      sym (fewer 15 2 (f *ℤ pos scale) _ (times_times f (16 * even_scale (qp % 6)) (2 ^ (qp / 6)) ∙ ap (λ n. f *ℤ pos n) turned ∙ sym (times_times f scale 16)))
 
 -- the product of a row looks at four numbers alone
 pub same_hadamard_row : (d e : ℕ → ℤ) (x : ℕ) → ((u : ℕ) → u < 4 → d u ≡ e u) → hadamard_row d x ≡ hadamard_row e x
@@ -170,6 +248,12 @@ product_is c x y column =
     (rw (p 0, p 1, p 2, p 3)) (rw (p 0, p 1, m 2, m 3)) (rw (p 0, m 1, m 2, p 3)) (rw (p 0, m 1, p 2, m 3)) y
 
 -- ---- what is done to four numbers at once is done to each of them
+
+pub same_sum : {a b d e : ℤ} → a ≡ d → b ≡ e → a +ℤ b ≡ d +ℤ e
+same_sum p q = rw (p, q) refl
+
+pub same_difference : {a b d e : ℤ} → a ≡ d → b ≡ e → a -ℤ b ≡ d -ℤ e
+same_difference p q = rw (p, q) refl
 
 -- number k of what two vectors of bits give together
 lane : (f : ℕ → ℕ → ℕ) (xs ys : List ℤ) (k : ℕ) → k < length xs → k < length ys
@@ -231,9 +315,6 @@ pub record AreScaled (f : ℤ → ℤ) (old new : List ℤ) (i : ℕ) : Type 0 w
   pub left : (k : ℕ) → i ≤ k → slice_index_or new k (pos 0) ≡ slice_index_or old k (pos 0)
 
 module _ (f : ℤ → ℤ) (old now : List ℤ) (i n : ℕ) (so_far : AreScaled f old now i) (few : n ≤ 2 ^ 31) (before : IsBelow n (slice_index_or old i (pos 0))) where
-  pub next_small : IsBelow n (to_z w32 (of_z w32 (slice_index_or now i (pos 0))))
-  next_small = rw (so_far.left i (omega arith)) (small_cast few before)
-
   pub scaled_more : (r : ℤ) → i < length now → r ≡ f (to_z w32 (of_z w32 (slice_index_or now i (pos 0)))) → IsBelow (2 ^ 27) r
       → AreScaled f old (set now i (to_z w32 (of_z w32 r))) (i + 1)
   scaled_more r inside value small = record {
@@ -264,12 +345,6 @@ pub residual_of_dc : (qp : ℕ) (dc : ℤ) (levels : List ℤ) (x y : ℕ) → (
 residual_of_dc qp dc levels x y none = simp (none, zero_scaled, inverse4_alone)
 
 -- ---- the tables of the code are those of the standard
-
-pub zigzag_table : (k : ℕ) → k < 16 → slice_index ZIGZAG k ≡ zigzag (k % 4) (k / 4)
-zigzag_table k below = eqb-true _ _ (agree_below_at (λ k. nat_eq (slice_index ZIGZAG k) (zigzag (k % 4) (k / 4))) (λ _. true) 16 k refl below)
-
-pub zigzag_inside : (k : ℕ) → k < 16 → slice_index ZIGZAG k < 16
-zigzag_inside k below = ltb-true _ _ (agree_below_at (λ k. nat_lt (slice_index ZIGZAG k) 16) (λ _. true) 16 k refl below)
 
 -- QPc by qPI
 pub chroma_table : (n : ℕ) → n < 52 → slice_index CHROMA_QP n ≡ chroma_qp_at n

@@ -17,7 +17,3 @@ matrix d x y = slice_index_or d (4 * y + x) (pos 0)
 -- the list holds the sixteen values of a matrix row by row: at column x and row y that of (x, y)
 abbrev pub HasRows : (ℕ → ℕ → ℤ) → List ℤ → Type 0
 HasRows f d = (x y : ℕ) → x < 4 → y < 4 → slice_index_or d (4 * y + x) (pos 0) ≡ f x y
-
--- the same, column by column
-abbrev pub HasColumns : (ℕ → ℕ → ℤ) → List ℤ → Type 0
-HasColumns f d = (x y : ℕ) → x < 4 → y < 4 → slice_index_or d (4 * x + y) (pos 0) ≡ f x y

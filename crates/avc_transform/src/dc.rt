@@ -1,13 +1,17 @@
 //! The DC values of luma and chroma (8.5.10, 8.5.11).
 
-ghost use Rattle.std.specs.Prelude.{◌≡◌, ℕ, ◌+◌, ◌*◌, ◌-◌, ◌/◌, ◌%◌, ◌^◌, ◌<◌, ◌≤◌, ◌+ℤ◌, ◌*ℤ◌};
+ghost use Rattle.std.specs.Prelude.{◌≡◌, ℕ, ℤ, ◌+◌, ◌*◌, ◌^◌, ◌<◌, ◌≤◌, ◌+ℤ◌, ◌*ℤ◌};
 ghost use Rattle.std.specs.Prelude.{pos, [], ◌∷◌, slice_index_or};
-ghost use Rattle.avc_types.specs.Arithmetic.{◌>>ℤ◌, ◌<<ℤ◌};
-ghost use Rattle.avc_transform.specs.Bounds.{IsBelow, AllBelow, matrix, HasRows, HasColumns};
-ghost use Rattle.avc_transform.specs.Residual.{even_scale, hadamard_row, luma_dc, luma_dc_scaled};
+ghost use Rattle.avc_types.specs.Arithmetic.{◌>>ℤ◌};
+ghost use Rattle.avc_transform.specs.Bounds.{IsBelow, AllBelow, HasRows};
+ghost use Rattle.avc_transform.specs.Lines.{AreBelow, AreLines, IsLine};
+ghost use Rattle.avc_transform.specs.Residual.{hadamard_row, luma_dc, luma_dc_scaled};
 ghost use Rattle.avc_transform.specs.Residual.{chroma_dc, chroma_dc_product, chroma_dc_scaled};
 
-use crate::scaling::{dc_scale, in_rows, power_of_two, times};
+use crate::inverse::half_of;
+use crate::lanes::{differences, sums};
+use crate::lines::{Lines, exchanged, in_rows};
+use crate::scaling::{dc_scale, in_columns, times};
 
 /// The product of a row of four with the matrix (8.5.10).
 fn hadamard_row(a: i32, b: i32, c: i32, d: i32) -> [i32; 4]
@@ -26,48 +30,52 @@ fn hadamard_row(a: i32, b: i32, c: i32, d: i32) -> [i32; 4]
     ]
 }
 
-/// The product of a block with the matrix, with its rows written as columns. Done twice, it
-/// multiplies from both sides.
-fn rows_to_columns(d: &[i32; 16]) -> [i32; 16]
-    requires { AllBelow 16 (2 ^ 14) d.now }
-    ensures values { HasColumns (λ x y. hadamard_row (λ u. matrix d.now u y) x) result }
-    ensures small { (n : ℕ) → AllBelow 16 n d.now → AllBelow 16 (4 * n) result }
+/// The products of four rows, or columns, with the matrix at once (8.5.10).
+#[inline(always)]
+fn hadamard4(d: Lines) -> Lines
+    requires { AreBelow (2 ^ 29) d }
+    ensures values { (f : ℕ → ℕ → ℤ) → AreLines f d → AreLines (λ x y. hadamard_row (λ u. f u y) x) result }
+    ensures small { (n : ℕ) → AreBelow n d → AreBelow (4 * n) result }
 {
-    let mut out = [0; 16];
-    for y in 0..4 {
-        let row = hadamard_row(d[4 * y], d[4 * y + 1], d[4 * y + 2], d[4 * y + 3]);
-        out[y] = row[0];
-        out[4 + y] = row[1];
-        out[8 + y] = row[2];
-        out[12 + y] = row[3];
+    let e0 = sums(d.d0, d.d1);
+    let e1 = differences(d.d0, d.d1);
+    let e2 = sums(d.d2, d.d3);
+    let e3 = differences(d.d2, d.d3);
+    Lines {
+        d0: sums(e0, e2),
+        d1: differences(e0, e2),
+        d2: differences(e1, e3),
+        d3: sums(e1, e3),
     }
-    out
 }
 
-/// A number shifted right, rounded to the nearest.
-fn rounded_shift(v: i32, shift: u8) -> i32
-    requires small { IsBelow (2 ^ 25) v }
-    requires some { 1 ≤ shift }
-    requires few { shift ≤ 6 }
-    ensures value { result ≡ (v +ℤ pos (2 ^ (shift - 1)) >>ℤ shift) }
-    ensures small { IsBelow (2 ^ 26) result }
-{
-    let half = power_of_two(shift - 1);
-    (v + half as i32) >> shift
-}
-
-/// One value of the product, scaled (8.5.10).
-fn luma_dc_scaled(f: i32, qp: u8) -> i32
+/// A value of the product times a scale, and a quarter of that, rounded to the nearest.
+#[inline(always)]
+fn quarter_scaled(f: i32, scale: u32) -> i32
     requires small { IsBelow (2 ^ 16) f }
-    requires quantiser { qp ≤ 51 }
-    ensures value { result ≡ luma_dc_scaled qp f }
+    requires scale { scale ≤ 18 * 2 ^ 8 }
+    ensures value { result ≡ (f *ℤ pos scale +ℤ pos 2 >>ℤ 2) }
     ensures small { IsBelow (2 ^ 27) result }
 {
-    if qp < 36 {
-        rounded_shift(times(f, dc_scale(qp)), 6 - qp / 6)
-    } else {
-        times(f, dc_scale(qp) * power_of_two(qp / 6 - 6))
-    }
+    (times(f, scale) + 2) >> 2
+}
+
+/// Four values of the product, scaled (8.5.10). The standard shifts right below QP 36 and left from
+/// there on; a quarter, rounded, is the same as both, so no quantiser is asked for.
+#[inline(always)]
+fn luma_dc_scaled(f: [i32; 4], qp: u8) -> [i32; 4]
+    requires small { AllBelow 4 (2 ^ 16) f }
+    requires quantiser { qp ≤ 51 }
+    ensures values { IsLine (λ k. luma_dc_scaled qp (slice_index_or f k (pos 0))) result }
+    ensures small { AllBelow 4 (2 ^ 27) result }
+{
+    let scale = dc_scale(qp);
+    [
+        quarter_scaled(f[0], scale),
+        quarter_scaled(f[1], scale),
+        quarter_scaled(f[2], scale),
+        quarter_scaled(f[3], scale),
+    ]
 }
 
 /// The DC values of the sixteen luma blocks of an Intra 16x16 macroblock, by the blocks' column and
@@ -78,31 +86,24 @@ pub fn luma_dc(levels: &[i16; 16], qp: u8) -> [i32; 16]
     ensures values { HasRows (luma_dc qp levels.now) result }
     ensures small { AllBelow 16 (2 ^ 27) result }
 {
-    let columns = rows_to_columns(&in_rows(levels));
-    let mut out = rows_to_columns(&columns);
-    for i in 0..16 {
-        out[i] = luma_dc_scaled(out[i], qp);
-    }
-    out
+    let rows = hadamard4(exchanged(hadamard4(in_columns(levels))));
+    in_rows(Lines {
+        d0: luma_dc_scaled(rows.d0, qp),
+        d1: luma_dc_scaled(rows.d1, qp),
+        d2: luma_dc_scaled(rows.d2, qp),
+        d3: luma_dc_scaled(rows.d3, qp),
+    })
 }
 
-/// A number divided by 32, rounded down.
-fn thirty_second(v: i32) -> i32
-    requires { IsBelow (2 ^ 29) v }
-    ensures value { result ≡ (v >>ℤ 5) }
-    ensures small { IsBelow (2 ^ 25) result }
-{
-    v >> 5
-}
-
-/// One value of the product, scaled (8.5.11.2).
+/// One value of the product, scaled (8.5.11.2): half of it, since the scale lacks the factor of
+/// sixteen that the standard's shift by five takes away again.
 fn chroma_dc_scaled(f: i32, qp: u8) -> i32
     requires small { IsBelow (2 ^ 14) f }
     requires quantiser { qp ≤ 39 }
     ensures value { result ≡ chroma_dc_scaled qp f }
     ensures small { IsBelow (2 ^ 27) result }
 {
-    thirty_second(times(f, dc_scale(qp) * power_of_two(qp / 6)))
+    half_of(times(f, dc_scale(qp)))
 }
 
 /// The product of the levels, as the rows of a 2x2 matrix, with the matrix of signs from both sides

@@ -7,7 +7,7 @@ ghost use Rattle.avc_transform.specs.Lines.{AreBelow, AreLines};
 ghost use Rattle.avc_transform.specs.Residual.{transformed_row, transformed};
 
 use crate::lanes::{all_rounded, differences, halves, sums};
-use crate::lines::{Lines, exchanged};
+use crate::lines::{Lines, exchanged, in_rows};
 
 /// Half of a number, rounded down.
 #[inline(always)]
@@ -59,12 +59,10 @@ pub fn transformed(columns: Lines) -> [i32; 16]
     ensures small { AllBelow 16 (2 ^ 25) result }
 {
     let rows = inverse4(exchanged(inverse4(columns)));
-    let a = all_rounded(rows.d0);
-    let b = all_rounded(rows.d1);
-    let c = all_rounded(rows.d2);
-    let d = all_rounded(rows.d3);
-    [
-        a[0], a[1], a[2], a[3], b[0], b[1], b[2], b[3], c[0], c[1], c[2], c[3], d[0], d[1], d[2],
-        d[3],
-    ]
+    in_rows(Lines {
+        d0: all_rounded(rows.d0),
+        d1: all_rounded(rows.d1),
+        d2: all_rounded(rows.d2),
+        d3: all_rounded(rows.d3),
+    })
 }

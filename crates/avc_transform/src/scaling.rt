@@ -2,15 +2,12 @@
 
 ghost use Rattle.std.specs.Prelude.{◌≡◌, ℕ, ◌+◌, ◌*◌, ◌-◌, ◌/◌, ◌%◌, ◌^◌, ◌<◌, ◌≤◌, ◌*ℤ◌, pos};
 ghost use Rattle.std.specs.Prelude.{slice_index, slice_index_or};
-ghost use Rattle.avc_transform.specs.Bounds.{IsBelow, AllBelow, HasRows};
+ghost use Rattle.avc_transform.specs.Bounds.{IsBelow, AllBelow};
 ghost use Rattle.avc_transform.specs.Lines.{AreBelow, AreLines, IsLine};
 ghost use Rattle.avc_transform.specs.Residual.{scaled_block, scaled_block_with_dc, level};
 ghost use Rattle.avc_transform.specs.Residual.{level_scale, zigzag, even_scale};
 
 use crate::lines::Lines;
-
-/// The place in the zig-zag scan of each place of a 4x4 block, row by row (8.5.6).
-const ZIGZAG: [usize; 16] = [0, 1, 5, 6, 2, 4, 7, 12, 3, 8, 11, 13, 9, 10, 14, 15];
 
 /// normAdjust4x4 by QP modulo 6 (8.5.9), in an even column of a 4x4 block from above down.
 static EVEN_SCALES: [[u32; 4]; 6] = [
@@ -33,7 +30,7 @@ static ODD_SCALES: [[u32; 4]; 6] = [
 ];
 
 /// A power of two, by which a number is shifted left.
-pub fn power_of_two(exponent: u8) -> u32
+fn power_of_two(exponent: u8) -> u32
     requires { exponent ≤ 8 }
     ensures value { result ≡ 2 ^ exponent }
     ensures small { result ≤ 256 }
@@ -51,40 +48,50 @@ pub fn times(value: i32, scale: u32) -> i32
     value * scale as i32
 }
 
-/// LevelScale4x4 of a DC level with the flat scaling matrix: 16 times normAdjust4x4 (8.5.9).
-pub fn dc_scale(qp: u8) -> u32
-    ensures value { result ≡ 16 * even_scale (qp % 6) }
-    ensures small { result ≤ 288 }
+/// Four levels in more bits.
+#[inline(always)]
+fn widened(levels: [i16; 4]) -> [i32; 4]
+    requires { AllBelow 4 (2 ^ 12) levels }
+    ensures values { IsLine (λ k. slice_index_or levels k (pos 0)) result }
+    ensures small { AllBelow 4 (2 ^ 12) result }
 {
-    16 * EVEN_SCALES[usize::from(qp % 6)][0]
+    [
+        i32::from(levels[0]),
+        i32::from(levels[1]),
+        i32::from(levels[2]),
+        i32::from(levels[3]),
+    ]
 }
 
-/// The levels at their places in the block (8.5.6).
-pub fn in_rows(levels: &[i16; 16]) -> [i32; 16]
+/// The columns of a block of sixteen levels (8.5.6).
+#[inline(always)]
+pub fn in_columns(levels: &[i16; 16]) -> Lines
     requires { AllBelow 16 (2 ^ 12) levels.now }
-    ensures values { HasRows (λ x y. level levels.now (zigzag x y)) result }
-    ensures small { AllBelow 16 (2 ^ 12) result }
+    ensures values { AreLines (λ x y. level levels.now (zigzag x y)) result }
+    ensures small { AreBelow (2 ^ 12) result }
 {
-    let mut out = [0; 16];
-    for i in 0..16 {
-        out[i] = i32::from(levels[ZIGZAG[i]]);
+    let l = levels;
+    Lines {
+        d0: widened([l[0], l[2], l[3], l[9]]),
+        d1: widened([l[1], l[4], l[8], l[10]]),
+        d2: widened([l[5], l[7], l[11], l[14]]),
+        d3: widened([l[6], l[12], l[13], l[15]]),
     }
-    out
 }
 
 /// Four levels times a scale each (8.5.12.1).
 #[inline(always)]
-fn scaled(levels: [i16; 4], scales: [u32; 4]) -> [i32; 4]
+fn scaled(levels: [i32; 4], scales: [u32; 4]) -> [i32; 4]
     requires levels { AllBelow 4 (2 ^ 12) levels }
     requires scales { (k : ℕ) → k < 4 → slice_index scales k < 2 ^ 13 }
     ensures values { IsLine (λ k. slice_index_or levels k (pos 0) *ℤ pos (slice_index scales k)) result }
     ensures small { AllBelow 4 (2 ^ 25) result }
 {
     [
-        times(i32::from(levels[0]), scales[0]),
-        times(i32::from(levels[1]), scales[1]),
-        times(i32::from(levels[2]), scales[2]),
-        times(i32::from(levels[3]), scales[3]),
+        times(levels[0], scales[0]),
+        times(levels[1], scales[1]),
+        times(levels[2], scales[2]),
+        times(levels[3], scales[3]),
     ]
 }
 
@@ -127,6 +134,17 @@ fn column_scales(qp: u8) -> ColumnScales
     }
 }
 
+/// What a DC level is multiplied by: normAdjust4x4 of its place (8.5.9) times 2 to the power of
+/// QP / 6. LevelScale4x4 of the flat matrix has a factor of sixteen more, which this leaves out.
+#[inline(always)]
+pub fn dc_scale(qp: u8) -> u32
+    requires { qp ≤ 51 }
+    ensures value { result ≡ even_scale (qp % 6) * 2 ^ (qp / 6) }
+    ensures small { result ≤ 18 * 2 ^ 8 }
+{
+    column_scales(qp).even[0]
+}
+
 /// The columns of a block of sixteen levels, scaled (8.5.12.1).
 #[inline(always)]
 pub fn scaled_levels(levels: &[i16; 16], qp: u8) -> Lines
@@ -136,12 +154,12 @@ pub fn scaled_levels(levels: &[i16; 16], qp: u8) -> Lines
     ensures small { AreBelow (2 ^ 25) result }
 {
     let scales = column_scales(qp);
-    let l = levels;
+    let columns = in_columns(levels);
     Lines {
-        d0: scaled([l[0], l[2], l[3], l[9]], scales.even),
-        d1: scaled([l[1], l[4], l[8], l[10]], scales.odd),
-        d2: scaled([l[5], l[7], l[11], l[14]], scales.even),
-        d3: scaled([l[6], l[12], l[13], l[15]], scales.odd),
+        d0: scaled(columns.d0, scales.even),
+        d1: scaled(columns.d1, scales.odd),
+        d2: scaled(columns.d2, scales.even),
+        d3: scaled(columns.d3, scales.odd),
     }
 }
 
@@ -157,11 +175,11 @@ pub fn scaled_levels_with_dc(dc: i32, levels: &[i16; 15], qp: u8) -> Lines
 {
     let scales = column_scales(qp);
     let l = levels;
-    let ac = scaled([0, l[1], l[2], l[8]], scales.even);
+    let ac = scaled(widened([0, l[1], l[2], l[8]]), scales.even);
     Lines {
         d0: [dc, ac[1], ac[2], ac[3]],
-        d1: scaled([l[0], l[3], l[7], l[9]], scales.odd),
-        d2: scaled([l[4], l[6], l[10], l[13]], scales.even),
-        d3: scaled([l[5], l[11], l[12], l[14]], scales.odd),
+        d1: scaled(widened([l[0], l[3], l[7], l[9]]), scales.odd),
+        d2: scaled(widened([l[4], l[6], l[10], l[13]]), scales.even),
+        d3: scaled(widened([l[5], l[11], l[12], l[14]]), scales.odd),
     }
 }

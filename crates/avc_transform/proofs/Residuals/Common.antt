@@ -2,15 +2,15 @@
 pub use Rattle.std.proofs.Common.{ℕ, ℤ, pos, zero, suc, ◌<◌, arith, slice_index_or, [], ◌∷◌, ◌≡◌, ◌+◌, ◌*◌, List, length, set}
 pub use Rattle.std.proofs.Common.{slice_index_or as get_or, below_more, get_or-set_other, subst, sym, ap, ◌∙◌, negsuc, neg_ℤ, ◌≤◌, ◌^◌, ◌/◌}
 pub use Rattle.std.proofs.Common.{◌%◌, ◌*ℤ◌, to_z, of_z, w16, w32, refl, zero-mul, mul_assoc, ◌-◌, ◌+ℤ◌, nat_lt, false, if◌then◌else◌, map}
-pub use Rattle.std.proofs.Common.{get_or-set_same, true, nat_eq, slice_index, FitsSigned, ◌-ℤ◌, rules, add-zero, nat_abs, ◌==◌}
+pub use Rattle.std.proofs.Common.{Bool, get_or-set_same, ◌<ℤ◌, ◌≤ℤ◌, true, nat_eq, slice_index, FitsSigned, ◌-ℤ◌, rules, nat_abs, ◌==◌}
 pub use Rattle.std.proofs.Math.IntN.{zero-*ℤ}
-pub use Rattle.std.proofs.Math.Nat.{mul-le-mul, pow-le-pow_right}
-pub use Rattle.std.proofs.lemmas.Bool.{eqb-true, ltb-true, agree_below_at}
+pub use Rattle.std.proofs.Math.Nat.{div-div-eq-div-mul, mul-div_cancel, mul-le-mul, pow-le-pow_right}
+pub use Rattle.std.proofs.lemmas.Bool.{eqb-true, ltb-false, ltb-true, agree_below_at}
 pub use Rattle.std.proofs.lemmas.Bool.Decides.{nat_tests}
-pub use Rattle.std.proofs.lemmas.Grind.{common_steps}
 pub use Rattle.std.proofs.lemmas.Int.{ints, unsigned_abs-mul, to_z-of_z, to_z_pos}
-pub use Rattle.std.proofs.lemmas.Nat.{mul-lt}
+pub use Rattle.std.proofs.lemmas.Nat.{div-mul-add, mul-lt}
 pub use Rattle.std.specs.Int.{int_max, int_min}
+pub use Rattle.std.specs.Int.Signed.{shr_z}
 pub use Rattle.std.specs.Int.RustNames.{unsigned_abs}
 pub use Rattle.std.specs.List.{range_with_len}
 pub use Rattle.std.specs.Simd.Lanes.{zip2, Each2}
@@ -24,4 +24,3 @@ pub use Rattle.avc_transform.specs.Moves.{AreMovesOf}
 pub use Rattle.avc_transform.specs.declared.construction.Moves.{Moves}
 pub use Rattle.avc_transform.specs.declared.lines.Lines.{Lines}
 pub use Rattle.avc_transform.specs.declared.quantiser.TheConstants.{CHROMA_QP}
-pub use Rattle.avc_transform.specs.declared.scaling.TheConstants.{ZIGZAG}

@@ -1,4 +1,4 @@
-use Rattle.avc_transform.proofs.Residuals.{ℕ, ℤ, ◌≡◌, ◌+◌, ◌*◌, ◌^◌, ◌<◌, ◌+ℤ◌, ◌-ℤ◌, ◌>>ℤ◌, refl, arith, ap, ◌∙◌, AllBelow-more}
+use Rattle.avc_transform.proofs.Residuals.{ℕ, ℤ, ◌+◌, ◌*◌, ◌^◌, ◌<◌, ◌>>ℤ◌, arith, ap, ◌∙◌, AllBelow-more, same_sum, same_difference}
 use Rattle.avc_transform.proofs.inverse.inverse4.Goals as goal
 
 pub halves-half1-requires : goal.halves-half1-requires
@@ -49,25 +49,19 @@ differences-requires-2 c = record {
   b = AllBelow-more _ (omega arith) (c.sums-e3.ensures.small (2 ^ 29) (2 ^ 28 + 1) c.requires.first (c.halves-half3.ensures.small (2 ^ 28) c.requires.third));
 }
 
-plus : {a b d e : ℤ} → a ≡ d → b ≡ e → a +ℤ b ≡ d +ℤ e
-plus p q = rw (p, q) refl
-
-less : {a b d e : ℤ} → a ≡ d → b ≡ e → a -ℤ b ≡ d -ℤ e
-less p q = rw (p, q) refl
-
 pub returns-clause-values : goal.returns-clause-values
 returns-clause-values c = λ f l.
     let half1 = λ (k : ℕ) (h : k < 4). c.halves-half1.ensures.values k h ∙ ap (λ (z : ℤ). z >>ℤ 1) (l.first k h) in
     let half3 = λ (k : ℕ) (h : k < 4). c.halves-half3.ensures.values k h ∙ ap (λ (z : ℤ). z >>ℤ 1) (l.third k h) in
-    let e0 = λ (k : ℕ) (h : k < 4). c.sums-e0.ensures.values k h ∙ plus (l.zeroth k h) (l.second k h) in
-    let e1 = λ (k : ℕ) (h : k < 4). c.differences-e1.ensures.values k h ∙ less (l.zeroth k h) (l.second k h) in
-    let e2 = λ (k : ℕ) (h : k < 4). c.differences-e2.ensures.values k h ∙ less (half1 k h) (l.third k h) in
-    let e3 = λ (k : ℕ) (h : k < 4). c.sums-e3.ensures.values k h ∙ plus (l.first k h) (half3 k h) in
+    let e0 = λ (k : ℕ) (h : k < 4). c.sums-e0.ensures.values k h ∙ same_sum (l.zeroth k h) (l.second k h) in
+    let e1 = λ (k : ℕ) (h : k < 4). c.differences-e1.ensures.values k h ∙ same_difference (l.zeroth k h) (l.second k h) in
+    let e2 = λ (k : ℕ) (h : k < 4). c.differences-e2.ensures.values k h ∙ same_difference (half1 k h) (l.third k h) in
+    let e3 = λ (k : ℕ) (h : k < 4). c.sums-e3.ensures.values k h ∙ same_sum (l.first k h) (half3 k h) in
     record {
-      zeroth = λ k h. c.sums.ensures.values k h ∙ plus (e0 k h) (e3 k h);
-      first = λ k h. c.sums-2.ensures.values k h ∙ plus (e1 k h) (e2 k h);
-      second = λ k h. c.differences.ensures.values k h ∙ less (e1 k h) (e2 k h);
-      third = λ k h. c.differences-2.ensures.values k h ∙ less (e0 k h) (e3 k h);
+      zeroth = λ k h. c.sums.ensures.values k h ∙ same_sum (e0 k h) (e3 k h);
+      first = λ k h. c.sums-2.ensures.values k h ∙ same_sum (e1 k h) (e2 k h);
+      second = λ k h. c.differences.ensures.values k h ∙ same_difference (e1 k h) (e2 k h);
+      third = λ k h. c.differences-2.ensures.values k h ∙ same_difference (e0 k h) (e3 k h);
     }
 
 pub returns-clause-small : goal.returns-clause-small

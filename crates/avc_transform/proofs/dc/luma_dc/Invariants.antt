@@ -1,5 +1,0 @@
-use Rattle.avc_transform.proofs.Residuals.{◌≡◌, length, luma_dc_scaled, AreScaled}
-use Rattle.avc_transform.proofs.dc.luma_dc.Given as goal
-
-abbrev pub invariant-loop-i : goal.invariant-loop-i
-invariant-loop-i l = record { long : length l.out ≡ 16; scaled : AreScaled (luma_dc_scaled l.qp) l.initial.out l.out l.i }
