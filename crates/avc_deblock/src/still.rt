@@ -9,7 +9,6 @@ ghost use Rattle.avc_deblock.specs.ByInfo.{strength_of};
 use crate::edge_strengths::edge_block;
 use crate::mb_info::MbInfo;
 use avc_edges::{all_three, both, either};
-use avc_types::Mv;
 use std::simd::prelude::*;
 
 impl MbInfo {
@@ -25,18 +24,31 @@ impl MbInfo {
         same
     }
 
-    /// Four blocks from this one on have this vector: one look at all their components.
+    /// Four blocks from this one on have the vector of block 0: one look at all their components.
+    // each component is read where it lies, so that they are loaded together
     #[inline(always)]
-    fn four_have(&self, k: usize, v: Mv) -> bool
+    fn four_have_first(&self, k: usize) -> bool
         requires { k + 4 ≤ 16 }
-        ensures one { result ≡ true → (j : ℕ) → j < 4 → slice_index_or self.now.vectors (k + j) zero_vector ≡ v }
-        ensures found { ((j : ℕ) → j < 4 → slice_index_or self.now.vectors (k + j) zero_vector ≡ v) → result ≡ true }
+        ensures one { result ≡ true → (j : ℕ) → j < 4 →
+            slice_index_or self.now.vectors (k + j) zero_vector ≡ slice_index_or self.now.vectors 0 zero_vector }
+        ensures found { ((j : ℕ) → j < 4 →
+            slice_index_or self.now.vectors (k + j) zero_vector ≡ slice_index_or self.now.vectors 0 zero_vector) → result ≡ true }
     {
-        let vectors = &self.vectors;
-        let (a, b, c, d) = (vectors[k], vectors[k + 1], vectors[k + 2], vectors[k + 3]);
-        let here = i16x8::from_array([a.x, a.y, b.x, b.y, c.x, c.y, d.x, d.y]);
-        let same = i16x8::from_array([v.x, v.y, v.x, v.y, v.x, v.y, v.x, v.y]);
-        here.simd_eq(same).all()
+        let v = &self.vectors;
+        let here = i16x8::from_array([
+            v[k].x,
+            v[k].y,
+            v[k + 1].x,
+            v[k + 1].y,
+            v[k + 2].x,
+            v[k + 2].y,
+            v[k + 3].x,
+            v[k + 3].y,
+        ]);
+        let first = i16x8::from_array([
+            v[0].x, v[0].y, v[0].x, v[0].y, v[0].x, v[0].y, v[0].x, v[0].y,
+        ]);
+        here.simd_eq(first).all()
     }
 
     #[inline(always)]
@@ -48,7 +60,7 @@ impl MbInfo {
     {
         let mut same = true;
         for quarter in 0..4 {
-            same = both(same, self.four_have(4 * quarter, self.vectors[0]));
+            same = both(same, self.four_have_first(4 * quarter));
         }
         same
     }
