@@ -1,6 +1,7 @@
 //! Limits kept from one macroblock to the next: neighbours mostly have one QP.
 
-ghost use Rattle.std.specs.Prelude.{◌≡◌, true};
+ghost use Rattle.std.specs.Option.{option_copied};
+ghost use Rattle.std.specs.Prelude.{IfSome, ◌≡◌, true};
 ghost use Rattle.avc_deblock.specs.MbLimits.{AreKept, AreRowLimits, ArePairLimits, IsFor};
 
 use crate::mb_info::MbInfo;
@@ -56,15 +57,19 @@ impl KeptLimits {
         *self = KeptLimits::of(q, q, place);
     }
 
-    /// Makes them those between `p` and `q`, where they are not yet. `inside` are those inside `q`.
+    /// Makes them those between `p` and `q`, where they are not yet; where no `p` is given they stay.
+    /// `inside` are those inside `q`.
     #[inline(always)]
-    fn fit(&mut self, p: &MbInfo, q: &MbInfo, inside: &KeptLimits, place: &Place)
+    fn fit(&mut self, p: Option<&MbInfo>, q: &MbInfo, inside: &KeptLimits, place: &Place)
         requires kept { AreKept self.old place.now.chroma_qp_index_offset }
         requires inside { AreKept inside.now place.now.chroma_qp_index_offset }
         requires own { IsFor inside.now q.now q.now }
         ensures kept { AreKept self.new place.now.chroma_qp_index_offset }
-        ensures own { IsFor self.new p.now q.now }
+        ensures own { IfSome (option_copied p.entry) (λ p. IsFor self.new p q.now) }
     {
+        let Some(p) = p else {
+            return;
+        };
         if self.is_for(p, q) {
             return;
         }
@@ -102,14 +107,21 @@ impl RowLimits {
         }
     }
 
-    /// Makes them those of `q`, which has these neighbours.
+    /// Makes them those of `q`: those inside it, and those to each neighbour that is given, which an
+    /// edge that is filtered leads to.
     #[inline(always)]
-    pub(crate) fn fit(&mut self, q: &MbInfo, left: &MbInfo, above: &MbInfo, place: &Place)
+    pub(crate) fn fit(
+        &mut self,
+        q: &MbInfo,
+        left: Option<&MbInfo>,
+        above: Option<&MbInfo>,
+        place: &Place,
+    )
         requires { AreRowLimits self.old place.now.chroma_qp_index_offset }
         ensures kept { AreRowLimits self.new place.now.chroma_qp_index_offset }
         ensures inside { ArePairLimits self.new.inside.limits place.now.chroma_qp_index_offset q.now q.now }
-        ensures left { ArePairLimits self.new.left.limits place.now.chroma_qp_index_offset left.now q.now }
-        ensures above { ArePairLimits self.new.above.limits place.now.chroma_qp_index_offset above.now q.now }
+        ensures left { IfSome (option_copied left.entry) (λ p. ArePairLimits self.new.left.limits place.now.chroma_qp_index_offset p q.now) }
+        ensures above { IfSome (option_copied above.entry) (λ p. ArePairLimits self.new.above.limits place.now.chroma_qp_index_offset p q.now) }
     {
         self.inside.fit_inside(q, place);
         self.left.fit(left, q, &self.inside, place);

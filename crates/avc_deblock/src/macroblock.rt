@@ -63,7 +63,7 @@ fn outer_edge<const PAD: usize>(
     requires columns_fit { 16 * place.column + 16 < 2 ^ 64 }
     requires rows_fit { 16 * place.row + 16 < 2 ^ 64 }
     requires room { HasRoom place.column place.row (planes_of planes.old) }
-    requires limits { ArePairLimits limits.now place.chroma_qp_index_offset p.now q.now }
+    requires limits { filters ≡ true → ArePairLimits limits.now place.chroma_qp_index_offset p.now q.now }
     ensures room { (column row : ℕ) → HasRoom column row (planes_of planes.old) → HasRoom column row (planes_of planes.new) }
     ensures lines { planes_of planes.new
         ≡ edges_by_info is_vertical place.column place.row place.chroma_qp_index_offset filters false p.now q.now (planes_of planes.old) }
@@ -113,7 +113,7 @@ fn all_vertical<const PAD: usize>(
     requires columns_fit { 16 * place.column + 16 < 2 ^ 64 }
     requires rows_fit { 16 * place.row + 16 < 2 ^ 64 }
     requires room { HasRoom place.column place.row (planes_of planes.old) }
-    requires outer_limits { ArePairLimits outer_limits.now place.chroma_qp_index_offset p.now q.now }
+    requires outer_limits { outer ≡ true → ArePairLimits outer_limits.now place.chroma_qp_index_offset p.now q.now }
     requires inner_limits { ArePairLimits inner_limits.now place.chroma_qp_index_offset q.now q.now }
     ensures room { (column row : ℕ) → HasRoom column row (planes_of planes.old) → HasRoom column row (planes_of planes.new) }
     ensures lines { planes_of planes.new ≡ edges_by_info true place.column place.row place.chroma_qp_index_offset false inner q.now q.now
@@ -177,7 +177,12 @@ pub(crate) fn macroblock<const PAD: usize>(
     if idle {
         return;
     }
-    kept.fit(mb, left, above, &place);
+    kept.fit(
+        mb,
+        from_left.then_some(left),
+        from_above.then_some(above),
+        &place,
+    );
     let inside = &kept.inside.limits;
     all_vertical(
         planes,

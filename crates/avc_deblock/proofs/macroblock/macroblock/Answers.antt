@@ -1,4 +1,4 @@
-use Rattle.avc_deblock.proofs.FilteredPictures.{◌≡◌, ◌∙◌, ◌≤◌, Bool, true, false, arith, ap, ◌&&◌, not, Planes, planes_of, filters_between}
+use Rattle.avc_deblock.proofs.FilteredPictures.{◌≡◌, ◌∙◌, ◌≤◌, Bool, true, false, arith, rules, ap, ◌&&◌, not, Planes, planes_of, filters_between}
 use Rattle.avc_deblock.proofs.FilteredPictures.{edges_by_info, some_coded, mb_kept}
 use Rattle.avc_deblock.proofs.macroblock.macroblock.Goals as goal
 
@@ -18,7 +18,7 @@ pub outer_edge-requires : goal.outer_edge-requires
 outer_edge-requires g c =
     let room = c.all_vertical.ensures.room c.args.place.column c.args.place.row c.requires.room in
     let some_row : c.reaches-from_above.result ≡ true → 1 ≤ c.args.place.row = λ e. some_coded (filters_between c.args.mb.now c.args.above.now) c.args.place.row (c.reaches-from_above.ensures.on e) in
-    (omega arith, ((λ e f. absurd (cc)), ((λ e f. some_row e), (c.requires.columns_fit, (c.requires.rows_fit, (room, c.fit.ensures.above))))))
+    (omega arith, ((λ e f. absurd (cc)), ((λ e f. some_row e), (c.requires.columns_fit, (c.requires.rows_fit, (room, λ e. search rules))))))
 
 pub inner_horizontal-requires : goal.inner_horizontal-requires
 inner_horizontal-requires g c =
