@@ -40,7 +40,7 @@ pub fn row<const PAD: usize>(
         row,
         chroma_qp_index_offset,
     };
-    let mut kept = RowLimits::of(&info[0], &first);
+    let mut kept = RowLimits::of(&info[0], first);
     for column in 0..info.len() {
         let left = &info[column.max(1) - 1];
         macroblock(

@@ -21,8 +21,8 @@ pub(crate) struct KeptLimits {
 impl KeptLimits {
     /// Those between `p` and `q`, which is at this place.
     #[inline(never)]
-    fn of(p: &MbInfo, q: &MbInfo, place: &Place) -> KeptLimits
-        ensures kept { AreKept result place.now.chroma_qp_index_offset }
+    fn of(p: &MbInfo, q: &MbInfo, place: Place) -> KeptLimits
+        ensures kept { AreKept result place.chroma_qp_index_offset }
         ensures own { IsFor result p.now q.now }
     {
         KeptLimits {
@@ -46,9 +46,9 @@ impl KeptLimits {
 
     /// Makes them those inside `q`, where they are not yet.
     #[inline(always)]
-    fn fit_inside(&mut self, q: &MbInfo, place: &Place)
-        requires { AreKept self.old place.now.chroma_qp_index_offset }
-        ensures kept { AreKept self.new place.now.chroma_qp_index_offset }
+    fn fit_inside(&mut self, q: &MbInfo, place: Place)
+        requires { AreKept self.old place.chroma_qp_index_offset }
+        ensures kept { AreKept self.new place.chroma_qp_index_offset }
         ensures own { IsFor self.new q.now q.now }
     {
         if self.is_for(q, q) {
@@ -60,11 +60,11 @@ impl KeptLimits {
     /// Makes them those between `p` and `q`, where they are not yet; where no `p` is given they stay.
     /// `inside` are those inside `q`.
     #[inline(always)]
-    fn fit(&mut self, p: Option<&MbInfo>, q: &MbInfo, inside: &KeptLimits, place: &Place)
-        requires kept { AreKept self.old place.now.chroma_qp_index_offset }
-        requires inside { AreKept inside.now place.now.chroma_qp_index_offset }
+    fn fit(&mut self, p: Option<&MbInfo>, q: &MbInfo, inside: &KeptLimits, place: Place)
+        requires kept { AreKept self.old place.chroma_qp_index_offset }
+        requires inside { AreKept inside.now place.chroma_qp_index_offset }
         requires own { IsFor inside.now q.now q.now }
-        ensures kept { AreKept self.new place.now.chroma_qp_index_offset }
+        ensures kept { AreKept self.new place.chroma_qp_index_offset }
         ensures own { IfSome (option_copied p.entry) (λ p. IsFor self.new p q.now) }
     {
         let Some(p) = p else {
@@ -96,8 +96,8 @@ pub(crate) struct RowLimits {
 
 impl RowLimits {
     /// Those of a macroblock `q` whose neighbours have its QP.
-    pub(crate) fn of(q: &MbInfo, place: &Place) -> RowLimits
-        ensures { AreRowLimits result place.now.chroma_qp_index_offset }
+    pub(crate) fn of(q: &MbInfo, place: Place) -> RowLimits
+        ensures { AreRowLimits result place.chroma_qp_index_offset }
     {
         let inside = KeptLimits::of(q, q, place);
         RowLimits {
@@ -115,13 +115,13 @@ impl RowLimits {
         q: &MbInfo,
         left: Option<&MbInfo>,
         above: Option<&MbInfo>,
-        place: &Place,
+        place: Place,
     )
-        requires { AreRowLimits self.old place.now.chroma_qp_index_offset }
-        ensures kept { AreRowLimits self.new place.now.chroma_qp_index_offset }
-        ensures inside { ArePairLimits self.new.inside.limits place.now.chroma_qp_index_offset q.now q.now }
-        ensures left { IfSome (option_copied left.entry) (λ p. ArePairLimits self.new.left.limits place.now.chroma_qp_index_offset p q.now) }
-        ensures above { IfSome (option_copied above.entry) (λ p. ArePairLimits self.new.above.limits place.now.chroma_qp_index_offset p q.now) }
+        requires { AreRowLimits self.old place.chroma_qp_index_offset }
+        ensures kept { AreRowLimits self.new place.chroma_qp_index_offset }
+        ensures inside { ArePairLimits self.new.inside.limits place.chroma_qp_index_offset q.now q.now }
+        ensures left { IfSome (option_copied left.entry) (λ p. ArePairLimits self.new.left.limits place.chroma_qp_index_offset p q.now) }
+        ensures above { IfSome (option_copied above.entry) (λ p. ArePairLimits self.new.above.limits place.chroma_qp_index_offset p q.now) }
     {
         self.inside.fit_inside(q, place);
         self.left.fit(left, q, &self.inside, place);

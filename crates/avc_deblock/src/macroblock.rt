@@ -181,7 +181,7 @@ pub(crate) fn macroblock<const PAD: usize>(
         mb,
         from_left.then_some(left),
         from_above.then_some(above),
-        &place,
+        place,
     );
     let inside = &kept.inside.limits;
     all_vertical(

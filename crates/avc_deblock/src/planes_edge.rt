@@ -50,8 +50,8 @@ fn luma_qps(p: &MbInfo, q: &MbInfo) -> EdgeQp
 }
 
 #[inline(always)]
-fn chroma_qps(p: &MbInfo, q: &MbInfo, place: &Place) -> EdgeQp
-    ensures { result ≡ chroma_qp_of place.now.chroma_qp_index_offset p.now q.now }
+fn chroma_qps(p: &MbInfo, q: &MbInfo, place: Place) -> EdgeQp
+    ensures { result ≡ chroma_qp_of place.chroma_qp_index_offset p.now q.now }
 {
     EdgeQp {
         p: chroma_qp(place.chroma_qp_index_offset, p.qp),
@@ -63,8 +63,8 @@ fn chroma_qps(p: &MbInfo, q: &MbInfo, place: &Place) -> EdgeQp
 
 /// Those between `p` and `q`, with the offsets of the slice of `q`.
 #[inline(never)]
-pub(crate) fn pair_limits(p: &MbInfo, q: &MbInfo, place: &Place) -> PairLimits
-    ensures { ArePairLimits result place.now.chroma_qp_index_offset p.now q.now }
+pub(crate) fn pair_limits(p: &MbInfo, q: &MbInfo, place: Place) -> PairLimits
+    ensures { ArePairLimits result place.chroma_qp_index_offset p.now q.now }
 {
     PairLimits {
         luma: luma_qps(p, q).limits(),
@@ -286,6 +286,6 @@ pub fn edge<const VERTICAL: bool, const PAD: usize>(
     ensures lines { planes_of planes.new
         ≡ edge_by_info VERTICAL place.column place.row n place.chroma_qp_index_offset p.now q.now (planes_of planes.old) }
 {
-    let limits = pair_limits(p, q, &place);
+    let limits = pair_limits(p, q, place);
     edge_between(planes, p, q, VERTICAL, n, &limits, place);
 }

@@ -13,10 +13,10 @@ returns-clause-inside c = c.fit_inside.ensures.kept c.args.q.now c.args.q.now c.
 
 pub returns-clause-left : goal.returns-clause-left
 returns-clause-left c =
-    of_each (λ p. IsFor c.fit.new.self p c.args.q.now) (λ p. ArePairLimits c.fit.new.self.limits c.args.place.now.chroma_qp_index_offset p c.args.q.now)
+    of_each (λ p. IsFor c.fit.new.self p c.args.q.now) (λ p. ArePairLimits c.fit.new.self.limits c.args.place.chroma_qp_index_offset p c.args.q.now)
     (λ p. c.fit.ensures.kept p c.args.q.now) (option_copied c.args.left) c.fit.ensures.own
 
 pub returns-clause-above : goal.returns-clause-above
 returns-clause-above c =
-    of_each (λ p. IsFor c.fit-2.new.self p c.args.q.now) (λ p. ArePairLimits c.fit-2.new.self.limits c.args.place.now.chroma_qp_index_offset p c.args.q.now)
+    of_each (λ p. IsFor c.fit-2.new.self p c.args.q.now) (λ p. ArePairLimits c.fit-2.new.self.limits c.args.place.chroma_qp_index_offset p c.args.q.now)
     (λ p. c.fit-2.ensures.kept p c.args.q.now) (option_copied c.args.above) c.fit-2.ensures.own
