@@ -45,13 +45,17 @@ pub record HasInfo (c : Coded) (motion : List (List Motion)) (names : Names) (a 
 abbrev pub are_far : Mv → Mv → Bool
 are_far u v = nat_le 4 (nat_abs (u.x -ℤ v.x)) || nat_le 4 (nat_abs (u.y -ℤ v.y))
 
--- bS between two inter blocks: 2 by coefficients, 1 by other pictures or far vectors, else 0
+-- bS between two inter blocks without coefficients: 1 by other pictures or far vectors, else 0
 -- (8.7.2.1)
+abbrev pub motion_strength : (p : MbInfo) (kp : ℕ) (q : MbInfo) (kq : ℕ) → ℕ
+motion_strength p kp q kq =
+    if not (slice_index p.pictures (kp / 4) == slice_index q.pictures (kq / 4))
+    || are_far (slice_index_or p.vectors kp zero_vector) (slice_index_or q.vectors kq zero_vector) then 1 else 0
+
+-- bS between two inter blocks: 2 by coefficients, else by motion (8.7.2.1)
 abbrev pub inter_strength : (p : MbInfo) (kp : ℕ) (q : MbInfo) (kq : ℕ) → ℕ
 inter_strength p kp q kq =
-    if has_bit p.coefficients kp || has_bit q.coefficients kq then 2
-    else (if not (slice_index p.pictures (kp / 4) == slice_index q.pictures (kq / 4))
-    || are_far (slice_index_or p.vectors kp zero_vector) (slice_index_or q.vectors kq zero_vector) then 1 else 0)
+    if has_bit p.coefficients kp || has_bit q.coefficients kq then 2 else motion_strength p kp q kq
 
 -- Two blocks without coefficients have one picture and one vector.
 pub record HaveOneMotion (p : MbInfo) (kp : ℕ) (q : MbInfo) (kq : ℕ) : Type 0 where
@@ -60,10 +64,9 @@ pub record HaveOneMotion (p : MbInfo) (kp : ℕ) (q : MbInfo) (kq : ℕ) : Type 
   pub picture : slice_index p.pictures (kp / 4) ≡ slice_index q.pictures (kq / 4)
   pub vector : slice_index_or p.vectors kp zero_vector ≡ slice_index_or q.vectors kq zero_vector
 
--- an inter macroblock of one motion without coefficients
-pub record IsStill (f : MbInfo) : Type 0 where
+-- an inter macroblock whose blocks have one picture and one vector
+pub record IsOfOneMotion (f : MbInfo) : Type 0 where
   pub inter : f.is_intra ≡ false
-  pub no_levels : f.coefficients ≡ 0
   pub pictures_are : (k : ℕ) → k < 4 → slice_index f.pictures k ≡ slice_index f.pictures 0
   pub vectors_are : (k : ℕ) → k < 16 → slice_index_or f.vectors k zero_vector ≡ slice_index_or f.vectors 0 zero_vector
 

@@ -1,12 +1,12 @@
 //! The strength bS between two blocks (8.7.2.1).
 
-ghost use Rattle.std.specs.Prelude.{◌≡◌, ℕ, ◌/◌, ◌<◌, ◌==◌, ◌-ℤ◌, nat_le, nat_abs, List, not, ◌||◌};
+ghost use Rattle.std.specs.Prelude.{◌≡◌, ℕ, ◌/◌, ◌<◌, ◌==◌, ◌-ℤ◌, nat_le, nat_abs, List, not, ◌||◌, if◌then◌else◌};
 ghost use Rattle.std.specs.Prelude.{slice_index, slice_index_or};
 ghost use Rattle.avc_types.specs.Pictures.{Coded};
 ghost use Rattle.avc_neigh.specs.declared.neighbour_info.Motion.{Motion};
 ghost use Rattle.avc_motion.specs.Motion.{zero_vector};
 ghost use Rattle.avc_deblock.specs.Edges.{strength_between};
-ghost use Rattle.avc_deblock.specs.FilterInfo.{Names, HasInfo, has_bit, are_far, inter_strength};
+ghost use Rattle.avc_deblock.specs.FilterInfo.{Names, HasInfo, has_bit, are_far, inter_strength, motion_strength};
 
 use crate::mb_info::MbInfo;
 use avc_edges::either;
@@ -37,6 +37,41 @@ impl MbInfo {
         (self.coefficients >> block) % 2 == 1
     }
 
+    /// The strength between two blocks of inter macroblocks that have no coefficients.
+    #[inline(always)]
+    pub(crate) fn motion_strength(&self, block: usize, q: &MbInfo, q_block: usize) -> u8
+        requires p { block < 16 }
+        requires q { q_block < 16 }
+        ensures value { result ≡ motion_strength self.now block q.now q_block }
+        ensures low { result < 3 }
+    {
+        u8::from(either(
+            self.pictures[block / 4] != q.pictures[q_block / 4],
+            are_far(self.vectors[block], q.vectors[q_block]),
+        ))
+    }
+
+    /// The strength between two blocks of inter macroblocks, which is `by_motion` where they have no
+    /// coefficients.
+    #[inline(always)]
+    pub(crate) fn strength_over(
+        &self,
+        block: usize,
+        q: &MbInfo,
+        q_block: usize,
+        by_motion: u8,
+    ) -> u8
+        requires p { block < 16 }
+        requires q { q_block < 16 }
+        requires low { by_motion < 3 }
+        ensures value { result ≡ (if has_bit self.now.coefficients block || has_bit q.now.coefficients q_block then 2 else by_motion) }
+        ensures low { result < 3 }
+    {
+        // not one after the other: none of them can be foreseen
+        let has_levels = either(self.has_coefficients(block), q.has_coefficients(q_block));
+        if has_levels { 2 } else { by_motion }
+    }
+
     /// The strength between two blocks of inter macroblocks.
     #[inline(always)]
     pub(crate) fn inter_strength(&self, block: usize, q: &MbInfo, q_block: usize) -> u8
@@ -45,13 +80,8 @@ impl MbInfo {
         ensures value { result ≡ inter_strength self.now block q.now q_block }
         ensures low { result < 3 }
     {
-        // not one after the other: none of them can be foreseen
-        let has_levels = either(self.has_coefficients(block), q.has_coefficients(q_block));
-        let differs = either(
-            self.pictures[block / 4] != q.pictures[q_block / 4],
-            are_far(self.vectors[block], q.vectors[q_block]),
-        );
-        if has_levels { 2 } else { u8::from(differs) }
+        let by_motion = self.motion_strength(block, q, q_block);
+        self.strength_over(block, q, q_block, by_motion)
     }
 }
 

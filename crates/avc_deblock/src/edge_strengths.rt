@@ -1,8 +1,8 @@
 //! The filter strengths along an edge (8.7.2.1).
 
-ghost use Rattle.std.specs.Prelude.{◌≡◌, ℕ, ◌+◌, ◌%◌, ◌<◌, slice_index};
+ghost use Rattle.std.specs.Prelude.{◌≡◌, ℕ, ◌+◌, ◌%◌, ◌<◌, slice_index, true};
 ghost use Rattle.avc_edges.specs.OneEdge.{AreStrengths, strength_along};
-ghost use Rattle.avc_deblock.specs.FilterInfo.{edge_block, inter_strength};
+ghost use Rattle.avc_deblock.specs.FilterInfo.{edge_block, inter_strength, IsOfOneMotion};
 ghost use Rattle.avc_deblock.specs.ByInfo.{strength_of};
 
 use crate::mb_info::MbInfo;
@@ -38,15 +38,53 @@ fn inter_strengths(p: &MbInfo, q: &MbInfo, is_vertical: bool, n: usize) -> [u8; 
     strengths
 }
 
-/// The strengths along edge `n` of macroblock `q`, from its left or upper edge with number 0 on;
-/// `p` is the macroblock on the other side.
+/// The strengths along an edge between inter macroblocks of one motion each: without coefficients
+/// they are the same everywhere.
 #[inline(always)]
-pub(crate) fn edge_strengths(p: &MbInfo, q: &MbInfo, is_vertical: bool, n: usize) -> Strengths
-    requires { n < 4 }
+fn uniform_strengths(p: &MbInfo, q: &MbInfo, is_vertical: bool, n: usize) -> [u8; 4]
+    requires edge { n < 4 }
+    requires p { IsOfOneMotion p.now }
+    requires q { IsOfOneMotion q.now }
+    ensures value { (k : ℕ) → k < 4 →
+        slice_index result k ≡ inter_strength p.now (edge_block is_vertical ((n + 3) % 4) k) q.now (edge_block is_vertical n k) }
+    ensures low { (k : ℕ) → k < 4 → slice_index result k < 4 }
+{
+    let by_motion = p.motion_strength(0, q, 0);
+    if !p.has_coefficients_beside(q, is_vertical, n) {
+        return [by_motion; 4];
+    }
+    let mut strengths = [0; 4];
+    for k in 0..4 {
+        strengths[k] = p.strength_over(
+            edge_block(is_vertical, (n + 3) % 4, k),
+            q,
+            edge_block(is_vertical, n, k),
+            by_motion,
+        );
+    }
+    strengths
+}
+
+/// The strengths along edge `n` of macroblock `q`, from its left or upper edge with number 0 on;
+/// `p` is the macroblock on the other side. Both may be known to be inter macroblocks of one motion
+/// each.
+#[inline(always)]
+pub(crate) fn edge_strengths(
+    p: &MbInfo,
+    q: &MbInfo,
+    is_vertical: bool,
+    n: usize,
+    are_of_one_motion: bool,
+) -> Strengths
+    requires edge { n < 4 }
+    requires p { are_of_one_motion ≡ true → IsOfOneMotion p.now }
+    requires q { are_of_one_motion ≡ true → IsOfOneMotion q.now }
     ensures low { AreStrengths result }
     ensures value { (k : ℕ) → k < 4 → strength_along result k ≡ strength_of p.now q.now is_vertical n k }
 {
-    if p.is_intra | q.is_intra {
+    if are_of_one_motion {
+        Strengths::BelowFour(uniform_strengths(p, q, is_vertical, n))
+    } else if p.is_intra | q.is_intra {
         if n == 0 {
             Strengths::Four
         } else {

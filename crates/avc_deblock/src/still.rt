@@ -3,8 +3,7 @@
 ghost use Rattle.std.specs.Prelude.{◌≡◌, ℕ, ◌+◌, ◌%◌, ◌<◌, ◌≤◌, slice_index, slice_index_or, true};
 ghost use Rattle.std.specs.Prelude.{false, ◌/◌};
 ghost use Rattle.avc_motion.specs.Motion.{zero_vector};
-ghost use Rattle.avc_deblock.specs.FilterInfo.{edge_block, has_bit, inter_strength, HaveOneMotion, IsStill};
-ghost use Rattle.avc_deblock.specs.ByInfo.{strength_of};
+ghost use Rattle.avc_deblock.specs.FilterInfo.{edge_block, has_bit, inter_strength, HaveOneMotion, IsOfOneMotion};
 
 use crate::edge_strengths::edge_block;
 use crate::mb_info::MbInfo;
@@ -65,17 +64,28 @@ impl MbInfo {
         same
     }
 
-    /// It is an inter macroblock of one motion without coefficients: all strengths inside it are 0.
+    /// It is an inter macroblock whose blocks have one picture and one vector.
     #[inline(always)]
-    pub(crate) fn is_still(&self) -> bool
-        ensures inter { result ≡ true → self.now.is_intra ≡ false }
-        ensures strengths { result ≡ true → (j k : ℕ) → j < 16 → k < 16 → inter_strength self.now j self.now k ≡ 0 }
-        ensures found { IsStill self.now → result ≡ true }
+    pub(crate) fn is_of_one_motion(&self) -> bool
+        ensures one { result ≡ true → IsOfOneMotion self.now }
+        ensures found { IsOfOneMotion self.now → result ≡ true }
     {
-        if self.is_intra || self.coefficients != 0 {
+        if self.is_intra {
             return false;
         }
         both(self.has_one_picture(), self.has_one_vector())
+    }
+
+    /// It is an inter macroblock of one motion, as is known already, without coefficients: all
+    /// strengths inside it are 0.
+    #[inline(always)]
+    pub(crate) fn is_still(&self, is_of_one_motion: bool) -> bool
+        requires motion { is_of_one_motion ≡ true → IsOfOneMotion self.now }
+        ensures inter { result ≡ true → self.now.is_intra ≡ false }
+        ensures strengths { result ≡ true → (j k : ℕ) → j < 16 → k < 16 → inter_strength self.now j self.now k ≡ 0 }
+        ensures found { is_of_one_motion ≡ true → self.now.coefficients ≡ 0 → result ≡ true }
+    {
+        both(is_of_one_motion, self.coefficients == 0)
     }
 }
 
@@ -138,19 +148,5 @@ impl MbInfo {
             on_q = either(on_q, q.has_coefficients(edge_block(is_vertical, n, k)));
         }
         either(on_p, on_q)
-    }
-
-    /// The strengths along the edge from `self` to `q`, which is another macroblock without
-    /// coefficients, are 0, as one look tells.
-    #[inline(always)]
-    pub(crate) fn meets_quietly(&self, q: &MbInfo, is_vertical: bool) -> bool
-        ensures strengths { result ≡ true → (k : ℕ) → k < 4 → strength_of self.now q.now is_vertical 0 k ≡ 0 }
-        ensures found { self.now.is_intra ≡ false → q.now.is_intra ≡ false → q.now.coefficients ≡ 0 →
-            ((k : ℕ) → k < 4 → HaveOneMotion self.now (edge_block is_vertical 3 k) q.now (edge_block is_vertical 0 k)) → result ≡ true }
-    {
-        if self.is_intra | q.is_intra | (q.coefficients != 0) {
-            return false;
-        }
-        self.is_quiet(q, is_vertical, 0)
     }
 }

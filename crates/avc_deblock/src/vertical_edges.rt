@@ -5,6 +5,7 @@ ghost use Rattle.std.specs.Prelude.{◌≡◌, ℕ, ◌+◌, ◌*◌, ◌^◌, �
 ghost use Rattle.avc_plane.specs.Frames.{planes_of};
 ghost use Rattle.avc_edges.specs.OneEdge.{AreLimits, AreStrengths, edge_filtered, luma_setting, strength_along};
 ghost use Rattle.avc_deblock.specs.OneEdge.{chroma_of_edge, luma_of_edge, HasRoom};
+ghost use Rattle.avc_deblock.specs.FilterInfo.{IsOfOneMotion};
 ghost use Rattle.avc_deblock.specs.MbLimits.{ArePairLimits};
 ghost use Rattle.avc_deblock.specs.ByInfo.{edges_by_info, luma_qp_of, chroma_qp_of, strength_of};
 
@@ -56,10 +57,12 @@ fn luma_between<const PAD: usize>(
 fn inner_luma<const PAD: usize>(
     luma: &mut Plane<PAD>,
     q: &MbInfo,
+    is_of_one_motion: bool,
     middle: &Strengths,
     limits: &QpLimits,
     place: Place,
 )
+    requires motion { is_of_one_motion ≡ true → IsOfOneMotion q.now }
     requires columns_fit { 16 * place.column + 16 < 2 ^ 64 }
     requires rows_fit { 16 * place.row + 16 < 2 ^ 64 }
     requires columns { 16 * place.column + 16 ≤ luma.old.width }
@@ -76,10 +79,10 @@ fn inner_luma<const PAD: usize>(
         three_vertical_luma(luma, left, 16 * place.row, &[3; 4], limits);
         return;
     }
-    let second = edge_strengths(q, q, true, 1);
+    let second = edge_strengths(q, q, true, 1, is_of_one_motion);
     luma_between(luma, q, q, 1, &second, limits, place);
     luma_between(luma, q, q, 2, middle, limits, place);
-    let last = edge_strengths(q, q, true, 3);
+    let last = edge_strengths(q, q, true, 3, is_of_one_motion);
     luma_between(luma, q, q, 3, &last, limits, place);
 }
 
@@ -166,17 +169,23 @@ fn chroma_edges<const PAD: usize>(
     }
 }
 
-/// Filters all four vertical edges of macroblock `q`; `p` lies left of it.
+/// Filters all four vertical edges of macroblock `q`; `p` lies left of it, with these strengths
+/// between both. `q` may be known to be an inter macroblock of one motion.
 #[inline(always)]
 pub(crate) fn vertical_edges<const PAD: usize>(
     planes: &mut Planes<PAD>,
     p: &MbInfo,
     q: &MbInfo,
+    outer: &Strengths,
+    is_of_one_motion: bool,
     outer_limits: &PairLimits,
     inner_limits: &PairLimits,
     place: Place,
 )
     requires some { 1 ≤ place.column }
+    requires outer_low { AreStrengths outer.now }
+    requires outer_value { (k : ℕ) → k < 4 → strength_along outer.now k ≡ strength_of p.now q.now true 0 k }
+    requires motion { is_of_one_motion ≡ true → IsOfOneMotion q.now }
     requires columns_fit { 16 * place.column + 16 < 2 ^ 64 }
     requires rows_fit { 16 * place.row + 16 < 2 ^ 64 }
     requires room { HasRoom place.column place.row (planes_of planes.old) }
@@ -186,16 +195,22 @@ pub(crate) fn vertical_edges<const PAD: usize>(
     ensures lines { planes_of planes.new ≡ edges_by_info true place.column place.row place.chroma_qp_index_offset false true q.now q.now
         (edges_by_info true place.column place.row place.chroma_qp_index_offset true false p.now q.now (planes_of planes.old)) }
 {
-    let outer = edge_strengths(p, q, true, 0);
-    let middle = edge_strengths(q, q, true, 2);
-    luma_between(&mut planes.luma, p, q, 0, &outer, &outer_limits.luma, place);
-    inner_luma(&mut planes.luma, q, &middle, &inner_limits.luma, place);
+    let middle = edge_strengths(q, q, true, 2, is_of_one_motion);
+    luma_between(&mut planes.luma, p, q, 0, outer, &outer_limits.luma, place);
+    inner_luma(
+        &mut planes.luma,
+        q,
+        is_of_one_motion,
+        &middle,
+        &inner_limits.luma,
+        place,
+    );
     chroma_edges(
         &mut planes.cb,
         &mut planes.cr,
         p,
         q,
-        &outer,
+        outer,
         &middle,
         &outer_limits.chroma,
         &inner_limits.chroma,

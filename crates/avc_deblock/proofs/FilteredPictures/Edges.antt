@@ -439,6 +439,14 @@ module _ (p q : MbInfo) (v : Bool) (n k : ℕ) where
 pub zeros : (k : ℕ) → k < 4 → slice_index (0 ∷ 0 ∷ 0 ∷ 0 ∷ []) k ≡ 0
 zeros = same_below 4 (slice_index (0 ∷ 0 ∷ 0 ∷ 0 ∷ [])) (λ (k : ℕ). 0) refl
 
+-- what holds of each number that is stored
+pub stored_below : (P : ℕ → ℕ → Type 0) (xs : List ℕ) (n v : ℕ) → n < length xs → P n v → ((k : ℕ) → k < n → P k (slice_index xs k)) →
+    (k : ℕ) → k < n + 1 → P k (slice_index (slice_set xs n v) k)
+stored_below P xs n v room here before =
+    below_more (λ k. P k (slice_index (slice_set xs n v) k)) n
+    (λ k low. let other : k ≢ n = omega arith in rw (get_or-set_other) (before k low))
+    (rw (get_or-set_same) here)
+
 -- ---- the edges inside an intra macroblock: all strengths are 3
 
 pub threes : (k : ℕ) → k < 4 → slice_index (3 ∷ 3 ∷ 3 ∷ 3 ∷ []) k ≡ 3
@@ -509,15 +517,28 @@ one_picture m = grind (arith, nat_tests)
 pub quiet : (p : MbInfo) (kp : ℕ) (q : MbInfo) (kq : ℕ) → HaveOneMotion p kp q kq → inter_strength p kp q kq ≡ 0
 quiet p kp q kq h = rw (h.no_p_levels, h.no_q_levels, h.picture, h.vector, one_picture (slice_index q.pictures (kq / 4)), not_far (slice_index_or q.vectors kq zero_vector)) refl
 
-pub one_motion : (f : MbInfo) → f.coefficients ≡ 0 → ((k : ℕ) → k < 4 → slice_index f.pictures k ≡ slice_index f.pictures 0) →
-    ((k : ℕ) → k < 16 → slice_index_or f.vectors k zero_vector ≡ slice_index_or f.vectors 0 zero_vector) →
-    (j k : ℕ) → j < 16 → k < 16 → inter_strength f j f k ≡ 0
-one_motion f none pictures vectors j k j_low k_low = quiet f j f k (record {
+pub one_motion : (f : MbInfo) → IsOfOneMotion f → f.coefficients ≡ 0 → (j k : ℕ) → j < 16 → k < 16 → inter_strength f j f k ≡ 0
+one_motion f one none j k j_low k_low = quiet f j f k (record {
   no_p_levels = rw (none) (no_bit j);
   no_q_levels = rw (none) (no_bit k);
-  picture = pictures (j / 4) (omega arith) ∙ sym (pictures (k / 4) (omega arith));
-  vector = vectors j j_low ∙ sym (vectors k k_low);
+  picture = one.pictures_are (j / 4) (omega arith) ∙ sym (one.pictures_are (k / 4) (omega arith));
+  vector = one.vectors_are j j_low ∙ sym (one.vectors_are k k_low);
 })
+
+-- between macroblocks of one motion each all strengths by motion are that between their first blocks
+pub same_motion : (p q : MbInfo) → IsOfOneMotion p → IsOfOneMotion q → (j k : ℕ) → j < 16 → k < 16 → motion_strength p j q k ≡ motion_strength p 0 q 0
+same_motion p q one other j k j_low k_low =
+    rw (one.pictures_are (j / 4) (omega arith), other.pictures_are (k / 4) (omega arith), one.vectors_are j j_low, other.vectors_are k k_low) refl
+
+pub without_levels : (p q : MbInfo) (j k : ℕ) → has_bit p.coefficients j ≡ false → has_bit q.coefficients k ≡ false → inter_strength p j q k ≡ motion_strength p j q k
+without_levels p q j k e f = rw (e, f) refl
+
+pub fours : (s k : ℕ) → k < 4 → slice_index (s ∷ s ∷ s ∷ s ∷ []) k ≡ s
+fours s zero low = refl
+fours s (suc zero) low = refl
+fours s (suc (suc zero)) low = refl
+fours s (suc (suc (suc zero))) low = refl
+fours s (suc (suc (suc (suc k)))) low = absurd (omega (arith, low))
 
 -- ---- a macroblock of one motion without coefficients has no edge inside it that is filtered
 

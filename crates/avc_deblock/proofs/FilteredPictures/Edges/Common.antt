@@ -2,6 +2,7 @@
 pub use Rattle.std.proofs.Common.{ℕ, ◌<◌, zero, suc, arith, [], ◌≡◌, ◌+◌, ◌-◌, ◌≤◌, ◌∷◌, Bool, true, false, slice_index, refl, sym, ap, ◌∙◌, if◌then◌else◌}
 pub use Rattle.std.proofs.Common.{◌==◌, ◌&&◌, ◌*◌, List, ℤ, pos, ◌-ℤ◌, nat_abs, nat_lt, ◌/◌, ◌%◌, below_more, length}
 pub use Rattle.std.proofs.Common.{mul_comm, ◌++◌, map, subst, append-nil}
+pub use Rattle.std.proofs.Common.{◌≢◌, slice_set, get_or-set_other, get_or-set_same}
 pub use Rattle.std.proofs.Common.{get_or as slice_index_or, ◌^◌, rules, w8, to_z, of_z}
 pub use Rattle.std.proofs.Math.Bool.{or_assoc}
 pub use Rattle.std.proofs.Math.Nat.{zero-div}
@@ -31,7 +32,7 @@ pub use Rattle.avc_deblock.specs.Edges.{LineFilter, in_component, step_filtered,
 pub use Rattle.avc_deblock.specs.Edges.{edges_below, vertical_lines, horizontal_lines, component_lines, mb_at, mb_lines, picture_named, moves_differently}
 unfoldable pub use Rattle.avc_deblock.specs.Edges.{row_lines}
 pub use Rattle.avc_deblock.specs.FilterInfo.{edge_block, p_address, IsAt, Names, HasInfo, HaveInfo, filters_at, filters_between, are_far, inter_strength}
-pub use Rattle.avc_deblock.specs.FilterInfo.{has_bit, HasMotion, HaveOneMotion}
+pub use Rattle.avc_deblock.specs.FilterInfo.{has_bit, HasMotion, HaveOneMotion, IsOfOneMotion, motion_strength}
 pub use Rattle.avc_edges.specs.Line.{Setting, setting_of}
 pub use Rattle.avc_deblock.specs.Locality.{AgreesAbove, ChangesWithin, AgreesToRow, ChangesInRow, HasRow}
 pub use Rattle.avc_edges.specs.OneEdge.{strength_along, lines_filtered, chroma_setting, luma_setting}

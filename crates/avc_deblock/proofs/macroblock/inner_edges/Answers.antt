@@ -1,19 +1,19 @@
 use Rattle.avc_deblock.proofs.FilteredPictures.{arith, planes_of}
 use Rattle.avc_deblock.proofs.macroblock.inner_edges.Goals as goal
 
-pub edge_between-requires-then-filters : goal.edge_between-requires-then-filters
-edge_between-requires-then-filters g c =
-    let room = c.edge_between.ensures.room c.args.place.column c.args.place.row c.requires.room in
-    (omega arith, (omega arith, ((λ e. omega arith), ((λ e. omega arith), (c.requires.columns_fit, (c.requires.rows_fit, (room, c.requires.limits)))))))
+pub inner_edge-requires-then-inner : goal.inner_edge-requires-then-inner
+inner_edge-requires-then-inner g c =
+    let room = c.inner_edge.ensures.room c.args.place.column c.args.place.row c.requires.room in
+    (omega arith, (omega arith, (omega arith, (c.requires.columns_fit, (c.requires.rows_fit, (room, (c.requires.limits, c.requires.motion)))))))
 
-pub edge_between-requires-then-filters-2 : goal.edge_between-requires-then-filters-2
-edge_between-requires-then-filters-2 g c =
-    let room = c.edge_between-then-filters.ensures.room c.args.place.column c.args.place.row (c.edge_between.ensures.room c.args.place.column c.args.place.row c.requires.room) in
-    (omega arith, (omega arith, ((λ e. omega arith), ((λ e. omega arith), (c.requires.columns_fit, (c.requires.rows_fit, (room, c.requires.limits)))))))
+pub inner_edge-requires-then-inner-2 : goal.inner_edge-requires-then-inner-2
+inner_edge-requires-then-inner-2 g c =
+    let room = c.inner_edge-then-inner.ensures.room c.args.place.column c.args.place.row (c.inner_edge.ensures.room c.args.place.column c.args.place.row c.requires.room) in
+    (omega arith, (omega arith, (omega arith, (c.requires.columns_fit, (c.requires.rows_fit, (room, (c.requires.limits, c.requires.motion)))))))
 
-pub returns-then-filters-clause-room : goal.returns-then-filters-clause-room
-returns-then-filters-clause-room g c column row h =
-    c.edge_between-then-filters-2.ensures.room column row (c.edge_between-then-filters.ensures.room column row (c.edge_between.ensures.room column row h))
+pub returns-then-inner-clause-room : goal.returns-then-inner-clause-room
+returns-then-inner-clause-room g c column row h =
+    c.inner_edge-then-inner-2.ensures.room column row (c.inner_edge-then-inner.ensures.room column row (c.inner_edge.ensures.room column row h))
 
-pub returns-then-filters-clause-lines : goal.returns-then-filters-clause-lines
-returns-then-filters-clause-lines g c = grind (arith, planes_of)
+pub returns-then-inner-clause-lines : goal.returns-then-inner-clause-lines
+returns-then-inner-clause-lines g c = grind (arith, planes_of)

@@ -7,24 +7,24 @@ all_off i l u b e t = grind arith
 
 pub returns-then-idle-clause-lines : goal.returns-then-idle-clause-lines
 returns-then-idle-clause-lines g c =
-    let off = all_off c.both-inner.result c.reaches-from_left.result c.reaches-from_above.result c.all_three-idle.result c.all_three-idle.ensures c.if-idle.true in
+    let off = all_off c.both-inner.result c.edge_to-from_left.result.is_filtered c.edge_to-from_above.result.is_filtered c.all_three-idle.result c.all_three-idle.ensures c.if-idle.true in
     rw (off.0.0, off.0.1, off.1) at
     (mb_kept c.args.place.column c.args.place.row c.args.place.chroma_qp_index_offset c.args.left.now c.args.above.now c.args.mb.now c.is_still.result c.both-inner.result
-    c.reaches-from_left.result c.reaches-from_above.result c.is_still.ensures.inter c.is_still.ensures.strengths
+    c.edge_to-from_left.result.is_filtered c.edge_to-from_above.result.is_filtered c.is_still.ensures.inter c.is_still.ensures.strengths
     (c.both-inner.ensures ∙ ap (λ (b : Bool). b && not c.is_still.result) c.filters_edge_to.ensures)
-    c.reaches-from_left.ensures.on c.reaches-from_left.ensures.off c.reaches-from_above.ensures.on c.reaches-from_above.ensures.off (planes_of c.args.planes.now))
+    c.edge_to-from_left.ensures.on c.edge_to-from_left.ensures.off c.edge_to-from_above.ensures.on c.edge_to-from_above.ensures.off (planes_of c.args.planes.now))
 
 pub outer_edge-requires : goal.outer_edge-requires
 outer_edge-requires g c =
     let room = c.all_vertical.ensures.room c.args.place.column c.args.place.row c.requires.room in
-    let some_row : c.reaches-from_above.result ≡ true → 1 ≤ c.args.place.row = λ e. some_coded (filters_between c.args.mb.now c.args.above.now) c.args.place.row (c.reaches-from_above.ensures.on e) in
-    (omega arith, ((λ e f. absurd (cc)), ((λ e f. some_row e), (c.requires.columns_fit, (c.requires.rows_fit, (room, λ e. search rules))))))
+    let some_row : c.edge_to-from_above.result.is_filtered ≡ true → 1 ≤ c.args.place.row = λ e. some_coded (filters_between c.args.mb.now c.args.above.now) c.args.place.row (c.edge_to-from_above.ensures.on e) in
+    (omega arith, ((λ e f. absurd (cc)), ((λ e f. some_row e), (c.requires.columns_fit, (c.requires.rows_fit, (room, ((λ e. search rules), (c.edge_to-from_above.ensures.low, c.edge_to-from_above.ensures.strengths))))))))
 
 pub inner_horizontal-requires : goal.inner_horizontal-requires
 inner_horizontal-requires g c =
     let before = c.all_vertical.ensures.room c.args.place.column c.args.place.row c.requires.room in
     let room = c.outer_edge.ensures.room c.args.place.column c.args.place.row before in
-    (omega arith, (c.requires.columns_fit, (c.requires.rows_fit, (room, c.fit.ensures.inside))))
+    (omega arith, (c.is_of_one_motion-of_one.ensures.one, (c.requires.columns_fit, (c.requires.rows_fit, (room, c.fit.ensures.inside)))))
 
 pub returns-clause-room : goal.returns-clause-room
 returns-clause-room g c column row h =
@@ -40,12 +40,12 @@ returns-clause-lines g c =
     let row = c.args.place.row in
     let e = c.args.place.chroma_qp_index_offset in
     let i = c.both-inner.result in
-    let l = c.reaches-from_left.result in
-    let u = c.reaches-from_above.result in
+    let l = c.edge_to-from_left.result.is_filtered in
+    let u = c.edge_to-from_above.result.is_filtered in
     c.inner_horizontal.ensures.lines
     ∙ ap (edges_by_info false column row e false i mb mb)
     (c.outer_edge.ensures.lines ∙ ap (edges_by_info false column row e u false above mb) c.all_vertical.ensures.lines)
     ∙ mb_kept column row e left above mb c.is_still.result i l u
     c.is_still.ensures.inter c.is_still.ensures.strengths
     (c.both-inner.ensures ∙ ap (λ (b : Bool). b && not c.is_still.result) c.filters_edge_to.ensures)
-    c.reaches-from_left.ensures.on c.reaches-from_left.ensures.off c.reaches-from_above.ensures.on c.reaches-from_above.ensures.off s
+    c.edge_to-from_left.ensures.on c.edge_to-from_left.ensures.off c.edge_to-from_above.ensures.on c.edge_to-from_above.ensures.off s

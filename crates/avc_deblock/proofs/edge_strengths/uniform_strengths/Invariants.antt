@@ -1,0 +1,9 @@
+use Rattle.avc_deblock.proofs.FilteredPictures.{◌≡◌, ◌<◌, ◌+◌, ◌%◌, ℕ, length, slice_index, edge_block, inter_strength}
+use Rattle.avc_deblock.proofs.edge_strengths.uniform_strengths.Given as goal
+
+abbrev pub invariant-loop-k : goal.invariant-loop-k
+invariant-loop-k l = record {
+  long : length l.strengths ≡ 4;
+  value : (k : ℕ) → k < l.k → slice_index l.strengths k ≡ inter_strength l.p (edge_block l.is_vertical ((l.n + 3) % 4) k) l.q (edge_block l.is_vertical l.n k);
+  low : (k : ℕ) → k < l.k → slice_index l.strengths k < 4;
+}
