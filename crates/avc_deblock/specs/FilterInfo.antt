@@ -10,6 +10,7 @@ use Rattle.avc_neigh.specs.declared.neighbour_info.Motion.TheVariants.{Absent as
 use Rattle.avc_motion.specs.Motion.{is_intra, zero_vector}
 use Rattle.avc_deblock.specs.Edges.{mb_at, slice_at, filter_qp, has_coefficients, picture_named}
 use Rattle.avc_deblock.specs.declared.mb_info.MbInfo.{MbInfo}
+use Rattle.avc_deblock.specs.declared.inner_motion.InnerMotion.{InnerMotion}
 
 -- The numbers of stored frames: the decoding index of that with number n. No two have one.
 pub record Names : Type 0 where
@@ -70,11 +71,33 @@ pub record IsOfOneMotion (f : MbInfo) : Type 0 where
   pub pictures_are : (k : ℕ) → k < 4 → slice_index f.pictures k ≡ slice_index f.pictures 0
   pub vectors_are : (k : ℕ) → k < 16 → slice_index_or f.vectors k zero_vector ≡ slice_index_or f.vectors 0 zero_vector
 
+-- an inter macroblock in each 8x8 quarter of which the blocks have one vector
+pub record IsOfFourVectors (f : MbInfo) : Type 0 where
+  pub inter : f.is_intra ≡ false
+  pub vectors_are : (k : ℕ) → k < 16 → slice_index_or f.vectors k zero_vector ≡ slice_index_or f.vectors (4 * (k / 4)) zero_vector
+
 -- The luma block on the q side of edge n of a macroblock in the k-th quarter of the edge. The edges
 -- of a macroblock are numbered from 0, four luma samples apart.
 abbrev pub edge_block : Bool → (n k : ℕ) → ℕ
 edge_block true n k = block_at (4 * n) (4 * k)
 edge_block false n k = block_at (4 * k) (4 * n)
+
+-- Along edge n between two inter macroblocks bS is s wherever the blocks have no coefficients.
+pub record HasByMotion (p q : MbInfo) (v : Bool) (n s : ℕ) : Type 0 where
+  pub p_inter : p.is_intra ≡ false
+  pub q_inter : q.is_intra ≡ false
+  pub low : s < 3
+  pub each : (k : ℕ) → k < 4 → motion_strength p (edge_block v ((n + 3) % 4) k) q (edge_block v n k) ≡ s
+
+-- at edge n inside a macroblock no strength comes of motion
+abbrev pub IsStillAt : MbInfo → Bool → (n : ℕ) → Type 0
+IsStillAt f v n = HasByMotion f f v n 0
+
+-- What is said of the motion inside a macroblock holds of it.
+pub record IsToldOf (f : MbInfo) (m : InnerMotion) : Type 0 where
+  pub middle : m.is_still_in_middle ≡ true → (v : Bool) → IsStillAt f v 2
+  pub first : m.is_still_beside ≡ true → (v : Bool) → IsStillAt f v 1
+  pub last : m.is_still_beside ≡ true → (v : Bool) → IsStillAt f v 3
 
 -- the macroblock on the p side of edge n of macroblock a
 abbrev pub p_address : Coded → Bool → (n a : ℕ) → ℕ

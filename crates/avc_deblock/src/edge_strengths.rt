@@ -1,8 +1,8 @@
 //! The filter strengths along an edge (8.7.2.1).
 
-ghost use Rattle.std.specs.Prelude.{◌≡◌, ℕ, ◌+◌, ◌%◌, ◌<◌, slice_index, true};
+ghost use Rattle.std.specs.Prelude.{◌≡◌, ℕ, ◌+◌, ◌%◌, ◌<◌, slice_index, true, IfSome};
 ghost use Rattle.avc_edges.specs.OneEdge.{AreStrengths, strength_along};
-ghost use Rattle.avc_deblock.specs.FilterInfo.{edge_block, inter_strength, IsOfOneMotion};
+ghost use Rattle.avc_deblock.specs.FilterInfo.{edge_block, inter_strength, HasByMotion, IsStillAt};
 ghost use Rattle.avc_deblock.specs.ByInfo.{strength_of};
 
 use crate::mb_info::MbInfo;
@@ -38,18 +38,16 @@ fn inter_strengths(p: &MbInfo, q: &MbInfo, is_vertical: bool, n: usize) -> [u8; 
     strengths
 }
 
-/// The strengths along an edge between inter macroblocks of one motion each: without coefficients
-/// they are the same everywhere.
+/// The strengths along an edge between inter macroblocks, which are `by_motion` wherever the blocks
+/// have no coefficients.
 #[inline(always)]
-fn uniform_strengths(p: &MbInfo, q: &MbInfo, is_vertical: bool, n: usize) -> [u8; 4]
+fn strengths_over(p: &MbInfo, q: &MbInfo, is_vertical: bool, n: usize, by_motion: u8) -> [u8; 4]
     requires edge { n < 4 }
-    requires p { IsOfOneMotion p.now }
-    requires q { IsOfOneMotion q.now }
+    requires motion { HasByMotion p.now q.now is_vertical n by_motion }
     ensures value { (k : ℕ) → k < 4 →
         slice_index result k ≡ inter_strength p.now (edge_block is_vertical ((n + 3) % 4) k) q.now (edge_block is_vertical n k) }
     ensures low { (k : ℕ) → k < 4 → slice_index result k < 4 }
 {
-    let by_motion = p.motion_strength(0, q, 0);
     if !p.has_coefficients_beside(q, is_vertical, n) {
         return [by_motion; 4];
     }
@@ -66,25 +64,25 @@ fn uniform_strengths(p: &MbInfo, q: &MbInfo, is_vertical: bool, n: usize) -> [u8
 }
 
 /// The strengths along edge `n` of macroblock `q`, from its left or upper edge with number 0 on;
-/// `p` is the macroblock on the other side. Both may be known to be inter macroblocks of one motion
-/// each.
+/// `p` is the macroblock on the other side. `by_motion` is what they are where blocks have no
+/// coefficients, as far as it is known.
 #[inline(always)]
 pub(crate) fn edge_strengths(
     p: &MbInfo,
     q: &MbInfo,
     is_vertical: bool,
     n: usize,
-    are_of_one_motion: bool,
+    by_motion: Option<u8>,
 ) -> Strengths
     requires edge { n < 4 }
-    requires p { are_of_one_motion ≡ true → IsOfOneMotion p.now }
-    requires q { are_of_one_motion ≡ true → IsOfOneMotion q.now }
+    requires motion { IfSome by_motion (HasByMotion p.now q.now is_vertical n) }
     ensures low { AreStrengths result }
     ensures value { (k : ℕ) → k < 4 → strength_along result k ≡ strength_of p.now q.now is_vertical n k }
 {
-    if are_of_one_motion {
-        Strengths::BelowFour(uniform_strengths(p, q, is_vertical, n))
-    } else if p.is_intra | q.is_intra {
+    if let Some(by_motion) = by_motion {
+        return Strengths::BelowFour(strengths_over(p, q, is_vertical, n, by_motion));
+    }
+    if p.is_intra | q.is_intra {
         if n == 0 {
             Strengths::Four
         } else {
@@ -95,4 +93,16 @@ pub(crate) fn edge_strengths(
     } else {
         Strengths::BelowFour(inter_strengths(p, q, is_vertical, n))
     }
+}
+
+/// The strengths along edge `n` inside macroblock `q`, where none may be known to come of motion.
+#[inline(always)]
+pub(crate) fn inner_strengths(q: &MbInfo, is_vertical: bool, n: usize, is_still: bool) -> Strengths
+    requires edge { n < 4 }
+    requires still { is_still ≡ true → IsStillAt q.now is_vertical n }
+    ensures low { AreStrengths result }
+    ensures value { (k : ℕ) → k < 4 → strength_along result k ≡ strength_of q.now q.now is_vertical n k }
+{
+    let by_motion = if is_still { Some(0) } else { None };
+    edge_strengths(q, q, is_vertical, n, by_motion)
 }

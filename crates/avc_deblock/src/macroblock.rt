@@ -4,12 +4,13 @@ ghost use Rattle.std.specs.Prelude.{◌≡◌, ℕ, ◌+◌, ◌*◌, ◌^◌, �
 ghost use Rattle.avc_plane.specs.Frames.{planes_of};
 ghost use Rattle.avc_deblock.specs.OneEdge.{HasRoom};
 ghost use Rattle.avc_edges.specs.OneEdge.{AreStrengths, strength_along};
-ghost use Rattle.avc_deblock.specs.FilterInfo.{filters_between, IsOfOneMotion};
+ghost use Rattle.avc_deblock.specs.FilterInfo.{filters_between, IsOfOneMotion, IsStillAt, IsToldOf};
 ghost use Rattle.avc_deblock.specs.MbLimits.{ArePairLimits, AreRowLimits};
 ghost use Rattle.avc_deblock.specs.ByInfo.{edge_by_info, edges_by_info, mb_by_info, strength_of};
 
-use crate::edge_strengths::edge_strengths;
+use crate::edge_strengths::{edge_strengths, inner_strengths};
 use crate::horizontal_edges::inner_intra_edges;
+use crate::inner_motion::InnerMotion;
 use crate::kept_limits::RowLimits;
 use crate::mb_info::MbInfo;
 use crate::planes_edge::{PairLimits, Place, edge_at};
@@ -47,8 +48,7 @@ struct InnerEdges {
     /// They are to be filtered. At strength 0 they need not be.
     are_filtered: bool,
 
-    /// The macroblock is known to be an inter macroblock of one motion.
-    are_of_one_motion: bool,
+    motion: InnerMotion,
 }
 
 impl MbInfo {
@@ -76,8 +76,8 @@ impl MbInfo {
                 strengths: Strengths::BelowFour([0; 4]),
             };
         }
-        let are_of_one_motion = is_of_one_motion && other.is_of_one_motion();
-        let strengths = edge_strengths(other, self, is_vertical, 0, are_of_one_motion);
+        let by_motion = self.strength_by_motion(other, is_of_one_motion);
+        let strengths = edge_strengths(other, self, is_vertical, 0, by_motion);
         OuterEdge {
             is_filtered: !strengths.are_zero(),
             strengths,
@@ -113,14 +113,13 @@ fn outer_edge<const PAD: usize>(
     }
 }
 
-/// Filters edge `n` inside macroblock `q`, which may be known to be an inter macroblock of one
-/// motion.
+/// Filters edge `n` inside macroblock `q`, where no strength may be known to come of motion.
 #[inline(always)]
 #[tactic(auto, using(crate::proofs::FilteredPictures::edge_zero))]
 fn inner_edge<const PAD: usize>(
     planes: &mut Planes<PAD>,
     q: &MbInfo,
-    is_of_one_motion: bool,
+    is_still: bool,
     is_vertical: bool,
     n: usize,
     limits: &PairLimits,
@@ -132,12 +131,12 @@ fn inner_edge<const PAD: usize>(
     requires rows_fit { 16 * place.row + 16 < 2 ^ 64 }
     requires room { HasRoom place.column place.row (planes_of planes.old) }
     requires limits { ArePairLimits limits.now place.chroma_qp_index_offset q.now q.now }
-    requires motion { is_of_one_motion ≡ true → IsOfOneMotion q.now }
+    requires still { is_still ≡ true → IsStillAt q.now is_vertical n }
     ensures room { (column row : ℕ) → HasRoom column row (planes_of planes.old) → HasRoom column row (planes_of planes.new) }
     ensures lines { planes_of planes.new
         ≡ edge_by_info is_vertical place.column place.row n place.chroma_qp_index_offset q.now q.now (planes_of planes.old) }
 {
-    let strengths = edge_strengths(q, q, is_vertical, n, is_of_one_motion);
+    let strengths = inner_strengths(q, is_vertical, n, is_still);
     if strengths.are_zero() {
         return;
     }
@@ -153,7 +152,7 @@ fn inner_edges<const PAD: usize>(
     limits: &PairLimits,
     place: Place,
 )
-    requires motion { inner.are_of_one_motion ≡ true → IsOfOneMotion q.now }
+    requires motion { IsToldOf q.now inner.motion }
     requires columns_fit { 16 * place.column + 16 < 2 ^ 64 }
     requires rows_fit { 16 * place.row + 16 < 2 ^ 64 }
     requires room { HasRoom place.column place.row (planes_of planes.old) }
@@ -163,10 +162,13 @@ fn inner_edges<const PAD: usize>(
         ≡ edges_by_info is_vertical place.column place.row place.chroma_qp_index_offset false inner.are_filtered q.now q.now (planes_of planes.old) }
 {
     if inner.are_filtered {
-        let of_one = inner.are_of_one_motion;
-        inner_edge(planes, q, of_one, is_vertical, 1, limits, place);
-        inner_edge(planes, q, of_one, is_vertical, 2, limits, place);
-        inner_edge(planes, q, of_one, is_vertical, 3, limits, place);
+        let (beside, middle) = (
+            inner.motion.is_still_beside,
+            inner.motion.is_still_in_middle,
+        );
+        inner_edge(planes, q, beside, is_vertical, 1, limits, place);
+        inner_edge(planes, q, middle, is_vertical, 2, limits, place);
+        inner_edge(planes, q, beside, is_vertical, 3, limits, place);
     }
 }
 
@@ -183,7 +185,7 @@ fn all_vertical<const PAD: usize>(
     place: Place,
 )
     requires some { outer.is_filtered ≡ true → 1 ≤ place.column }
-    requires motion { inner.are_of_one_motion ≡ true → IsOfOneMotion q.now }
+    requires motion { IsToldOf q.now inner.motion }
     requires low { AreStrengths outer.strengths }
     requires strengths { outer.is_filtered ≡ true →
         (k : ℕ) → k < 4 → strength_along outer.strengths k ≡ strength_of p.now q.now true 0 k }
@@ -202,7 +204,7 @@ fn all_vertical<const PAD: usize>(
             p,
             q,
             &outer.strengths,
-            inner.are_of_one_motion,
+            inner.motion,
             outer_limits,
             inner_limits,
             place,
@@ -222,7 +224,7 @@ fn inner_horizontal<const PAD: usize>(
     limits: &PairLimits,
     place: Place,
 )
-    requires motion { inner.are_of_one_motion ≡ true → IsOfOneMotion q.now }
+    requires motion { IsToldOf q.now inner.motion }
     requires columns_fit { 16 * place.column + 16 < 2 ^ 64 }
     requires rows_fit { 16 * place.row + 16 < 2 ^ 64 }
     requires room { HasRoom place.column place.row (planes_of planes.old) }
@@ -274,7 +276,7 @@ pub(crate) fn macroblock<const PAD: usize>(
     let inside = &kept.inside.limits;
     let inner = InnerEdges {
         are_filtered: inner,
-        are_of_one_motion: of_one,
+        motion: mb.inner_motion(of_one),
     };
     all_vertical(
         planes,

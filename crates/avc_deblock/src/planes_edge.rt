@@ -259,7 +259,7 @@ pub(crate) fn edge_between<const PAD: usize>(
     ensures lines { planes_of planes.new
         ≡ edge_by_info is_vertical place.column place.row n place.chroma_qp_index_offset p.now q.now (planes_of planes.old) }
 {
-    let strengths = edge_strengths(p, q, is_vertical, n, false);
+    let strengths = edge_strengths(p, q, is_vertical, n, None);
     if strengths.are_zero() {
         return;
     }

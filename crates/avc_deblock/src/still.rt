@@ -1,9 +1,10 @@
 //! Strengths of an edge, by the info of its macroblocks; most are known without looking at blocks.
 
 ghost use Rattle.std.specs.Prelude.{◌≡◌, ℕ, ◌+◌, ◌%◌, ◌<◌, ◌≤◌, slice_index, slice_index_or, true};
-ghost use Rattle.std.specs.Prelude.{false, ◌/◌};
+ghost use Rattle.std.specs.Prelude.{false, ◌/◌, Bool, IfSome};
 ghost use Rattle.avc_motion.specs.Motion.{zero_vector};
-ghost use Rattle.avc_deblock.specs.FilterInfo.{edge_block, has_bit, inter_strength, HaveOneMotion, IsOfOneMotion};
+ghost use Rattle.avc_deblock.specs.FilterInfo.{edge_block, has_bit, inter_strength, HaveOneMotion, IsOfFourVectors, IsOfOneMotion};
+ghost use Rattle.avc_deblock.specs.FilterInfo.{HasByMotion};
 
 use crate::edge_strengths::edge_block;
 use crate::mb_info::MbInfo;
@@ -23,15 +24,17 @@ impl MbInfo {
         same
     }
 
-    /// Four blocks from this one on have the vector of block 0: one look at all their components.
+    /// Four blocks from this one on have the vector of block `other`: one look at all their
+    /// components.
     // each component is read where it lies, so that they are loaded together
     #[inline(always)]
-    fn four_have_first(&self, k: usize) -> bool
-        requires { k + 4 ≤ 16 }
+    fn four_have(&self, k: usize, other: usize) -> bool
+        requires four { k + 4 ≤ 16 }
+        requires other { other < 16 }
         ensures one { result ≡ true → (j : ℕ) → j < 4 →
-            slice_index_or self.now.vectors (k + j) zero_vector ≡ slice_index_or self.now.vectors 0 zero_vector }
+            slice_index_or self.now.vectors (k + j) zero_vector ≡ slice_index_or self.now.vectors other zero_vector }
         ensures found { ((j : ℕ) → j < 4 →
-            slice_index_or self.now.vectors (k + j) zero_vector ≡ slice_index_or self.now.vectors 0 zero_vector) → result ≡ true }
+            slice_index_or self.now.vectors (k + j) zero_vector ≡ slice_index_or self.now.vectors other zero_vector) → result ≡ true }
     {
         let v = &self.vectors;
         let here = i16x8::from_array([
@@ -44,10 +47,9 @@ impl MbInfo {
             v[k + 3].x,
             v[k + 3].y,
         ]);
-        let first = i16x8::from_array([
-            v[0].x, v[0].y, v[0].x, v[0].y, v[0].x, v[0].y, v[0].x, v[0].y,
-        ]);
-        here.simd_eq(first).all()
+        let (x, y) = (v[other].x, v[other].y);
+        here.simd_eq(i16x8::from_array([x, y, x, y, x, y, x, y]))
+            .all()
     }
 
     #[inline(always)]
@@ -59,7 +61,7 @@ impl MbInfo {
     {
         let mut same = true;
         for quarter in 0..4 {
-            same = both(same, self.four_have_first(4 * quarter));
+            same = both(same, self.four_have(4 * quarter, 0));
         }
         same
     }
@@ -76,6 +78,19 @@ impl MbInfo {
         both(self.has_one_picture(), self.has_one_vector())
     }
 
+    /// It is an inter macroblock in each 8x8 quarter of which the blocks have one vector.
+    #[inline(always)]
+    pub(crate) fn is_of_four_vectors(&self) -> bool
+        ensures four { result ≡ true → IsOfFourVectors self.now }
+        ensures found { IsOfFourVectors self.now → result ≡ true }
+    {
+        let mut same = !self.is_intra;
+        for quarter in 0..4 {
+            same = both(same, self.four_have(4 * quarter, 4 * quarter));
+        }
+        same
+    }
+
     /// It is an inter macroblock of one motion, as is known already, without coefficients: all
     /// strengths inside it are 0.
     #[inline(always)]
@@ -90,6 +105,20 @@ impl MbInfo {
 }
 
 impl MbInfo {
+    /// The strength of all blocks without coefficients between `p` and this macroblock, where it is
+    /// known since both are inter macroblocks of one motion; this one may be known to be.
+    #[inline(always)]
+    pub(crate) fn strength_by_motion(&self, p: &MbInfo, is_of_one_motion: bool) -> Option<u8>
+        requires motion { is_of_one_motion ≡ true → IsOfOneMotion self.now }
+        ensures { IfSome result (λ s. (v : Bool) (n : ℕ) → n < 4 → HasByMotion p.now self.now v n s) }
+    {
+        if is_of_one_motion && p.is_of_one_motion() {
+            Some(p.motion_strength(0, self, 0))
+        } else {
+            None
+        }
+    }
+
     /// The blocks have one picture and one vector.
     #[inline(always)]
     fn moves_as(&self, block: usize, q: &MbInfo, q_block: usize) -> bool

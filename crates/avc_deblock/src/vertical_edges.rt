@@ -5,11 +5,12 @@ ghost use Rattle.std.specs.Prelude.{◌≡◌, ℕ, ◌+◌, ◌*◌, ◌^◌, �
 ghost use Rattle.avc_plane.specs.Frames.{planes_of};
 ghost use Rattle.avc_edges.specs.OneEdge.{AreLimits, AreStrengths, edge_filtered, luma_setting, strength_along};
 ghost use Rattle.avc_deblock.specs.OneEdge.{chroma_of_edge, luma_of_edge, HasRoom};
-ghost use Rattle.avc_deblock.specs.FilterInfo.{IsOfOneMotion};
+ghost use Rattle.avc_deblock.specs.FilterInfo.{IsToldOf};
 ghost use Rattle.avc_deblock.specs.MbLimits.{ArePairLimits};
 ghost use Rattle.avc_deblock.specs.ByInfo.{edges_by_info, luma_qp_of, chroma_qp_of, strength_of};
 
-use crate::edge_strengths::edge_strengths;
+use crate::edge_strengths::inner_strengths;
+use crate::inner_motion::InnerMotion;
 use crate::mb_info::MbInfo;
 use crate::planes_edge::{PairLimits, Place, vertical_chroma_of};
 use avc_edges::{
@@ -57,12 +58,12 @@ fn luma_between<const PAD: usize>(
 fn inner_luma<const PAD: usize>(
     luma: &mut Plane<PAD>,
     q: &MbInfo,
-    is_of_one_motion: bool,
+    motion: InnerMotion,
     middle: &Strengths,
     limits: &QpLimits,
     place: Place,
 )
-    requires motion { is_of_one_motion ≡ true → IsOfOneMotion q.now }
+    requires motion { IsToldOf q.now motion }
     requires columns_fit { 16 * place.column + 16 < 2 ^ 64 }
     requires rows_fit { 16 * place.row + 16 < 2 ^ 64 }
     requires columns { 16 * place.column + 16 ≤ luma.old.width }
@@ -79,10 +80,10 @@ fn inner_luma<const PAD: usize>(
         three_vertical_luma(luma, left, 16 * place.row, &[3; 4], limits);
         return;
     }
-    let second = edge_strengths(q, q, true, 1, is_of_one_motion);
+    let second = inner_strengths(q, true, 1, motion.is_still_beside);
     luma_between(luma, q, q, 1, &second, limits, place);
     luma_between(luma, q, q, 2, middle, limits, place);
-    let last = edge_strengths(q, q, true, 3, is_of_one_motion);
+    let last = inner_strengths(q, true, 3, motion.is_still_beside);
     luma_between(luma, q, q, 3, &last, limits, place);
 }
 
@@ -170,14 +171,14 @@ fn chroma_edges<const PAD: usize>(
 }
 
 /// Filters all four vertical edges of macroblock `q`; `p` lies left of it, with these strengths
-/// between both. `q` may be known to be an inter macroblock of one motion.
+/// between both.
 #[inline(always)]
 pub(crate) fn vertical_edges<const PAD: usize>(
     planes: &mut Planes<PAD>,
     p: &MbInfo,
     q: &MbInfo,
     outer: &Strengths,
-    is_of_one_motion: bool,
+    motion: InnerMotion,
     outer_limits: &PairLimits,
     inner_limits: &PairLimits,
     place: Place,
@@ -185,7 +186,7 @@ pub(crate) fn vertical_edges<const PAD: usize>(
     requires some { 1 ≤ place.column }
     requires outer_low { AreStrengths outer.now }
     requires outer_value { (k : ℕ) → k < 4 → strength_along outer.now k ≡ strength_of p.now q.now true 0 k }
-    requires motion { is_of_one_motion ≡ true → IsOfOneMotion q.now }
+    requires motion { IsToldOf q.now motion }
     requires columns_fit { 16 * place.column + 16 < 2 ^ 64 }
     requires rows_fit { 16 * place.row + 16 < 2 ^ 64 }
     requires room { HasRoom place.column place.row (planes_of planes.old) }
@@ -195,12 +196,12 @@ pub(crate) fn vertical_edges<const PAD: usize>(
     ensures lines { planes_of planes.new ≡ edges_by_info true place.column place.row place.chroma_qp_index_offset false true q.now q.now
         (edges_by_info true place.column place.row place.chroma_qp_index_offset true false p.now q.now (planes_of planes.old)) }
 {
-    let middle = edge_strengths(q, q, true, 2, is_of_one_motion);
+    let middle = inner_strengths(q, true, 2, motion.is_still_in_middle);
     luma_between(&mut planes.luma, p, q, 0, outer, &outer_limits.luma, place);
     inner_luma(
         &mut planes.luma,
         q,
-        is_of_one_motion,
+        motion,
         &middle,
         &inner_limits.luma,
         place,

@@ -530,6 +530,54 @@ pub same_motion : (p q : MbInfo) → IsOfOneMotion p → IsOfOneMotion q → (j 
 same_motion p q one other j k j_low k_low =
     rw (one.pictures_are (j / 4) (omega arith), other.pictures_are (k / 4) (omega arith), one.vectors_are j j_low, other.vectors_are k k_low) refl
 
+-- between such macroblocks one comparison tells what all strengths by motion are
+pub by_motion_of : (p q : MbInfo) → IsOfOneMotion p → IsOfOneMotion q → (s : ℕ) → s ≡ motion_strength p 0 q 0 → s < 3 → (v : Bool) (n : ℕ) → n < 4 → HasByMotion p q v n s
+by_motion_of p q one other s is low v n n_low = record {
+  p_inter = one.inter;
+  q_inter = other.inter;
+  low = low;
+  each = λ k k_low. same_motion p q one other _ _ (low_block v ((n + 3) % 4) k (omega arith) k_low) (low_block v n k n_low k_low) ∙ sym is;
+}
+
+pub known_at : (p q : MbInfo) (v : Bool) (n : ℕ) → n < 4 → (by_motion : Option ℕ) → IfSome by_motion (λ s. (v : Bool) (n : ℕ) → n < 4 → HasByMotion p q v n s) →
+    IfSome by_motion (HasByMotion p q v n)
+known_at p q v n low None h = h
+known_at p q v n low (Some s) h = h v n low
+
+still_motion : (f : MbInfo) (j k : ℕ) → j / 4 ≡ k / 4 → slice_index_or f.vectors j zero_vector ≡ slice_index_or f.vectors k zero_vector → motion_strength f j f k ≡ 0
+still_motion f j k picture vector = rw (picture, vector, one_picture (slice_index f.pictures (k / 4)), not_far (slice_index_or f.vectors k zero_vector)) refl
+
+pub still_of_one : (f : MbInfo) → IsOfOneMotion f → (v : Bool) (n : ℕ) → n < 4 → IsStillAt f v n
+still_of_one f one v n low = by_motion_of f f one one 0 (sym (still_motion f 0 0 refl refl)) (omega arith) v n low
+
+-- the blocks on both sides of an edge inside a quarter lie in that quarter
+quarter_first : (v : Bool) (k : ℕ) → k < 4 → edge_block v 0 k / 4 ≡ edge_block v 1 k / 4
+quarter_first true k low = omega arith
+quarter_first false k low = omega arith
+
+quarter_last : (v : Bool) (k : ℕ) → k < 4 → edge_block v 2 k / 4 ≡ edge_block v 3 k / 4
+quarter_last true k low = omega arith
+quarter_last false k low = omega arith
+
+still_in_quarter : (f : MbInfo) → IsOfFourVectors f → (j k : ℕ) → j < 16 → k < 16 → j / 4 ≡ k / 4 → motion_strength f j f k ≡ 0
+still_in_quarter f four j k j_low k_low same =
+    still_motion f j k same
+    (four.vectors_are j j_low ∙ ap (λ (quarter : ℕ). slice_index_or f.vectors (4 * quarter) zero_vector) same ∙ sym (four.vectors_are k k_low))
+
+still_beside : (f : MbInfo) → IsOfFourVectors f → (v : Bool) (n : ℕ) → n < 4 → ((k : ℕ) → k < 4 → edge_block v ((n + 3) % 4) k / 4 ≡ edge_block v n k / 4) → IsStillAt f v n
+still_beside f four v n low same = record {
+  p_inter = four.inter;
+  q_inter = four.inter;
+  low = omega arith;
+  each = λ k k_low. still_in_quarter f four _ _ (low_block v ((n + 3) % 4) k (omega arith) k_low) (low_block v n k low k_low) (same k k_low);
+}
+
+pub still_first : (f : MbInfo) → IsOfFourVectors f → (v : Bool) → IsStillAt f v 1
+still_first f four v = still_beside f four v 1 (omega arith) (quarter_first v)
+
+pub still_last : (f : MbInfo) → IsOfFourVectors f → (v : Bool) → IsStillAt f v 3
+still_last f four v = still_beside f four v 3 (omega arith) (quarter_last v)
+
 pub without_levels : (p q : MbInfo) (j k : ℕ) → has_bit p.coefficients j ≡ false → has_bit q.coefficients k ≡ false → inter_strength p j q k ≡ motion_strength p j q k
 without_levels p q j k e f = rw (e, f) refl
 

@@ -13,7 +13,7 @@ pub use Rattle.std.proofs.lemmas.Int.{to_z-of_z}
 pub use Rattle.std.proofs.lemmas.List.{get_or_default}
 pub use Rattle.std.proofs.lemmas.Nat.{mul-add-lt, div-mul-add, mod-mul-add}
 pub use Rattle.std.specs.List.{range_with_len, flat_map}
-pub use Rattle.std.specs.Prelude.{◌||◌, nat_le, not, Some}
+pub use Rattle.std.specs.Prelude.{◌||◌, nat_le, not, Option, None, Some, IfSome}
 pub use Rattle.avc_motion.specs.Motion.{zero_vector, is_intra}
 pub use Rattle.avc_neigh.specs.Blocks.{block_at}
 pub use Rattle.avc_neigh.specs.declared.neighbour_info.Motion.{Motion}
@@ -32,7 +32,7 @@ pub use Rattle.avc_deblock.specs.Edges.{LineFilter, in_component, step_filtered,
 pub use Rattle.avc_deblock.specs.Edges.{edges_below, vertical_lines, horizontal_lines, component_lines, mb_at, mb_lines, picture_named, moves_differently}
 unfoldable pub use Rattle.avc_deblock.specs.Edges.{row_lines}
 pub use Rattle.avc_deblock.specs.FilterInfo.{edge_block, p_address, IsAt, Names, HasInfo, HaveInfo, filters_at, filters_between, are_far, inter_strength}
-pub use Rattle.avc_deblock.specs.FilterInfo.{has_bit, HasMotion, HaveOneMotion, IsOfOneMotion, motion_strength}
+pub use Rattle.avc_deblock.specs.FilterInfo.{has_bit, HasMotion, HaveOneMotion, IsOfOneMotion, IsOfFourVectors, HasByMotion, IsStillAt, motion_strength}
 pub use Rattle.avc_edges.specs.Line.{Setting, setting_of}
 pub use Rattle.avc_deblock.specs.Locality.{AgreesAbove, ChangesWithin, AgreesToRow, ChangesInRow, HasRow}
 pub use Rattle.avc_edges.specs.OneEdge.{strength_along, lines_filtered, chroma_setting, luma_setting}

@@ -24,7 +24,7 @@ pub inner_horizontal-requires : goal.inner_horizontal-requires
 inner_horizontal-requires g c =
     let before = c.all_vertical.ensures.room c.args.place.column c.args.place.row c.requires.room in
     let room = c.outer_edge.ensures.room c.args.place.column c.args.place.row before in
-    (omega arith, (c.is_of_one_motion-of_one.ensures.one, (c.requires.columns_fit, (c.requires.rows_fit, (room, c.fit.ensures.inside)))))
+    (omega arith, (c.inner_motion.ensures, (c.requires.columns_fit, (c.requires.rows_fit, (room, c.fit.ensures.inside)))))
 
 pub returns-clause-room : goal.returns-clause-room
 returns-clause-room g c column row h =

@@ -13,3 +13,9 @@ returns g c =
     let next : ℕ → Plane → Plane =
     λ (n : ℕ) (s : Plane). edge_filtered (luma_setting (strength_of q q true n) (luma_qp_of q q)) true (16 * c.args.place.column + 4 * n) (16 * c.args.place.row) 16 s in
     c.luma_between-3.ensures.lines ∙ ap (next 3) (c.luma_between-2.ensures.lines ∙ ap (next 2) c.luma_between.ensures.lines)
+
+pub inner_strengths-second-requires-clause-still : goal.inner_strengths-second-requires-clause-still
+inner_strengths-second-requires-clause-still g c t = c.requires.motion.first t true
+
+pub inner_strengths-last-requires-clause-still : goal.inner_strengths-last-requires-clause-still
+inner_strengths-last-requires-clause-still g c t = c.requires.motion.last t true

@@ -1,5 +1,5 @@
 use Rattle.avc_deblock.proofs.FilteredPictures.{◌≡◌, ◌<◌, ◌+◌, ◌%◌, ℕ, length, slice_index, edge_block, inter_strength}
-use Rattle.avc_deblock.proofs.edge_strengths.uniform_strengths.Given as goal
+use Rattle.avc_deblock.proofs.edge_strengths.strengths_over.Given as goal
 
 abbrev pub invariant-loop-k : goal.invariant-loop-k
 invariant-loop-k l = record {

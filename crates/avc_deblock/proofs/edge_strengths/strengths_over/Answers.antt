@@ -1,7 +1,7 @@
 use Rattle.std.proofs.Common.{length-set}
-use Rattle.avc_deblock.proofs.FilteredPictures.{◌≡◌, ◌<◌, ◌+◌, ◌%◌, ◌∙◌, ◌||◌, if◌then◌else◌, ap, sym, ℕ, arith, edge_block, inter_strength, motion_strength, has_bit}
-use Rattle.avc_deblock.proofs.FilteredPictures.{stored_below, same_motion, low_block, fours, without_levels}
-use Rattle.avc_deblock.proofs.edge_strengths.uniform_strengths.Goals as goal
+use Rattle.avc_deblock.proofs.FilteredPictures.{◌≡◌, ◌<◌, ◌+◌, ◌%◌, ◌∙◌, ◌||◌, if◌then◌else◌, ap, sym, ℕ, arith, edge_block, inter_strength, has_bit}
+use Rattle.avc_deblock.proofs.FilteredPictures.{stored_below, fours, without_levels}
+use Rattle.avc_deblock.proofs.edge_strengths.strengths_over.Goals as goal
 
 pub loop-k-preserved : goal.loop-k-preserved
 loop-k-preserved c =
@@ -13,7 +13,7 @@ loop-k-preserved c =
     let old = c.loop-k.invariant in
     let pb = edge_block v ((n + 3) % 4) k in
     let qb = edge_block v n k in
-    let motion = c.motion_strength-by_motion.ensures.value ∙ sym (same_motion p q c.requires.p c.requires.q pb qb (low_block v ((n + 3) % 4) k (omega arith) c.loop-k-test.true) (low_block v n k c.requires.edge c.loop-k-test.true)) in
+    let motion = sym (c.requires.motion.each k c.loop-k-test.true) in
     let here = rw (c.edge_block.ensures.value, c.edge_block-in-loop-k.ensures.value) at c.strength_over.ensures.value in
     record {
       long = length-set _ _ _ ∙ old.long;
@@ -30,10 +30,9 @@ returns-then-not-has_coefficients_beside-clause-value c k low =
     let qb = edge_block c.args.is_vertical c.args.n k in
     let levels = c.has_coefficients_beside.ensures.none c.if-not-has_coefficients_beside.true k low in
     fours _ k low
-    ∙ c.motion_strength-by_motion.ensures.value
-    ∙ sym (same_motion p q c.requires.p c.requires.q pb qb (low_block c.args.is_vertical ((c.args.n + 3) % 4) k (omega arith) low) (low_block c.args.is_vertical c.args.n k c.requires.edge low))
+    ∙ sym (c.requires.motion.each k low)
     ∙ sym (without_levels p q pb qb levels.0 levels.1)
 
 pub returns-then-not-has_coefficients_beside-clause-low : goal.returns-then-not-has_coefficients_beside-clause-low
 returns-then-not-has_coefficients_beside-clause-low c k low =
-    let same = fours c.motion_strength-by_motion.result k low in omega (arith, same, c.motion_strength-by_motion.ensures.low)
+    let same = fours c.args.by_motion k low in omega (arith, same, c.requires.motion.low)

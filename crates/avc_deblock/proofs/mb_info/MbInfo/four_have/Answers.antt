@@ -3,7 +3,7 @@ use Rattle.std.proofs.lemmas.Bool.{eq-eqb}
 use Rattle.avc_motion.specs.Motion.{zero_vector}
 use Rattle.avc_types.specs.declared.vector.Mv.{Mv}
 use Rattle.avc_deblock.proofs.ComparedLanes.{lanes_same}
-use Rattle.avc_deblock.proofs.mb_info.MbInfo.four_have_first.Goals as goal
+use Rattle.avc_deblock.proofs.mb_info.MbInfo.four_have.Goals as goal
 
 same : (z u : ℤ) → to_z w16 (of_z w16 z) ≡ z → to_z w16 (of_z w16 u) ≡ u → of_z w16 z ≡ of_z w16 u → z ≡ u
 same z u z_is u_is is = sym z_is ∙ ap (to_z w16) is ∙ u_is
@@ -12,7 +12,7 @@ pub returns-clause-one : goal.returns-clause-one
 returns-clause-one c all =
     let k = c.args.k in
     let block : ℕ → Mv = λ j. slice_index_or c.args.self.now.vectors j zero_vector in
-    let v = block 0 in
+    let v = block c.args.other in
     let bits = of_z w16 in
     let here : List ℕ = bits (block k).x ∷ bits (block k).y ∷ bits (block (k + 1)).x ∷ bits (block (k + 1)).y ∷ bits (block (k + 2)).x ∷ bits (block (k + 2)).y ∷ bits (block (k + 3)).x ∷ bits (block (k + 3)).y ∷ [] in
     let there : List ℕ = bits v.x ∷ bits v.y ∷ bits v.x ∷ bits v.y ∷ bits v.x ∷ bits v.y ∷ bits v.x ∷ bits v.y ∷ [] in
@@ -39,7 +39,7 @@ returns-clause-one c all =
 
 pub returns-clause-found : goal.returns-clause-found
 returns-clause-found c all =
-    let v = slice_index_or c.args.self.now.vectors 0 zero_vector in
+    let v = slice_index_or c.args.self.now.vectors c.args.other zero_vector in
     let start : c.args.k ≡ c.args.k + 0 = omega arith in
     let first = ap (λ i. slice_index_or c.args.self.now.vectors i zero_vector) start ∙ all 0 (omega arith) in
     rw (first, all 1 (omega arith), all 2 (omega arith), all 3 (omega arith), eq-eqb (of_z w16 v.x) _ refl, eq-eqb (of_z w16 v.y) _ refl) refl
