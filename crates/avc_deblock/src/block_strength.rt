@@ -37,6 +37,15 @@ impl MbInfo {
         (self.coefficients >> block) % 2 == 1
     }
 
+    /// The bit of this block alone, in its place.
+    #[inline(always)]
+    fn coefficient_bit(&self, block: usize) -> u16
+        requires { block < 16 }
+        ensures { (result == 0) ≡ not (has_bit self.now.coefficients block) }
+    {
+        self.coefficients & (1 << block)
+    }
+
     /// The strength between two blocks of inter macroblocks that have no coefficients.
     #[inline(always)]
     pub(crate) fn motion_strength(&self, block: usize, q: &MbInfo, q_block: usize) -> u8
@@ -67,9 +76,9 @@ impl MbInfo {
         ensures value { result ≡ (if has_bit self.now.coefficients block || has_bit q.now.coefficients q_block then 2 else by_motion) }
         ensures low { result < 3 }
     {
-        // not one after the other: none of them can be foreseen
-        let has_levels = either(self.has_coefficients(block), q.has_coefficients(q_block));
-        if has_levels { 2 } else { by_motion }
+        // bits that stay in their places: so those of four blocks are looked at together
+        let bits = self.coefficient_bit(block) | q.coefficient_bit(q_block);
+        if bits == 0 { by_motion } else { 2 }
     }
 
     /// The strength between two blocks of inter macroblocks.

@@ -70,7 +70,7 @@ impl MbInfo {
         ensures strengths { result.is_filtered ≡ true →
             (k : ℕ) → k < 4 → strength_along result.strengths k ≡ strength_of other.now self.now is_vertical 0 k }
     {
-        if !both(exists, self.filters_edge_to(other)) {
+        if !both(exists, self.filters_edge_to(other)) || other.meets_quietly(self, is_vertical) {
             return OuterEdge {
                 is_filtered: false,
                 strengths: Strengths::BelowFour([0; 4]),
@@ -233,7 +233,10 @@ fn inner_horizontal<const PAD: usize>(
     ensures lines { planes_of planes.new
         ≡ edges_by_info false place.column place.row place.chroma_qp_index_offset false inner.are_filtered q.now q.now (planes_of planes.old) }
 {
-    if both(inner.are_filtered, q.is_intra) {
+    if !inner.are_filtered {
+        return;
+    }
+    if q.is_intra {
         inner_intra_edges(planes, q, limits, place);
     } else {
         inner_edges(planes, q, false, inner, limits, place);

@@ -1,15 +1,40 @@
 //! Strengths of an edge, by the info of its macroblocks; most are known without looking at blocks.
 
 ghost use Rattle.std.specs.Prelude.{◌≡◌, ℕ, ◌+◌, ◌%◌, ◌<◌, ◌≤◌, slice_index, slice_index_or, true};
-ghost use Rattle.std.specs.Prelude.{false, ◌/◌, Bool, IfSome};
-ghost use Rattle.avc_motion.specs.Motion.{zero_vector};
+ghost use Rattle.std.specs.Prelude.{false, ◌/◌, ◌*◌, pos, Bool, IfSome};
+ghost use Rattle.avc_motion.specs.Motion.{is_in_range, zero_vector};
+ghost use Rattle.avc_neigh.specs.declared.neighbour_info.Motion.TheVariants.{Inter as inter};
 ghost use Rattle.avc_deblock.specs.FilterInfo.{edge_block, has_bit, inter_strength, HaveOneMotion, IsOfFourVectors, IsOfOneMotion};
 ghost use Rattle.avc_deblock.specs.FilterInfo.{HasByMotion};
+ghost use Rattle.avc_deblock.specs.ByInfo.{strength_of};
 
 use crate::edge_strengths::edge_block;
 use crate::mb_info::MbInfo;
 use avc_edges::{all_three, both, either};
+use avc_types::Mv;
 use std::simd::prelude::*;
+
+/// The luma blocks in their order.
+const IN_ORDER: [usize; 16] = [0, 1, 2, 3, 4, 5, 6, 7, 8, 9, 10, 11, 12, 13, 14, 15];
+
+/// The components of the vectors of these blocks, one vector behind the other.
+// each component is read where it lies, so that they are loaded together
+#[inline(always)]
+fn components(vectors: &[Mv; 16], blocks: [usize; 16]) -> [i16; 32]
+    requires { (k : ℕ) → k < 16 → slice_index blocks k < 16 }
+    ensures x { (k : ℕ) → k < 16 →
+        slice_index_or result (2 * k) (pos 0) ≡ (slice_index_or vectors.now (slice_index blocks k) zero_vector).x }
+    ensures y { (k : ℕ) → k < 16 →
+        slice_index_or result (2 * k + 1) (pos 0) ≡ (slice_index_or vectors.now (slice_index blocks k) zero_vector).y }
+    ensures small { (k : ℕ) → k < 16 → is_in_range (inter 0 (slice_index_or vectors.now (slice_index blocks k) zero_vector)) ≡ true }
+{
+    let mut out = [0; 32];
+    for k in 0..16 {
+        out[2 * k] = vectors[blocks[k]].x;
+        out[2 * k + 1] = vectors[blocks[k]].y;
+    }
+    out
+}
 
 impl MbInfo {
     #[inline(always)]
@@ -17,39 +42,23 @@ impl MbInfo {
         ensures one { result ≡ true → (k : ℕ) → k < 4 → slice_index self.now.pictures k ≡ slice_index self.now.pictures 0 }
         ensures found { ((k : ℕ) → k < 4 → slice_index self.now.pictures k ≡ slice_index self.now.pictures 0) → result ≡ true }
     {
-        let mut same = true;
-        for k in 0..4 {
-            same = both(same, self.pictures[k] == self.pictures[0]);
-        }
-        same
+        // all four at once
+        u32::from_le_bytes(self.pictures) == u32::from_le_bytes([self.pictures[0]; 4])
     }
 
-    /// Four blocks from this one on have the vector of block `other`: one look at all their
+    /// Each block has the vector of the block that stands in its place here: one look at all their
     /// components.
-    // each component is read where it lies, so that they are loaded together
     #[inline(always)]
-    fn four_have(&self, k: usize, other: usize) -> bool
-        requires four { k + 4 ≤ 16 }
-        requires other { other < 16 }
-        ensures one { result ≡ true → (j : ℕ) → j < 4 →
-            slice_index_or self.now.vectors (k + j) zero_vector ≡ slice_index_or self.now.vectors other zero_vector }
-        ensures found { ((j : ℕ) → j < 4 →
-            slice_index_or self.now.vectors (k + j) zero_vector ≡ slice_index_or self.now.vectors other zero_vector) → result ≡ true }
+    fn has_vectors_of(&self, blocks: [usize; 16]) -> bool
+        requires { (k : ℕ) → k < 16 → slice_index blocks k < 16 }
+        ensures one { result ≡ true → (k : ℕ) → k < 16 →
+            slice_index_or self.now.vectors k zero_vector ≡ slice_index_or self.now.vectors (slice_index blocks k) zero_vector }
+        ensures found { ((k : ℕ) → k < 16 →
+            slice_index_or self.now.vectors k zero_vector ≡ slice_index_or self.now.vectors (slice_index blocks k) zero_vector) → result ≡ true }
     {
-        let v = &self.vectors;
-        let here = i16x8::from_array([
-            v[k].x,
-            v[k].y,
-            v[k + 1].x,
-            v[k + 1].y,
-            v[k + 2].x,
-            v[k + 2].y,
-            v[k + 3].x,
-            v[k + 3].y,
-        ]);
-        let (x, y) = (v[other].x, v[other].y);
-        here.simd_eq(i16x8::from_array([x, y, x, y, x, y, x, y]))
-            .all()
+        let here = i16x32::from_array(components(&self.vectors, IN_ORDER));
+        let there = i16x32::from_array(components(&self.vectors, blocks));
+        here.simd_eq(there).all()
     }
 
     #[inline(always)]
@@ -59,11 +68,8 @@ impl MbInfo {
         ensures found { ((k : ℕ) → k < 16 →
             slice_index_or self.now.vectors k zero_vector ≡ slice_index_or self.now.vectors 0 zero_vector) → result ≡ true }
     {
-        let mut same = true;
-        for quarter in 0..4 {
-            same = both(same, self.four_have(4 * quarter, 0));
-        }
-        same
+        // the first four in a ring, and the others beside them: so each four are loaded together
+        self.has_vectors_of([1, 2, 3, 0, 0, 1, 2, 3, 0, 1, 2, 3, 0, 1, 2, 3])
     }
 
     /// It is an inter macroblock whose blocks have one picture and one vector.
@@ -84,11 +90,11 @@ impl MbInfo {
         ensures four { result ≡ true → IsOfFourVectors self.now }
         ensures found { IsOfFourVectors self.now → result ≡ true }
     {
-        let mut same = !self.is_intra;
-        for quarter in 0..4 {
-            same = both(same, self.four_have(4 * quarter, 4 * quarter));
+        if self.is_intra {
+            return false;
         }
-        same
+        // each four in a ring
+        self.has_vectors_of([1, 2, 3, 0, 5, 6, 7, 4, 9, 10, 11, 8, 13, 14, 15, 12])
     }
 
     /// It is an inter macroblock of one motion, as is known already, without coefficients: all
@@ -177,5 +183,19 @@ impl MbInfo {
             on_q = either(on_q, q.has_coefficients(edge_block(is_vertical, n, k)));
         }
         either(on_p, on_q)
+    }
+
+    /// The strengths along the edge from `self` to `q`, which is another macroblock without
+    /// coefficients, are 0, as one look tells.
+    #[inline(always)]
+    pub(crate) fn meets_quietly(&self, q: &MbInfo, is_vertical: bool) -> bool
+        ensures strengths { result ≡ true → (k : ℕ) → k < 4 → strength_of self.now q.now is_vertical 0 k ≡ 0 }
+        ensures found { self.now.is_intra ≡ false → q.now.is_intra ≡ false → q.now.coefficients ≡ 0 →
+            ((k : ℕ) → k < 4 → HaveOneMotion self.now (edge_block is_vertical 3 k) q.now (edge_block is_vertical 0 k)) → result ≡ true }
+    {
+        if self.is_intra | q.is_intra | (q.coefficients != 0) {
+            return false;
+        }
+        self.is_quiet(q, is_vertical, 0)
     }
 }

@@ -502,6 +502,9 @@ both_false a b e = grind (arith, nat_tests)
 pub low_block : (v : Bool) (n k : ℕ) → n < 4 → k < 4 → edge_block v n k < 16
 low_block v n k n_low k_low = grind (arith, nat_tests)
 
+pub in_order : (k : ℕ) → k < 16 → slice_index (0 ∷ 1 ∷ 2 ∷ 3 ∷ 4 ∷ 5 ∷ 6 ∷ 7 ∷ 8 ∷ 9 ∷ 10 ∷ 11 ∷ 12 ∷ 13 ∷ 14 ∷ 15 ∷ []) k ≡ k
+in_order = same_below 16 (slice_index (0 ∷ 1 ∷ 2 ∷ 3 ∷ 4 ∷ 5 ∷ 6 ∷ 7 ∷ 8 ∷ 9 ∷ 10 ∷ 11 ∷ 12 ∷ 13 ∷ 14 ∷ 15 ∷ [])) (λ (k : ℕ). k) refl
+
 -- ---- where all blocks of a macroblock have one motion and none has coefficients, all strengths inside it are 0
 
 no_bit : (k : ℕ) → has_bit 0 k ≡ false
