@@ -143,11 +143,11 @@ fn inner_edge<const PAD: usize>(
     edge_at(planes, q, q, is_vertical, n, &strengths, limits, place);
 }
 
+/// Filters the vertical edges inside macroblock `q`.
 #[inline(always)]
-fn inner_edges<const PAD: usize>(
+fn inner_vertical<const PAD: usize>(
     planes: &mut Planes<PAD>,
     q: &MbInfo,
-    is_vertical: bool,
     inner: InnerEdges,
     limits: &PairLimits,
     place: Place,
@@ -159,16 +159,16 @@ fn inner_edges<const PAD: usize>(
     requires limits { ArePairLimits limits.now place.chroma_qp_index_offset q.now q.now }
     ensures room { (column row : ℕ) → HasRoom column row (planes_of planes.old) → HasRoom column row (planes_of planes.new) }
     ensures lines { planes_of planes.new
-        ≡ edges_by_info is_vertical place.column place.row place.chroma_qp_index_offset false inner.are_filtered q.now q.now (planes_of planes.old) }
+        ≡ edges_by_info true place.column place.row place.chroma_qp_index_offset false inner.are_filtered q.now q.now (planes_of planes.old) }
 {
     if inner.are_filtered {
         let (beside, middle) = (
             inner.motion.is_still_beside,
             inner.motion.is_still_in_middle,
         );
-        inner_edge(planes, q, beside, is_vertical, 1, limits, place);
-        inner_edge(planes, q, middle, is_vertical, 2, limits, place);
-        inner_edge(planes, q, beside, is_vertical, 3, limits, place);
+        inner_edge(planes, q, beside, true, 1, limits, place);
+        inner_edge(planes, q, middle, true, 2, limits, place);
+        inner_edge(planes, q, beside, true, 3, limits, place);
     }
 }
 
@@ -211,7 +211,7 @@ fn all_vertical<const PAD: usize>(
         );
     } else {
         outer_edge(planes, p, q, true, outer, outer_limits, place);
-        inner_edges(planes, q, true, inner, inner_limits, place);
+        inner_vertical(planes, q, inner, inner_limits, place);
     }
 }
 
@@ -239,7 +239,13 @@ fn inner_horizontal<const PAD: usize>(
     if q.is_intra {
         inner_intra_edges(planes, q, limits, place);
     } else {
-        inner_edges(planes, q, false, inner, limits, place);
+        let (beside, middle) = (
+            inner.motion.is_still_beside,
+            inner.motion.is_still_in_middle,
+        );
+        inner_edge(planes, q, beside, false, 1, limits, place);
+        inner_edge(planes, q, middle, false, 2, limits, place);
+        inner_edge(planes, q, beside, false, 3, limits, place);
     }
 }
 
