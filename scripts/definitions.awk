@@ -212,6 +212,15 @@ in_type {
     owner = line
     is_trait = 0
 }
+# what a type or trait says goes on until its braces are closed
+/^[ \t]*ghost / {
+    line = $0
+    open = gsub(/\{/, "", line) - gsub(/\}/, "", line)
+    while (open > 0 && (getline line) > 0) {
+        $0 = $0 " " trimmed(line)
+        open += gsub(/\{/, "", line) - gsub(/\}/, "", line)
+    }
+}
 # what a public type stands for
 /^[ \t]*ghost (Value|view) = / && is_model {
     model_text[crate, owner] = model_text[crate, owner] "\n" $0

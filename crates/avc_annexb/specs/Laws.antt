@@ -1,5 +1,6 @@
 -- What more bytes do to the units, and which units a stream has that is written of units.
-use Rattle.std.specs.Prelude.{◌≡◌, ℕ, ◌+◌, ◌-◌, ◌^◌, ◌<◌, ◌≤◌, List, ◌++◌, length, map, drop, flat_map, slice_get, All}
+use Rattle.std.specs.Prelude.{◌≡◌, ℕ, ◌+◌, ◌-◌, ◌^◌, ◌<◌, ◌≤◌, List, ◌++◌, length, map, drop}
+use Rattle.std.specs.Prelude.{flat_map, slice_get, All}
 use Rattle.std.specs.Prelude.{Bool, true, false, nat_le, IsTrue, Option, Some, None, is_some}
 use Rattle.avc_annexb.specs.declared.unit.Unit.{Unit}
 use Rattle.avc_annexb.specs.Units.{saturated, units}
@@ -8,7 +9,8 @@ use Rattle.avc_annexb.specs.Written.{start_code, written}
 -- The units whose end has been seen stay the first ones, whatever follows them, and whether the
 -- stream ends or not.
 abbrev pub UnitsStay : Type 0
-UnitsStay = (max : ℕ) (bytes more : List ℕ) (ended : Bool) → (others : List Unit) × (units max (bytes ++ more) ended ≡ units max bytes false ++ others)
+UnitsStay = (max : ℕ) (bytes more : List ℕ) (ended : Bool) → (others : List Unit) ×
+    (units max (bytes ++ more) ended ≡ units max bytes false ++ others)
 
 -- what a unit says: its first byte, and the others unless it is too long
 abbrev pub contents : Unit → ℕ × Option (List ℕ)
@@ -29,13 +31,18 @@ WrittenUnitsStand =
     All (IsUnitOf max bytes) written_units →
     slice_get (units max bytes ended) k ≡ Some u →
     u.offset < 2 ^ 64 - 1 →
-    map contents (units max (flat_map written written_units ++ start_code ++ drop u.offset bytes) ended)
+    map contents (units max (flat_map written written_units ++ start_code ++ drop u.offset bytes)
+    ended)
     ≡ map contents written_units ++ map contents (drop k (units max bytes ended))
 
 -- a body, where the unit has so many bytes at most, the first one counted
 abbrev pub body_within : (max : ℕ) → Option (List ℕ) → Option (List ℕ)
 body_within max None = None
-body_within max (Some body) = elim (nat_le (1 + length body) max) [ true ↦ Some body | false ↦ None ]
+body_within max (Some body) =
+    elim (nat_le (1 + length body) max) [
+      | true ↦ Some body
+      | false ↦ None
+    ]
 
 -- what a unit says where a unit has so many bytes at most
 abbrev pub contents_within : (max : ℕ) → Unit → ℕ × Option (List ℕ)
@@ -50,7 +57,8 @@ abbrev pub WrittenUnitsStandAlone : Type 0
 WrittenUnitsStandAlone =
     (limit max : ℕ) (bytes : List ℕ) (written_units : List Unit) →
     All (IsUnitOf limit bytes) written_units →
-    map contents (units max (flat_map written written_units) true) ≡ map (contents_within max) written_units
+    map contents (units max (flat_map written written_units) true)
+    ≡ map (contents_within max) written_units
 
 -- The same bytes have the same units, whatever the most bytes of one are, but for the bodies of
 -- longer ones.
@@ -79,4 +87,5 @@ UnitsAreNumbered =
 
 -- A stream has no more units than bytes.
 abbrev pub UnitsAreFew : Type 0
-UnitsAreFew = (max : ℕ) (bytes : List ℕ) (ended : Bool) → length (units max bytes ended) ≤ length bytes
+UnitsAreFew =
+    (max : ℕ) (bytes : List ℕ) (ended : Bool) → length (units max bytes ended) ≤ length bytes

@@ -1,7 +1,11 @@
--- How a splitter goes through a stream: these words are the crate's own, and callers need none of them.
-use Rattle.std.specs.Prelude.{◌≡◌, ◌≢◌, ℕ, ◌+◌, ◌-◌, ◌<◌, ◌≤◌, List, [], ◌++◌, length, take, drop, slice_index, replicate, Bool, true, false, nat_le, if◌then◌else◌, Option, Some, None}
+-- How a splitter goes through a stream: these words are the crate's own, and callers need none of
+-- them.
+use Rattle.std.specs.Prelude.{◌≡◌, ◌≢◌, ℕ, ◌+◌, ◌-◌, ◌<◌, ◌≤◌, List, [], ◌++◌, length, take, drop}
+use Rattle.std.specs.Prelude.{slice_index, replicate, Bool, true, false, nat_le, if◌then◌else◌}
+use Rattle.std.specs.Prelude.{Option, Some, None}
 use Rattle.std.specs.Option.{option_map}
-use Rattle.avc_annexb.specs.Units.{PlacedUnit, saturated, placed_units, unit_at, unit_bytes, numbered, before_end, without_last_zeros}
+use Rattle.avc_annexb.specs.Units.{PlacedUnit, saturated, placed_units, unit_at, unit_bytes}
+use Rattle.avc_annexb.specs.Units.{numbered, before_end, without_last_zeros}
 use Rattle.avc_annexb.specs.SplitterState.{SplitterState}
 use Rattle.avc_annexb.specs.declared.open_unit.OpenUnit.{OpenUnit}
 use Rattle.avc_annexb.specs.declared.ready.Ready.{Ready}
@@ -20,14 +24,16 @@ HasLoneZeros run = (k : ℕ) → k < length run → slice_index run k ≡ 0 → 
 
 -- the same of the bytes before a place
 abbrev pub HasLoneZerosBefore : ℕ → List ℕ → Type 0
-HasLoneZerosBefore n bytes = (k : ℕ) → k < n → slice_index bytes k ≡ 0 → (k + 1 < n) × (slice_index bytes (k + 1) ≢ 0)
+HasLoneZerosBefore n bytes =
+    (k : ℕ) → k < n → slice_index bytes k ≡ 0 → (k + 1 < n) × (slice_index bytes (k + 1) ≢ 0)
 
 -- an open unit stands for these bytes at this place
 pub record IsOpenUnit (max : ℕ) (o : OpenUnit max) (unit : PlacedUnit) : Type 0 where
   pub offset : o.offset ≡ saturated unit.offset
   pub len : o.length ≡ saturated (length unit.bytes)
   pub header : o.header ≡ slice_index unit.bytes 0
-  pub body : option_map (λ v. v.items) o.body ≡ (if nat_le (length unit.bytes) max then Some (drop 1 unit.bytes) else None)
+  pub body : option_map (λ v. v.items) o.body
+      ≡ (if nat_le (length unit.bytes) max then Some (drop 1 unit.bytes) else None)
 
 -- a unit with these bytes behind its own
 abbrev pub with_bytes : PlacedUnit → List ℕ → PlacedUnit
@@ -46,12 +52,14 @@ IsOpenUnitIfAny max _ _ = ⊥
 
 -- Whichever bytes the open unit stood for, these have come to them.
 abbrev pub AddsBytes : {max : ℕ} → (old new : OpenUnit max) → List ℕ → Type 0
-AddsBytes {max} old new more = (unit : PlacedUnit) → IsOpenUnit max old unit → IsOpenUnit max new (with_bytes unit more)
+AddsBytes {max} old new more =
+    (unit : PlacedUnit) → IsOpenUnit max old unit → IsOpenUnit max new (with_bytes unit more)
 
 -- The same where there is an open unit.
 abbrev pub AddsBytesIfAny : {max : ℕ} → (old new : Option (OpenUnit max)) → List ℕ → Type 0
 AddsBytesIfAny {max} old new more =
-    (unit : Option PlacedUnit) → IsOpenUnitIfAny max old unit → IsOpenUnitIfAny max new (with_more unit more)
+    (unit : Option PlacedUnit) → IsOpenUnitIfAny max old unit →
+    IsOpenUnitIfAny max new (with_more unit more)
 
 -- the units that were found are those that were given out and then those that are ready
 pub record AreReady (max : ℕ) (r : Ready max) (done : List PlacedUnit) : Type 0 where
@@ -66,13 +74,15 @@ closed_unit (Some unit) = unit_at unit.offset (Some unit.bytes)
 -- Whichever units had been found, this one has come to them, if it has bytes.
 abbrev pub AddsUnit : {max : ℕ} → (old new : Ready max) → OpenUnit max → Type 0
 AddsUnit {max} old new unit =
-    (done : List PlacedUnit) (placed : PlacedUnit) → AreReady max old done → IsOpenUnit max unit placed →
+    (done : List PlacedUnit) (placed : PlacedUnit) → AreReady max old done →
+    IsOpenUnit max unit placed →
     AreReady max new (done ++ closed_unit (Some placed))
 
 -- The same where there is a unit.
 abbrev pub AddsUnitIfAny : {max : ℕ} → (old new : Ready max) → Option (OpenUnit max) → Type 0
 AddsUnitIfAny {max} old new unit =
-    (done : List PlacedUnit) (placed : Option PlacedUnit) → AreReady max old done → IsOpenUnitIfAny max unit placed →
+    (done : List PlacedUnit) (placed : Option PlacedUnit) → AreReady max old done →
+    IsOpenUnitIfAny max unit placed →
     AreReady max new (done ++ closed_unit placed)
 
 -- One unit more is ready.
@@ -87,16 +97,20 @@ pub record HasOneMoreAtMost {max : ℕ} (old new : Ready max) : Type 0 where
 -- what the units from here on are, whatever comes: n bytes came, and of the last of them zeros are
 -- not yet in the unit
 abbrev pub placed_units_after : ℕ → Option PlacedUnit → ℕ → Bool → List ℕ → List PlacedUnit
-placed_units_after n None zeros ended more = placed_units (n - zeros) ended (replicate zeros 0 ++ more)
+placed_units_after n None zeros ended more =
+    placed_units (n - zeros) ended (replicate zeros 0 ++ more)
 placed_units_after n (Some unit) zeros ended more =
     unit_at unit.offset (unit_bytes ended (unit.bytes ++ (replicate zeros 0 ++ more)))
     ++ placed_units unit.offset ended (unit.bytes ++ (replicate zeros 0 ++ more))
 
 -- No unit ends or begins in these bytes, whatever follows them, and they don't end with a zero.
 pub record HasNoBoundary (bytes : List ℕ) : Type 0 where
-  pub ends : (more : List ℕ) → before_end (bytes ++ more) ≡ option_map (λ front. bytes ++ front) (before_end more)
-  pub zeros : (more : List ℕ) → without_last_zeros (bytes ++ more) ≡ bytes ++ without_last_zeros more
-  pub starts : (place : ℕ) (ended : Bool) (more : List ℕ) → placed_units place ended (bytes ++ more) ≡ placed_units (place + length bytes) ended more
+  pub ends : (more : List ℕ) → before_end (bytes ++ more)
+      ≡ option_map (λ front. bytes ++ front) (before_end more)
+  pub zeros : (more : List ℕ) → without_last_zeros (bytes ++ more) ≡ bytes
+      ++ without_last_zeros more
+  pub starts : (place : ℕ) (ended : Bool) (more : List ℕ) → placed_units place ended (bytes ++ more)
+      ≡ placed_units (place + length bytes) ended more
 
 -- where the open unit stands, if there is one
 abbrev pub IsAt : ℕ → Option PlacedUnit → ℕ → Type 0
@@ -104,10 +118,12 @@ IsAt n None zeros = zeros ≤ n
 IsAt n (Some unit) zeros = (unit.offset + length unit.bytes + zeros ≡ n) × HasNoBoundary unit.bytes
 
 -- These units are done, and this one is open.
-pub record ScannedBytes (bytes : List ℕ) (done : List PlacedUnit) (current : Option PlacedUnit) (zeros : ℕ) : Type 0 where
+pub record ScannedBytes (bytes : List ℕ) (done : List PlacedUnit) (current : Option PlacedUnit)
+    (zeros : ℕ) : Type 0 where
   pub few : zeros ≤ 2
   pub place : IsAt (length bytes) current zeros
-  pub rest : (ended : Bool) (more : List ℕ) → placed_units 0 ended (bytes ++ more) ≡ done ++ placed_units_after (length bytes) current zeros ended more
+  pub rest : (ended : Bool) (more : List ℕ) → placed_units 0 ended (bytes ++ more) ≡ done
+      ++ placed_units_after (length bytes) current zeros ended more
 
 -- A scanner has gone through these bytes.
 pub record HasScanned (max : ℕ) (s : Scanner max) (bytes : List ℕ) : Type 0 where
@@ -120,10 +136,12 @@ pub record HasScanned (max : ℕ) (s : Scanner max) (bytes : List ℕ) : Type 0 
 
 -- Of these bytes so many were scanned, at least one where there is one, and one unit more is ready,
 -- or none.
-pub record HasTaken (max : ℕ) (old : Scanner max) (piece : List ℕ) (used : ℕ) (new : Scanner max) : Type 0 where
+pub record HasTaken (max : ℕ) (old : Scanner max) (piece : List ℕ) (used : ℕ)
+    (new : Scanner max) : Type 0 where
   pub within : used ≤ length piece
   pub some : 0 < length piece → 0 < used
-  pub scans : (bytes : List ℕ) → HasScanned max old bytes → HasScanned max new (bytes ++ take used piece)
+  pub scans : (bytes : List ℕ) → HasScanned max old bytes →
+      HasScanned max new (bytes ++ take used piece)
   pub few : HasOneMoreAtMost old.ready new.ready
 
 -- what a splitter is seen as
@@ -138,7 +156,12 @@ has_failed _ = false
 
 -- what its fields say: all bytes so far, whether they have ended, and how many units were given out
 abbrev pub splitter_state : {MAX : ℕ} → Inside MAX → SplitterState
-splitter_state s = record { bytes = s.bytes.items; ended = has_ended s.progress; taken = length s.scanner.ready.given.items; failed = has_failed s.progress }
+splitter_state s = record {
+  bytes = s.bytes.items;
+  ended = has_ended s.progress;
+  taken = length s.scanner.ready.given.items;
+  failed = has_failed s.progress;
+}
 
 -- what holds in each phase: the scan stands at the end of the bytes; or all units are ready; or
 -- nothing is known

@@ -1,5 +1,6 @@
 -- What a splitter is seen as.
-use Rattle.std.specs.Prelude.{◌≡◌, ℕ, ◌+◌, ◌-◌, ◌<◌, ◌≤◌, List, [], ◌++◌, length, take, Bool, true, false, if◌then◌else◌, Option, None, Some, slice_get}
+use Rattle.std.specs.Prelude.{◌≡◌, ℕ, ◌+◌, ◌-◌, ◌<◌, ◌≤◌, List, [], ◌++◌, length, take, Bool, true}
+use Rattle.std.specs.Prelude.{false, if◌then◌else◌, Option, None, Some, slice_get}
 use Rattle.avc_annexb.specs.declared.unit.Unit.{Unit}
 use Rattle.avc_annexb.specs.Units.{units}
 
@@ -25,7 +26,8 @@ unit_count max s = length (units max s.bytes s.ended)
 
 -- So many of these bytes were taken: all, unless a unit has ended with them. At most one has, and
 -- at least one byte was taken where there is one.
-pub record TakesUnit (max : ℕ) (old : SplitterState) (bytes : List ℕ) (used : ℕ) (new : SplitterState) : Type 0 where
+pub record TakesUnit (max : ℕ) (old : SplitterState) (bytes : List ℕ) (used : ℕ)
+    (new : SplitterState) : Type 0 where
   pub within : used ≤ length bytes
   pub some : 0 < length bytes → 0 < used
   pub is : new ≡ after_feed old (take used bytes)

@@ -8,4 +8,8 @@ start_code = 0 ∷ 0 ∷ 0 ∷ 1 ∷ []
 
 -- a unit that is not too long, behind a start code
 abbrev pub written : Unit → List ℕ
-written u = elim u.body [ Some body ↦ start_code ++ u.header ∷ body | None ↦ start_code ++ u.header ∷ [] ]
+written u =
+    elim u.body [
+      | Some body ↦ start_code ++ u.header ∷ body
+      | None ↦ start_code ++ u.header ∷ []
+    ]

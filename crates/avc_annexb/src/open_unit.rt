@@ -1,7 +1,9 @@
 //! The unit whose end has not been seen, with its bytes so far.
 
-ghost use Rattle.std.specs.Prelude.{◌≡◌, ◌<◌, ◌≤◌, ℕ, [], ◌∷◌, ◌++◌, Option, Some, OnOk, length, replicate};
-ghost use Rattle.avc_annexb.specs.Scanning.{AddsBytes, AddsBytesIfAny, IsOpenUnit, IsOpenUnitIfAny, closed_unit};
+ghost use Rattle.std.specs.Prelude.{◌≡◌, ◌<◌, ◌≤◌, ℕ, [], ◌∷◌, ◌++◌, Option, Some, OnOk, length};
+ghost use Rattle.std.specs.Prelude.{replicate};
+ghost use Rattle.avc_annexb.specs.Scanning.{AddsBytes, AddsBytesIfAny, IsOpenUnit, IsOpenUnitIfAny};
+ghost use Rattle.avc_annexb.specs.Scanning.{closed_unit};
 ghost use Rattle.avc_annexb.specs.Units.{PlacedUnit, saturated, unit_of};
 
 use crate::unit::Unit;
@@ -20,7 +22,8 @@ pub struct OpenUnit<const MAX: usize> {
 impl<const MAX: usize> OpenUnit<MAX> {
     /// A unit without bytes yet. They will stand in the place of others that are over.
     pub fn new(offset: u64, over: Vec<u8>) -> Self
-        ensures { (place : ℕ) → offset ≡ saturated place → IsOpenUnit MAX result (record { offset = place; bytes = [] }) }
+        ensures { (place : ℕ) → offset ≡ saturated place →
+            IsOpenUnit MAX result (record { offset = place; bytes = [] }) }
     {
         let mut body = over;
         body.clear();
@@ -91,14 +94,16 @@ impl<const MAX: usize> OpenUnit<MAX> {
 
     /// One, if it has bytes, and else none.
     fn begun(&self) -> u64
-        ensures { (placed : PlacedUnit) → IsOpenUnit MAX self.now placed → result ≡ length (closed_unit (Some placed)) }
+        ensures { (placed : PlacedUnit) → IsOpenUnit MAX self.now placed →
+            result ≡ length (closed_unit (Some placed)) }
     {
         u64::from(self.length > 0)
     }
 
     /// The whole unit, with its place among the units.
     pub fn into_unit(self, index: u64) -> Unit
-        ensures { (unit : PlacedUnit) (place : ℕ) → IsOpenUnit MAX self.entry unit → index ≡ saturated place → result ≡ unit_of MAX place unit }
+        ensures { (unit : PlacedUnit) (place : ℕ) → IsOpenUnit MAX self.entry unit →
+            index ≡ saturated place → result ≡ unit_of MAX place unit }
     {
         Unit {
             index,
@@ -138,7 +143,8 @@ pub fn append_any<const MAX: usize>(
 
 /// How many units the end of the stream would make of it: one, if there is one and it has bytes.
 pub fn begun_any<const MAX: usize>(unit: &Option<OpenUnit<MAX>>) -> u64
-    ensures { (placed : Option PlacedUnit) → IsOpenUnitIfAny MAX unit.now placed → result ≡ length (closed_unit placed) }
+    ensures { (placed : Option PlacedUnit) → IsOpenUnitIfAny MAX unit.now placed →
+        result ≡ length (closed_unit placed) }
 {
     match unit {
         Some(unit) => unit.begun(),

@@ -70,8 +70,10 @@ impl<const MAX: usize> Ready<MAX> {
 
     /// Takes the first unit.
     pub fn next(&mut self) -> Option<Unit>
-        ensures unit { (done : List PlacedUnit) → AreReady MAX self.old done → result ≡ slice_get (numbered MAX 0 done) (length self.old.given.items) }
-        ensures holds { (done : List PlacedUnit) → AreReady MAX self.old done → AreReady MAX self.new done }
+        ensures unit { (done : List PlacedUnit) → AreReady MAX self.old done →
+            result ≡ slice_get (numbered MAX 0 done) (length self.old.given.items) }
+        ensures holds { (done : List PlacedUnit) → AreReady MAX self.old done →
+            AreReady MAX self.new done }
         ensures given { self.new.given.items ≡ self.old.given.items ++ option_to_list result }
     {
         let unit = self.units.pop_front()?;

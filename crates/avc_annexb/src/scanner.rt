@@ -46,7 +46,8 @@ impl<const MAX: usize> Scanner<MAX> {
 
     /// Bytes of a unit are over: those of another will stand in their place.
     pub fn take_back(&mut self, body: Vec<u8>)
-        ensures scans { (bytes : List ℕ) → HasScanned MAX self.old bytes → HasScanned MAX self.new bytes }
+        ensures scans { (bytes : List ℕ) → HasScanned MAX self.old bytes →
+            HasScanned MAX self.new bytes }
         ensures ready { self.new.ready ≡ self.old.ready }
     {
         self.over = body;
@@ -54,7 +55,8 @@ impl<const MAX: usize> Scanner<MAX> {
 
     /// Takes the next bytes of the stream. After an `Err` the scanner is of no use.
     pub fn take_in(&mut self, piece: &[u8]) -> Result<(), OutOfMemory>
-        ensures ok { OnOk result ((bytes : List ℕ) → HasScanned MAX self.old bytes → HasScanned MAX self.new (bytes ++ piece.now)) }
+        ensures ok { OnOk result ((bytes : List ℕ) → HasScanned MAX self.old bytes →
+            HasScanned MAX self.new (bytes ++ piece.now)) }
         ensures given { self.new.ready.given.items ≡ self.old.ready.given.items }
     {
         let mut place = 0;
@@ -68,7 +70,8 @@ impl<const MAX: usize> Scanner<MAX> {
     /// Answers how many. After an `Err` the scanner is of no use.
     pub fn take_unit(&mut self, piece: &[u8]) -> Result<usize, OutOfMemory>
         ensures ok { IfOk result (λ used. HasTaken MAX self.old piece.now used self.new) }
-        ensures ended { IfOk result (λ used. used < length piece.now → HasOneMore self.old.ready self.new.ready) }
+        ensures ended { IfOk result (λ used. used < length piece.now →
+            HasOneMore self.old.ready self.new.ready) }
         ensures given { self.new.ready.given.items ≡ self.old.ready.given.items }
     {
         let waiting = self.ready.len();
@@ -107,7 +110,8 @@ impl<const MAX: usize> Scanner<MAX> {
 
     /// Takes the end of the stream.
     pub fn end(&mut self) -> Result<(), OutOfMemory>
-        ensures ok { OnOk result ((bytes : List ℕ) → HasScanned MAX self.old bytes → AreReady MAX self.new.ready (placed_units 0 true bytes)) }
+        ensures ok { OnOk result ((bytes : List ℕ) → HasScanned MAX self.old bytes →
+            AreReady MAX self.new.ready (placed_units 0 true bytes)) }
         ensures given { self.new.ready.given.items ≡ self.old.ready.given.items }
     {
         // the zeros that are not yet in the unit stay out of it
@@ -116,7 +120,8 @@ impl<const MAX: usize> Scanner<MAX> {
 
     /// How many units have begun, with the one whose end has not been seen, if it has bytes.
     pub fn units_begun(&self) -> u64
-        ensures { (bytes : List ℕ) → HasScanned MAX self.now bytes → result ≡ units_begun MAX bytes }
+        ensures { (bytes : List ℕ) → HasScanned MAX self.now bytes →
+            result ≡ units_begun MAX bytes }
     {
         self.ready.count.saturating_add(begun_any(&self.unit))
     }
@@ -126,7 +131,8 @@ impl<const MAX: usize> Scanner<MAX> {
         requires lone { HasLoneZeros run.now }
         requires no_zero { 1 ≤ self.old.zeros → slice_index run.now 0 ≢ 0 }
         requires no_start { 2 ≤ self.old.zeros → slice_index run.now 0 ≢ 1 }
-        ensures ok { OnOk result ((bytes : List ℕ) → HasScanned MAX self.old bytes → HasScanned MAX self.new (bytes ++ run.now)) }
+        ensures ok { OnOk result ((bytes : List ℕ) → HasScanned MAX self.old bytes →
+            HasScanned MAX self.new (bytes ++ run.now)) }
         ensures ready { self.new.ready ≡ self.old.ready }
     {
         if run.is_empty() {
@@ -140,7 +146,8 @@ impl<const MAX: usize> Scanner<MAX> {
 
     // zeros, of which a third in a row ends a unit
     fn zeros(&mut self, count: usize) -> Result<(), OutOfMemory>
-        ensures ok { OnOk result ((bytes : List ℕ) → HasScanned MAX self.old bytes → HasScanned MAX self.new (bytes ++ replicate count 0)) }
+        ensures ok { OnOk result ((bytes : List ℕ) → HasScanned MAX self.old bytes →
+            HasScanned MAX self.new (bytes ++ replicate count 0)) }
         ensures few { OnOk result (HasOneMoreAtMost self.old.ready self.new.ready) }
         ensures given { self.new.ready.given.items ≡ self.old.ready.given.items }
     {
@@ -156,7 +163,8 @@ impl<const MAX: usize> Scanner<MAX> {
     // the 01 of a start code, which ends a unit and begins one
     fn start_code(&mut self) -> Result<(), OutOfMemory>
         requires { self.old.zeros ≡ 2 }
-        ensures ok { OnOk result ((bytes : List ℕ) → HasScanned MAX self.old bytes → HasScanned MAX self.new (bytes ++ 1 ∷ [])) }
+        ensures ok { OnOk result ((bytes : List ℕ) → HasScanned MAX self.old bytes →
+            HasScanned MAX self.new (bytes ++ 1 ∷ [])) }
         ensures few { OnOk result (HasOneMoreAtMost self.old.ready self.new.ready) }
         ensures given { self.new.ready.given.items ≡ self.old.ready.given.items }
     {

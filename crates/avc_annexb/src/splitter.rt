@@ -134,7 +134,8 @@ impl<const MAX: usize> Splitter<MAX> {
     pub fn next_unit(&mut self) -> Option<Unit>
         ensures unit { result ≡ next_unit_of MAX self.old }
         ensures taken { self.new ≡ after_next_unit self.old result }
-        ensures fewer { IfSome result (λ _. units_waiting MAX self.new < units_waiting MAX self.old) }
+        ensures fewer { IfSome result
+            (λ _. units_waiting MAX self.new < units_waiting MAX self.old) }
     {
         match self.progress {
             SplitterPhase::Failed(_) => None,

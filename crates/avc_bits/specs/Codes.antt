@@ -1,7 +1,10 @@
--- The codes of syntax elements (7.2, 9.1). A code is a set of codewords with their values. Where a codeword is a
--- prefix of the bits ahead, reading gives its value and what is left; where the bits ahead are a
--- proper prefix of a codeword, Truncated; else the code's own fault.
-use Rattle.std.specs.Prelude.{◌≡◌, ℕ, zero, suc, ◌+◌, ◌-◌, ◌/◌, ◌%◌, ◌^◌, ◌<◌, ◌≤◌, ℤ, pos, neg_ℤ, int_le, Bool, true, false, ◌==◌, ◌&&◌, nat_le, nat_lt, if◌then◌else◌, List, [], ◌∷◌, ◌++◌, length, replicate, Option, Some, None, Result, Ok, Err}
+-- The codes of syntax elements (7.2, 9.1). A code is a set of codewords with their values. Where a
+-- codeword is a prefix of the bits ahead, reading gives its value and what is left; where the bits
+-- ahead are a proper prefix of a codeword, Truncated; else the code's own fault.
+use Rattle.std.specs.Prelude.{◌≡◌, ℕ, zero, suc, ◌+◌, ◌-◌, ◌/◌, ◌%◌, ◌^◌, ◌<◌, ◌≤◌, ℤ, pos, neg_ℤ}
+use Rattle.std.specs.Prelude.{int_le, Bool, true, false, ◌==◌, ◌&&◌, nat_le, nat_lt, if◌then◌else◌}
+use Rattle.std.specs.Prelude.{List, [], ◌∷◌, ◌++◌, length, replicate, Option, Some, None, Result}
+use Rattle.std.specs.Prelude.{Ok, Err}
 use Rattle.std.specs.Option.{option_map}
 use Rattle.avc_types.specs.declared.fault.Fault.{Fault}
 use Rattle.avc_types.specs.declared.fault.Fault.TheVariants as faults
@@ -33,12 +36,14 @@ abbrev pub IsReadBy : {A : Type 0} → Code A → Fault → Bits → Result (A �
 IsReadBy code otherwise b (Ok r) = Takes code b r.0 r.1
 IsReadBy code otherwise b (Err faults.Truncated) = IsCutShort code b
 IsReadBy {A} code otherwise b (Err f) =
-    (f ≡ otherwise) × (¬ IsCutShort code b) × ((value : A) (left : Bits) → ¬ Takes code b value left)
+    (f ≡ otherwise) × (¬ IsCutShort code b) ×
+    ((value : A) (left : Bits) → ¬ Takes code b value left)
 
 -- No codeword is a proper prefix of a codeword.
 abbrev pub IsPrefixFree : {A : Type 0} → Code A → Type 0
 IsPrefixFree {A} code =
-    (word more : List Bool) (value other : A) → code word value → code (word ++ more) other → more ≡ []
+    (word more : List Bool) (value other : A) → code word value → code (word ++ more) other →
+    more ≡ []
 
 -- u(n) (7.2)
 abbrev pub IsU : ℕ → Code ℕ
@@ -47,7 +52,8 @@ IsU n word value = (value < 2 ^ n) × (word ≡ bits_of n value)
 -- ue(v) (9.1): n zeros, a 1 and n bits, n at most 31
 abbrev pub IsUe : Code ℕ
 IsUe word value =
-    (n m : ℕ) × (n ≤ 31) × (m < 2 ^ n) × (word ≡ replicate n false ++ true ∷ bits_of n m) × (value + 1 ≡ 2 ^ n + m)
+    (n m : ℕ) × (n ≤ 31) × (m < 2 ^ n) × (word ≡ replicate n false ++ true ∷ bits_of n m) ×
+    (value + 1 ≡ 2 ^ n + m)
 
 -- the k-th of 0, 1, -1, 2, -2, .. (9.1.1, Table 9-3)
 abbrev pub signed_value : ℕ → ℤ
@@ -92,7 +98,11 @@ flag = u 1 >>= λ v. give (v == 1)
 abbrev pub zeros : ℕ → Fault → ℕ → List Bool → Result (ℕ × List Bool) Fault
 zeros limit fault seen [] = Err faults.Truncated
 zeros limit fault seen (true ∷ bits) = Ok (seen, bits)
-zeros limit fault seen (false ∷ bits) = elim (nat_lt seen limit) [ true ↦ zeros limit fault (seen + 1) bits | false ↦ Err fault ]
+zeros limit fault seen (false ∷ bits) =
+    elim (nat_lt seen limit) [
+      | true ↦ zeros limit fault (seen + 1) bits
+      | false ↦ Err fault
+    ]
 
 -- the same as a part of the syntax (9.1, 9.2.2.1)
 abbrev pub zeros_before_one : ℕ → Fault → Read ℕ

@@ -1,5 +1,6 @@
 -- What a reader stands for.
-use Rattle.std.specs.Prelude.{◌≡◌, ℕ, suc, ◌+◌, ◌-◌, ◌*◌, ◌/◌, ◌^◌, ◌<◌, ◌≤◌, take, List, [], ◌∷◌, length, Bool, true, false, Result, Ok, Err, MatchResult, refl}
+use Rattle.std.specs.Prelude.{◌≡◌, ℕ, suc, ◌+◌, ◌-◌, ◌*◌, ◌/◌, ◌^◌, ◌<◌, ◌≤◌, take, List, [], ◌∷◌}
+use Rattle.std.specs.Prelude.{length, Bool, true, false, Result, Ok, Err, MatchResult, refl}
 use Rattle.avc_types.specs.declared.fault.Fault.{Fault}
 use Rattle.avc_bits.specs.Bits.{Bits, Read, at, number_of, passed}
 use Rattle.avc_bits.specs.Codes.{u, ue, zeros_before_one}
@@ -32,7 +33,8 @@ reader_at r = refl
 -- after it.
 abbrev pub Reads : {V : Type 0} → Result V Fault → Read V → BitReader → BitReader → Type 0
 Reads result read old new = MatchResult result
-    (λ value. (read (reader_bits old) ≡ Ok (value, reader_bits new)) × (reader_bytes new ≡ reader_bytes old))
+    (λ value. (read (reader_bits old) ≡ Ok (value, reader_bits new)) ×
+    (reader_bytes new ≡ reader_bytes old))
     (λ fault. read (reader_bits old) ≡ Err fault)
 
 -- The window has the first 57 of the bits ahead.
@@ -50,7 +52,9 @@ leading (false ∷ bits) = suc (leading bits)
 pub record IsZerosAndBits (most count zeros value : ℕ) (old new : BitReader) : Type 0 where
   pub few : zeros ≤ most
   pub below : value < 2 ^ count
-  pub zeros_read : (limit : ℕ) → (fault : Fault) → most ≤ limit → zeros_before_one limit fault (reader_bits old) ≡ Ok (zeros, passed (reader_bits old) (zeros + 1))
+  pub zeros_read : (limit : ℕ) → (fault : Fault) → most ≤ limit →
+      zeros_before_one limit fault (reader_bits old)
+      ≡ Ok (zeros, passed (reader_bits old) (zeros + 1))
   pub value_read : u count (passed (reader_bits old) (zeros + 1)) ≡ Ok (value, reader_bits new)
   pub bytes : reader_bytes new ≡ reader_bytes old
 

@@ -1,5 +1,5 @@
-//! What reading by a code means: the functions by which the readers are specified read exactly the codewords of the
-//! sets that the standard gives.
+//! What reading by a code means: the functions by which the readers are specified read exactly the
+//! codewords of the sets that the standard gives.
 
 ghost use Rattle.std.specs.Prelude.{◌≤◌, ℕ};
 ghost use Rattle.avc_types.specs.declared.fault.Fault.{Fault};
@@ -25,7 +25,8 @@ pub fn se_is_read()
 
 /// What `te` reads.
 pub fn te_is_read()
-    ensures { (range : ℕ) → 1 ≤ range → (b : Bits) → IsReadBy (IsTe range) CodeTooLong b (te range b) }
+    ensures { (range : ℕ) → 1 ≤ range → (b : Bits) →
+        IsReadBy (IsTe range) CodeTooLong b (te range b) }
 {}
 
 /// No codeword of a code begins another.

@@ -51,7 +51,8 @@ impl Window {
     pub fn bits(self, first: u32, count: u32) -> u32
         requires few { count ≤ 32 }
         requires within { first + count ≤ 57 }
-        ensures bits { (b : Bits) → IsWindow self b → bits_of count result ≡ take count (passed b first).ahead }
+        ensures bits { (b : Bits) → IsWindow self b → bits_of count result
+            ≡ take count (passed b first).ahead }
         ensures below { result < 2 ^ count }
     {
         field_of_eight(self.bits, first, count)
@@ -147,7 +148,8 @@ impl<'a> BitReader<'a> {
     #[inline(always)]
     pub fn peek(&self, count: u32) -> u32
         requires { count ≤ 32 }
-        ensures bits { bits_of count result ≡ take count ((reader_bits self.now).ahead ++ replicate count false) }
+        ensures bits { bits_of count result
+            ≡ take count ((reader_bits self.now).ahead ++ replicate count false) }
         ensures below { result < 2 ^ count }
     {
         if self.is_far() {
@@ -162,7 +164,8 @@ impl<'a> BitReader<'a> {
     #[inline(never)]
     fn peek_near_end(self, count: u32) -> u32
         requires { count ≤ 32 }
-        ensures bits { bits_of count result ≡ take count ((reader_bits self.entry).ahead ++ replicate count false) }
+        ensures bits { bits_of count result
+            ≡ take count ((reader_bits self.entry).ahead ++ replicate count false) }
         ensures below { result < 2 ^ count }
     {
         let there = self.left_near(count);
@@ -277,7 +280,8 @@ impl<'a> BitReader<'a> {
     pub fn zeros_and_bits(&mut self, most: u32, count: u32) -> Option<(u32, u32)>
         requires few { most ≤ 15 }
         requires narrow { count ≤ 16 }
-        ensures read { MatchOption result (self.new ≡ self.old) (λ p. IsZerosAndBits most count p.0 p.1 self.old self.new) }
+        ensures read { MatchOption result (self.new ≡ self.old)
+            (λ p. IsZerosAndBits most count p.0 p.1 self.old self.new) }
     {
         if !self.is_far() {
             return None;
@@ -293,7 +297,8 @@ impl<'a> BitReader<'a> {
         requires few { most ≤ 15 }
         requires narrow { count ≤ 16 }
         requires ahead { 64 ≤ length (reader_bits self.old).ahead }
-        ensures read { MatchOption result (self.new ≡ self.old) (λ p. IsZerosAndBits most count p.0 p.1 self.old self.new) }
+        ensures read { MatchOption result (self.new ≡ self.old)
+            (λ p. IsZerosAndBits most count p.0 p.1 self.old self.new) }
     {
         let bits = self.bits_of_eight(32);
         let zeros = bits.leading_zeros();
@@ -501,7 +506,9 @@ impl<'a> BitReader<'a> {
         requires some { 0 < count }
         requires aligned { (reader_bits self.old).position % 8 ≡ 0 }
         ensures read { MatchResult result
-            (λ taken. (times count (u 8) (reader_bits self.old) ≡ Ok (taken.now, reader_bits self.new)) × (reader_bytes self.new ≡ reader_bytes self.old))
+            (λ taken. (times count (u 8) (reader_bits self.old)
+            ≡ Ok (taken.now, reader_bits self.new)) × (reader_bytes self.new
+            ≡ reader_bytes self.old))
             (λ fault. times count (u 8) (reader_bits self.old) ≡ Err fault) }
         ensures long { IfOk result (λ taken. length taken.now ≡ count) }
         ensures aligned { IfOk result (λ _. (reader_bits self.new).position % 8 ≡ 0) }
@@ -634,7 +641,8 @@ impl<'a> BitReader<'a> {
     fn next_bits(&self, count: u32) -> u32
         requires few { count ≤ 32 }
         requires there { count ≤ left_of self.now }
-        ensures value { result ≡ number_of (take count (drop (position_of self.now) (byte_bits self.now.bytes.now))) }
+        ensures value { result
+            ≡ number_of (take count (drop (position_of self.now) (byte_bits self.now.bytes.now))) }
         ensures bound { result < 2 ^ count }
     {
         if self.is_far() {
@@ -649,7 +657,8 @@ impl<'a> BitReader<'a> {
     fn bits_of_eight(&self, count: u32) -> u32
         requires few { count ≤ 32 }
         requires there { 64 ≤ left_of self.now }
-        ensures value { result ≡ number_of (take count (drop (position_of self.now) (byte_bits self.now.bytes.now))) }
+        ensures value { result
+            ≡ number_of (take count (drop (position_of self.now) (byte_bits self.now.bytes.now))) }
         ensures bound { result < 2 ^ count }
     {
         field_of_eight(eight_bytes(self.bytes, self.byte), self.bit as u32, count)

@@ -12,7 +12,18 @@ use Rattle.avc_c.specs.declared.marks.Mark.{Mark}
 
 -- no event
 abbrev pub nothing : EventRecord
-nothing = record { kind = 0; fault = 0; unit = 0; width = 0; height = 0; crop_left = 0; crop_right = 0; crop_top = 0; crop_bottom = 0; value = 0 }
+nothing = record {
+  kind = 0;
+  fault = 0;
+  unit = 0;
+  width = 0;
+  height = 0;
+  crop_left = 0;
+  crop_right = 0;
+  crop_top = 0;
+  crop_bottom = 0;
+  value = 0;
+}
 
 -- a picture, with the value of its first slice's unit
 abbrev pub picture_record : List Mark → Picture → EventRecord
@@ -30,7 +41,12 @@ picture_record marks p = record nothing {
 
 -- a refusal, with the value of its unit
 abbrev pub refusal_record : List Mark → (unit : ℕ) → Fault → EventRecord
-refusal_record marks unit fault = record nothing { kind = 2; fault = number_of fault; unit = unit; value = value_of marks unit }
+refusal_record marks unit fault = record nothing {
+  kind = 2;
+  fault = number_of fault;
+  unit = unit;
+  value = value_of marks unit;
+}
 
 -- the event of an answer of `take`, in a stream of these marks
 abbrev pub record_of : List Mark → Result (Option Event) DecodeError → EventRecord

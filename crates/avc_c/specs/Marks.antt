@@ -1,5 +1,6 @@
 -- The caller's own values of units.
-use Rattle.std.specs.Prelude.{ℕ, List, [], ◌∷◌, take, ◌==◌, nat_le, if◌then◌else◌, Option, Some, None}
+use Rattle.std.specs.Prelude.{ℕ, List, [], ◌∷◌, take, ◌==◌, nat_le, if◌then◌else◌, Option, Some}
+use Rattle.std.specs.Prelude.{None}
 use Rattle.avc_c.specs.declared.marks.Mark.{Mark}
 
 -- the marks, of which the newest is the first, less that one where it is of this unit

@@ -44,7 +44,11 @@ impl OpenDecoder {
 
     /// An answer of `take` is told, with the value of its event.
     pub(crate) fn note(&mut self, answer: &Result<Option<Event<SharedPicture>>, DecodeError>)
-        ensures { self.new ≡ record self.old { awaited = awaited_behind self.old.marks answer.now self.old.awaited } }
+        ensures { self.new
+            ≡ record self.old {
+              awaited = awaited_behind self.old.marks answer.now
+                  self.old.awaited;
+            } }
     {
         self.awaited.note(answer, &self.marks);
     }

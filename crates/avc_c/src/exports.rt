@@ -64,7 +64,8 @@ pub extern "C" fn avcdec_close(alloc: Global, decoder: &mut DecoderHandle)
 /// Gives the next bytes of the stream.
 #[unsafe(no_mangle)]
 pub extern "C" fn avcdec_feed(alloc: Global, decoder: &mut DecoderHandle, bytes: &[u8]) -> u32
-    ensures { IsFed (after_feed bytes.now) decoder.old.address.decoder result decoder.new.address.decoder }
+    ensures { IsFed (after_feed bytes.now) decoder.old.address.decoder result
+        decoder.new.address.decoder }
 {
     if !decoder.is_open {
         return Status::Closed.number();
@@ -84,7 +85,8 @@ pub extern "C" fn avcdec_feed_unit(
     bytes: &[u8],
     used: &mut usize,
 ) -> u32
-    ensures { IsUnitFed bytes.now decoder.old.address.decoder result used.new decoder.new.address.decoder }
+    ensures { IsUnitFed bytes.now decoder.old.address.decoder result used.new
+        decoder.new.address.decoder }
 {
     *used = 0;
     if !decoder.is_open {
@@ -150,7 +152,8 @@ pub extern "C" fn avcdec_take(
     decoder: &mut DecoderHandle,
     event: &mut EventRecord,
 ) -> u32
-    ensures { IsTaken decoder.old.address.decoder event.old result event.new decoder.new.address.decoder }
+    ensures { IsTaken decoder.old.address.decoder event.old result event.new
+        decoder.new.address.decoder }
 {
     if !decoder.is_open {
         return Status::Closed.number();
@@ -174,7 +177,8 @@ pub extern "C" fn avcdec_take_dropped(
     decoder: &mut DecoderHandle,
     value: &mut u64,
 ) -> u32
-    ensures { IsDroppedTaken decoder.old.address.decoder value.old result value.new decoder.new.address.decoder }
+    ensures { IsDroppedTaken decoder.old.address.decoder value.old result value.new
+        decoder.new.address.decoder }
 {
     if !decoder.is_open {
         return Status::Closed.number();
@@ -234,7 +238,8 @@ pub extern "C" fn avcdec_copy_plane(
     stride: usize,
 ) -> u32
     ensures decoder { decoder.new.address.decoder ≡ decoder.old.address.decoder }
-    ensures copied { IsPlaneCopiedOut decoder.old.address.decoder plane out.old stride result out.new }
+    ensures copied { IsPlaneCopiedOut decoder.old.address.decoder plane out.old stride result
+        out.new }
 {
     if !decoder.is_open {
         return Status::Closed.number();

@@ -32,6 +32,7 @@ info_record info = record {
 }
 
 -- that of the picture that was taken last is told, if there is one
-abbrev pub IsInfoTold : Option Picture → (old : InfoRecord) → (status : ℕ) → (new : InfoRecord) → Type 0
+abbrev pub IsInfoTold : Option Picture → (old : InfoRecord) → (status : ℕ) → (new : InfoRecord) →
+    Type 0
 IsInfoTold None old status new = (status ≡ number_of NoPicture) × (new ≡ old)
 IsInfoTold (Some p) old status new = (status ≡ number_of Ok) × (new ≡ info_record p.info)

@@ -13,7 +13,8 @@ use Rattle.avc_c_picture.specs.declared.status.Status.TheVariants.{Ok, NoPicture
 
 -- C is told where this slice lies. In it the sample in column x and row y of what is shown stands
 -- behind y * stride + x others; `columns` and `rows` say how many are shown.
-pub record IsTold (p : Picture) (c : Component) (slice : Bor (List ℕ)) (told : LentRows) : Type 0 where
+pub record IsTold (p : Picture) (c : Component) (slice : Bor (List ℕ))
+    (told : LentRows) : Type 0 where
   pub address : told.samples ≡ as_ptr slice
   pub count : told.length ≡ length slice.now
   pub samples : IsLent p c slice.now told.stride
@@ -25,7 +26,8 @@ abbrev pub IsComponentLent : Picture → Component → LentRows → Type 0
 IsComponentLent p c told = (slice : Bor (List ℕ)) × IsTold p c slice told
 
 -- a plane of the picture that was taken last is lent, if there is one of this number
-abbrev pub IsPlaneLent : Option Picture → (plane : ℕ) → (old : LentRows) → (status : ℕ) → (new : LentRows) → Type 0
+abbrev pub IsPlaneLent : Option Picture → (plane : ℕ) → (old : LentRows) → (status : ℕ) →
+    (new : LentRows) → Type 0
 IsPlaneLent None plane old status new = (status ≡ number_of NoPicture) × (new ≡ old)
 IsPlaneLent (Some p) plane old status new = elim (component_of plane) [
   | None ↦ (status ≡ number_of NoPlane) × (new ≡ old)

@@ -1,7 +1,9 @@
 -- The numbers of the statuses.
 use Rattle.std.specs.Prelude.{ℕ}
 use Rattle.avc_c_picture.specs.declared.status.Status.{Status}
-use Rattle.avc_c_picture.specs.declared.status.Status.TheVariants.{Ok, OutOfMemory, Ended, Closed, IsOpen, NoPicture, NoRoom, NoPlane, NoFault, NoValue}
+use Rattle.avc_c_picture.specs.declared.status.Status.TheVariants.{Ok, OutOfMemory, Ended, Closed}
+use Rattle.avc_c_picture.specs.declared.status.Status.TheVariants.{IsOpen, NoPicture, NoRoom}
+use Rattle.avc_c_picture.specs.declared.status.Status.TheVariants.{NoPlane, NoFault, NoValue}
 
 -- the number by which C tells them apart
 abbrev pub number_of : Status → ℕ

@@ -1,4 +1,5 @@
-//! What C is told of the picture that it took last: its samples copied or lent, and the status of each call.
+//! What C is told of the picture that it took last: its samples copied or lent, and the status of
+//! each call.
 #![tactic(auto)]
 
 mod info;

@@ -1,5 +1,7 @@
 -- One residual block of transform coefficient levels (7.3.5.3.2, 9.2).
-use Rattle.std.specs.Prelude.{ℕ, zero, suc, ◌+◌, ◌-◌, ◌*◌, ◌/◌, ◌%◌, ◌^◌, ◌≤◌, ℤ, pos, neg_ℤ, ◌≤ℤ◌, nat_abs, Bool, true, false, ◌==◌, ◌&&◌, ◌||◌, nat_lt, nat_le, if◌then◌else◌, List, [], ◌∷◌, ◌++◌, length, reverse, replicate}
+use Rattle.std.specs.Prelude.{ℕ, zero, suc, ◌+◌, ◌-◌, ◌*◌, ◌/◌, ◌%◌, ◌^◌, ◌≤◌, ℤ, pos, neg_ℤ, ◌≤ℤ◌}
+use Rattle.std.specs.Prelude.{nat_abs, Bool, true, false, ◌==◌, ◌&&◌, ◌||◌, nat_lt, nat_le}
+use Rattle.std.specs.Prelude.{if◌then◌else◌, List, [], ◌∷◌, ◌++◌, length, reverse, replicate}
 use Rattle.std.specs.List.{flat_map, zip}
 use Rattle.avc_types.specs.declared.fault.Fault.TheVariants as faults
 use Rattle.avc_bits.specs.Bits.{Read, ◌>>=◌, ◌>>◌, give, check, times}
@@ -26,7 +28,8 @@ level_of_code code = if code % 2 == 0 then pos ((code + 2) / 2) else neg_ℤ (po
 -- in size
 abbrev pub level_code : (prefix suffix_length suffix : ℕ) → (above_one : Bool) → ℕ
 level_code prefix suffix_length suffix above_one =
-    prefix * 2 ^ suffix_length + suffix + (if prefix == 15 && suffix_length == 0 then 15 else 0) + (if above_one then 2 else 0)
+    prefix * 2 ^ suffix_length + suffix + (if prefix == 15 && suffix_length == 0 then 15 else 0)
+    + (if above_one then 2 else 0)
 
 -- one level_prefix and level_suffix (9.2.2, 9.2.2.1); a level_prefix above 15, which the profiles
 -- taken here don't allow (A.2), is BadCode
@@ -54,7 +57,8 @@ levels (suc n) suffix_length above_one = do
 abbrev pub token_levels : Token → Read (List ℤ)
 token_levels t = do
   ones ← times t.ones trailing_one
-  others ← levels (t.total - t.ones) (if nat_lt 10 t.total && nat_lt t.ones 3 then 1 else 0) (nat_lt t.ones 3)
+  others ← levels (t.total - t.ones) (if nat_lt 10 t.total && nat_lt t.ones 3 then 1 else 0)
+      (nat_lt t.ones 3)
   give (ones ++ others)
 
 -- ---- runs (9.2.3, 9.2.4)
@@ -77,7 +81,8 @@ runs (suc n) zeros_left = do
 
 -- each level after its zeros, from the lowest frequency on (9.2.4)
 abbrev pub each_after_zeros : List ℤ → List ℕ → List ℤ
-each_after_zeros values zero_runs = flat_map (λ p. replicate p.1 (pos 0) ++ p.0 ∷ []) (reverse (zip values zero_runs))
+each_after_zeros values zero_runs =
+    flat_map (λ p. replicate p.1 (pos 0) ++ p.0 ∷ []) (reverse (zip values zero_runs))
 
 -- the list of max levels: those, then zeros (9.2.4)
 abbrev pub placed : (max : ℕ) → List ℤ → List ℕ → List ℤ
@@ -91,7 +96,10 @@ residual_block max nc = do
   t ← coeff_token nc
   check (nat_le t.total max) faults.TooManyCoefficients
   values ← token_levels t
-  zeros ← elim (t.total == 0 || t.total == max) [ true ↦ give 0 | false ↦ total_zeros t.total (max == 4) ]
+  zeros ← elim (t.total == 0 || t.total == max) [
+    | true ↦ give 0
+    | false ↦ total_zeros t.total (max == 4)
+  ]
   check (nat_le (t.total + zeros) max) faults.TooManyCoefficients
   zero_runs ← runs t.total zeros
   give (placed max values zero_runs)

@@ -35,8 +35,9 @@ pub fn read_block<const MAXN: usize>(reader: &mut BitReader, nc: i8) -> Result<L
     }
 }
 
-/// Reads a block as `read_block` does, but into the place of its levels, where nothing is written if
-/// all are 0 before and after. After a fault any levels may stand there, and the reader anywhere.
+/// Reads a block as `read_block` does, but into the place of its levels, where nothing is written
+/// if all are 0 before and after. After a fault any levels may stand there, and the reader
+/// anywhere.
 #[inline(always)]
 pub fn read_block_in_place<const MAXN: usize>(
     reader: &mut BitReader,
@@ -86,7 +87,8 @@ fn read_into<const MAXN: usize>(
     requires window { IsWindow window (reader_bits reader.old) }
     requires token { IsToken code.token }
     requires short { code.length ≤ 16 }
-    ensures read { ReadsFrom result levels.new (block_behind MAXN code.token) (passed (reader_bits reader.old) code.length) (reader_bits reader.new) }
+    ensures read { ReadsFrom result levels.new (block_behind MAXN code.token)
+        (passed (reader_bits reader.old) code.length) (reader_bits reader.new) }
     ensures bytes { IfOk result (λ _. reader_bytes reader.new ≡ reader_bytes reader.old) }
     ensures small { IfOk result (λ _. (i : ℕ) → IsSmall (slice_index_or levels.new i (pos 0))) }
 {
@@ -125,7 +127,8 @@ fn read_behind(
     requires ahead { 256 ≤ length (reader_bits reader.old).ahead }
     requires window { IsWindow window (reader_bits reader.old) }
     requires short { code.length ≤ 16 }
-    ensures read { ReadsFrom result (take max block.new) (block_behind max code.token) (passed (reader_bits reader.old) code.length) (reader_bits reader.new) }
+    ensures read { ReadsFrom result (take max block.new) (block_behind max code.token)
+        (passed (reader_bits reader.old) code.length) (reader_bits reader.new) }
     ensures bytes { IfOk result (λ _. reader_bytes reader.new ≡ reader_bytes reader.old) }
     ensures rest { IfOk result (λ _. drop max block.new ≡ replicate (16 - max) (pos 0)) }
     ensures count { IfOk result (λ total. total ≡ total_coeff (take max block.new)) }
@@ -192,7 +195,8 @@ fn read_behind_near_end(
     requires some { 1 ≤ token.total }
     requires few { max ≤ 16 }
     requires zero { block.old ≡ replicate 16 (pos 0) }
-    ensures read { ReadsInto result (take max block.new) (block_behind max token) reader.old reader.new }
+    ensures read { ReadsInto result (take max block.new) (block_behind max token) reader.old
+        reader.new }
     ensures rest { IfOk result (λ _. drop max block.new ≡ replicate (16 - max) (pos 0)) }
     ensures count { IfOk result (λ total. total ≡ total_coeff (take max block.new)) }
     ensures small { IfOk result (λ _. (i : ℕ) → IsSmall (slice_index_or block.new i (pos 0))) }

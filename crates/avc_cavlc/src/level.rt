@@ -8,7 +8,8 @@ ghost use Rattle.avc_vlc.specs.Reading.{IsToken};
 ghost use Rattle.avc_cavlc.specs.Block.{IsLevel, level, level_code, level_of_code};
 ghost use Rattle.avc_cavlc.specs.Block.{next_suffix_length, suffix_size, token_levels};
 ghost use Rattle.avc_cavlc.specs.Block.{trailing_one};
-ghost use Rattle.avc_cavlc.specs.Steps.{AreRead, AreShortLevels, IsLongCode, ReadsCode, ReadsFrom, ReadsInto};
+ghost use Rattle.avc_cavlc.specs.Steps.{AreRead, AreShortLevels, IsLongCode, ReadsCode, ReadsFrom};
+ghost use Rattle.avc_cavlc.specs.Steps.{ReadsInto};
 ghost use Rattle.avc_cavlc.specs.Steps.{ReadsLevel, left_from, one_of_sign, raised, short_level};
 ghost use Rattle.avc_cavlc.specs.Steps.{stage_above, stage_length, three_ones};
 
@@ -54,7 +55,8 @@ pub(crate) fn read_levels(
     values: &mut [i16; 16],
 ) -> Result<(), Fault>
     requires token { IsToken token }
-    ensures read { ReadsInto result (take token.total values.new) (token_levels token) reader.old reader.new }
+    ensures read { ReadsInto result (take token.total values.new) (token_levels token) reader.old
+        reader.new }
     ensures size { IfOk result (λ _. All IsLevel (take token.total values.new)) }
 {
     let first = read_ones(reader, token, values)?;
@@ -95,7 +97,8 @@ fn read_first(
     requires short { code.length ≤ 16 }
     requires ahead { 256 ≤ length (reader_bits reader.old).ahead }
     requires window { IsWindow window (reader_bits reader.old) }
-    ensures read { AreRead (token_levels code.token (passed (reader_bits reader.old) code.length)) code.token.total
+    ensures read { AreRead (token_levels code.token (passed (reader_bits reader.old) code.length))
+        code.token.total
         result.count result.stage values.new (reader_bits reader.new) }
     ensures bytes { reader_bytes reader.new ≡ reader_bytes reader.old }
 {
@@ -125,7 +128,8 @@ fn read_ones(
 ) -> Result<Progress, Fault>
     requires token { IsToken token }
     ensures read { MatchResult result
-        (λ first. AreRead (token_levels token (reader_bits reader.old)) token.total first.count first.stage values.new (reader_bits reader.new))
+        (λ first. AreRead (token_levels token (reader_bits reader.old)) token.total first.count
+        first.stage values.new (reader_bits reader.new))
         (λ fault. token_levels token (reader_bits reader.old) ≡ Err fault) }
     ensures bytes { IfOk result (λ _. reader_bytes reader.new ≡ reader_bytes reader.old) }
 {
@@ -141,7 +145,8 @@ fn read_ones(
 fn first_stage(token: Token) -> u8
     requires { token.ones ≤ 3 }
     ensures below { result < 9 }
-    ensures length { stage_length result ≡ (if nat_lt 10 token.total && nat_lt token.ones 3 then 1 else 0) }
+    ensures length { stage_length result
+        ≡ (if nat_lt 10 token.total && nat_lt token.ones 3 then 1 else 0) }
     ensures above { stage_above result ≡ nat_lt token.ones 3 }
 {
     if token.ones == 3 {
@@ -157,7 +162,8 @@ fn first_stage(token: Token) -> u8
 #[inline(always)]
 fn read_trailing_ones(reader: &mut BitReader, ones: u8, values: &mut [i16; 16]) -> Result<(), Fault>
     requires few { ones ≤ 3 }
-    ensures read { ReadsInto result (take ones values.new) (times ones trailing_one) reader.old reader.new }
+    ensures read { ReadsInto result (take ones values.new) (times ones trailing_one) reader.old
+        reader.new }
     ensures size { IfOk result (λ _. All IsLevel (take ones values.new)) }
 {
     if ones == 0 {
@@ -216,7 +222,8 @@ fn read_others(
     requires size { All IsLevel (take first.count values.old) }
     requires stage { first.stage < 9 }
     ensures read { ReadsInto result (take total values.new)
-        (left_from (take first.count values.old) (total - first.count) first.stage) reader.old reader.new }
+        (left_from (take first.count values.old) (total - first.count) first.stage) reader.old
+        reader.new }
     ensures size { IfOk result (λ _. All IsLevel (take total values.new)) }
 {
     let mut stage = first.stage;
@@ -248,7 +255,8 @@ fn read_window(
     requires few { total ≤ 16 }
     requires size { All IsLevel (take next.count values.old) }
     requires stage { next.stage < 9 }
-    ensures read { AreRead (left_from (take next.count values.old) (total - next.count) next.stage (reader_bits reader.old))
+    ensures read { AreRead (left_from (take next.count values.old) (total - next.count) next.stage
+        (reader_bits reader.old))
         total result.count result.stage values.new (reader_bits reader.new) }
     ensures least { next.count ≤ result.count }
     ensures bytes { reader_bytes reader.new ≡ reader_bytes reader.old }
@@ -276,7 +284,8 @@ fn read_short_levels(
     requires stage { first.stage < 9 }
     requires window { IsWindow window (reader_bits reader.old) }
     requires front { front ≤ 19 }
-    ensures read { AreRead (left_from (take first.count values.old) (total - first.count) first.stage (passed (reader_bits reader.old) front))
+    ensures read { AreRead (left_from (take first.count values.old) (total - first.count)
+        first.stage (passed (reader_bits reader.old) front))
         total result.count result.stage values.new (reader_bits reader.new) }
     ensures least { first.count ≤ result.count }
     ensures bytes { reader_bytes reader.new ≡ reader_bytes reader.old }
@@ -305,7 +314,8 @@ fn read_short_levels(
 #[inline(always)]
 fn read_level(reader: &mut BitReader, stage: u8) -> Result<Level, Fault>
     requires stage { stage < 9 }
-    ensures read { ReadsLevel result (level (stage_length stage) (stage_above stage)) reader.old reader.new }
+    ensures read { ReadsLevel result (level (stage_length stage) (stage_above stage)) reader.old
+        reader.new }
     ensures size { IfOk result (λ l. IsLevel l.value) }
     ensures next { IfOk result (λ l. l.next ≡ next_suffix_length (stage_length stage) l.value) }
 {
@@ -343,7 +353,8 @@ fn short_level_in(tables: &[[Level; 128]; 9], stage: usize, bits: usize) -> Leve
 #[inline(always)]
 fn read_long_level(reader: &mut BitReader, stage: u8) -> Result<Level, Fault>
     requires stage { stage < 9 }
-    ensures read { ReadsLevel result (level (stage_length stage) (stage_above stage)) reader.old reader.new }
+    ensures read { ReadsLevel result (level (stage_length stage) (stage_above stage)) reader.old
+        reader.new }
     ensures size { IfOk result (λ l. IsLevel l.value) }
     ensures next { IfOk result (λ l. l.next ≡ next_suffix_length (stage_length stage) l.value) }
 {

@@ -1,6 +1,7 @@
 //! total_zeros, the runs, and the places of the levels (9.2.3).
 ghost use Rattle.std.specs.Prelude.{◌≡◌, ◌+◌, ◌-◌, ◌≤◌, ◌<◌, ◌++◌, ℕ, ℤ, pos, List, drop, length};
-ghost use Rattle.std.specs.Prelude.{replicate, reverse, slice_index_or, take, IfOk, All, MatchResult, Ok, Err};
+ghost use Rattle.std.specs.Prelude.{replicate, reverse, slice_index_or, take, IfOk, All};
+ghost use Rattle.std.specs.Prelude.{MatchResult, Ok, Err};
 ghost use Rattle.avc_types.specs.Macroblock.{total_coeff};
 ghost use Rattle.avc_cavlc.specs.Block.{IsLevel, IsSmall};
 ghost use Rattle.avc_cavlc.specs.Steps.{ArePlaced, ReadsInto, placed_by_runs, placed_by_zeros};
@@ -35,7 +36,8 @@ pub(crate) fn read_placed(
     requires few { max ≤ 16 }
     requires size { All IsLevel (take total values.now) }
     requires zero { block.old ≡ replicate 16 (pos 0) }
-    ensures read { ReadsInto result block.new (placed_by_zeros max (take total values.now) total) reader.old reader.new }
+    ensures read { ReadsInto result block.new (placed_by_zeros max (take total values.now) total)
+        reader.old reader.new }
     ensures count { IfOk result (λ _. total_coeff block.new ≡ total) }
     ensures small { IfOk result (λ _. (i : ℕ) → IsSmall (slice_index_or block.new i (pos 0))) }
 {
@@ -60,8 +62,10 @@ fn place_first(
     requires zero { block.old ≡ replicate 16 (pos 0) }
     ensures read { MatchResult result
         (λ p. placed_by_zeros max (take total values.now) total (reader_bits reader.old)
-        ≡ placed_others (take total values.now) total p.count p.zeros_left block.new (reader_bits reader.new))
-        (λ fault. placed_by_zeros max (take total values.now) total (reader_bits reader.old) ≡ Err fault) }
+        ≡ placed_others (take total values.now) total p.count p.zeros_left block.new
+        (reader_bits reader.new))
+        (λ fault. placed_by_zeros max (take total values.now) total (reader_bits reader.old)
+        ≡ Err fault) }
     ensures placed { IfOk result (λ p. ArePlaced total p.count p.zeros_left block.new) }
     ensures bytes { IfOk result (λ _. reader_bytes reader.new ≡ reader_bytes reader.old) }
 {
@@ -89,8 +93,10 @@ fn place_short(
     requires ahead { 256 ≤ length (reader_bits reader.old).ahead }
     ensures read { MatchResult result
         (λ p. placed_by_zeros max (take total values.now) total (reader_bits reader.old)
-        ≡ placed_others (take total values.now) total p.count p.zeros_left block.new (reader_bits reader.new))
-        (λ fault. placed_by_zeros max (take total values.now) total (reader_bits reader.old) ≡ Err fault) }
+        ≡ placed_others (take total values.now) total p.count p.zeros_left block.new
+        (reader_bits reader.new))
+        (λ fault. placed_by_zeros max (take total values.now) total (reader_bits reader.old)
+        ≡ Err fault) }
     ensures placed { IfOk result (λ p. ArePlaced total p.count p.zeros_left block.new) }
     ensures bytes { IfOk result (λ _. reader_bytes reader.new ≡ reader_bytes reader.old) }
 {
@@ -124,8 +130,10 @@ fn place_none(
     requires zero { block.old ≡ replicate 16 (pos 0) }
     ensures read { MatchResult result
         (λ p. placed_by_zeros max (take total values.now) total (reader_bits reader.old)
-        ≡ placed_others (take total values.now) total p.count p.zeros_left block.new (reader_bits reader.new))
-        (λ fault. placed_by_zeros max (take total values.now) total (reader_bits reader.old) ≡ Err fault) }
+        ≡ placed_others (take total values.now) total p.count p.zeros_left block.new
+        (reader_bits reader.new))
+        (λ fault. placed_by_zeros max (take total values.now) total (reader_bits reader.old)
+        ≡ Err fault) }
     ensures placed { IfOk result (λ p. ArePlaced total p.count p.zeros_left block.new) }
     ensures bytes { IfOk result (λ _. reader_bytes reader.new ≡ reader_bytes reader.old) }
 {
@@ -142,7 +150,8 @@ fn read_zeros(reader: &mut BitReader, total: u8, max: u8) -> Result<u8, Fault>
     requires some { 1 ≤ total }
     requires room { total ≤ max }
     ensures read { MatchResult result
-        (λ zeros. zeros_within max total (reader_bits reader.old) ≡ Ok (zeros, reader_bits reader.new))
+        (λ zeros. zeros_within max total (reader_bits reader.old)
+        ≡ Ok (zeros, reader_bits reader.new))
         (λ fault. zeros_within max total (reader_bits reader.old) ≡ Err fault) }
     ensures room { IfOk result (λ zeros. total + zeros ≤ max) }
     ensures bytes { IfOk result (λ _. reader_bytes reader.new ≡ reader_bytes reader.old) }
@@ -181,8 +190,10 @@ fn place_by_window(
     requires front { front ≤ 9 }
     requires size { All IsLevel (take total values.now) }
     requires zero { block.old ≡ replicate 16 (pos 0) }
-    ensures read { (b : Bits) → IsWindow window b → placed_by_runs 16 (take total values.now) total zeros (passed b front)
-        ≡ placed_others (take total values.now) total result.count result.zeros_left block.new (passed b result.length) }
+    ensures read { (b : Bits) → IsWindow window b →
+        placed_by_runs 16 (take total values.now) total zeros (passed b front)
+        ≡ placed_others (take total values.now) total result.count result.zeros_left block.new
+        (passed b result.length) }
     ensures placed { ArePlaced total result.count result.zeros_left block.new }
     ensures few { result.length ≤ 57 }
 {
@@ -222,7 +233,8 @@ fn place_runs(
     requires size { All IsLevel (take total values.now) }
     requires placed { ArePlaced total first.count first.zeros_left block.old }
     ensures read { ReadsInto result block.new
-        (placed_others (take total values.now) total first.count first.zeros_left block.old) reader.old reader.new }
+        (placed_others (take total values.now) total first.count first.zeros_left block.old)
+        reader.old reader.new }
     ensures count { IfOk result (λ _. total_coeff block.new ≡ total) }
     ensures small { IfOk result (λ _. (i : ℕ) → IsSmall (slice_index_or block.new i (pos 0))) }
 {
@@ -251,8 +263,10 @@ fn place_others(values: &[i16; 16], first: usize, total: usize, zeros: usize, bl
     requires size { All IsLevel (take total values.now) }
     requires small { (i : ℕ) → IsSmall (slice_index_or block.old i (pos 0)) }
     ensures front { take zeros block.new ≡ take zeros block.old }
-    ensures behind { drop zeros block.new ≡ reverse (drop first (take total values.now)) ++ drop (total - first + zeros) block.old }
-    ensures count { total_coeff (drop zeros block.new) ≡ total_coeff (drop (total - first + zeros) block.old) + (total - first) }
+    ensures behind { drop zeros block.new ≡ reverse (drop first (take total values.now))
+        ++ drop (total - first + zeros) block.old }
+    ensures count { total_coeff (drop zeros block.new)
+        ≡ total_coeff (drop (total - first + zeros) block.old) + (total - first) }
     ensures small { (i : ℕ) → IsSmall (slice_index_or block.new i (pos 0)) }
 {
     let mut place = total - first + zeros;

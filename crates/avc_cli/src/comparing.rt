@@ -24,8 +24,10 @@ pub fn compare_files<R: Read, W: Write, E: Write, V: Watch>(
     writer: &mut W,
     console: &mut Console<'_, E, V>,
 ) -> Ending
-    ensures { EndsComparingFile console.old.names request.now.other console.old.is_explained comparing
-        (R.remaining reader.old) (R.remaining reader.new) (W.contents writer.old) (W.contents writer.new)
+    ensures { EndsComparingFile console.old.names request.now.other console.old.is_explained
+        comparing
+        (R.remaining reader.old) (R.remaining reader.new) (W.contents writer.old)
+        (W.contents writer.new)
         (E.contents console.old.errors) (E.contents console.new.errors) result }
 {
     let name = request.other;
@@ -60,7 +62,8 @@ fn explain_if_wanted<W: Write, E: Write, V: Watch>(
     writer: &mut W,
     console: &mut Console<'_, E, V>,
 ) -> Ending
-    ensures { IsExplained is_wanted (W.contents writer.old) (W.contents writer.new) (E.contents console.old.errors)
+    ensures { IsExplained is_wanted (W.contents writer.old) (W.contents writer.new)
+        (E.contents console.old.errors)
         (E.contents console.new.errors) ending result }
 {
     if !is_wanted || ending.status != DIFFERS {
@@ -83,7 +86,8 @@ fn compare_with<R: Read, S: Read, W: Write, E: Write, V: Watch>(
     console: &mut Console<'_, E, V>,
 ) -> Ending
     ensures { EndsComparingFile console.old.names name.entry console.old.is_explained comparing
-        (R.remaining reader.old) (R.remaining reader.new) (W.contents writer.old) (W.contents writer.new)
+        (R.remaining reader.old) (R.remaining reader.new) (W.contents writer.old)
+        (W.contents writer.new)
         (E.contents console.old.errors) (E.contents console.new.errors) result }
 {
     let is_explained = console.is_explained;
@@ -118,7 +122,8 @@ fn comparison_of(comparing: Comparing, size: Option<PictureSize>) -> Comparison
 
 // Tells that the other's file can't be read.
 fn fail_to_read<E: Write, V: Watch>(name: Option<&str>, console: &mut Console<'_, E, V>) -> Ending
-    ensures { IsNotRead name.entry (E.contents console.old.errors) (E.contents console.new.errors) result }
+    ensures { IsNotRead name.entry (E.contents console.old.errors) (E.contents console.new.errors)
+        result }
 {
     let names = Names {
         input: name,

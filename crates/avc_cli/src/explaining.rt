@@ -20,8 +20,8 @@ const IN_ANOTHER_ORDER: &str =
 /// Where the macroblock does not come again as it did.
 const NOT_TOLD: &str = "the stage of the first difference is not told: it did not come again\n";
 
-/// Compares the two files again, and where a picture differs tells of the macroblock at which that may
-/// begin.
+/// Compares the two files again, and where a picture differs tells of the macroblock at which that
+/// may begin.
 pub(crate) fn explain_difference<W: Write>(
     rt: &HostRuntime,
     how: Comparison,

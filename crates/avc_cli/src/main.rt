@@ -1,4 +1,5 @@
-//! `avcdec`: decodes a byte stream of H.264 (Annex B), shows what is in it, and cuts it, on the command line.
+//! `avcdec`: decodes a byte stream of H.264 (Annex B), shows what is in it, and cuts it, on the
+//! command line.
 #![tactic(auto)]
 
 ghost use Rattle.std.specs.Prelude.{◌≡◌, true, is_some};
@@ -42,8 +43,10 @@ impl Commands for WholeProgram {
         writer: &mut W,
         console: &mut Console<'_, E, V>,
     ) -> Ending
-        ensures { EndsTask request.now.task request.now.other (is_some request.now.numbered) console.old.names console.old.is_explained
-            (R.remaining reader.old) (R.remaining reader.new) (W.contents writer.old) (W.contents writer.new)
+        ensures { EndsTask request.now.task request.now.other (is_some request.now.numbered)
+            console.old.names console.old.is_explained
+            (R.remaining reader.old) (R.remaining reader.new) (W.contents writer.old)
+            (W.contents writer.new)
             (E.contents console.old.errors) (E.contents console.new.errors) result }
     {
         let alloc = rt.alloc();

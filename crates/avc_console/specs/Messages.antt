@@ -1,5 +1,6 @@
 -- What the program tells on the standard error.
-use Rattle.std.specs.Prelude.{ℕ, Bool, if◌then◌else◌, List, ◌∷◌, ◌++◌, [], Option, Some, None, Result, Ok, Err, codes}
+use Rattle.std.specs.Prelude.{ℕ, Bool, if◌then◌else◌, List, ◌∷◌, ◌++◌, [], Option, Some, None}
+use Rattle.std.specs.Prelude.{Result, Ok, Err, codes}
 use Rattle.std.specs.List.{flat_map}
 use Rattle.std.specs.Borrow.{Bor}
 use Rattle.std.specs.Fmt.{decimal}
@@ -8,7 +9,8 @@ use Rattle.avc_types.specs.Faults.{number_of, name_of}
 use Rattle.avc_explain.specs.Explanations.{explained_line, waits_line}
 use Rattle.avc_console.specs.declared.console.Names.{Names}
 use Rattle.avc_console.specs.declared.fault.RunFault.{RunFault}
-use Rattle.avc_console.specs.declared.fault.RunFault.TheVariants.{Read, Endless, Write, Memory, Size}
+use Rattle.avc_console.specs.declared.fault.RunFault.TheVariants.{Read, Endless, Write, Memory}
+use Rattle.avc_console.specs.declared.fault.RunFault.TheVariants.{Size}
 use Rattle.avc_console.specs.declared.report.Report.{Report}
 
 -- the end of a line
@@ -18,11 +20,13 @@ newline = 10 ∷ []
 -- of the unit at this place among the stream's units, which has this fault
 abbrev pub refusal_line : ℕ × Fault → List ℕ
 refusal_line (unit, fault) =
-    codes "refused unit " ++ decimal unit ++ codes ": " ++ decimal (number_of fault) ++ codes " " ++ name_of fault ++ newline
+    codes "refused unit " ++ decimal unit ++ codes ": " ++ decimal (number_of fault) ++ codes " "
+    ++ name_of fault ++ newline
 
 -- and behind it, where that is wanted, the line that says what it means
 unfoldable pub refusal_text : (explained : Bool) → ℕ × Fault → List ℕ
-refusal_text explained refusal = refusal_line refusal ++ (if explained then explained_line refusal else [])
+refusal_text explained refusal =
+    refusal_line refusal ++ (if explained then explained_line refusal else [])
 
 -- of each refusal, in order
 abbrev pub refusal_texts : (explained : Bool) → List (ℕ × Fault) → List ℕ

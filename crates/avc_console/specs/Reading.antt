@@ -1,4 +1,5 @@
--- What a run takes from its reader and gives to its writer. Where one of them doesn't tell its bytes, nothing is said of these.
+-- What a run takes from its reader and gives to its writer. Where one of them doesn't tell its
+-- bytes, nothing is said of these.
 use Rattle.std.specs.Prelude.{◌≡◌, ℕ, ◌<◌, ◌≤◌, Bool, true, List, length, take, Option}
 use Rattle.std.specs.Io.KnownBytes.{Appends, Consumes, IsAtEnd}
 

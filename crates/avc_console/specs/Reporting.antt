@@ -19,7 +19,8 @@ pub record Reported : Type 0 where
 
 -- with one picture more
 abbrev pub with_picture : Reported → Reported
-with_picture r = record r { report = record r.report { pictures = saturated (r.report.pictures + 1) } }
+with_picture r =
+    record r { report = record r.report { pictures = saturated (r.report.pictures + 1) } }
 
 -- with one refusal more
 abbrev pub with_refusal : Report → ℕ × Fault → Report

@@ -2,7 +2,8 @@
 use Rattle.std.specs.Prelude.{ℕ, ◌==◌, Bool, if◌then◌else◌, List, [], ◌∷◌, Result, Ok, Err}
 use Rattle.avc_types.specs.declared.fault.Fault.{Fault}
 use Rattle.avc_console.specs.declared.fault.RunFault.{RunFault}
-use Rattle.avc_console.specs.declared.fault.RunFault.TheVariants.{Read, Endless, Write, Memory, Size}
+use Rattle.avc_console.specs.declared.fault.RunFault.TheVariants.{Read, Endless, Write, Memory}
+use Rattle.avc_console.specs.declared.fault.RunFault.TheVariants.{Size}
 use Rattle.avc_console.specs.declared.report.Report.{Report}
 use Rattle.avc_console.specs.declared.exit.Answer.{Answer}
 use Rattle.avc_console.specs.declared.exit.Answer.TheVariants.{Help, Misuse}

@@ -11,5 +11,7 @@ Tells before now text false = WritesFirst before now text
 
 -- Behind whatever was told since any start this text was told. Where not all of that was, nothing
 -- more is.
-pub record TellsMore (was : Bool) (before now : Option (List ℕ)) (text : List ℕ) (is : Bool) : Type 0 where
-  pub on : (start : Option (List ℕ)) (so_far : List ℕ) → Tells start before so_far was → Tells start now (so_far ++ text) is
+pub record TellsMore (was : Bool) (before now : Option (List ℕ)) (text : List ℕ)
+    (is : Bool) : Type 0 where
+  pub on : (start : Option (List ℕ)) (so_far : List ℕ) → Tells start before so_far was →
+      Tells start now (so_far ++ text) is

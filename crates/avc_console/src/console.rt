@@ -1,4 +1,5 @@
-//! What a command is given beside its input and output: names of files, the standard error, and who watches.
+//! What a command is given beside its input and output: names of files, the standard error, and who
+//! watches.
 
 use crate::fault::RunFault;
 use crate::reporter::Counts;

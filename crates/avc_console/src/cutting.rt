@@ -18,7 +18,8 @@ pub fn run_cut<R: Read, W: Write>(
     reader: &mut R,
     writer: &mut W,
 ) -> Result<bool, RunFault>
-    ensures { Cuts number (R.remaining reader.old) (R.remaining reader.new) (W.contents writer.old) (W.contents writer.new) result }
+    ensures { Cuts number (R.remaining reader.old) (R.remaining reader.new) (W.contents writer.old)
+        (W.contents writer.new) result }
 {
     pieces_come_whole();
     let mut piece = PieceText::new(alloc, number)?;

@@ -60,7 +60,8 @@ pub fn status(run: &Result<Report, RunFault>) -> u8
 /// The exit status after so many refusals, where no fault ended the run: 1 where something was
 /// refused.
 pub(crate) fn refused_status(refused: u64) -> u8
-    ensures { (refusals : List (ℕ × Refused)) → refused ≡ saturated (length refusals) → result ≡ refused_status refusals }
+    ensures { (refusals : List (ℕ × Refused)) → refused ≡ saturated (length refusals) →
+        result ≡ refused_status refusals }
 {
     if refused == 0 { 0 } else { 1 }
 }

@@ -1,4 +1,5 @@
-//! What the program tells on its console, how it ends, and what it lists and cuts of a stream without decoding it.
+//! What the program tells on its console, how it ends, and what it lists and cuts of a stream
+//! without decoding it.
 #![tactic(auto)]
 
 mod console;

@@ -33,22 +33,24 @@ pub fn run_headers<F: ListingForm + Drop, R: Read, W: Write>(
     reader: &mut R,
     writer: &mut W,
 ) -> Result<(), RunFault>
-    ensures { Lists (header_lines_so_far F.of_header) (R.remaining reader.old) (R.remaining reader.new)
+    ensures { Lists (header_lines_so_far F.of_header) (R.remaining reader.old)
+        (R.remaining reader.new)
         (W.contents writer.old) (W.contents writer.new) result }
 {
     let mut lines = HeaderLines::new(alloc, form);
     write_stream(alloc, &mut lines, reader, writer)
 }
 
-/// Writes a line of a form for each piece of a byte stream (Annex B), as soon as the end of the unit
-/// has been read with which the next one begins, or the stream's.
+/// Writes a line of a form for each piece of a byte stream (Annex B), as soon as the end of the
+/// unit has been read with which the next one begins, or the stream's.
 pub fn run_pieces<F: ListingForm + Drop, R: Read, W: Write>(
     alloc: Global,
     form: F,
     reader: &mut R,
     writer: &mut W,
 ) -> Result<(), RunFault>
-    ensures { Lists (cut_point_lines_so_far F.of_piece) (R.remaining reader.old) (R.remaining reader.new)
+    ensures { Lists (cut_point_lines_so_far F.of_piece) (R.remaining reader.old)
+        (R.remaining reader.new)
         (W.contents writer.old) (W.contents writer.new) result }
 {
     let mut lines = CutPointLines::new(alloc, form);

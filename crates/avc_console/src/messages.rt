@@ -23,8 +23,10 @@ pub(crate) fn write_fault<E: Write>(
     names: &Names<'_>,
     errors: &mut E,
 ) -> Result<(), RunFault>
-    ensures ok { OnOk result (Appends (E.contents errors.old) (E.contents errors.new) (fault_line names.now fault)) }
-    ensures err { OnErr result (WritesFirst (E.contents errors.old) (E.contents errors.new) (fault_line names.now fault)) }
+    ensures ok { OnOk result
+        (Appends (E.contents errors.old) (E.contents errors.new) (fault_line names.now fault)) }
+    ensures err { OnErr result
+        (WritesFirst (E.contents errors.old) (E.contents errors.new) (fault_line names.now fault)) }
 {
     write_text(fault_text(fault), errors)?;
     write_name(file_of(names, fault), errors)?;
@@ -55,8 +57,10 @@ fn file_of<'a>(names: &Names<'a>, fault: RunFault) -> Option<&'a str>
 }
 
 fn write_name<E: Write>(name: Option<&str>, errors: &mut E) -> Result<(), RunFault>
-    ensures ok { OnOk result (Appends (E.contents errors.old) (E.contents errors.new) (name_text name.entry)) }
-    ensures err { OnErr result (WritesFirst (E.contents errors.old) (E.contents errors.new) (name_text name.entry)) }
+    ensures ok { OnOk result
+        (Appends (E.contents errors.old) (E.contents errors.new) (name_text name.entry)) }
+    ensures err { OnErr result
+        (WritesFirst (E.contents errors.old) (E.contents errors.new) (name_text name.entry)) }
 {
     match name {
         Some(name) => {
@@ -95,7 +99,8 @@ pub fn no_piece_line(alloc: Global, number: u32) -> Result<String, OutOfMemory>
 /// Writes a text.
 pub fn write_text<W: Write>(text: &str, writer: &mut W) -> Result<(), RunFault>
     ensures ok { OnOk result (Appends (W.contents writer.old) (W.contents writer.new) text.now) }
-    ensures err { IfErr result (λ fault. (fault ≡ faults.Write) × WritesFirst (W.contents writer.old) (W.contents writer.new) text.now) }
+    ensures err { IfErr result (λ fault. (fault ≡ faults.Write) ×
+        WritesFirst (W.contents writer.old) (W.contents writer.new) text.now) }
 {
     write_all(text.as_bytes(), writer)
 }
@@ -103,7 +108,8 @@ pub fn write_text<W: Write>(text: &str, writer: &mut W) -> Result<(), RunFault>
 /// Writes all bytes.
 pub(crate) fn write_all<W: Write>(bytes: &[u8], writer: &mut W) -> Result<(), RunFault>
     ensures ok { OnOk result (Appends (W.contents writer.old) (W.contents writer.new) bytes.now) }
-    ensures err { IfErr result (λ fault. (fault ≡ faults.Write) × WritesFirst (W.contents writer.old) (W.contents writer.new) bytes.now) }
+    ensures err { IfErr result (λ fault. (fault ≡ faults.Write) ×
+        WritesFirst (W.contents writer.old) (W.contents writer.new) bytes.now) }
 {
     write_bytes(bytes, 0, writer)?;
     Ok(())

@@ -5,13 +5,15 @@ ghost use Rattle.avc_console.specs.Parts.{may_end_start_code};
 
 use memchr::memchr;
 
-/// Where the part of a read ends that begins at `begin`: behind the first start code (00 00 01) that
-/// ends behind `begin`, or with the read. The zeros of a start code may stand in the read before.
+/// Where the part of a read ends that begins at `begin`: behind the first start code (00 00 01)
+/// that ends behind `begin`, or with the read. The zeros of a start code may stand in the read
+/// before.
 pub fn part_end(piece: &[u8], begin: usize) -> usize
     requires { begin ≤ length piece.now }
     ensures within { result ≤ length piece.now }
     ensures behind { begin < length piece.now → begin < result }
-    ensures first { (place : ℕ) → begin ≤ place → place + 1 < result → may_end_start_code piece.now place ≡ false }
+    ensures first { (place : ℕ) → begin ≤ place → place + 1 < result →
+        may_end_start_code piece.now place ≡ false }
     ensures last { result < length piece.now → may_end_start_code piece.now (result - 1) ≡ true }
 {
     let mut place = begin;

@@ -32,8 +32,10 @@ pub fn tell<E: Write>(
     names: &Names<'_>,
     errors: &mut E,
 ) -> Ending
-    ensures { (start : Option (List ℕ)) → IsTold start (E.contents errors.old) (reported_by tally.now)
-        → TellsRun names.now tally.now.explained (report_in tally.now) run start (E.contents errors.new) result }
+    ensures { (start : Option (List ℕ)) →
+        IsTold start (E.contents errors.old) (reported_by tally.now)
+        → TellsRun names.now tally.now.explained (report_in tally.now) run start
+        (E.contents errors.new) result }
 {
     match run {
         Ok(()) => Ending {
@@ -52,7 +54,8 @@ fn fail_behind<E: Write>(
     errors: &mut E,
 ) -> Ending
     ensures status { result.status ≡ fault_status fault }
-    ensures told { TellsMore is_told (E.contents errors.old) (E.contents errors.new) (fault_line names.now fault) result.told }
+    ensures told { TellsMore is_told (E.contents errors.old) (E.contents errors.new)
+        (fault_line names.now fault) result.told }
 {
     if is_told {
         fail(fault, names, errors)
@@ -67,7 +70,8 @@ fn fail_behind<E: Write>(
 /// Tells of a fault, with the name of the file that it is about, where it has one.
 pub fn fail<E: Write>(fault: RunFault, names: &Names<'_>, errors: &mut E) -> Ending
     ensures status { result.status ≡ fault_status fault }
-    ensures told { Tells (E.contents errors.old) (E.contents errors.new) (fault_line names.now fault) result.told }
+    ensures told { Tells (E.contents errors.old) (E.contents errors.new)
+        (fault_line names.now fault) result.told }
 {
     let told = match write_fault(fault, names, errors) {
         Ok(()) => true,
@@ -88,8 +92,10 @@ pub fn units<F: ListingForm + Drop, R: Read, W: Write, E: Write, V>(
     writer: &mut W,
     console: &mut Console<'_, E, V>,
 ) -> Ending
-    ensures { EndsListing console.old.names (unit_lines_so_far F.of_unit) (R.remaining reader.old) (R.remaining reader.new) (W.contents writer.old)
-        (W.contents writer.new) (E.contents console.old.errors) (E.contents console.new.errors) result }
+    ensures { EndsListing console.old.names (unit_lines_so_far F.of_unit) (R.remaining reader.old)
+        (R.remaining reader.new) (W.contents writer.old)
+        (W.contents writer.new) (E.contents console.old.errors) (E.contents console.new.errors)
+        result }
 {
     let run = run_units(alloc, form, reader, writer);
     end_listing(run, &console.names, &mut console.errors)
@@ -104,8 +110,10 @@ pub fn headers<F: ListingForm + Drop, R: Read, W: Write, E: Write, V>(
     writer: &mut W,
     console: &mut Console<'_, E, V>,
 ) -> Ending
-    ensures { EndsListing console.old.names (header_lines_so_far F.of_header) (R.remaining reader.old) (R.remaining reader.new) (W.contents writer.old)
-        (W.contents writer.new) (E.contents console.old.errors) (E.contents console.new.errors) result }
+    ensures { EndsListing console.old.names (header_lines_so_far F.of_header)
+        (R.remaining reader.old) (R.remaining reader.new) (W.contents writer.old)
+        (W.contents writer.new) (E.contents console.old.errors) (E.contents console.new.errors)
+        result }
 {
     let run = run_headers(alloc, form, reader, writer);
     end_listing(run, &console.names, &mut console.errors)
@@ -120,8 +128,10 @@ pub fn pieces<F: ListingForm + Drop, R: Read, W: Write, E: Write, V>(
     writer: &mut W,
     console: &mut Console<'_, E, V>,
 ) -> Ending
-    ensures { EndsListing console.old.names (cut_point_lines_so_far F.of_piece) (R.remaining reader.old) (R.remaining reader.new) (W.contents writer.old)
-        (W.contents writer.new) (E.contents console.old.errors) (E.contents console.new.errors) result }
+    ensures { EndsListing console.old.names (cut_point_lines_so_far F.of_piece)
+        (R.remaining reader.old) (R.remaining reader.new) (W.contents writer.old)
+        (W.contents writer.new) (E.contents console.old.errors) (E.contents console.new.errors)
+        result }
 {
     let run = run_pieces(alloc, form, reader, writer);
     end_listing(run, &console.names, &mut console.errors)
@@ -149,8 +159,10 @@ pub fn cut<R: Read, W: Write, E: Write, V>(
     writer: &mut W,
     console: &mut Console<'_, E, V>,
 ) -> Ending
-    ensures { EndsCutting console.old.names number (R.remaining reader.old) (R.remaining reader.new) (W.contents writer.old)
-        (W.contents writer.new) (E.contents console.old.errors) (E.contents console.new.errors) result }
+    ensures { EndsCutting console.old.names number (R.remaining reader.old) (R.remaining reader.new)
+        (W.contents writer.old)
+        (W.contents writer.new) (E.contents console.old.errors) (E.contents console.new.errors)
+        result }
 {
     match run_cut(alloc, number, reader, writer) {
         Ok(found) => match write_no_piece(alloc, found, number, &mut console.errors) {
@@ -172,8 +184,10 @@ fn write_no_piece<E: Write>(
     number: u32,
     errors: &mut E,
 ) -> Result<bool, RunFault>
-    ensures ok { IfOk result (λ told. Tells (E.contents errors.old) (E.contents errors.new) (cut_text number found) told) }
-    ensures err { IfErr result (λ fault. (fault ≡ faults.Memory) × Keeps (E.contents errors.old) (E.contents errors.new)) }
+    ensures ok { IfOk result (λ told. Tells (E.contents errors.old) (E.contents errors.new)
+        (cut_text number found) told) }
+    ensures err { IfErr result (λ fault. (fault ≡ faults.Memory) ×
+        Keeps (E.contents errors.old) (E.contents errors.new)) }
     ensures none { OnErr result (found ≡ false) }
 {
     if found {

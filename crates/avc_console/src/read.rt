@@ -31,8 +31,10 @@ pub fn zeros(alloc: Global, count: usize) -> Result<Vec<u8>, RunFault>
 pub fn read_once<R: Read>(reader: &mut R, piece: &mut [u8]) -> Result<usize, RunFault>
     ensures length { length piece.new ≡ length piece.old }
     ensures within { IfOk result (λ len. len ≤ length piece.new) }
-    ensures bytes { IfOk result (λ len. Consumes (R.remaining reader.old) (R.remaining reader.new) (take len piece.new)) }
-    ensures last { IfOk result (λ len. len ≡ 0 → 0 < length piece.old → IsAtEnd (R.remaining reader.new)) }
+    ensures bytes { IfOk result
+        (λ len. Consumes (R.remaining reader.old) (R.remaining reader.new) (take len piece.new)) }
+    ensures last { IfOk result (λ len. len ≡ 0 → 0 < length piece.old →
+        IsAtEnd (R.remaining reader.new)) }
     ensures fault { IfErr result (λ fault. fault ≡ faults.Read) }
     ensures err { OnErr result (Keeps (R.remaining reader.old) (R.remaining reader.new)) }
 {

@@ -34,9 +34,12 @@ pub trait Reporter {
     /// A refusal has come: the place of a unit among the stream's units, from 0, and its fault. An
     /// error is want of memory to keep it.
     fn refuse<E: Write>(&mut self, unit: u64, fault: Fault, errors: &mut E) -> Result<(), RunFault>
-        ensures ok { OnOk result ((reported self.new).report ≡ with_refusal (reported self.old).report (unit, fault)) }
-        ensures err { IfErr result (λ e. (e ≡ faults.Memory) × ((reported self.new).report ≡ (reported self.old).report)) }
-        ensures told { TellsOn (reported self.old) (reported self.new) (E.contents errors.old) (E.contents errors.new) };
+        ensures ok { OnOk result ((reported self.new).report
+            ≡ with_refusal (reported self.old).report (unit, fault)) }
+        ensures err { IfErr result (λ e. (e ≡ faults.Memory) ×
+            ((reported self.new).report ≡ (reported self.old).report)) }
+        ensures told { TellsOn (reported self.old) (reported self.new) (E.contents errors.old)
+            (E.contents errors.new) };
 
     /// How many pictures and refusals were reported.
     fn counts(&self) -> Counts

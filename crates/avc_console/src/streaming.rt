@@ -3,7 +3,8 @@
 ghost use Rattle.std.specs.Prelude.{◌≡◌, ◌^◌, ◌<◌, ◌++◌, [], false, length, Err, IfErr, OnOk};
 ghost use Rattle.avc_tools.specs.Streams.{after_end, after_piece, new_stream};
 ghost use Rattle.avc_console.specs.Listing.{Lists};
-ghost use Rattle.avc_console.specs.StreamWriting.{AreWrittenBut, IsStopped, IsStoppedBehind, IsTakenIn};
+ghost use Rattle.avc_console.specs.StreamWriting.{AreWrittenBut, IsStopped, IsStoppedBehind};
+ghost use Rattle.avc_console.specs.StreamWriting.{IsTakenIn};
 ghost use Rattle.avc_console.specs.StreamWriting.{IsWhole, IsWrittenOn, StopsWriting};
 
 use crate::fault::RunFault;
@@ -14,7 +15,8 @@ use avc_tools::StreamText;
 use std::alloc::Global;
 use std::io::{Read, Write};
 
-// So many bytes of the text wait at most, to be written with others that come to it by the same read.
+// So many bytes of the text wait at most, to be written with others that come to it by the same
+// read.
 const MAX_WAITING: usize = 65_536;
 
 /// Reads a byte stream (Annex B) to its end, or until a text of it is over, and writes the text,
@@ -29,9 +31,12 @@ pub fn write_stream<T: StreamText, R: Read, W: Write>(
     requires fresh { T.so_far text.old ≡ new_stream }
     requires nothing { T.text (T.number text.old) [] false ≡ [] }
     ensures number { OnOk result (T.number text.new ≡ T.number text.old) }
-    ensures ok { OnOk result (IsWhole (T.text (T.number text.old)) (T.over (T.number text.old)) (T.so_far text.new)
-        (R.remaining reader.old) (R.remaining reader.new) (W.contents writer.old) (W.contents writer.new)) }
-    ensures err { IfErr result (λ fault. Lists (T.text (T.number text.old)) (R.remaining reader.old) (R.remaining reader.new)
+    ensures ok { OnOk result
+        (IsWhole (T.text (T.number text.old)) (T.over (T.number text.old)) (T.so_far text.new)
+        (R.remaining reader.old) (R.remaining reader.new) (W.contents writer.old)
+        (W.contents writer.new)) }
+    ensures err { IfErr result (λ fault. Lists (T.text (T.number text.old)) (R.remaining reader.old)
+        (R.remaining reader.new)
         (W.contents writer.old) (W.contents writer.new) (Err fault)) }
 {
     let mut piece = zeros(alloc, PIECE)?;
@@ -51,7 +56,8 @@ pub fn write_stream<T: StreamText, R: Read, W: Write>(
 }
 
 // The next bytes of the stream, and what comes to the text by them. They are taken in part by part,
-// in each of which one unit ends at most, so that what comes by one stands in memory, and what waits.
+// in each of which one unit ends at most, so that what comes by one stands in memory, and what
+// waits.
 fn take_in<T: StreamText, W: Write>(
     text: &mut T,
     piece: &[u8],
@@ -64,9 +70,12 @@ fn take_in<T: StreamText, W: Write>(
     ensures so_far { OnOk result (T.so_far text.new ≡ after_piece (T.so_far text.old) piece.now) }
     ensures number { OnOk result (T.number text.new ≡ T.number text.old) }
     ensures none { OnOk result (waiting.new.items ≡ []) }
-    ensures ok { OnOk result (IsWrittenOn (T.text (T.number text.old)) (T.so_far text.old) (after_piece (T.so_far text.old) piece.now)
+    ensures ok { OnOk result (IsWrittenOn (T.text (T.number text.old)) (T.so_far text.old)
+        (after_piece (T.so_far text.old) piece.now)
         (W.contents writer.old) (W.contents writer.new)) }
-    ensures err { IfErr result (λ fault. IsStopped fault (T.text (T.number text.old)) (T.so_far text.old) (after_piece (T.so_far text.old) piece.now)
+    ensures err { IfErr result
+        (λ fault. IsStopped fault (T.text (T.number text.old)) (T.so_far text.old)
+        (after_piece (T.so_far text.old) piece.now)
         (W.contents writer.old) (W.contents writer.new)) }
 {
     text.text_only_grows();
@@ -92,10 +101,14 @@ fn take_part<T: StreamText, W: Write>(
     requires short { length ((T.so_far text.old).bytes ++ part.now) < 2 ^ 64 }
     ensures so_far { OnOk result (T.so_far text.new ≡ after_piece (T.so_far text.old) part.now) }
     ensures number { OnOk result (T.number text.new ≡ T.number text.old) }
-    ensures ok { OnOk result (IsTakenIn (T.text (T.number text.old)) (T.so_far text.old) (after_piece (T.so_far text.old) part.now)
+    ensures ok { OnOk result
+        (IsTakenIn (T.text (T.number text.old)) (T.so_far text.old)
+        (after_piece (T.so_far text.old) part.now)
         waiting.old.items waiting.new.items (W.contents writer.old) (W.contents writer.new)) }
-    ensures err { IfErr result (λ fault. IsStoppedBehind fault (T.text (T.number text.old)) (T.so_far text.old)
-        (after_piece (T.so_far text.old) part.now) waiting.old.items (W.contents writer.old) (W.contents writer.new)) }
+    ensures err { IfErr result
+        (λ fault. IsStoppedBehind fault (T.text (T.number text.old)) (T.so_far text.old)
+        (after_piece (T.so_far text.old) part.now) waiting.old.items (W.contents writer.old)
+        (W.contents writer.new)) }
 {
     text.text_only_grows();
     let added = text.feed(part)?;
@@ -103,7 +116,8 @@ fn take_part<T: StreamText, W: Write>(
     Ok(())
 }
 
-// Lets these bytes wait behind those that do, which are written first where there is no room for both.
+// Lets these bytes wait behind those that do, which are written first where there is no room for
+// both.
 fn write_or_keep<W: Write>(
     waiting: &mut Vec<u8>,
     added: &[u8],
@@ -111,7 +125,8 @@ fn write_or_keep<W: Write>(
 ) -> Result<(), RunFault>
     ensures ok { OnOk result (AreWrittenBut (waiting.old.items ++ added.now) waiting.new.items
         (W.contents writer.old) (W.contents writer.new)) }
-    ensures err { IfErr result (λ fault. StopsWriting fault (W.contents writer.old) (W.contents writer.new)
+    ensures err { IfErr result
+        (λ fault. StopsWriting fault (W.contents writer.old) (W.contents writer.new)
         (waiting.old.items ++ added.now)) }
 {
     if waiting.len().saturating_add(added.len()) <= MAX_WAITING {
@@ -134,9 +149,12 @@ fn finish<T: StreamText, W: Write>(text: &mut T, writer: &mut W) -> Result<(), R
     requires short { length (T.so_far text.old).bytes < 2 ^ 64 }
     ensures so_far { OnOk result (T.so_far text.new ≡ after_end (T.so_far text.old)) }
     ensures number { OnOk result (T.number text.new ≡ T.number text.old) }
-    ensures ok { OnOk result (IsWrittenOn (T.text (T.number text.old)) (T.so_far text.old) (after_end (T.so_far text.old))
+    ensures ok { OnOk result (IsWrittenOn (T.text (T.number text.old)) (T.so_far text.old)
+        (after_end (T.so_far text.old))
         (W.contents writer.old) (W.contents writer.new)) }
-    ensures err { IfErr result (λ fault. IsStopped fault (T.text (T.number text.old)) (T.so_far text.old) (after_end (T.so_far text.old))
+    ensures err { IfErr result
+        (λ fault. IsStopped fault (T.text (T.number text.old)) (T.so_far text.old)
+        (after_end (T.so_far text.old))
         (W.contents writer.old) (W.contents writer.new)) }
 {
     text.text_only_grows();

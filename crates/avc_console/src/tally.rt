@@ -28,7 +28,12 @@ impl Model for Tally {
 
     ghost Value = { Tallied };
 
-    ghost view = { λ t. record { pictures = t.counts.pictures; refusals = t.refused.items; explained = t.is_explained; told = t.is_told } };
+    ghost view = { λ t. record {
+      pictures = t.counts.pictures;
+      refusals = t.refused.items;
+      explained = t.is_explained;
+      told = t.is_told;
+    } };
 
     ghost invariant = { λ t. t.counts.refused ≡ saturated (length t.refused.items) };
 }

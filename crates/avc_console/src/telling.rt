@@ -18,7 +18,8 @@ pub(crate) fn tell_refusal<E: Write>(
     fault: Fault,
     errors: &mut E,
 ) -> bool
-    ensures { TellsMore is_told (E.contents errors.old) (E.contents errors.new) (refusal_text is_explained (unit, fault)) result }
+    ensures { TellsMore is_told (E.contents errors.old) (E.contents errors.new)
+        (refusal_text is_explained (unit, fault)) result }
 {
     let told = tell_more(
         is_told,

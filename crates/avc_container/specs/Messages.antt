@@ -1,8 +1,11 @@
 -- What is told of a stream in which no picture was found, by its first bytes.
-use Rattle.std.specs.Prelude.{ℕ, Bool, ◌||◌, if◌then◌else◌, List, [], ◌∷◌, ◌++◌, Option, Some, None, codes}
+use Rattle.std.specs.Prelude.{ℕ, Bool, ◌||◌, if◌then◌else◌, List, [], ◌∷◌, ◌++◌, Option, Some, None}
+use Rattle.std.specs.Prelude.{codes}
 use Rattle.avc_container.specs.Containers.{container_of, has_at}
 use Rattle.avc_container.specs.declared.container.Container.{Container}
-use Rattle.avc_container.specs.declared.container.Container.TheVariants.{Avi, Flv, Ivf, Jpeg, Matroska, MpegTs, Mp4, Png, Y4m}
+use Rattle.avc_container.specs.declared.container.Container.TheVariants.{Avi, Flv, Ivf, Jpeg}
+use Rattle.avc_container.specs.declared.container.Container.TheVariants.{Matroska, MpegTs, Mp4, Png}
+use Rattle.avc_container.specs.declared.container.Container.TheVariants.{Y4m}
 
 -- what each is called
 abbrev pub name_of : Container → List ℕ
@@ -49,7 +52,8 @@ other_text (byte ∷ bytes) =
 
 -- which it is
 abbrev pub container_text : Container → List ℕ
-container_text container = codes "the first bytes are those of " ++ (name_of container ++ advice_of container)
+container_text container =
+    codes "the first bytes are those of " ++ (name_of container ++ advice_of container)
 
 -- what the first bytes are
 abbrev pub beginning_text : Option Container → (first : List ℕ) → List ℕ
@@ -62,7 +66,8 @@ newline = 10 ∷ []
 
 -- where no picture was found
 abbrev pub no_picture_line : (first : List ℕ) → List ℕ
-no_picture_line first = codes "avcdec: no picture was found; " ++ beginning_text (container_of first) first ++ newline
+no_picture_line first =
+    codes "avcdec: no picture was found; " ++ beginning_text (container_of first) first ++ newline
 
 -- of a container or picture, whatever was found
 abbrev pub container_line : Container → List ℕ

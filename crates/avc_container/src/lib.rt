@@ -1,4 +1,5 @@
-//! What is no byte stream of H.264, by its first bytes: which container or picture it is, and what makes a byte stream of it.
+//! What is no byte stream of H.264, by its first bytes: which container or picture it is, and what
+//! makes a byte stream of it.
 #![tactic(auto)]
 
 mod beginning;

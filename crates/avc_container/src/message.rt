@@ -41,7 +41,8 @@ fn add_beginning(
     container: Option<Container>,
     first: &[u8],
 ) -> Result<(), AllocError>
-    ensures { OnOk result (string_bytes line.new ≡ string_bytes line.old ++ beginning_text container first.now) }
+    ensures { OnOk result (string_bytes line.new ≡ string_bytes line.old
+        ++ beginning_text container first.now) }
 {
     match container {
         Some(container) => add_container(line, container),
@@ -53,7 +54,8 @@ fn add_beginning(
 }
 
 fn add_container(line: &mut String, container: Container) -> Result<(), AllocError>
-    ensures { OnOk result (string_bytes line.new ≡ string_bytes line.old ++ container_text container) }
+    ensures { OnOk result (string_bytes line.new ≡ string_bytes line.old
+        ++ container_text container) }
 {
     line.push_str("the first bytes are those of ")?;
     add_name(line, container)?;
@@ -62,7 +64,8 @@ fn add_container(line: &mut String, container: Container) -> Result<(), AllocErr
 
 // What it is called, and what can be done with it.
 fn add_name(line: &mut String, container: Container) -> Result<(), AllocError>
-    ensures { OnOk result (string_bytes line.new ≡ string_bytes line.old ++ (name_of container ++ advice_of container)) }
+    ensures { OnOk result (string_bytes line.new ≡ string_bytes line.old
+        ++ (name_of container ++ advice_of container)) }
 {
     line.push_str(name_of(container))?;
     line.push_str(advice_of(container))?;

@@ -18,18 +18,23 @@ abbrev pub EndsWithout : ListingEnding
 EndsWithout choice names = EndsAbsent
 
 -- A task ended so, where the pictures have a file each or not.
-abbrev pub EndsTask : Task → (other : Option (Bor (List ℕ))) → (is_each_alone : Bool) → Names → (explained : Bool) → (unread left held holds before now : Option (List ℕ)) → Ending → Type 0
+abbrev pub EndsTask : Task → (other : Option (Bor (List ℕ))) → (is_each_alone : Bool) → Names →
+    (explained : Bool) → (unread left held holds before now : Option (List ℕ)) → Ending → Type 0
 EndsTask (tasks.Decode mode) other alone names explained unread left held holds before now ending =
     EndsDecodingAs names explained plain mode unread left held holds before now ending
 EndsTask (tasks.Check mode) other alone names explained unread left held holds before now ending =
-    (holds ≡ held) × EndsDecodingAs names explained plain mode unread left None None before now ending
+    (holds ≡ held) ×
+    EndsDecodingAs names explained plain mode unread left None None before now ending
 EndsTask (tasks.Show s) other alone names explained unread left held holds before now ending =
     EndsShowing s.form s alone names explained unread left held holds before now ending
-EndsTask (tasks.Tell subject wording) other alone names explained unread left held holds before now ending =
-    EndsTelling (λ wording. EndsWithout) wording subject names unread left held holds before now ending
+EndsTask (tasks.Tell subject wording) other alone names explained unread left held holds before now
+    ending =
+    EndsTelling (λ wording. EndsWithout) wording subject names unread left held holds before now
+    ending
 EndsTask (tasks.Cut number) other alone names explained unread left held holds before now ending =
     EndsCutting names number unread left held holds before now ending
 EndsTask (tasks.Draw number) other alone names explained unread left held holds before now ending =
-    EndsShowing forms.Png (drawing_of number) true names explained unread left held holds before now ending
+    EndsShowing forms.Png (drawing_of number) true names explained unread left held holds before now
+    ending
 EndsTask (tasks.Compare how) other alone names explained unread left held holds before now ending =
     EndsAbsent unread left held holds before now ending

@@ -1,4 +1,5 @@
-//! `avcdec` without the two commands that are for test benches, `compare` and `macroblocks`, so that fewer crates are proved before the first picture.
+//! `avcdec` without the two commands that are for test benches, `compare` and `macroblocks`, so
+//! that fewer crates are proved before the first picture.
 #![tactic(auto)]
 
 ghost use Rattle.std.specs.Prelude.{false, is_some};
@@ -37,8 +38,10 @@ impl Commands for SmallProgram {
         writer: &mut W,
         console: &mut Console<'_, E, V>,
     ) -> Ending
-        ensures { EndsTask request.now.task request.now.other (is_some request.now.numbered) console.old.names console.old.is_explained
-            (R.remaining reader.old) (R.remaining reader.new) (W.contents writer.old) (W.contents writer.new)
+        ensures { EndsTask request.now.task request.now.other (is_some request.now.numbered)
+            console.old.names console.old.is_explained
+            (R.remaining reader.old) (R.remaining reader.new) (W.contents writer.old)
+            (W.contents writer.new)
             (E.contents console.old.errors) (E.contents console.new.errors) result }
     {
         let alloc = rt.alloc();

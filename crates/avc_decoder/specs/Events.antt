@@ -1,6 +1,7 @@
--- What a stream's units hand out: pictures and refusals, in order. Pictures go out by C.4; what is said of refusals is this
--- decoder's rule.
-use Rattle.std.specs.Prelude.{ℕ, ◌+◌, ◌-◌, Bool, true, false, not, ◌&&◌, List, [], ◌∷◌, ◌++◌, map, Option, Some, None, Result, Ok, Err}
+-- What a stream's units hand out: pictures and refusals, in order. Pictures go out by C.4; what is
+-- said of refusals is this decoder's rule.
+use Rattle.std.specs.Prelude.{ℕ, ◌+◌, ◌-◌, Bool, true, false, not, ◌&&◌, List, [], ◌∷◌, ◌++◌, map}
+use Rattle.std.specs.Prelude.{Option, Some, None, Result, Ok, Err}
 use Rattle.avc_types.specs.declared.fault.Fault.{Fault}
 use Rattle.avc_types.specs.declared.picture.Picture.{Picture as Decoded}
 use Rattle.avc_annexb.specs.Units.{units, saturated}
@@ -13,13 +14,15 @@ use Rattle.avc_slice.specs.declared.header.Header.{Header}
 use Rattle.avc_slice.specs.declared.slice.Slice.{Slice}
 use Rattle.avc_units.specs.Grouping.{OpenPictureFacts, step, set_units}
 use Rattle.avc_units.specs.declared.step.Next.{Next}
-use Rattle.avc_units.specs.declared.step.Next.TheVariants.{Nothing, Refusal, FaultOfOpen, FaultOfOwn, Begins, Continues}
+use Rattle.avc_units.specs.declared.step.Next.TheVariants.{Nothing, Refusal, FaultOfOpen}
+use Rattle.avc_units.specs.declared.step.Next.TheVariants.{FaultOfOwn, Begins, Continues}
 use Rattle.avc_units.specs.declared.step.Step.{Step}
 use Rattle.avc_picture.specs.Slices.{is_full}
 use Rattle.avc_dpb.specs.declared.output.Output.{Output}
 use Rattle.avc_decoder_core.specs.History.{History}
 use Rattle.avc_decoder_core.specs.Pictures.{output_pictures, held_pictures, output_at_closing}
-use Rattle.avc_decoder.specs.FirstFault.{OpenPicture, first_fault, first_header, history_of, read_of, start_on, progress_on, closed_history}
+use Rattle.avc_decoder.specs.FirstFault.{OpenPicture, first_fault, first_header, history_of}
+use Rattle.avc_decoder.specs.FirstFault.{read_of, start_on, progress_on, closed_history}
 use Rattle.avc_decoder.specs.SeenEvents.{Event}
 use Rattle.avc_decoder.specs.declared.event.Event.TheVariants.{Picture, Refused}
 
@@ -76,7 +79,11 @@ no_change p = record { events = []; phase = p; read = 0 }
 
 -- a fault in a picture: all held pictures go out, then the refusal, and decoding waits
 abbrev pub failed_at : Output → History → (unit : ℕ) → Fault → (read : ℕ) → Outcome
-failed_at output h unit f read = record { events = pictures (held_pictures output h) ++ Refused unit f ∷ []; phase = waiting; read = read }
+failed_at output h unit f read = record {
+  events = pictures (held_pictures output h) ++ Refused unit f ∷ [];
+  phase = waiting;
+  read = read;
+}
 
 -- ---- closing the open picture (8.2.5, C.4.4, C.4.5, and this decoder's rule for faults)
 
@@ -87,7 +94,11 @@ at_last_slice o (Err f) = Err ((o.last).unit, f)
 
 -- its fault, or the history with it
 abbrev pub closing_result : OpenPicture → Result History (ℕ × Fault)
-closing_result o = elim (first_fault o true) [ Some found ↦ Err found | None ↦ at_last_slice o (closed_history o (history_of o)) ]
+closing_result o =
+    elim (first_fault o true) [
+      | Some found ↦ Err found
+      | None ↦ at_last_slice o (closed_history o (history_of o))
+    ]
 
 -- what closing gives: the pictures that go out (C.4.4, C.4.5), or the refusal
 abbrev pub closed_outcome : Output → OpenPicture → Result History (ℕ × Fault) → Outcome
@@ -111,7 +122,11 @@ abbrev pub with_slice : Output → (before : History) → (already : ℕ) → Op
 with_slice output before already o =
     elim (first_fault o false) [
       | Some found ↦ failed_at output before found.0 found.1 (read_of o - already)
-      | None ↦ record { events = pictures (output_pictures output before (history_of o)); phase = running o.before (Some o); read = read_of o - already }
+      | None ↦ record {
+        events = pictures (output_pictures output before (history_of o));
+        phase = running o.before (Some o);
+        read = read_of o - already;
+      }
     ]
 
 -- two values, where both are there
@@ -122,13 +137,23 @@ both None b = None
 
 -- the sets that a readable header names, where both are there (7.4.1.2.1)
 abbrev pub sets_named : Sets → Header → Option (Pps × Sps)
-sets_named sets h = elim (sets.pps h.pic_parameter_set_id) [ None ↦ None | Some pps ↦ both (Some pps) (sets.sps pps.seq_parameter_set_id) ]
+sets_named sets h =
+    elim (sets.pps h.pic_parameter_set_id) [
+      | None ↦ None
+      | Some pps ↦ both (Some pps) (sets.sps pps.seq_parameter_set_id)
+    ]
 
 -- a slice that begins a picture, under the sets that it names
 abbrev pub after_first_slice : Output → Option (Pps × Sps) → History → Slice → Outcome
 after_first_slice output None before s = no_change (running before None)
 after_first_slice output (Some named) before s =
-    with_slice output before 0 (record { before = before; sps = named.1; pps = named.0; last = s; earlier = [] })
+    with_slice output before 0 (record {
+      before = before;
+      sps = named.1;
+      pps = named.0;
+      last = s;
+      earlier = [];
+    })
 
 -- ---- one unit (7.4.1.2, and this decoder's rule for faults)
 
@@ -145,16 +170,25 @@ base_in (running h o) = h
 
 -- a slice that continues the open picture
 abbrev pub after_next_slice : Output → Phase → Slice → Outcome
-after_next_slice output (running h (Some o)) s = with_slice output (history_of o) (read_of o) (record o { last = s; earlier = o.last ∷ o.earlier })
+after_next_slice output (running h (Some o)) s =
+    with_slice output (history_of o) (read_of o) (record o {
+      last = s;
+      earlier = o.last ∷ o.earlier;
+    })
 after_next_slice output p s = no_change p
 
 -- what the unit with this number does next
 abbrev pub after_next : Output → Sets → (unit : ℕ) → Phase → Next → Outcome
 after_next output sets unit p Nothing = no_change p
-after_next output sets unit p (Refusal f) = record { events = Refused unit f ∷ []; phase = p; read = 0 }
+after_next output sets unit p (Refusal f) = record {
+  events = Refused unit f ∷ [];
+  phase = p;
+  read = 0;
+}
 after_next output sets unit p (FaultOfOpen f) = failed_at output (history_in p) unit f 0
 after_next output sets unit p (FaultOfOwn f) = failed_at output (history_in p) unit f 0
-after_next output sets unit p (Begins s) = after_first_slice output (sets_named sets s.header) (base_in p) s
+after_next output sets unit p (Begins s) =
+    after_first_slice output (sets_named sets s.header) (base_in p) s
 after_next output sets unit p (Continues s) = after_next_slice output p s
 
 -- decoding runs
@@ -189,12 +223,16 @@ is_waiting (running h o) = false
 -- says nothing then.
 abbrev pub after_closing : Output → Sets → (unit : ℕ) → Step → Outcome → Outcome
 after_closing output sets unit what o =
-    elim (is_waiting o.phase && not what.even_after_fault) [ true ↦ o | false ↦ followed_by o (after_next output sets unit o.phase what.next) ]
+    elim (is_waiting o.phase && not what.even_after_fault) [
+      | true ↦ o
+      | false ↦ followed_by o (after_next output sets unit o.phase what.next)
+    ]
 
 -- what the step says, by the phase: the open picture is closed first where it says so
 abbrev pub in_phase : Output → Sets → (unit : ℕ) → Step → Phase → Outcome
 in_phase output sets unit what waiting = after_next output sets unit waiting what.next
-in_phase output sets unit what (running h None) = after_next output sets unit (running h None) what.next
+in_phase output sets unit what (running h None) =
+    after_next output sets unit (running h None) what.next
 in_phase output sets unit what (running h (Some o)) =
     elim what.closes [
       | true ↦ after_closing output sets unit what (closed_picture output o)
@@ -205,11 +243,16 @@ in_phase output sets unit what (running h (Some o)) =
 abbrev pub after_unit : State → Unit → Outcome
 after_unit s u =
     let sets = sets_after s.sets in
-    in_phase s.output sets u.index (step sets (is_running s.phase) (open_facts_in s.phase) u) s.phase
+    in_phase s.output sets u.index (step sets (is_running s.phase) (open_facts_in s.phase) u)
+    s.phase
 
 -- what that unit leaves to the next one
 abbrev pub state_after : State → Unit → Outcome → State
-state_after s u o = record { output = s.output; sets = s.sets ++ set_units (u ∷ []); phase = o.phase }
+state_after s u o = record {
+  output = s.output;
+  sets = s.sets ++ set_units (u ∷ []);
+  phase = o.phase;
+}
 
 -- the state after some units
 abbrev pub state_through : State → List Unit → State

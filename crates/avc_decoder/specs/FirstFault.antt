@@ -1,5 +1,6 @@
 -- The open picture, and the first fault in it in the order of checks, which is this decoder's rule.
-use Rattle.std.specs.Prelude.{ℕ, zero, suc, Bool, true, false, List, [], ◌∷◌, Option, Some, None, Result, Ok, Err}
+use Rattle.std.specs.Prelude.{ℕ, zero, suc, Bool, true, false, List, [], ◌∷◌, Option, Some, None}
+use Rattle.std.specs.Prelude.{Result, Ok, Err}
 use Rattle.avc_types.specs.declared.fault.Fault.{Fault}
 use Rattle.avc_types.specs.declared.fault.Fault.TheVariants as faults
 use Rattle.avc_plane.specs.Planes.{Planes}
@@ -8,7 +9,8 @@ use Rattle.avc_params.specs.declared.pps.Pps.{Pps}
 use Rattle.avc_slice.specs.declared.header.Header.{Header}
 use Rattle.avc_slice.specs.declared.slice.Slice.{Slice}
 use Rattle.avc_picture.specs.Slices.{PictureStart, Progress, progress, is_full, planes_after_slices}
-use Rattle.avc_decoder_core.specs.History.{History, history_at_opening, history_after_closing, stored_frames}
+use Rattle.avc_decoder_core.specs.History.{History, history_at_opening, history_after_closing}
+use Rattle.avc_decoder_core.specs.History.{stored_frames}
 
 -- The open picture: the history that it came to, its parameter sets, its last slice so far, and
 -- those before that, the newest first.
@@ -55,7 +57,9 @@ picture_planes o history = planes_after_slices (start_on o history) (slices_of o
 
 -- the history with the picture closed, on that with the missing numbers
 abbrev pub closed_history : OpenPicture → History → Result History Fault
-closed_history o history = history_after_closing o.sps (first_header o) (first_slice o).unit (picture_planes o history) history
+closed_history o history =
+    history_after_closing o.sps (first_header o) (first_slice o).unit (picture_planes o history)
+    history
 
 -- the fault of marking, with the last slice's unit
 abbrev marking_fault : OpenPicture → Result History Fault → Option (ℕ × Fault)
@@ -80,11 +84,15 @@ fault_after_slices o history false = None
 -- (this decoder's rule)
 abbrev fault_on : OpenPicture → (closing : Bool) → History → Option (ℕ × Fault)
 fault_on o closing history =
-    elim (progress_on o history).fault [ Some found ↦ Some found | None ↦ fault_after_slices o history closing ]
+    elim (progress_on o history).fault [
+      | Some found ↦ Some found
+      | None ↦ fault_after_slices o history closing
+    ]
 
 -- the fault of taking in the missing numbers, with the first slice's unit, or else what is found
 -- on the history with them (this decoder's rule)
-abbrev fault_from_opening : OpenPicture → (closing : Bool) → Result History Fault → Option (ℕ × Fault)
+abbrev fault_from_opening : OpenPicture → (closing : Bool) → Result History Fault →
+    Option (ℕ × Fault)
 fault_from_opening o closing (Err f) = Some ((first_slice o).unit, f)
 fault_from_opening o closing (Ok history) = fault_on o closing history
 

@@ -1,4 +1,5 @@
--- The frames that a picture is decoded with, and what the picture decoder then says on the history of the sequence.
+-- The frames that a picture is decoded with, and what the picture decoder then says on the history
+-- of the sequence.
 use Rattle.std.specs.Prelude.{◌≡◌, ℕ, ◌-◌, true, false, List, [], All, Some}
 use Rattle.avc_types.specs.declared.fault.Fault.{Fault}
 use Rattle.avc_plane.specs.Planes.{StoredFrame}
@@ -43,7 +44,8 @@ progress_on_history history d = progress (start_with (stored_frames history) d) 
 
 -- how many macroblocks of one slice more are read, where the picture stands on this history
 abbrev pub read_of_slice : History → Decoding 16 → Slice → ℕ
-read_of_slice history d s = (progress_on_history history (with_slice_more s d)).read - (progress_on_history history d).read
+read_of_slice history d s =
+    (progress_on_history history (with_slice_more s d)).read - (progress_on_history history d).read
 
 -- On this history the slice is the first that has a fault, and this is the fault.
 abbrev pub IsRefused : History → Decoding 16 → Slice → Fault → Type 0

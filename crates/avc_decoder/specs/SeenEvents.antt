@@ -20,6 +20,7 @@ abbrev pub seen_if_any : {P : Type 0} → (P → Decoded) → Option (EventOf P)
 seen_if_any picture event = option_map (seen_event picture) event
 
 -- the same of an answer
-abbrev pub seen_answer : {P : Type 0} → (P → Decoded) → Result (Option (EventOf P)) DecodeError → Result (Option Event) DecodeError
+abbrev pub seen_answer : {P : Type 0} → (P → Decoded) → Result (Option (EventOf P)) DecodeError →
+    Result (Option Event) DecodeError
 seen_answer picture (Ok event) = Ok (seen_if_any picture event)
 seen_answer picture (Err e) = Err e

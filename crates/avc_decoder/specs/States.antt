@@ -1,10 +1,13 @@
 -- What the decoder's parts keep.
-use Rattle.std.specs.Prelude.{◌≡◌, ℕ, zero, suc, ◌+◌, ◌-◌, ◌≤◌, Bool, true, false, not, List, [], ◌∷◌, ◌++◌, length, take, drop, Option, Some, None, IfOk, IfSome, Result, Ok, Err, slice_get}
+use Rattle.std.specs.Prelude.{◌≡◌, ℕ, zero, suc, ◌+◌, ◌-◌, ◌≤◌, Bool, true, false, not, List, []}
+use Rattle.std.specs.Prelude.{◌∷◌, ◌++◌, length, take, drop, Option, Some, None, IfOk, IfSome}
+use Rattle.std.specs.Prelude.{Result, Ok, Err, slice_get}
 use Rattle.std.specs.Option.{option_map}
 use Rattle.avc_types.specs.declared.fault.Fault.{Fault}
 use Rattle.avc_types.specs.declared.memory.OutOfMemory.{OutOfMemory}
 use Rattle.avc_types.specs.declared.picture_error.PictureError.{PictureError}
-use Rattle.avc_types.specs.declared.picture_error.PictureError.TheVariants.{Fault as Faulty, OutOfMemory as NoMemory}
+use Rattle.avc_types.specs.declared.picture_error.PictureError.TheVariants.{Fault as Faulty}
+use Rattle.avc_types.specs.declared.picture_error.PictureError.TheVariants.{OutOfMemory as NoMemory}
 use Rattle.avc_annexb.specs.SplitterState.{SplitterState, new_splitter}
 use Rattle.avc_annexb.specs.Units.{units, units_begun, saturated}
 use Rattle.avc_annexb.specs.declared.unit.Unit.{Unit as Piece}
@@ -16,7 +19,8 @@ use Rattle.avc_slice.specs.Begins.{begins}
 use Rattle.avc_slice.specs.declared.header.Header.{Header}
 use Rattle.avc_slice.specs.declared.slice.Slice.{Slice}
 use Rattle.avc_plane.specs.Spare.{Spare, most_closed}
-use Rattle.avc_picture.specs.Decoding.{Decoding, HasNoFault, HasRead, IsFull, IsSliceAnswer, with_slice_more}
+use Rattle.avc_picture.specs.Decoding.{Decoding, HasNoFault, HasRead, IsFull, IsSliceAnswer}
+use Rattle.avc_picture.specs.Decoding.{with_slice_more}
 use Rattle.avc_units.specs.GrouperState.{IfSlice, IsSliceUnder, open_picture_of}
 use Rattle.avc_units.specs.Grouping.{set_units, step}
 use Rattle.avc_units.specs.declared.step.Next.{Next}
@@ -24,12 +28,15 @@ use Rattle.avc_units.specs.declared.step.Next.TheVariants.{Begins, Continues}
 use Rattle.avc_units.specs.declared.step.Step.{Step}
 use Rattle.avc_dpb.specs.declared.output.Output.{Output}
 use Rattle.avc_decoder_core.specs.History.{History, history_at_opening}
-use Rattle.avc_decoder_core.specs.SequenceState.{OpenPictureStart, SequenceState, empty_sequence, current_history}
+use Rattle.avc_decoder_core.specs.SequenceState.{OpenPictureStart, SequenceState, empty_sequence}
+use Rattle.avc_decoder_core.specs.SequenceState.{current_history}
 use Rattle.avc_decoder.specs.FirstFault.{OpenPicture, oldest}
 use Rattle.avc_decoder.specs.QueueState.{QueueState, after_queue_take, with_events}
 use Rattle.avc_decoder.specs.PictureFrames.{HasItsFrames, IsRefused, read_of_slice}
-use Rattle.avc_decoder.specs.Events.{Phase, waiting, running, State, first_state, Outcome, no_change, failed_at}
-use Rattle.avc_decoder.specs.Events.{closed_picture, after_unit, state_after, state_through, events, turns, at_end}
+use Rattle.avc_decoder.specs.Events.{Phase, waiting, running, State, first_state, Outcome}
+use Rattle.avc_decoder.specs.Events.{no_change, failed_at}
+use Rattle.avc_decoder.specs.Events.{closed_picture, after_unit, state_after, state_through, events}
+use Rattle.avc_decoder.specs.Events.{turns, at_end}
 use Rattle.avc_decoder.specs.Machine.{Machine, IsCount, IsUpToUnit}
 use Rattle.avc_decoder.specs.SeenEvents.{Event}
 use Rattle.avc_decoder.specs.declared.parts.Fed.{Fed}
@@ -64,13 +71,20 @@ without_picture (Running current) = Running None
 -- the open picture of these slices, the newest first
 abbrev pub open_picture_from : History → Sps → Pps → List Slice → Option OpenPicture
 open_picture_from h sps pps [] = None
-open_picture_from h sps pps (s ∷ earlier) = Some (record { before = h; sps = sps; pps = pps; last = s; earlier = earlier })
+open_picture_from h sps pps (s ∷ earlier) = Some (record {
+  before = h;
+  sps = sps;
+  pps = pps;
+  last = s;
+  earlier = earlier;
+})
 
 -- what decoding waits for, or goes on with, for which this phase stands beside this sequence
 abbrev pub phase_of : SequenceState → PhaseHere → Phase
 phase_of s Waiting = waiting
 phase_of s (Running None) = running s.history None
-phase_of s (Running (Some c)) = running s.history (open_picture_from s.history (c.decoder).sps (c.decoder).pps
+phase_of s (Running (Some c)) =
+    running s.history (open_picture_from s.history (c.decoder).sps (c.decoder).pps
     (c.decoder).slices)
 
 -- the parameter set of the open picture, and its first slice's header and unit
@@ -88,9 +102,11 @@ pub record IsOpenIn (s : SequenceState) (c : CurrentPicture) : Type 0 where
   pub unit : c.last_unit ≡ last.unit
   pub frames : HasItsFrames s last.header c.decoder
   pub well : HasNoFault c.decoder
-  pub open_picture : s.open_picture ≡ Some (open_picture_start (c.decoder).sps (oldest last earlier))
+  pub open_picture : s.open_picture
+      ≡ Some (open_picture_start (c.decoder).sps (oldest last earlier))
   pub first : ((oldest last earlier).header).first_mb_in_slice ≡ 0
-  pub stands : history_at_opening (c.decoder).sps (oldest last earlier).header s.history ≡ Ok (current_history s)
+  pub stands : history_at_opening (c.decoder).sps (oldest last earlier).header s.history
+      ≡ Ok (current_history s)
 
 -- No picture is open in the sequence.
 pub record IsClosedIn (s : SequenceState) : Type 0 where
@@ -131,7 +147,9 @@ planes_left_over s = length s.closed + one_if_any s.open_planes
 
 -- how many frames there is memory of: the stored ones, the open picture, and what is left over
 abbrev pub frames_in : Stream → ℕ
-frames_in s = length (s.sequence).frames + one_if_any (current_in s.phase) + planes_left_over (s.memory).planes
+frames_in s =
+    length (s.sequence).frames + one_if_any (current_in s.phase)
+    + planes_left_over (s.memory).planes
 
 -- There are never more: 16 that are stored (A.3.1), the open picture, and what is left over.
 abbrev pub most_frames : ℕ
@@ -144,7 +162,8 @@ more_read before (suc more) = saturated (before + suc more)
 
 -- What these stood for has come to this outcome. When pictures go out is as it was, and so are the
 -- parameter sets.
-pub record ComesTo (output : Output) (q : QueueState) (read : ℕ) (table : List SetUnit) (o : Outcome)
+pub record ComesTo (output : Output) (q : QueueState) (read : ℕ) (table : List SetUnit)
+    (o : Outcome)
     (s' : SequenceState) (phase' : PhaseHere) (q' : QueueState) (read' : ℕ) (table' : List SetUnit)
     : Type 0 where
   pub works : Works (sets_after table') s' phase'
@@ -157,10 +176,12 @@ pub record ComesTo (output : Output) (q : QueueState) (read : ℕ) (table : List
 -- the stream has
 abbrev pub HasOutcome : Stream → Outcome → Stream → Type 0
 HasOutcome old o new =
-    ComesTo (old.sequence).output old.queue old.read old.table o new.sequence new.phase new.queue new.read new.table
+    ComesTo (old.sequence).output old.queue old.read old.table o new.sequence new.phase new.queue
+    new.read new.table
 
 -- The history is forgotten after these events, and decoding waits.
-pub record Stops (output : Output) (q : QueueState) (more : List Event) (s' : SequenceState) (phase' : PhaseHere)
+pub record Stops (output : Output) (q : QueueState) (more : List Event) (s' : SequenceState)
+    (phase' : PhaseHere)
     (q' : QueueState) : Type 0 where
   pub sequence : s' ≡ empty_sequence output
   pub phase : phase' ≡ Waiting
@@ -169,7 +190,8 @@ pub record Stops (output : Output) (q : QueueState) (more : List Event) (s' : Se
 -- the stream's is
 abbrev pub WaitsAfter : Stream → List Event → Stream → Type 0
 WaitsAfter old more new =
-    Stops (old.sequence).output old.queue more new.sequence new.phase new.queue × (new.read ≡ old.read) ×
+    Stops (old.sequence).output old.queue more new.sequence new.phase new.queue ×
+    (new.read ≡ old.read) ×
     (new.table ≡ old.table)
 
 -- what closing the open picture gives, if there is one
@@ -184,7 +206,9 @@ pub record HasStep (table : List SetUnit) (phase : PhaseHere) (u : Piece) (what 
     (table' : List SetUnit) : Type 0 where
   pub full : Bool
   pub is_full : IfSome (current_in phase) (λ c. IsFull full c.decoder)
-  pub is : what ≡ step (sets_after table) (not (is_waiting_in phase)) (open_picture_of full (last_header_in phase)) u
+  pub is : what
+      ≡ step (sets_after table) (not (is_waiting_in phase))
+      (open_picture_of full (last_header_in phase)) u
   pub put : table' ≡ table ++ set_units (u ∷ [])
   pub under : IfSlice what.next (IsSliceUnder (sets_after table'))
   pub same : IfSlice what.next (λ _. table' ≡ table)
@@ -217,7 +241,8 @@ pub record HasReadMore (d d' : Decoding 16) (read : ℕ) : Type 0 where
   pub more : read ≡ after - before
 
 -- This is answered to one slice more, which is then the last one.
-pub record HasAnswered (c : CurrentPicture) (slice : Slice) (a : SliceAnswer) (c' : CurrentPicture) : Type 0 where
+pub record HasAnswered (c : CurrentPicture) (slice : Slice) (a : SliceAnswer)
+    (c' : CurrentPicture) : Type 0 where
   pub answer : IsSliceAnswer c.decoder slice (picture_answer a.answer) c'.decoder
   pub read : HasReadMore c.decoder c'.decoder a.read
   pub header : c'.last_header ≡ slice.header
@@ -238,10 +263,12 @@ with_last slice c = record {
 }
 
 -- One slice more was decoded, or its fault went out.
-abbrev pub Decodes : CurrentPicture → Slice → SequenceState → QueueState → PhaseHere → SequenceState → QueueState
+abbrev pub Decodes : CurrentPicture → Slice → SequenceState → QueueState → PhaseHere →
+    SequenceState → QueueState
     → Type 0
 Decodes c slice s q (Running (Some c')) s' q' =
-    (c' ≡ with_last slice c) × HasItsFrames s slice.header c'.decoder × HasNoFault c'.decoder × (s' ≡ s) × (q' ≡ q)
+    (c' ≡ with_last slice c) × HasItsFrames s slice.header c'.decoder × HasNoFault c'.decoder ×
+    (s' ≡ s) × (q' ≡ q)
 Decodes c slice s q (Running None) s' q' = ⊥
 Decodes c slice s q Waiting s' q' =
     (f : Fault)
@@ -250,16 +277,20 @@ Decodes c slice s q Waiting s' q' =
     × (q' ≡ with_events (failed_at s.output (current_history s) slice.unit f 0).events q)
 
 -- It was a slice of the open picture, if there is one; where none is open, nothing comes of it.
-abbrev pub DecodesAs : PhaseHere → Slice → SequenceState → QueueState → (read : ℕ) → PhaseHere → SequenceState
+abbrev pub DecodesAs : PhaseHere → Slice → SequenceState → QueueState → (read : ℕ) → PhaseHere →
+    SequenceState
     → QueueState → (read' : ℕ) → Type 0
 DecodesAs (Running (Some c)) slice s q read phase' s' q' read' =
-    Decodes c slice s q phase' s' q' × (read' ≡ more_read read (read_of_slice (current_history s) c.decoder slice))
-DecodesAs phase slice s q read phase' s' q' read' = (phase' ≡ phase) × (s' ≡ s) × (q' ≡ q) × (read' ≡ read)
+    Decodes c slice s q phase' s' q' ×
+    (read' ≡ more_read read (read_of_slice (current_history s) c.decoder slice))
+DecodesAs phase slice s q read phase' s' q' read' =
+    (phase' ≡ phase) × (s' ≡ s) × (q' ≡ q) × (read' ≡ read)
 
 -- the same of a stream
 abbrev pub DecodesIn : Stream → Slice → Stream → Type 0
 DecodesIn old slice new =
-    DecodesAs old.phase slice old.sequence old.queue old.read new.phase new.sequence new.queue new.read ×
+    DecodesAs old.phase slice old.sequence old.queue old.read new.phase new.sequence new.queue
+    new.read ×
     (new.table ≡ old.table)
 
 -- ---- units
@@ -279,7 +310,11 @@ new_stream output = record { state = first_state output; events = []; taken = 0;
 -- for what a stream stands
 abbrev pub stream_state : Stream → StreamState
 stream_state s = record {
-  state = record { output = (s.sequence).output; sets = s.table; phase = phase_of s.sequence s.phase };
+  state = record {
+    output = (s.sequence).output;
+    sets = s.table;
+    phase = phase_of s.sequence s.phase;
+  };
   events = (s.queue).events;
   taken = (s.queue).taken;
   read = s.read;
@@ -318,7 +353,8 @@ after_stream_end f = record {
 
 -- The units of s that were not taken were handled.
 pub record HandlesAll (max : ℕ) (s s' : SplitterState) (f f' : StreamState) : Type 0 where
-  pub splitter : s' ≡ record s { taken = s.taken + length (drop s.taken (units max s.bytes s.ended)) }
+  pub splitter : s'
+      ≡ record s { taken = s.taken + length (drop s.taken (units max s.bytes s.ended)) }
   pub stream : f' ≡ after_units_in_stream (drop s.taken (units max s.bytes s.ended)) f
 
 -- All events were passed on to those that go out.
@@ -343,7 +379,8 @@ pub record IsNew (max : ℕ) (output : Output) {P : Type 0} (p : Parts max P) : 
   pub outgoing : p.outgoing ≡ record { events = []; taken = 0 }
 
 -- All units of the bytes were handled.
-pub record IsDecoded (output : Output) (max : ℕ) (s : SplitterState) (ended : Bool) (f : StreamState) : Type 0 where
+pub record IsDecoded (output : Output) (max : ℕ) (s : SplitterState) (ended : Bool)
+    (f : StreamState) : Type 0 where
   pub going : s.failed ≡ false
   pub ends : s.ended ≡ ended
   pub counted : s.taken ≡ length (units max s.bytes ended)
@@ -353,7 +390,8 @@ pub record IsDecoded (output : Output) (max : ℕ) (s : SplitterState) (ended : 
 
 -- Whichever stream these parts had decoded, they have decoded it with these bytes; no event was
 -- taken.
-pub record HaveDecoded (max : ℕ) {P : Type 0} (old : Parts max P) (bytes : List ℕ) (ended : Bool) (new : Parts max P) : Type 0 where
+pub record HaveDecoded (max : ℕ) {P : Type 0} (old : Parts max P) (bytes : List ℕ) (ended : Bool)
+    (new : Parts max P) : Type 0 where
   pub works : IsStream new.stream
   pub few : frames_in new.stream ≤ most_frames
   pub passed : ArePassedOn (new.stream).queue new.outgoing
@@ -361,21 +399,25 @@ pub record HaveDecoded (max : ℕ) {P : Type 0} (old : Parts max P) (bytes : Lis
   pub going : (new.splitter).failed ≡ false
   pub ends : (new.splitter).ended ≡ ended
   pub bytes_are : (new.splitter).bytes ≡ bytes
-  pub decoded : (output : Output) → IsDecoded output max old.splitter false (stream_state old.stream) →
+  pub decoded : (output : Output) →
+      IsDecoded output max old.splitter false (stream_state old.stream) →
       IsDecoded output max new.splitter ended (stream_state new.stream)
 
 -- A piece more was taken, and so many macroblocks have been read.
-pub record Feeds (max : ℕ) {P : Type 0} (old : Parts max P) (piece : List ℕ) (read : ℕ) (new : Parts max P) : Type 0 where
+pub record Feeds (max : ℕ) {P : Type 0} (old : Parts max P) (piece : List ℕ) (read : ℕ)
+    (new : Parts max P) : Type 0 where
   pub now : HaveDecoded max old ((old.splitter).bytes ++ piece) false new
   pub count : read ≡ (new.stream).read
 
 -- Of these bytes those up to where a unit has ended were taken.
-pub record FeedsUnit (max : ℕ) {P : Type 0} (old : Parts max P) (bytes : List ℕ) (fed : Fed) (new : Parts max P) : Type 0 where
+pub record FeedsUnit (max : ℕ) {P : Type 0} (old : Parts max P) (bytes : List ℕ) (fed : Fed)
+    (new : Parts max P) : Type 0 where
   pub used : IsUpToUnit max (old.splitter).bytes bytes fed.used
   pub feeds : Feeds max old (take fed.used bytes) fed.read new
 
 -- The end was taken, and so many macroblocks have been read.
-pub record Ends (max : ℕ) {P : Type 0} (old : Parts max P) (read : ℕ) (new : Parts max P) : Type 0 where
+pub record Ends (max : ℕ) {P : Type 0} (old : Parts max P) (read : ℕ)
+    (new : Parts max P) : Type 0 where
   pub now : HaveDecoded max old (old.splitter).bytes true new
   pub count : read ≡ (new.stream).read
 
@@ -384,23 +426,28 @@ abbrev pub PartsOrRefusal : (max : ℕ) → Type 0 → Type 0
 PartsOrRefusal max P = Result (Parts max P) OutOfMemory
 
 -- the same where there is a decoder that goes on
-abbrev pub FeedsIn : (max : ℕ) → {P : Type 0} → PartsOrRefusal max P → (piece : List ℕ) → (read : ℕ) → PartsOrRefusal max P → Type 0
+abbrev pub FeedsIn : (max : ℕ) → {P : Type 0} → PartsOrRefusal max P → (piece : List ℕ) →
+    (read : ℕ) → PartsOrRefusal max P → Type 0
 FeedsIn max (Ok old) piece read (Ok new) = Feeds max old piece read new
 FeedsIn max old piece read new = ⊥
 
 -- the same where there is a decoder that goes on
-abbrev pub FeedsUnitIn : (max : ℕ) → {P : Type 0} → PartsOrRefusal max P → (bytes : List ℕ) → Fed → PartsOrRefusal max P → Type 0
+abbrev pub FeedsUnitIn : (max : ℕ) → {P : Type 0} → PartsOrRefusal max P → (bytes : List ℕ) → Fed →
+    PartsOrRefusal max P → Type 0
 FeedsUnitIn max (Ok old) bytes fed (Ok new) = FeedsUnit max old bytes fed new
 FeedsUnitIn max old bytes fed new = ⊥
 
 -- the same where there is a decoder that goes on
-abbrev pub EndsIn : (max : ℕ) → {P : Type 0} → PartsOrRefusal max P → (read : ℕ) → PartsOrRefusal max P → Type 0
+abbrev pub EndsIn : (max : ℕ) → {P : Type 0} → PartsOrRefusal max P → (read : ℕ) →
+    PartsOrRefusal max P → Type 0
 EndsIn max (Ok old) read (Ok new) = Ends max old read new
 EndsIn max old read new = ⊥
 
 -- how many units have begun, where there is a decoder that goes on
-abbrev pub IsUnitCountIn : (max : ℕ) → {P : Type 0} → PartsOrRefusal max P → Result ℕ OutOfMemory → Type 0
-IsUnitCountIn max (Ok p) (Ok count) = (p.splitter).failed ≡ false → count ≡ units_begun max (p.splitter).bytes
+abbrev pub IsUnitCountIn : (max : ℕ) → {P : Type 0} → PartsOrRefusal max P → Result ℕ OutOfMemory →
+    Type 0
+IsUnitCountIn max (Ok p) (Ok count) =
+    (p.splitter).failed ≡ false → count ≡ units_begun max (p.splitter).bytes
 IsUnitCountIn max (Err refusal) (Err again) = Unit {0}
 IsUnitCountIn max parts answer = ⊥
 
@@ -410,7 +457,8 @@ next_event_in max (Err refusal) = None
 next_event_in max (Ok p) = slice_get (p.outgoing).events (p.outgoing).taken
 
 -- after it was taken, if there was one
-abbrev pub after_take_in : (max : ℕ) → {P : Type 0} → Option Event → PartsOrRefusal max P → PartsOrRefusal max P
+abbrev pub after_take_in : (max : ℕ) → {P : Type 0} → Option Event → PartsOrRefusal max P →
+    PartsOrRefusal max P
 after_take_in max event (Err refusal) = Err refusal
 after_take_in max event (Ok p) = Ok (record p { outgoing = after_queue_take event p.outgoing })
 
@@ -425,6 +473,7 @@ pub record AreParts (max : ℕ) (m : Machine) {P : Type 0} (p : Parts max P) : T
 
 -- What a decoder keeps of the machine: the macroblocks that are counted, and as long as memory was
 -- not refused, all of it.
-pub record IsDecoderState (max : ℕ) (m : Machine) {P : Type 0} (running : PartsOrRefusal max P) (count : ℕ) : Type 0 where
+pub record IsDecoderState (max : ℕ) (m : Machine) {P : Type 0} (running : PartsOrRefusal max P)
+    (count : ℕ) : Type 0 where
   pub count_is : IsCount max m count
   pub parts : IfOk running (AreParts max m)

@@ -50,7 +50,8 @@ pub fn run_calls<const MAX: usize>(
     output: Output,
     calls: &[Call],
 ) -> Result<Vec<Reply>, OutOfMemory>
-    ensures { IfOk result (λ replies. (last : Machine) × Run MAX (new_machine output) calls.now replies.items last) }
+    ensures { IfOk result (λ replies. (last : Machine) ×
+        Run MAX (new_machine output) calls.now replies.items last) }
 {
     let mut decoder = Decoder::<MAX>::new(alloc, output);
     let mut replies = Vec::new(alloc);

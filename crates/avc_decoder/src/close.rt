@@ -20,8 +20,10 @@ use avc_types::{Fault, OutOfMemory, PictureError};
 pub fn close(stream: &mut Stream) -> Result<(), OutOfMemory>
     requires { IsPhase stream.old.sequence stream.old.phase }
     ensures state { OnOk result (HasOutcome stream.old
-        (closed_in stream.old.sequence.output (phase_of stream.old.sequence stream.old.phase)) stream.new) }
-    ensures memory { OnOk result (ClosesCurrent (current_in stream.old.phase) stream.old.memory stream.new.memory) }
+        (closed_in stream.old.sequence.output (phase_of stream.old.sequence stream.old.phase))
+        stream.new) }
+    ensures memory { OnOk result
+        (ClosesCurrent (current_in stream.old.phase) stream.old.memory stream.new.memory) }
 {
     // so that the room for one is not copied and cleared at each end of a picture
     if !stream.phase.is_open() {
@@ -39,8 +41,10 @@ fn close_picture(stream: &mut Stream, current: CurrentPicture) -> Result<(), Out
     requires picture { IsOpenIn stream.old.sequence current }
     requires rest { stream.old.phase ≡ Running None }
     ensures state { OnOk result (HasOutcome stream.old
-        (closed_in stream.old.sequence.output (phase_of stream.old.sequence (Running (Some current)))) stream.new) }
-    ensures memory { OnOk result (ClosesCurrent (Some current) stream.old.memory stream.new.memory) }
+        (closed_in stream.old.sequence.output
+        (phase_of stream.old.sequence (Running (Some current)))) stream.new) }
+    ensures memory { OnOk result
+        (ClosesCurrent (Some current) stream.old.memory stream.new.memory) }
 {
     let last_unit = current.last_unit;
     let planes = match current.decoder.finish(&mut stream.memory) {
@@ -83,7 +87,8 @@ fn forget(phase: &mut Phase, memory: &mut PictureMemory<PADDING>)
 /// go out, and then the refusal. The history is forgotten, and decoding waits.
 pub fn fail(stream: &mut Stream, unit: u64, fault: Fault) -> Result<(), OutOfMemory>
     ensures state { OnOk result (WaitsAfter stream.old
-        (failed_at stream.old.sequence.output (current_history stream.old.sequence) unit fault 0).events stream.new) }
+        (failed_at stream.old.sequence.output (current_history stream.old.sequence) unit fault
+        0).events stream.new) }
     ensures memory { OnOk result (LeavesOpenPicture stream.old stream.new) }
 {
     empty(stream)?;
@@ -95,7 +100,8 @@ pub fn fail(stream: &mut Stream, unit: u64, fault: Fault) -> Result<(), OutOfMem
 /// decoding waits.
 pub fn empty(stream: &mut Stream) -> Result<(), OutOfMemory>
     ensures state { OnOk result (WaitsAfter stream.old
-        (pictures (held_pictures stream.old.sequence.output (current_history stream.old.sequence))) stream.new) }
+        (pictures (held_pictures stream.old.sequence.output (current_history stream.old.sequence)))
+        stream.new) }
     ensures memory { OnOk result (LeavesOpenPicture stream.old stream.new) }
 {
     forget(&mut stream.phase, &mut stream.memory);

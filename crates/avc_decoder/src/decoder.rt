@@ -42,7 +42,13 @@ impl<const MAX: usize, P: OutputPicture> Model for Decoder<MAX, P> {
 
     ghost Value = { Machine };
 
-    ghost view = { λ d. record { output = d.output; bytes = d.bytes.items; ended = d.ended; taken = length d.taken.items; failed = is_err d.running } };
+    ghost view = { λ d. record {
+      output = d.output;
+      bytes = d.bytes.items;
+      ended = d.ended;
+      taken = length d.taken.items;
+      failed = is_err d.running;
+    } };
 
     ghost invariant = { λ d.
         let m : Machine = record { output = d.output; bytes = d.bytes.items; ended = d.ended; taken = length d.taken.items; failed = is_err d.running } in
@@ -190,8 +196,8 @@ impl<const MAX: usize, P: OutputPicture> Decoder<MAX, P> {
     }
 
     /// The open picture, if there is one: that of the last slice that has ended, as long as no unit
-    /// that ended behind it has closed it. After the end of the stream there is none, and after want
-    /// of memory none is answered. It takes no memory.
+    /// that ended behind it has closed it. After the end of the stream there is none, and after
+    /// want of memory none is answered. It takes no memory.
     pub fn open_picture(&self) -> Option<OpenPicture<'_>>
         ensures { IsOpenPictureAnswer MAX self.now result }
     {

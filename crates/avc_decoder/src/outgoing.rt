@@ -27,7 +27,10 @@ impl<P: OutputPicture> Model for Outgoing<P> {
 
     ghost Value = { QueueState };
 
-    ghost view = { λ q. record { events = map (seen_event P.picture) (q.given.items ++ q.waiting.items); taken = length q.given.items } };
+    ghost view = { λ q. record {
+      events = map (seen_event P.picture) (q.given.items ++ q.waiting.items);
+      taken = length q.given.items;
+    } };
 }
 
 impl<P: OutputPicture> Outgoing<P> {

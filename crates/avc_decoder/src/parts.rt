@@ -232,7 +232,9 @@ fn handle_units<const MAX: usize>(
     requires splitter { splitter.old.failed ≡ false }
     requires stream { IsStream stream.old }
     ensures works { OnOk result (IsStream stream.new) }
-    ensures handles { OnOk result (HandlesAll MAX splitter.old splitter.new (stream_state stream.old) (stream_state stream.new)) }
+    ensures handles { OnOk result
+        (HandlesAll MAX splitter.old splitter.new (stream_state stream.old)
+        (stream_state stream.new)) }
 {
     while let Some(unit) = splitter.next_unit() {
         stream.unit(&unit)?;

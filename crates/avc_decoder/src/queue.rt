@@ -26,7 +26,10 @@ impl Model for Queue {
 
     ghost Value = { QueueState };
 
-    ghost view = { λ q. record { events = q.given.items ++ q.waiting.items; taken = length q.given.items } };
+    ghost view = { λ q. record {
+      events = q.given.items ++ q.waiting.items;
+      taken = length q.given.items;
+    } };
 }
 
 impl Queue {

@@ -55,7 +55,8 @@ pub fn first_slice(stream: &mut Stream, slice: &Slice) -> Result<(), OutOfMemory
     requires rest { current_in stream.old.phase ≡ None }
     requires within { IsSliceUnder (sets_after stream.old.table) slice.now }
     ensures state { OnOk result (HasOutcome stream.old
-        (after_first_slice stream.old.sequence.output (sets_named (sets_after stream.old.table) slice.now.header)
+        (after_first_slice stream.old.sequence.output
+        (sets_named (sets_after stream.old.table) slice.now.header)
         (base_in (phase_of stream.old.sequence stream.old.phase)) slice.now) stream.new) }
     ensures memory { OnOk result (UsesOneForFirst stream.old slice.now stream.new) }
 {
@@ -97,7 +98,8 @@ pub fn first_slice(stream: &mut Stream, slice: &Slice) -> Result<(), OutOfMemory
 /// The parameter sets that a slice names, under which it was read.
 fn sets_of<'a>(table: &'a ParamTable, slice: &Slice) -> ActiveSets<'a>
     requires { IsSliceUnder (sets_after table.now) slice.now }
-    ensures named { sets_named (sets_after table.now) slice.now.header ≡ Some (result.pps.now, result.sps.now) }
+    ensures named { sets_named (sets_after table.now) slice.now.header
+        ≡ Some (result.pps.now, result.sps.now) }
     ensures within { IsHeader result.sps.now result.pps.now slice.now.rbsp slice.now.header }
     ensures sps { IsSps result.sps.now }
     ensures pps { IsPps result.pps.now }
@@ -128,9 +130,11 @@ fn keep_emptied(sequence: &mut Sequence, memory: &mut PictureMemory<PADDING>)
 pub fn next_slice(stream: &mut Stream, slice: &Slice) -> Result<(), OutOfMemory>
     requires works { IsStream stream.old }
     requires within { IsSliceUnder (sets_after stream.old.table) slice.now }
-    requires continues { IfSome (current_in stream.old.phase) (λ c. begins c.last_header slice.now.header ≡ false) }
+    requires continues { IfSome (current_in stream.old.phase)
+        (λ c. begins c.last_header slice.now.header ≡ false) }
     ensures state { OnOk result (HasOutcome stream.old
-        (after_next_slice stream.old.sequence.output (phase_of stream.old.sequence stream.old.phase) slice.now) stream.new) }
+        (after_next_slice stream.old.sequence.output (phase_of stream.old.sequence stream.old.phase)
+        slice.now) stream.new) }
     ensures memory { OnOk result (KeepsMemory stream.old stream.new) }
 {
     decode_slice(stream, slice)?;
@@ -141,8 +145,10 @@ pub fn next_slice(stream: &mut Stream, slice: &Slice) -> Result<(), OutOfMemory>
 /// I slices alone (7.4.3), and needs none; those that are stored may have another size.
 fn frames_for<'a>(sequence: &'a Sequence, header: &Header) -> &'a [Frame<PADDING>]
     ensures value { result.now ≡ frames_for header.now sequence.now }
-    ensures stored { is_idr header.now ≡ false → sequence.now.failed ≡ false → AreStoredIn (current_history sequence.now) sequence.now.frames }
-    ensures sized { is_idr header.now ≡ false → sequence.now.failed ≡ false → AreFramesIn (current_history sequence.now) sequence.now.frames }
+    ensures stored { is_idr header.now ≡ false → sequence.now.failed ≡ false →
+        AreStoredIn (current_history sequence.now) sequence.now.frames }
+    ensures sized { is_idr header.now ≡ false → sequence.now.failed ≡ false →
+        AreFramesIn (current_history sequence.now) sequence.now.frames }
 {
     if header.is_idr() {
         return &[];
@@ -153,7 +159,8 @@ fn frames_for<'a>(sequence: &'a Sequence, header: &Header) -> &'a [Frame<PADDING
 /// Decodes one slice more of the open picture, if there is one. At a fault the picture is gone, all
 /// held pictures go out, and then the refusal.
 fn decode_slice(stream: &mut Stream, slice: &Slice) -> Result<(), OutOfMemory>
-    requires can { IfSome (current_in stream.old.phase) (λ c. CanHave stream.old.sequence c.decoder slice.now) }
+    requires can { IfSome (current_in stream.old.phase)
+        (λ c. CanHave stream.old.sequence c.decoder slice.now) }
     requires well { IfSome (current_in stream.old.phase) (λ c. HasNoFault c.decoder) }
     ensures state { OnOk result (DecodesIn stream.old slice.now stream.new) }
     ensures memory { OnOk result (KeepsMemory stream.old stream.new) }
@@ -187,7 +194,8 @@ fn answer_if_open(sequence: &Sequence, phase: &mut Phase, slice: &Slice) -> Slic
 
 /// What the picture answers.
 fn answer_in(current: &mut CurrentPicture, slice: &Slice, frames: &[Frame<PADDING>]) -> SliceAnswer
-    requires within { IsHeader current.old.decoder.sps current.old.decoder.pps slice.now.rbsp slice.now.header }
+    requires within { IsHeader current.old.decoder.sps current.old.decoder.pps slice.now.rbsp
+        slice.now.header }
     requires frames { frames.now ≡ current.old.decoder.frames }
     ensures { HasAnswered current.old slice.now result current.new }
 {

@@ -82,7 +82,8 @@ impl Stream {
     pub fn unit(&mut self, unit: &Unit) -> Result<(), OutOfMemory>
         requires { IsStream self.old }
         ensures works { OnOk result (IsStream self.new) }
-        ensures state { OnOk result (stream_state self.new ≡ after_unit_in_stream unit.now (stream_state self.old)) }
+        ensures state { OnOk result (stream_state self.new
+            ≡ after_unit_in_stream unit.now (stream_state self.old)) }
     {
         let step = step_in(
             self.alloc,
@@ -108,7 +109,8 @@ impl Stream {
     pub fn finish(&mut self) -> Result<(), OutOfMemory>
         requires { IsStream self.old }
         ensures works { OnOk result (IsStream self.new) }
-        ensures state { OnOk result (stream_state self.new ≡ after_stream_end (stream_state self.old)) }
+        ensures state { OnOk result (stream_state self.new
+            ≡ after_stream_end (stream_state self.old)) }
     {
         close(self)?;
         empty(self)?;
@@ -160,7 +162,8 @@ fn next(stream: &mut Stream, unit: u64, next: Next) -> Result<(), OutOfMemory>
     requires works { IsStream stream.old }
     requires fits { FitsPhase (sets_after stream.old.table) stream.old.phase next }
     ensures { OnOk result (HasOutcome stream.old
-        (after_next stream.old.sequence.output (sets_after stream.old.table) unit (phase_of stream.old.sequence stream.old.phase) next) stream.new) }
+        (after_next stream.old.sequence.output (sets_after stream.old.table) unit
+        (phase_of stream.old.sequence stream.old.phase) next) stream.new) }
 {
     match next {
         Next::Nothing => Ok(()),

@@ -12,7 +12,8 @@ use Rattle.avc_dpb.specs.Bumping.{Buffer, PriorPictures, after_prior_pictures}
 use Rattle.avc_dpb.specs.Contents.{Contents, IsBuffer, HasBuffer}
 use Rattle.avc_dpb.specs.Laws.{IsWithin}
 use Rattle.avc_decoder_core.specs.Frames.{frame_at}
-use Rattle.avc_decoder_core.specs.History.{Entry, decoded_picture, missing_frame, History, arrivals, buffer_of, entry_at, marking_entries, marks_of}
+use Rattle.avc_decoder_core.specs.History.{Entry, decoded_picture, missing_frame, History, arrivals}
+use Rattle.avc_decoder_core.specs.History.{buffer_of, entry_at, marking_entries, marks_of}
 use Rattle.avc_decoder_core.specs.History.{picture_entry, planes_in, sequence_sps}
 use Rattle.avc_decoder_core.specs.Opening.{with_all_missing}
 use Rattle.avc_decoder_core.specs.FrameBufferState.{FrameBufferState}
@@ -50,7 +51,12 @@ frame_num_of (missing_frame sps frame_num) = frame_num
 
 -- what its fields say: the history, the frames held, and when pictures go out
 abbrev pub frame_buffer_state : Inside → FrameBufferState
-frame_buffer_state b = record { history = history_of b.history.items; frames = b.dpb.frames; output = b.dpb.output; failed = b.failed }
+frame_buffer_state b = record {
+  history = history_of b.history.items;
+  frames = b.dpb.frames;
+  output = b.dpb.output;
+  failed = b.failed;
+}
 
 -- P holds of each
 abbrev pub Each : {A : Type 0} → (A → Type 0) → List A → Type 0
@@ -64,24 +70,31 @@ indices_in b = map (λ s. s.decoding_index) b.frames
 -- Where the entry with this decoding index is a picture it has the size that the parameter set
 -- gives.
 abbrev pub IsSizedAt : History → Sps → (index : ℕ) → Type 0
-IsSizedAt history sps index = IfSome (planes_in (entry_at history index)) (AreSized (width_in_mbs sps) (height_in_mbs sps))
+IsSizedAt history sps index =
+    IfSome (planes_in (entry_at history index)) (AreSized (width_in_mbs sps) (height_in_mbs sps))
 
 -- The buffer's frames that have a mark are the reference frames; there are no more than there may
 -- be, and all have one size.
-pub record IsStateAfter (history : History) (dpb : Contents) (idx : Option ℕ) (previous : ℕ) : Type 0 where
+pub record IsStateAfter (history : History) (dpb : Contents) (idx : Option ℕ)
+    (previous : ℕ) : Type 0 where
   pub marks : Marks
   pub marked : marks_of history ≡ Ok marks
   pub idx_is : idx ≡ marks.max_long_term_frame_idx
   pub previous_is : previous ≡ prev_ref_frame_num (marking_entries history)
-  pub buffer : IsBuffer dpb (buffer_of dpb.output history) (length history) (frame_at history marks.references)
-  pub references : references_at (indices_in (buffer_of dpb.output history)) (map marked_frame dpb.frames) ≡ marks.references
+  pub buffer : IsBuffer dpb (buffer_of dpb.output history) (length history)
+      (frame_at history marks.references)
+  pub references : references_at (indices_in (buffer_of dpb.output history))
+      (map marked_frame dpb.frames) ≡ marks.references
   pub few : IfSome (sequence_sps history) (λ sps. length marks.references ≤ reference_limit sps)
   pub within : IsWithin 16 (arrivals history)
-  pub sized : IfSome (sequence_sps history) (λ sps. Each (IsSizedAt history sps) (indices_in (buffer_of dpb.output history)))
+  pub sized : IfSome (sequence_sps history)
+      (λ sps. Each (IsSizedAt history sps) (indices_in (buffer_of dpb.output history)))
 
 -- the frames and numbers that are kept are those after the history, unless memory was refused
 abbrev pub IsFrameBufferState : Inside → Type 0
-IsFrameBufferState b = b.failed ≡ false → IsStateAfter (history_of b.history.items) b.dpb b.max_long_term_frame_idx b.prev_ref_frame_num
+IsFrameBufferState b =
+    b.failed ≡ false →
+    IsStateAfter (history_of b.history.items) b.dpb b.max_long_term_frame_idx b.prev_ref_frame_num
 
 -- ---- what a call makes of the buffer
 
@@ -96,7 +109,8 @@ abbrev pub with_all_marks : Contents → List MarkedFrame → Contents
 with_all_marks c marked = record c { frames = with_marks c.frames marked }
 
 -- The pictures before have gone out, or remain (C.4.4).
-abbrev pub OutputsPrior : PriorPictures → (old : Contents) (out : List Picture) (new : Contents) → Type 0
+abbrev pub OutputsPrior : PriorPictures → (old : Contents) (out : List Picture) (new : Contents) →
+    Type 0
 OutputsPrior prior old out new =
     (b : Buffer) (next : ℕ) (frame_of : ℕ → Frame 16) → IsBuffer old b next frame_of →
     HasBuffer new out b (after_prior_pictures prior b) next frame_of

@@ -4,7 +4,8 @@ use Rattle.std.specs.Result.{is_ok}
 use Rattle.avc_types.specs.declared.fault.Fault.{Fault}
 use Rattle.avc_types.specs.declared.picture.Picture.{Picture}
 use Rattle.avc_types.specs.declared.picture_error.PictureError.{PictureError}
-use Rattle.avc_types.specs.declared.picture_error.PictureError.TheVariants.{Fault as Faulty, OutOfMemory}
+use Rattle.avc_types.specs.declared.picture_error.PictureError.TheVariants.{Fault as Faulty}
+use Rattle.avc_types.specs.declared.picture_error.PictureError.TheVariants.{OutOfMemory}
 use Rattle.avc_dpb.specs.declared.output.Output.{Output}
 use Rattle.avc_plane.specs.declared.frame.Frame.{Frame}
 use Rattle.avc_params.specs.declared.sps.Sps.{Sps}
@@ -34,9 +35,15 @@ pub record CanFollow (history : History) (sps : Sps) (h : Header) : Type 0 where
   pub reference : is_some h.marking ≡ is_reference h
 
 -- The entry has come to the history, and these pictures go out.
-pub record Stores (old : FrameBufferState) (e : Entry) (out : List Picture) (new : FrameBufferState) : Type 0 where
+pub record Stores (old : FrameBufferState) (e : Entry) (out : List Picture)
+    (new : FrameBufferState) : Type 0 where
   pub going : old.failed ≡ false
-  pub state : new ≡ record { history = e ∷ old.history; frames = new.frames; output = old.output; failed = false }
+  pub state : new ≡ record {
+    history = e ∷ old.history;
+    frames = new.frames;
+    output = old.output;
+    failed = false;
+  }
   pub marked : is_ok (marks_of (e ∷ old.history)) ≡ true
   pub pictures : out ≡ output_pictures old.output old.history (e ∷ old.history)
 
@@ -46,17 +53,20 @@ at_sequence_of h b = elim (is_idr h) [ true ↦ empty_frame_buffer b.output | fa
 
 -- An IDR picture begins a sequence: what is needed for output goes out, unless it is dropped
 -- (C.4.4), and the history is forgotten. At another picture nothing changes.
-pub record BeginsSequence (old : FrameBufferState) (h : Header) (out : List Picture) (new : FrameBufferState) : Type 0 where
+pub record BeginsSequence (old : FrameBufferState) (h : Header) (out : List Picture)
+    (new : FrameBufferState) : Type 0 where
   pub state : new ≡ at_sequence_of h old
   pub pictures : out ≡ prior_output old.output h old.history
 
 -- The entry could not be marked, and nothing changed, or memory was refused.
-abbrev pub Refuses : (old : FrameBufferState) → Result Marks Fault → PictureError → (new : FrameBufferState) → Type 0
+abbrev pub Refuses : (old : FrameBufferState) → Result Marks Fault → PictureError →
+    (new : FrameBufferState) → Type 0
 Refuses old marked (Faulty f) new = (old.failed ≡ false) × (new ≡ old) × (marked ≡ Err f)
 Refuses old marked (OutOfMemory _) new = new.failed ≡ true
 
 -- All pictures needed for output go out, and the history is forgotten.
-pub record IsEmptied (old : FrameBufferState) (out : List Picture) (new : FrameBufferState) : Type 0 where
+pub record IsEmptied (old : FrameBufferState) (out : List Picture)
+    (new : FrameBufferState) : Type 0 where
   pub going : old.failed ≡ false
   pub state : new ≡ empty_frame_buffer old.output
   pub pictures : out ≡ held_pictures old.output old.history

@@ -1,6 +1,8 @@
--- A long gap in frame_num (8.2.5.2): once the sliding window is full of frames that are not needed for output, further missing numbers let nothing
--- go out, and only the last of them leave frames.
-use Rattle.std.specs.Prelude.{◌≡◌, ℕ, zero, suc, ◌+◌, ◌%◌, ◌-◌, ◌<◌, ◌≤◌, ◌==◌, ◌&&◌, nat_lt, if◌then◌else◌, Bool, true, false, not, List, [], ◌∷◌, ◌++◌, length, map, drop, slice_get, Option, Some, None, Ok}
+-- A long gap in frame_num (8.2.5.2): once the sliding window is full of frames that are not needed
+-- for output, further missing numbers let nothing go out, and only the last of them leave frames.
+use Rattle.std.specs.Prelude.{◌≡◌, ℕ, zero, suc, ◌+◌, ◌%◌, ◌-◌, ◌<◌, ◌≤◌, ◌==◌, ◌&&◌, nat_lt}
+use Rattle.std.specs.Prelude.{if◌then◌else◌, Bool, true, false, not, List, [], ◌∷◌, ◌++◌, length}
+use Rattle.std.specs.Prelude.{map, drop, slice_get, Option, Some, None, Ok}
 use Rattle.avc_types.specs.declared.references.Mark.{Mark}
 use Rattle.avc_types.specs.declared.references.Mark.TheVariants.{Short, Long}
 use Rattle.avc_types.specs.References.{Reference}
@@ -21,12 +23,18 @@ use Rattle.avc_decoder_core.specs.Pictures.{output_pictures}
 
 -- the frame for a missing number, with this decoding index (8.2.5.2)
 abbrev pub missing_reference : (frame_num index : ℕ) → Reference
-missing_reference frame_num index = record { decoding_index = index; frame_num = frame_num; existing = false; mark = Short }
+missing_reference frame_num index = record {
+  decoding_index = index;
+  frame_num = frame_num;
+  existing = false;
+  mark = Short;
+}
 
 -- those for n missing numbers from `number` on, modulo max
 abbrev pub missing_references : (max number index n : ℕ) → List Reference
 missing_references max number index zero = []
-missing_references max number index (suc n) = missing_reference (number % max) index ∷ missing_references max (number + 1) (index + 1) n
+missing_references max number index (suc n) =
+    missing_reference (number % max) index ∷ missing_references max (number + 1) (index + 1) n
 
 -- n of them in the buffer (C.4.2)
 abbrev pub stored_missing : (index n : ℕ) → List Stored
@@ -38,7 +46,8 @@ abbrev pub AreNotNeeded : List Reference → List Stored → Type 0
 AreNotNeeded [] [] = Unit {0}
 AreNotNeeded [] (s ∷ frames) = ⊥
 AreNotNeeded (r ∷ rs) [] = ⊥
-AreNotNeeded (r ∷ rs) (s ∷ frames) = (s.decoding_index ≡ r.decoding_index) × (s.needed_for_output ≡ false) × AreNotNeeded rs frames
+AreNotNeeded (r ∷ rs) (s ∷ frames) =
+    (s.decoding_index ≡ r.decoding_index) × (s.needed_for_output ≡ false) × AreNotNeeded rs frames
 
 -- each has a lower decoding index than this
 abbrev pub AreBefore : (index : ℕ) → List Stored → Type 0
@@ -55,9 +64,13 @@ pub record Staying : Type 0 where
 
 -- Before the missing number `number` the sliding window is full, and its short-term frames, which
 -- are the last of the buffer, are not held, and have rising numbers from `low` on.
-pub record IsSettled (output : Output) (sps : Sps) (h : History) (low number index : ℕ) (stays : Staying) (shorts : List Reference)
+pub record IsSettled (output : Output) (sps : Sps) (h : History) (low number index : ℕ)
+    (stays : Staying) (shorts : List Reference)
     (lasts : List Stored) : Type 0 where
-  pub marked : marks_of h ≡ Ok (record { references = stays.longs ++ shorts; max_long_term_frame_idx = stays.max_long_term_frame_idx })
+  pub marked : marks_of h ≡ Ok (record {
+    references = stays.longs ++ shorts;
+    max_long_term_frame_idx = stays.max_long_term_frame_idx;
+  })
   pub buffer : buffer_of output h ≡ record { frames = stays.frames ++ lasts; out = stays.out }
   pub window : IsFullWindow index (length h) (reference_limit sps) stays.longs shorts
   pub counts : CountFrom (max_frame_num sps) low number shorts
@@ -99,19 +112,24 @@ is_leaving needed_for_output (Some (Long index)) = false
 -- numbers go on from `low`.
 abbrev pub has_its_place : (first low max place : ℕ) → (needed_for_output : Bool) → Frame 16 → Bool
 has_its_place first low max place needed_for_output f =
-    if nat_lt place first then is_staying needed_for_output f.mark else is_leaving needed_for_output f.mark && f.frame_num == (low + (place - first)) % max
+    if nat_lt place first then is_staying needed_for_output f.mark
+    else is_leaving needed_for_output f.mark && f.frame_num == (low + (place - first)) % max
 
 -- the frame that stands there does
 abbrev pub settles_at : Contents → (first low max place : ℕ) → Bool
 settles_at c first low max place =
-    elim (slice_get c.frames place) [ None ↦ false | Some f ↦ has_its_place first low max place (is_needed_for_output_at c.slots place) f ]
+    elim (slice_get c.frames place) [
+      | None ↦ false
+      | Some f ↦ has_its_place first low max place (is_needed_for_output_at c.slots place) f
+    ]
 
 -- ---- the law
 
 -- What is kept after the shorter history is what is kept after the longer one.
 abbrev pub KeepsTheSame : Output → (shorter longer : History) → Type 0
 KeepsTheSame output shorter longer =
-    (c : Contents) (idx : Option ℕ) (previous : ℕ) → c.output ≡ output → IsStateAfter shorter c idx previous → IsStateAfter longer c idx previous
+    (c : Contents) (idx : Option ℕ) (previous : ℕ) → c.output ≡ output →
+    IsStateAfter shorter c idx previous → IsStateAfter longer c idx previous
 
 -- It is, and neither lets a picture out.
 pub record LeavesItsEnd (output : Output) (before shorter longer : History) : Type 0 where
@@ -122,9 +140,16 @@ pub record LeavesItsEnd (output : Output) (before shorter longer : History) : Ty
 -- Of a long gap only the last 16 numbers matter.
 abbrev pub LongGapsLeaveTheirEnd : Type 0
 LongGapsLeaveTheirEnd =
-    (output : Output) (sps : Sps) (h : History) (numbers : List ℕ) (skipped : ℕ) → IsLongGap output sps h numbers → skipped + 16 ≤ length numbers →
-    LeavesItsEnd output h (with_all_missing sps (drop skipped numbers) h) (with_all_missing sps numbers h)
+    (output : Output) (sps : Sps) (h : History) (numbers : List ℕ) (skipped : ℕ) →
+    IsLongGap output sps h numbers → skipped + 16 ≤ length numbers →
+    LeavesItsEnd output h (with_all_missing sps (drop skipped numbers) h)
+    (with_all_missing sps numbers h)
 
 -- the frame buffer, which stands for another history
 abbrev pub with_history : History → FrameBufferState → FrameBufferState
-with_history history b = record { history = history; frames = b.frames; output = b.output; failed = b.failed }
+with_history history b = record {
+  history = history;
+  frames = b.frames;
+  output = b.output;
+  failed = b.failed;
+}

@@ -1,6 +1,9 @@
--- The history of a coded video sequence, and what decoding one more picture starts from. A history is written with its
--- newest entry first; an entry's decoding index is the number of those before it.
-use Rattle.std.specs.Prelude.{ℕ, zero, suc, ◌-◌, ℤ, pos, Bool, true, false, if◌then◌else◌, List, [], ◌∷◌, length, map, drop, Option, Some, None, slice_get, Result, Ok, Err}
+-- The history of a coded video sequence, and what decoding one more picture starts from. A history
+-- is written with its newest entry first; an entry's decoding index is the number of those before
+-- it.
+use Rattle.std.specs.Prelude.{ℕ, zero, suc, ◌-◌, ℤ, pos, Bool, true, false, if◌then◌else◌, List, []}
+use Rattle.std.specs.Prelude.{◌∷◌, length, map, drop, Option, Some, None, slice_get, Result, Ok}
+use Rattle.std.specs.Prelude.{Err}
 use Rattle.std.specs.Option.{option_map}
 use Rattle.avc_types.specs.declared.current_frame_num.CurrentFrameNum.{CurrentFrameNum}
 use Rattle.avc_types.specs.declared.fault.Fault.{Fault}
@@ -17,9 +20,11 @@ use Rattle.avc_params.specs.VideoUsability.{usability_of}
 use Rattle.avc_slice.specs.declared.header.Header.{Header}
 use Rattle.avc_slice.specs.Header.{is_idr, is_reference, has_operation_5}
 use Rattle.avc_poc.specs.OrderCounts.{Counts, Past, picture, missing, order_counts, order_of}
-use Rattle.avc_marking.specs.Marks.{MarkingEntry, Marks, marks, prev_ref_frame_num, missing_frame_nums}
+use Rattle.avc_marking.specs.Marks.{MarkingEntry, Marks, marks, prev_ref_frame_num}
+use Rattle.avc_marking.specs.Marks.{missing_frame_nums}
 use Rattle.avc_dpb.specs.declared.output.Output.{Output}
-use Rattle.avc_dpb.specs.Bumping.{PriorPictures, remain, are_output, Arrival, Buffer, buffer_after, needed_in_output_order}
+use Rattle.avc_dpb.specs.Bumping.{PriorPictures, remain, are_output, Arrival, Buffer, buffer_after}
+use Rattle.avc_dpb.specs.Bumping.{needed_in_output_order}
 
 -- A closed picture with its parameter set, its first slice's header, what is known of it beside its
 -- samples, and its planes; or a frame number that is missing (8.2.5.2).
@@ -112,7 +117,8 @@ arrival (decoded_picture sps h info planes) older = record {
   prior_pictures = prior_pictures_of h;
   capacity = dpb_size sps;
   max_num_reorder_frames = reorder_limit sps;
-  references = map (λ r. r.decoding_index) (references_of (decoded_picture sps h info planes ∷ older));
+  references = map (λ r. r.decoding_index)
+      (references_of (decoded_picture sps h info planes ∷ older));
 }
 arrival (missing_frame sps frame_num) older = record {
   pic_order_cnt = pos 0;
@@ -169,8 +175,8 @@ stored_frames h = map (stored h) (references_of h)
 abbrev pub earlier_in_sequence : Header → (before : History) → History
 earlier_in_sequence h before = elim (is_idr h) [ true ↦ [] | false ↦ before ]
 
--- what is known of a picture whose first slice has this header and came with this unit, by its order
--- count (7.4.1.2.4, 7.4.3, E.2.1)
+-- what is known of a picture whose first slice has this header and came with this unit, by its
+-- order count (7.4.1.2.4, 7.4.3, E.2.1)
 abbrev pub info_with : Sps → Header → (unit : ℕ) → (pic_order_cnt : ℤ) → PictureInfo
 info_with sps h unit order = record {
   unit = unit;
@@ -195,7 +201,11 @@ with_picture sps h unit planes before =
 -- the parameter set of the sequence: that of the last IDR picture (7.4.1.2.1)
 abbrev pub sequence_sps : History → Option Sps
 sequence_sps [] = None
-sequence_sps (decoded_picture sps h info planes ∷ older) = elim (is_idr h) [ true ↦ Some sps | false ↦ sequence_sps older ]
+sequence_sps (decoded_picture sps h info planes ∷ older) =
+    elim (is_idr h) [
+      | true ↦ Some sps
+      | false ↦ sequence_sps older
+    ]
 sequence_sps (missing_frame sps frame_num ∷ older) = sequence_sps older
 
 -- there is one, and the other has the same contents (7.4.1.2.1)
@@ -206,23 +216,25 @@ is_same_sps (Some before) sps = same_sps before sps
 -- One entry more for each missing number (8.2.5.2); each can be marked.
 abbrev pub with_missing : Sps → List ℕ → History → Result History Fault
 with_missing sps [] h = Ok h
-with_missing sps (n ∷ numbers) h = marks_of (missing_frame sps n ∷ h) >>= λ m. with_missing sps numbers (missing_frame sps n ∷ h)
+with_missing sps (n ∷ numbers) h =
+    marks_of (missing_frame sps n ∷ h) >>= λ m. with_missing sps numbers (missing_frame sps n ∷ h)
 
 -- the history, if the picture after it has order counts (8.2.1), else PocRange
 abbrev pub with_order_counts : Sps → Header → History → Result History Fault
 with_order_counts sps h history = order_counts sps h (pasts history) >>= λ c. Ok history
 
 -- The history with the frame numbers that are missing before a picture of this header (7.4.3,
--- 8.2.5.2), or the first of ParameterSetChanged, FrameNumGap, FrameNumRepeated, TooManyReferences and
--- PocRange (this decoder's rule). Before an IDR picture, which is counted alone, the sequence before it
--- stays until it is closed.
+-- 8.2.5.2), or the first of ParameterSetChanged, FrameNumGap, FrameNumRepeated, TooManyReferences
+-- and PocRange (this decoder's rule). Before an IDR picture, which is counted alone, the sequence
+-- before it stays until it is closed.
 abbrev pub history_at_opening : Sps → Header → History → Result History Fault
 history_at_opening sps h history =
     elim (is_idr h) [
       | true ↦ with_order_counts sps h [] >>= λ none. Ok history
       | false ↦ elim (is_same_sps (sequence_sps history) sps) [
         | false ↦ Err faults.ParameterSetChanged
-        | true ↦ missing_frame_nums (prev_ref_frame_num (marking_entries history)) sps.gaps_in_frame_num_value_allowed_flag (picture_entry sps h)
+        | true ↦ missing_frame_nums (prev_ref_frame_num (marking_entries history))
+            sps.gaps_in_frame_num_value_allowed_flag (picture_entry sps h)
             >>= λ numbers. with_missing sps numbers history >>= λ full. with_order_counts sps h full
       ]
     ]
@@ -230,6 +242,8 @@ history_at_opening sps h history =
 -- ---- closing it (8.2.5)
 
 -- The history with the picture marked (8.2.5), or BadMarking or TooManyReferences.
-abbrev pub history_after_closing : Sps → Header → (unit : ℕ) → Planes → History → Result History Fault
+abbrev pub history_after_closing : Sps → Header → (unit : ℕ) → Planes → History →
+    Result History Fault
 history_after_closing sps h unit planes history =
-    marks_of (with_picture sps h unit planes history) >>= λ m. Ok (with_picture sps h unit planes history)
+    marks_of (with_picture sps h unit planes history) >>= λ m.
+    Ok (with_picture sps h unit planes history)

@@ -10,5 +10,6 @@ use Rattle.avc_decoder_core.specs.Pictures.{held_pictures, output_pictures}
 -- pictures that are needed for output (C.4.5.3), and the others stay needed for output.
 abbrev pub MissingNumbersKeepTheOrder : Type 0
 MissingNumbersKeepTheOrder =
-    (output : Output) (sps : Sps) (h : Header) (history full : History) → history_at_opening sps h history ≡ Ok full →
+    (output : Output) (sps : Sps) (h : Header) (history full : History) →
+    history_at_opening sps h history ≡ Ok full →
     held_pictures output history ≡ output_pictures output history full ++ held_pictures output full

@@ -1,5 +1,6 @@
 -- The pictures of a history as they are handed out (7.4.2.1.1, C.4).
-use Rattle.std.specs.Prelude.{ℕ, ◌*◌, Bool, true, false, if◌then◌else◌, List, [], ◌∷◌, ◌++◌, Option, Some, None}
+use Rattle.std.specs.Prelude.{ℕ, ◌*◌, Bool, true, false, if◌then◌else◌, List, [], ◌∷◌, ◌++◌, Option}
+use Rattle.std.specs.Prelude.{Some, None}
 use Rattle.std.specs.List.{flat_map}
 use Rattle.avc_types.specs.declared.picture.Crop.{Crop}
 use Rattle.avc_types.specs.declared.picture.Picture.{Picture}
@@ -13,7 +14,8 @@ use Rattle.avc_params.specs.declared.sps.Cropping.{Cropping}
 use Rattle.avc_params.specs.declared.sps.Sps.{Sps}
 use Rattle.avc_slice.specs.Header.{is_idr}
 use Rattle.avc_slice.specs.declared.header.Header.{Header}
-use Rattle.avc_decoder_core.specs.History.{Entry, decoded_picture, missing_frame, History, earlier_in_sequence, entry_at, new_output, all_held}
+use Rattle.avc_decoder_core.specs.History.{Entry, decoded_picture, missing_frame, History}
+use Rattle.avc_decoder_core.specs.History.{earlier_in_sequence, entry_at, new_output, all_held}
 
 -- the cropping rectangle in luma samples (7.4.2.1.1): a unit of the offsets is two of them at 4:2:0
 abbrev pub crop_of : Option Cropping → Crop
@@ -59,9 +61,13 @@ no_output_of_prior_pics _ = false
 -- picture all that is needed for output, or nothing by no_output_of_prior_pics_flag (C.4.4)
 abbrev pub prior_output : Output → Header → (before : History) → List Picture
 prior_output output h before =
-    elim (is_idr h) [ true ↦ (if no_output_of_prior_pics h.marking then [] else held_pictures output before) | false ↦ [] ]
+    elim (is_idr h) [
+      | true ↦ (if no_output_of_prior_pics h.marking then [] else held_pictures output before)
+      | false ↦ []
+    ]
 
 -- what goes out where a picture with this header is closed on the history `before`, which then is
 -- `after` (C.4.4, C.4.5)
 abbrev pub output_at_closing : Output → Header → (before after : History) → List Picture
-output_at_closing output h before after = prior_output output h before ++ output_pictures output (earlier_in_sequence h before) after
+output_at_closing output h before after =
+    prior_output output h before ++ output_pictures output (earlier_in_sequence h before) after

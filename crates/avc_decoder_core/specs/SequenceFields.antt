@@ -5,7 +5,8 @@ use Rattle.avc_params.specs.declared.sps.Sps.{Sps}
 use Rattle.avc_params.specs.Within.{IsSps}
 use Rattle.avc_poc.specs.OrderCountState.{OrderCountState, order_count_state}
 use Rattle.avc_poc.specs.OrderCounts.{Past, order_counts, picture}
-use Rattle.avc_decoder_core.specs.History.{History, earlier_in_sequence, history_at_opening, order_or_0, pasts, sequence_sps}
+use Rattle.avc_decoder_core.specs.History.{History, earlier_in_sequence, history_at_opening}
+use Rattle.avc_decoder_core.specs.History.{order_or_0, pasts, sequence_sps}
 use Rattle.avc_decoder_core.specs.FrameBufferFields.{history_of}
 use Rattle.avc_decoder_core.specs.FrameBufferState.{FrameBufferState, CanFollow}
 use Rattle.avc_decoder_core.specs.SequenceState.{OpenPictureStart, SequenceState}
@@ -31,7 +32,8 @@ pub record StandsOn (closed history : History) (o : OpenPicture) : Type 0 where
   pub limits : IsSps o.sps
   pub opened : history_at_opening o.sps o.header closed ≡ Ok history
   pub follows : CanFollow history o.sps o.header
-  pub pic_order_cnt : o.pic_order_cnt ≡ order_or_0 (order_counts o.sps o.header (pasts (earlier_in_sequence o.header history)))
+  pub pic_order_cnt : o.pic_order_cnt
+      ≡ order_or_0 (order_counts o.sps o.header (pasts (earlier_in_sequence o.header history)))
 
 -- The history is the closed one, with the open picture's missing numbers where a picture is open.
 abbrev pub StandsOnIf : (closed history : History) → Option OpenPicture → Type 0
@@ -44,7 +46,8 @@ counted history None = pasts history
 counted history (Some o) = picture o.sps o.header ∷ pasts (earlier_in_sequence o.header history)
 
 -- What is kept is what the histories leave: order counts, and the parameter set of the sequence.
-pub record IsStateOf (closed : History) (open_picture : Option OpenPicture) (buffer : FrameBufferState) (poc : OrderCountState)
+pub record IsStateOf (closed : History) (open_picture : Option OpenPicture)
+    (buffer : FrameBufferState) (poc : OrderCountState)
     (sps : Option Sps) : Type 0 where
   pub going : buffer.failed ≡ false
   pub stands : StandsOnIf closed buffer.history open_picture
@@ -53,4 +56,5 @@ pub record IsStateOf (closed : History) (open_picture : Option OpenPicture) (buf
 
 -- the same of a sequence's fields, unless memory was refused
 abbrev pub IsSequenceState : Inside → Type 0
-IsSequenceState s = s.failed ≡ false → IsStateOf (history_of s.closed.items) s.open_picture s.buffer s.poc s.sps
+IsSequenceState s =
+    s.failed ≡ false → IsStateOf (history_of s.closed.items) s.open_picture s.buffer s.poc s.sps

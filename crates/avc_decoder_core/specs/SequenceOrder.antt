@@ -1,4 +1,5 @@
--- How far the pictures of a sequence are reordered for output (E.2.1), and what follows for early output.
+-- How far the pictures of a sequence are reordered for output (E.2.1), and what follows for early
+-- output.
 use Rattle.std.specs.Prelude.{◌≡◌, ℕ, ◌≤◌, true, false, IfSome, List, [], ◌∷◌, length}
 use Rattle.std.specs.Result.{is_ok}
 use Rattle.avc_dpb.specs.declared.output.Output.{Output}
@@ -7,7 +8,8 @@ use Rattle.avc_dpb.specs.Reordering.{reordered, whole_output}
 use Rattle.avc_params.specs.declared.sps.Sps.{Sps}
 use Rattle.avc_slice.specs.Header.{is_idr, has_idr_marking}
 use Rattle.avc_slice.specs.declared.header.Header.{Header}
-use Rattle.avc_decoder_core.specs.History.{decoded_picture, missing_frame, History, arrivals, is_same_sps, marks_of, reorder_limit, sequence_sps}
+use Rattle.avc_decoder_core.specs.History.{decoded_picture, missing_frame, History, arrivals}
+use Rattle.avc_decoder_core.specs.History.{is_same_sps, marks_of, reorder_limit, sequence_sps}
 
 -- the decoding indices of all pictures of a history, in the order in which they go out in the end
 -- (C.4)
@@ -50,4 +52,5 @@ EachCanCome (missing_frame sps frame_num ∷ older) = EachCanCome older
 -- order of full output.
 abbrev pub EarlyOutputKeepsHistories : Type 0
 EarlyOutputKeepsHistories =
-    (h : History) → EachCanCome h → is_ok (marks_of h) ≡ true → RespectsReorderNumbers h → output_order Early h ≡ output_order Full h
+    (h : History) → EachCanCome h → is_ok (marks_of h) ≡ true → RespectsReorderNumbers h →
+    output_order Early h ≡ output_order Full h

@@ -80,7 +80,11 @@ impl Model for FrameBuffer {
 /// What marking asks of a frame with this number.
 fn new_frame(sps: &Sps, frame_num: u32, existing: bool) -> NewFrame
     requires { IsSps sps.now }
-    ensures { result ≡ record { current = current_in sps.now frame_num; existing = existing; max_num_ref_frames = sps.now.max_num_ref_frames } }
+    ensures { result ≡ record {
+      current = current_in sps.now frame_num;
+      existing = existing;
+      max_num_ref_frames = sps.now.max_num_ref_frames;
+    } }
 {
     NewFrame {
         current: CurrentFrameNum {
@@ -190,7 +194,8 @@ fn output_prior_pictures(
     dpb: &mut Dpb,
     header: &Header,
 ) -> Result<Vec<SharedPicture>, OutOfMemory>
-    ensures ok { IfOk result (λ out. OutputsPrior (prior_pictures_of header.now) dpb.old out.items dpb.new) }
+    ensures ok { IfOk result
+        (λ out. OutputsPrior (prior_pictures_of header.now) dpb.old out.items dpb.new) }
     ensures kept { dpb.new.output ≡ dpb.old.output }
 {
     if !header.has_operation_5() {
@@ -245,7 +250,8 @@ impl FrameBuffer {
     pub fn missing_frame_nums(&self, sps: &Sps, header: &Header) -> Result<MissingFrameNums, Fault>
         requires going { self.now.failed ≡ false }
         requires sps { IsSps sps.now }
-        ensures { result ≡ missing_frame_nums (prev_ref_frame_num (marking_entries self.now.history))
+        ensures { result
+            ≡ missing_frame_nums (prev_ref_frame_num (marking_entries self.now.history))
             sps.now.gaps_in_frame_num_value_allowed_flag (picture_entry sps.now header.now) }
     {
         missing_frame_nums(
@@ -262,7 +268,8 @@ impl FrameBuffer {
     pub fn can_store_missing(&self, sps: &Sps, frame_num: u32) -> Result<(), Fault>
         requires going { self.now.failed ≡ false }
         requires sps { IsSps sps.now }
-        ensures { result ≡ result_map (λ _. tt) (marks_of (missing_frame sps.now frame_num ∷ self.now.history)) }
+        ensures { result
+            ≡ result_map (λ _. tt) (marks_of (missing_frame sps.now frame_num ∷ self.now.history)) }
     {
         let mut marked = marked_frames(self.dpb.frames());
         sliding_window(&mut marked, new_frame(sps, frame_num, false))
@@ -279,8 +286,10 @@ impl FrameBuffer {
         requires going { self.old.failed ≡ false }
         requires sps { IsSps sps.now }
         requires same { is_same_sps (sequence_sps self.old.history) sps.now ≡ true }
-        requires marked { is_ok (marks_of (missing_frame sps.now frame_num ∷ self.old.history)) ≡ true }
-        ensures ok { IfOk result (λ out. Stores self.old (missing_frame sps.now frame_num) out.items self.new) }
+        requires marked { is_ok (marks_of (missing_frame sps.now frame_num ∷ self.old.history))
+            ≡ true }
+        ensures ok { IfOk result
+            (λ out. Stores self.old (missing_frame sps.now frame_num) out.items self.new) }
         ensures err { OnErr result (self.new.failed ≡ true) }
     {
         let mut marked = marked_frames(self.dpb.frames());
@@ -384,8 +393,8 @@ impl FrameBuffer {
         self.history = History::new();
     }
 
-    /// Marks a decoded picture (8.2.5.1), of which this is known, and stores it. `closed` becomes the
-    /// history with it. Answers the pictures that go out.
+    /// Marks a decoded picture (8.2.5.1), of which this is known, and stores it. `closed` becomes
+    /// the history with it. Answers the pictures that go out.
     #[tactic(auto, using(crate::proofs::Sequences::few_needed))]
     pub fn store_picture(
         &mut self,
@@ -399,11 +408,16 @@ impl FrameBuffer {
         requires sps { IsSps sps.now }
         requires follows { CanFollow self.old.history sps.now header.now }
         requires first { is_idr header.now ≡ true → self.old.history ≡ [] }
-        requires pic_order_cnt { info.pic_order_cnt ≡ order_or_0 (order_counts sps.now header.now (pasts self.old.history)) }
+        requires pic_order_cnt { info.pic_order_cnt
+            ≡ order_or_0 (order_counts sps.now header.now (pasts self.old.history)) }
         requires sized { AreSized (width_in_mbs sps.now) (height_in_mbs sps.now) planes }
-        ensures ok { IfOk result (λ out. Stores self.old (decoded_picture sps.now header.now info planes) out.items self.new) }
+        ensures ok { IfOk result
+            (λ out. Stores self.old (decoded_picture sps.now header.now info planes) out.items
+            self.new) }
         ensures err { IfErr result (λ error.
-            Refuses self.old (marks_of (decoded_picture sps.now header.now info planes ∷ self.old.history)) error self.new) }
+            Refuses self.old
+            (marks_of (decoded_picture sps.now header.now info planes ∷ self.old.history)) error
+            self.new) }
         ensures closed { OnOk result (history_of closed.new.items ≡ self.new.history) }
         ensures kept { OnErr result (closed.new.items ≡ closed.old.items) }
     {
@@ -455,7 +469,8 @@ impl FrameBuffer {
     pub fn empty(&mut self) -> Result<Vec<SharedPicture>, OutOfMemory>
         ensures ok { IfOk result (λ out. IsEmptied self.old out.items self.new) }
         ensures err { OnErr result (self.new.failed ≡ true) }
-        ensures memory { self.old.failed ≡ false → OnErr result (held_pictures self.old.output self.old.history ≢ []) }
+        ensures memory { self.old.failed ≡ false →
+            OnErr result (held_pictures self.old.output self.old.history ≢ []) }
     {
         self.failed.check()?;
         let out = self.failed.keep(self.dpb.empty())?;

@@ -74,7 +74,8 @@ pub fn all_settle(dpb: &Dpb, first: usize, low: u64, max: u64) -> bool
     requires max { 0 < max }
     requires small { low < 2 ^ 33 }
     requires few { length dpb.now.frames ≤ 16 }
-    ensures { result ≡ true → (p : ℕ) → p < length dpb.now.frames → settles_at dpb.now first low max p ≡ true }
+    ensures { result ≡ true → (p : ℕ) → p < length dpb.now.frames →
+        settles_at dpb.now first low max p ≡ true }
 {
     let count = dpb.frames().len();
     for place in 0..count {

@@ -40,7 +40,9 @@ fn store_each(
     requires sps { IsSps sps.now }
     requires same { is_same_sps (sequence_sps buffer.old.history) sps.now ≡ true }
     requires marked { is_ok (with_missing sps.now numbers buffer.old.history) ≡ true }
-    ensures { IfOk result (λ out. StoresAll buffer.old (with_missing sps.now numbers buffer.old.history) out.items buffer.new) }
+    ensures { IfOk result
+        (λ out. StoresAll buffer.old (with_missing sps.now numbers buffer.old.history) out.items
+        buffer.new) }
 {
     let mut out = Vec::new(alloc);
     while let Some(frame_num) = numbers.next() {
@@ -54,7 +56,8 @@ fn store_each(
 fn leaves_its_end(buffer: &FrameBuffer, numbers: &MissingFrameNums, sps: &Sps) -> bool
     requires going { buffer.now.failed ≡ false }
     requires sps { IsSps sps.now }
-    ensures gap { result ≡ true → IsLongGap buffer.now.output sps.now buffer.now.history numbers.now }
+    ensures gap { result ≡ true →
+        IsLongGap buffer.now.output sps.now buffer.now.history numbers.now }
     ensures long { result ≡ true → 16 ≤ length numbers.now }
 {
     if numbers.len() < STORED {
@@ -77,7 +80,9 @@ fn store_last(
     requires marked { is_ok (with_missing sps.now numbers buffer.old.history) ≡ true }
     requires gap { IsLongGap buffer.old.output sps.now buffer.old.history numbers }
     requires long { 16 ≤ length numbers }
-    ensures { IfOk result (λ out. StoresAll buffer.old (with_missing sps.now numbers buffer.old.history) out.items buffer.new) }
+    ensures { IfOk result
+        (λ out. StoresAll buffer.old (with_missing sps.now numbers buffer.old.history) out.items
+        buffer.new) }
 {
     let history = buffer.history_with(sps, &numbers);
     let skipped = numbers.len() - STORED;
@@ -96,9 +101,12 @@ pub fn store_missing(
 ) -> Result<Vec<SharedPicture>, OutOfMemory>
     requires going { buffer.old.failed ≡ false }
     requires sps { IsSps sps.now }
-    requires same { 0 < length numbers → is_same_sps (sequence_sps buffer.old.history) sps.now ≡ true }
+    requires same { 0 < length numbers → is_same_sps (sequence_sps buffer.old.history) sps.now
+        ≡ true }
     requires marked { is_ok (with_missing sps.now numbers buffer.old.history) ≡ true }
-    ensures { IfOk result (λ out. StoresAll buffer.old (with_missing sps.now numbers buffer.old.history) out.items buffer.new) }
+    ensures { IfOk result
+        (λ out. StoresAll buffer.old (with_missing sps.now numbers buffer.old.history) out.items
+        buffer.new) }
 {
     let mut out = Vec::new(alloc);
     while let Some(frame_num) = numbers.next() {

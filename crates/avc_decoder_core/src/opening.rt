@@ -33,7 +33,8 @@ pub struct OpenPicture {
 impl OpenPicture {
     /// What is known of it beside its samples.
     pub fn info(&self) -> PictureInfo
-        ensures { result ≡ info_with self.now.sps self.now.header self.now.unit self.now.pic_order_cnt }
+        ensures { result
+            ≡ info_with self.now.sps self.now.header self.now.unit self.now.pic_order_cnt }
     {
         PictureInfo {
             unit: self.unit,

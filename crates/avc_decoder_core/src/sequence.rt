@@ -101,8 +101,12 @@ impl Sequence {
         requires marking { is_idr header.now ≡ true → has_idr_marking header.now ≡ true }
         requires reference { is_some header.now.marking ≡ is_reference header.now }
         requires sps { IsSps sps.now }
-        ensures ok { IfOk result (λ out. IsOpened self.old (record { sps = sps.now; header = header.now; unit = unit }) out.items self.new) }
-        ensures err { IfErr result (λ error. Fails self.old (history_at_opening sps.now header.now self.old.history) error self.new) }
+        ensures ok { IfOk result
+            (λ out. IsOpened self.old (record { sps = sps.now; header = header.now; unit = unit })
+            out.items self.new) }
+        ensures err { IfErr result
+            (λ error. Fails self.old (history_at_opening sps.now header.now self.old.history) error
+            self.new) }
     {
         self.failed.check()?;
         let opening = self.opening(header, sps)?;
@@ -142,12 +146,16 @@ impl Sequence {
         planes: SharedPlanes<PADDING>,
     ) -> Result<Vec<SharedPicture>, PictureError>
         requires picture { self.old.failed ≡ false → is_some self.old.open_picture ≡ true }
-        requires sized { (o : OpenPictureStart) → self.old.open_picture ≡ Some o → AreSizedAs o planes }
+        requires sized { (o : OpenPictureStart) → self.old.open_picture ≡ Some o →
+            AreSizedAs o planes }
         ensures ok { IfOk result (λ out.
-            (o : OpenPictureStart) → self.old.open_picture ≡ Some o → IsClosed self.old o planes out.items self.new) }
+            (o : OpenPictureStart) → self.old.open_picture ≡ Some o →
+            IsClosed self.old o planes out.items self.new) }
         ensures err { IfErr result (λ error.
             (o : OpenPictureStart) → self.old.open_picture ≡ Some o →
-            Fails self.old (history_after_closing o.sps o.header o.unit planes (current_history self.old)) error self.new) }
+            Fails self.old
+            (history_after_closing o.sps o.header o.unit planes (current_history self.old)) error
+            self.new) }
         ensures memory { self.old.failed ≡ true → WantsMemory result }
         ensures stays { self.old.failed ≡ true → self.new ≡ self.old }
     {
@@ -198,8 +206,10 @@ impl Sequence {
     /// are any.
     pub fn frames(&self) -> &[Frame<PADDING>]
         ensures value { result.now ≡ self.now.frames }
-        ensures stored { self.now.failed ≡ false → AreStoredIn (current_history self.now) result.now }
-        ensures sized { self.now.failed ≡ false → AreFramesIn (current_history self.now) result.now }
+        ensures stored { self.now.failed ≡ false →
+            AreStoredIn (current_history self.now) result.now }
+        ensures sized { self.now.failed ≡ false →
+            AreFramesIn (current_history self.now) result.now }
         ensures few { self.now.failed ≡ false → length result.now ≤ 16 }
     {
         self.buffer.frames()

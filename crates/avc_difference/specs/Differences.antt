@@ -1,5 +1,6 @@
 -- Where two pictures of one shape differ, each as I420.
-use Rattle.std.specs.Prelude.{◌≡◌, ℕ, ◌+◌, ◌-◌, ◌<◌, ◌==◌, max, min, nat_lt, zero, suc, Bool, true, false, ◌&&◌, ◌||◌, not, if◌then◌else◌}
+use Rattle.std.specs.Prelude.{◌≡◌, ℕ, ◌+◌, ◌-◌, ◌<◌, ◌==◌, max, min, nat_lt, zero, suc, Bool, true}
+use Rattle.std.specs.Prelude.{false, ◌&&◌, ◌||◌, not, if◌then◌else◌}
 use Rattle.std.specs.Prelude.{List, length, slice_index, slice_index_or, count_by}
 use Rattle.avc_plane.specs.declared.component.Component.{Component}
 use Rattle.avc_plane.specs.declared.component.Component.TheVariants.{Luma, Cb, Cr}
@@ -46,14 +47,18 @@ is_luma Cr = false
 
 -- The samples at this place differ, they are luma samples, and they are of the macroblock with this
 -- address (6.4.1).
-abbrev pub differs_in_luma : Shape → (most : ℕ) → (ours theirs : List ℕ) → (address place : ℕ) → Bool
+abbrev pub differs_in_luma : Shape → (most : ℕ) → (ours theirs : List ℕ) → (address place : ℕ) →
+    Bool
 differs_in_luma s most ours theirs address place =
-    differs_at most ours theirs place && (is_luma (place_of s place).component && (place_of s place).address == address)
+    differs_at most ours theirs place
+    && (is_luma (place_of s place).component && (place_of s place).address == address)
 
 -- the same of chroma samples
-abbrev pub differs_in_chroma : Shape → (most : ℕ) → (ours theirs : List ℕ) → (address place : ℕ) → Bool
+abbrev pub differs_in_chroma : Shape → (most : ℕ) → (ours theirs : List ℕ) → (address place : ℕ) →
+    Bool
 differs_in_chroma s most ours theirs address place =
-    differs_at most ours theirs place && (not (is_luma (place_of s place).component) && (place_of s place).address == address)
+    differs_at most ours theirs place
+    && (not (is_luma (place_of s place).component) && (place_of s place).address == address)
 
 -- nothing differs
 abbrev pub no_mark : Mark
@@ -61,11 +66,14 @@ no_mark = record { luma = false; chroma = false }
 
 -- The mark of each macroblock says whether some of its first n samples differ: of luma, and of
 -- chroma.
-pub record AreMarks (s : Shape) (most : ℕ) (ours theirs : List ℕ) (n : ℕ) (marks : List Mark) : Type 0 where
+pub record AreMarks (s : Shape) (most : ℕ) (ours theirs : List ℕ) (n : ℕ)
+    (marks : List Mark) : Type 0 where
   pub luma : (address : ℕ) → address < length marks
-      → (slice_index_or marks address no_mark).luma ≡ any_below n (differs_in_luma s most ours theirs address)
+      → (slice_index_or marks address no_mark).luma
+      ≡ any_below n (differs_in_luma s most ours theirs address)
   pub chroma : (address : ℕ) → address < length marks
-      → (slice_index_or marks address no_mark).chroma ≡ any_below n (differs_in_chroma s most ours theirs address)
+      → (slice_index_or marks address no_mark).chroma
+      ≡ any_below n (differs_in_chroma s most ours theirs address)
 
 -- a mark with this component
 abbrev pub with_component : Component → Mark → Mark
@@ -75,14 +83,16 @@ with_component Cr m = record { luma = m.luma; chroma = true }
 
 -- what becomes of the mark of a macroblock where the sample at this place differs
 abbrev pub mark_after : Place → (address : ℕ) → Mark → Mark
-mark_after place address m = if place.address == address then with_component place.component m else m
+mark_after place address m =
+    if place.address == address then with_component place.component m else m
 
 -- something differs in the macroblock
 abbrev pub is_marked : Mark → Bool
 is_marked m = m.luma || m.chroma
 
 -- What is told of two pictures that differ.
-pub record IsDifference (s : Shape) (most : ℕ) (ours theirs : List ℕ) (d : Difference) : Type 0 where
+pub record IsDifference (s : Shape) (most : ℕ) (ours theirs : List ℕ)
+    (d : Difference) : Type 0 where
   pub at : ℕ
   pub first : IsFirst most ours theirs at
   pub place : d.place ≡ place_of s at

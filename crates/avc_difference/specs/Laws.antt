@@ -11,4 +11,6 @@ abbrev pub PlacesNameSamples : Type 0
 PlacesNameSamples =
     (p : Picture) (k : ℕ) → k < sample_count (shape_of p) →
     let q = place_of (shape_of p) k in
-    slice_index (i420 p) k ≡ slice_index (samples_of p q.component) (q.coded_row * columns_of p q.component + q.coded_column)
+    slice_index (i420 p) k
+    ≡ slice_index (samples_of p q.component)
+    (q.coded_row * columns_of p q.component + q.coded_column)

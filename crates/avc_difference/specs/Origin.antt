@@ -1,5 +1,6 @@
 -- The macroblock at which the difference of two pictures may begin, and its samples.
-use Rattle.std.specs.Prelude.{ℕ, zero, suc, ◌-◌, ◌%◌, ◌==◌, min, nat_lt, Bool, ◌&&◌, if◌then◌else◌, List, [], ◌∷◌, ◌++◌, length, slice_index, Option, Some, None}
+use Rattle.std.specs.Prelude.{ℕ, zero, suc, ◌-◌, ◌%◌, ◌==◌, min, nat_lt, Bool, ◌&&◌, if◌then◌else◌}
+use Rattle.std.specs.Prelude.{List, [], ◌∷◌, ◌++◌, length, slice_index, Option, Some, None}
 use Rattle.avc_plane.specs.Shown.{scaled}
 use Rattle.avc_plane.specs.declared.component.Component.{Component}
 use Rattle.avc_plane.specs.declared.component.Component.TheVariants.{Luma, Cb, Cr}
@@ -17,7 +18,8 @@ lesser (Some a) (Some b) = Some (min a b)
 -- the least value that a function has at the numbers below n that are such ones
 unfoldable pub least_below : (n : ℕ) → (is : ℕ → Bool) → (value : ℕ → ℕ) → Option ℕ
 least_below zero is value = None
-least_below (suc n) is value = lesser (least_below n is value) (if is n then Some (value n) else None)
+least_below (suc n) is value =
+    lesser (least_below n is value) (if is n then Some (value n) else None)
 
 -- how many samples beside an edge its filter changes at most (8.7.2.3, 8.7.2.4)
 abbrev pub filter_reach : Component → ℕ
@@ -30,7 +32,8 @@ filter_reach Cr = 1
 abbrev pub is_apart : Place → Bool
 is_apart p =
     let size = scaled p.component 16 in
-    nat_lt (p.coded_column % size) (size - filter_reach p.component) && nat_lt (p.coded_row % size) (size - filter_reach p.component)
+    nat_lt (p.coded_column % size) (size - filter_reach p.component)
+    && nat_lt (p.coded_row % size) (size - filter_reach p.component)
 
 -- the address of the macroblock of the sample at a place (6.4.1)
 abbrev pub address_at : Shape → (place : ℕ) → ℕ
@@ -46,20 +49,28 @@ or_other None b = b
 or_other (Some a) b = Some a
 
 -- The macroblock at which the difference may begin: the first that differs where no edge of a later
--- one reaches, since deblocking carries differences back there (8.7), or else the first that differs.
+-- one reaches, since deblocking carries differences back there (8.7), or else the first that
+-- differs.
 abbrev pub origin_address : Shape → (count : ℕ) → (differs : ℕ → Bool) → Option ℕ
 origin_address s count differs =
-    or_other (least_below count (differs_apart s differs) (address_at s)) (least_below count differs (address_at s))
+    or_other (least_below count (differs_apart s differs) (address_at s))
+    (least_below count differs (address_at s))
 
 -- the samples at a place
 abbrev pub pair_at : Shape → (ours theirs : List ℕ) → (place : ℕ) → SamplePair
-pair_at s ours theirs place = record { place = place_of s place; ours = slice_index ours place; theirs = slice_index theirs place }
+pair_at s ours theirs place = record {
+  place = place_of s place;
+  ours = slice_index ours place;
+  theirs = slice_index theirs place;
+}
 
 -- those of a macroblock at the first n places
-unfoldable pub pairs_below : (n : ℕ) → Shape → (ours theirs : List ℕ) → (address : ℕ) → List SamplePair
+unfoldable pub pairs_below : (n : ℕ) → Shape → (ours theirs : List ℕ) → (address : ℕ) →
+    List SamplePair
 pairs_below zero s ours theirs address = []
 pairs_below (suc n) s ours theirs address =
-    pairs_below n s ours theirs address ++ (if address_at s n == address then pair_at s ours theirs n ∷ [] else [])
+    pairs_below n s ours theirs address
+    ++ (if address_at s n == address then pair_at s ours theirs n ∷ [] else [])
 
 -- all that are shown of a macroblock, if there is one
 abbrev pub pairs_of : Shape → (ours theirs : List ℕ) → Option ℕ → List SamplePair

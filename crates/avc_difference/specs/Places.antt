@@ -1,4 +1,5 @@
--- Where the samples stand of a picture that is written as I420 (ITU-T H.264 clauses 6.2, 6.4.1 and 7.4.2.1.1).
+-- Where the samples stand of a picture that is written as I420 (ITU-T H.264 clauses 6.2, 6.4.1 and
+-- 7.4.2.1.1).
 use Rattle.std.specs.Prelude.{ℕ, ◌+◌, ◌-◌, ◌*◌, ◌/◌, ◌%◌, nat_lt, if◌then◌else◌}
 use Rattle.avc_types.specs.declared.picture.Picture.{Picture}
 use Rattle.avc_plane.specs.Shown.{scaled}
@@ -37,7 +38,8 @@ sample_count s = shown_samples s Luma + shown_samples s Cb + shown_samples s Cr
 -- the component of the sample at a place
 abbrev pub component_at : Shape → (place : ℕ) → Component
 component_at s place =
-    if nat_lt place (samples_before s Cb) then Luma else (if nat_lt place (samples_before s Cr) then Cb else Cr)
+    if nat_lt place (samples_before s Cb) then Luma
+    else (if nat_lt place (samples_before s Cr) then Cb else Cr)
 
 -- how many macroblocks a row of the picture has (PicWidthInMbs, 7.4.2.1.1)
 abbrev pub macroblock_columns : Shape → ℕ
@@ -63,7 +65,8 @@ place_at s c column row = record {
   coded_row = scaled c (s.crop).top + row;
   macroblock_column = (scaled c (s.crop).left + column) / scaled c 16;
   macroblock_row = (scaled c (s.crop).top + row) / scaled c 16;
-  address = ((scaled c (s.crop).top + row) / scaled c 16) * macroblock_columns s + (scaled c (s.crop).left + column) / scaled c 16;
+  address = ((scaled c (s.crop).top + row) / scaled c 16) * macroblock_columns s
+      + (scaled c (s.crop).left + column) / scaled c 16;
 }
 
 -- the sample of this number of a component, which is shown row by row
@@ -72,4 +75,5 @@ place_in s c number = place_at s c (number % shown_columns s c) (number / shown_
 
 -- the sample at a place of the picture as I420
 abbrev pub place_of : Shape → (place : ℕ) → Place
-place_of s place = place_in s (component_at s place) (place - samples_before s (component_at s place))
+place_of s place =
+    place_in s (component_at s place) (place - samples_before s (component_at s place))

@@ -36,8 +36,9 @@ pub struct Difference {
     /// Whether some differ in each macroblock, by its address.
     pub marks: Vec<Mark>,
 
-    /// The samples that are shown of the macroblock at which the difference may begin: the first that
-    /// differs where no edge of a later macroblock reaches (8.7), or else the first that differs.
+    /// The samples that are shown of the macroblock at which the difference may begin: the first
+    /// that differs where no edge of a later macroblock reaches (8.7), or else the first that
+    /// differs.
     pub origin: Vec<SamplePair>,
 }
 
@@ -52,7 +53,8 @@ pub fn find_difference(
 ) -> Result<Option<Difference>, OutOfMemory>
     requires same { length theirs.now ≡ length ours.now }
     requires whole { length ours.now ≡ sample_count shape }
-    ensures { IfOk result (λ found. MatchOption found (AreSame most ours.now theirs.now) (λ d. IsDifference shape most ours.now theirs.now d)) }
+    ensures { IfOk result (λ found. MatchOption found (AreSame most ours.now theirs.now)
+        (λ d. IsDifference shape most ours.now theirs.now d)) }
 {
     match first_difference(most, ours, theirs) {
         Some(place) => {
@@ -76,7 +78,8 @@ pub fn find_difference(
 // The place of the first sample that differs.
 fn first_difference(most: u8, ours: &[u8], theirs: &[u8]) -> Option<usize>
     requires { length theirs.now ≡ length ours.now }
-    ensures { MatchOption result (AreSame most ours.now theirs.now) (λ place. IsFirst most ours.now theirs.now place) }
+    ensures { MatchOption result (AreSame most ours.now theirs.now)
+        (λ place. IsFirst most ours.now theirs.now place) }
 {
     'samples: for place in 0..ours.len() {
         if differs(most, ours[place], theirs[place]) {

@@ -1,6 +1,7 @@
 //! In which macroblocks two pictures differ.
 
-ghost use Rattle.std.specs.Prelude.{◌≡◌, ◌+◌, ◌<◌, ◌^◌, ℕ, count_by, if◌then◌else◌, length, replicate, slice_index_or};
+ghost use Rattle.std.specs.Prelude.{◌≡◌, ◌+◌, ◌<◌, ◌^◌, ℕ, count_by, if◌then◌else◌, length};
+ghost use Rattle.std.specs.Prelude.{replicate, slice_index_or};
 ghost use Rattle.std.specs.Prelude.{IfOk};
 ghost use Rattle.avc_difference.specs.Places.{macroblocks, sample_count};
 ghost use Rattle.avc_difference.specs.Differences.{differs, is_marked, mark_after, no_mark};
@@ -29,7 +30,8 @@ pub(crate) fn marks_of(
     requires same { length theirs.now ≡ length ours.now }
     requires whole { length ours.now ≡ sample_count shape }
     ensures all { IfOk result (λ marks. length marks.items ≡ macroblocks shape) }
-    ensures marks { IfOk result (λ marks. AreMarks shape most ours.now theirs.now (length ours.now) marks.items) }
+    ensures marks { IfOk result
+        (λ marks. AreMarks shape most ours.now theirs.now (length ours.now) marks.items) }
 {
     let none = Mark {
         luma: false,
@@ -57,7 +59,8 @@ fn mark_sample(marks: &mut [Mark], shape: Shape, most: u8, ours: &[u8], theirs: 
     requires same { length theirs.now ≡ length ours.now }
     requires whole { length ours.now ≡ sample_count shape }
     requires inside { place < length ours.now }
-    ensures { AreMarks shape most ours.now theirs.now place marks.old → AreMarks shape most ours.now theirs.now (place + 1) marks.new }
+    ensures { AreMarks shape most ours.now theirs.now place marks.old →
+        AreMarks shape most ours.now theirs.now (place + 1) marks.new }
 {
     if !differs(most, ours[place], theirs[place]) {
         return;
@@ -69,7 +72,8 @@ fn mark_sample(marks: &mut [Mark], shape: Shape, most: u8, ours: &[u8], theirs: 
 fn mark_place(marks: &mut [Mark], place: Place)
     ensures length { length marks.new ≡ length marks.old }
     ensures marks { (address : ℕ) → address < length marks.old
-        → slice_index_or marks.new address no_mark ≡ mark_after place address (slice_index_or marks.old address no_mark) }
+        → slice_index_or marks.new address no_mark
+        ≡ mark_after place address (slice_index_or marks.old address no_mark) }
 {
     if place.address < marks.len() {
         let mark = &mut marks[place.address];

@@ -1,6 +1,7 @@
 //! The macroblock at which the difference of two pictures may begin, and its samples.
 
-ghost use Rattle.std.specs.Prelude.{◌≡◌, ◌+◌, ◌<◌, ◌==◌, ◌&&◌, ◌++◌, ◌∷◌, [], None, Some, if◌then◌else◌, length};
+ghost use Rattle.std.specs.Prelude.{◌≡◌, ◌+◌, ◌<◌, ◌==◌, ◌&&◌, ◌++◌, ◌∷◌, [], None, Some};
+ghost use Rattle.std.specs.Prelude.{if◌then◌else◌, length};
 ghost use Rattle.std.specs.Prelude.{IfOk, OnOk};
 ghost use Rattle.avc_difference.specs.Differences.{differs_at};
 ghost use Rattle.avc_difference.specs.Origin.{address_at, differs_apart, filter_reach, is_apart};
@@ -27,8 +28,8 @@ pub struct SamplePair {
 }
 
 /// The samples that are shown of the macroblock at which the difference of two pictures may begin,
-/// where they differ: the first that differs where no edge of a later macroblock reaches, or else the
-/// first that differs.
+/// where they differ: the first that differs where no edge of a later macroblock reaches, or else
+/// the first that differs.
 pub(crate) fn origin_pairs(
     alloc: Global,
     shape: Shape,
@@ -38,7 +39,8 @@ pub(crate) fn origin_pairs(
 ) -> Result<Vec<SamplePair>, OutOfMemory>
     requires same { length theirs.now ≡ length ours.now }
     requires whole { length ours.now ≡ sample_count shape }
-    ensures { IfOk result (λ pairs. pairs.items ≡ origin_pairs shape (differs_at most ours.now theirs.now) ours.now theirs.now) }
+    ensures { IfOk result (λ pairs. pairs.items
+        ≡ origin_pairs shape (differs_at most ours.now theirs.now) ours.now theirs.now) }
 {
     match origin_address(shape, most, ours, theirs) {
         Some(address) => pairs_of(alloc, shape, ours, theirs, address),
@@ -50,7 +52,8 @@ pub(crate) fn origin_pairs(
 fn origin_address(shape: Shape, most: u8, ours: &[u8], theirs: &[u8]) -> Option<usize>
     requires same { length theirs.now ≡ length ours.now }
     requires whole { length ours.now ≡ sample_count shape }
-    ensures { result ≡ origin_address shape (length ours.now) (differs_at most ours.now theirs.now) }
+    ensures { result
+        ≡ origin_address shape (length ours.now) (differs_at most ours.now theirs.now) }
 {
     match first_apart(shape, most, ours, theirs) {
         Some(address) => Some(address),
@@ -62,7 +65,9 @@ fn origin_address(shape: Shape, most: u8, ours: &[u8], theirs: &[u8]) -> Option<
 fn first_apart(shape: Shape, most: u8, ours: &[u8], theirs: &[u8]) -> Option<usize>
     requires same { length theirs.now ≡ length ours.now }
     requires whole { length ours.now ≡ sample_count shape }
-    ensures { result ≡ least_below (length ours.now) (differs_apart shape (differs_at most ours.now theirs.now)) (address_at shape) }
+    ensures { result
+        ≡ least_below (length ours.now) (differs_apart shape (differs_at most ours.now theirs.now))
+        (address_at shape) }
 {
     let mut least = None;
     'samples: for place in 0..ours.len() {
@@ -77,7 +82,8 @@ fn first_apart(shape: Shape, most: u8, ours: &[u8], theirs: &[u8]) -> Option<usi
 fn first_differing(shape: Shape, most: u8, ours: &[u8], theirs: &[u8]) -> Option<usize>
     requires same { length theirs.now ≡ length ours.now }
     requires whole { length ours.now ≡ sample_count shape }
-    ensures { result ≡ least_below (length ours.now) (differs_at most ours.now theirs.now) (address_at shape) }
+    ensures { result
+        ≡ least_below (length ours.now) (differs_at most ours.now theirs.now) (address_at shape) }
 {
     let mut least = None;
     'samples: for place in 0..ours.len() {
@@ -137,7 +143,8 @@ fn pairs_of(
 ) -> Result<Vec<SamplePair>, OutOfMemory>
     requires same { length theirs.now ≡ length ours.now }
     requires whole { length ours.now ≡ sample_count shape }
-    ensures { IfOk result (λ pairs. pairs.items ≡ pairs_of shape ours.now theirs.now (Some address)) }
+    ensures { IfOk result (λ pairs. pairs.items
+        ≡ pairs_of shape ours.now theirs.now (Some address)) }
 {
     let mut pairs = Vec::new(alloc);
     'samples: for place in 0..ours.len() {
@@ -159,7 +166,8 @@ fn add_pair(
     requires whole { length ours.now ≡ sample_count shape }
     requires inside { place < length ours.now }
     ensures { OnOk result (pairs.new.items ≡ pairs.old.items
-        ++ (if address_at shape place == address then pair_at shape ours.now theirs.now place ∷ [] else [])) }
+        ++ (if address_at shape place == address then pair_at shape ours.now theirs.now place ∷ []
+        else [])) }
 {
     let stands = place_of(shape, place);
     if stands.address == address {

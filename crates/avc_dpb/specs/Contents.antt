@@ -1,5 +1,6 @@
 -- What the buffer's type holds, and the buffer that it stands for.
-use Rattle.std.specs.Prelude.{◌≡◌, ◌≢◌, ◌==◌, ℕ, zero, suc, ◌<◌, Bool, false, List, [], ◌∷◌, map, Option, None, Some, slice_get, ◌+◌}
+use Rattle.std.specs.Prelude.{◌≡◌, ◌≢◌, ◌==◌, ℕ, zero, suc, ◌<◌, Bool, false, List, [], ◌∷◌, map}
+use Rattle.std.specs.Prelude.{Option, None, Some, slice_get, ◌+◌}
 use Rattle.std.specs.List.{filter_map, list_any}
 use Rattle.avc_types.specs.declared.picture.Picture.{Picture}
 use Rattle.avc_types.specs.declared.references.Mark.{Mark}
@@ -7,7 +8,8 @@ use Rattle.avc_plane.specs.declared.frame.Frame.{Frame}
 use Rattle.avc_dpb.specs.declared.waiting.Slot.{Slot}
 use Rattle.avc_dpb.specs.declared.arriving_frame.ArrivingFrame.{ArrivingFrame}
 use Rattle.avc_dpb.specs.declared.output.Output.{Output}
-use Rattle.avc_dpb.specs.Bumping.{Arrival, remain, Stored, Buffer, is_reference_in, new_output, after_frame, with_all_output}
+use Rattle.avc_dpb.specs.Bumping.{Arrival, remain, Stored, Buffer, is_reference_in, new_output}
+use Rattle.avc_dpb.specs.Bumping.{after_frame, with_all_output}
 use Rattle.avc_dpb.specs.StoredFrame.{is_used_for_reference, shown_frame}
 
 -- the stored frames in decoding order, and beside each what output keeps of it; when pictures go
@@ -39,7 +41,8 @@ pub record IsBuffer (c : Contents) (b : Buffer) (next : ℕ) (frame_of : ℕ →
 
 -- The marks of the frames say which are among these reference frames.
 abbrev pub AreReferences : List (Frame 16) → List ℕ → Buffer → Type 0
-AreReferences frames references b = map is_used_for_reference frames ≡ map (is_reference_in references) b.frames
+AreReferences frames references b =
+    map is_used_for_reference frames ≡ map (is_reference_in references) b.frames
 
 -- An arriving frame as an entry of the history, with the decoding indices of the reference frames
 -- once it is marked. What becomes of the pictures before it is asked for by other calls.
@@ -56,11 +59,13 @@ arrival_of a references = record {
 
 -- The mark of the frame of an entry says whether it is among these reference frames.
 abbrev pub IsReferenceAmong : Frame 16 → (index : ℕ) → List ℕ → Type 0
-IsReferenceAmong frame index references = is_used_for_reference frame ≡ list_any (λ r. r == index) references
+IsReferenceAmong frame index references =
+    is_used_for_reference frame ≡ list_any (λ r. r == index) references
 
 -- The buffer b became the buffer b', for which the contents stand, and what b' has put out was
 -- handed out.
-pub record HasBuffer (new : Contents) (out : List Picture) (b b' : Buffer) (next : ℕ) (frame_of : ℕ → Frame 16) : Type 0 where
+pub record HasBuffer (new : Contents) (out : List Picture) (b b' : Buffer) (next : ℕ)
+    (frame_of : ℕ → Frame 16) : Type 0 where
   pub buffer : IsBuffer new b' next frame_of
   pub pictures : out ≡ filter_map (λ index. shown_frame (frame_of index)) (new_output b b')
 
@@ -69,16 +74,21 @@ pub record HasBuffer (new : Contents) (out : List Picture) (b b' : Buffer) (next
 -- A frame is stored, or its picture goes out where there is no room, and then no more are needed
 -- for output than may stay so (C.4.5); the contents' frames and this one have the marks that they
 -- have once this frame is marked.
-abbrev pub Stores : (old : Contents) (frame : Frame 16) → ArrivingFrame → (out : List Picture) (new : Contents) → Type 0
+abbrev pub Stores : (old : Contents) (frame : Frame 16) → ArrivingFrame →
+    (out : List Picture) (new : Contents) → Type 0
 Stores old frame arriving out new =
-    (b : Buffer) (next : ℕ) (frame_of : ℕ → Frame 16) (references : List ℕ) → IsBuffer old b next frame_of →
-    AreReferences old.frames references b → frame_of next ≡ frame → IsReferenceAmong frame next references →
-    HasBuffer new out b (after_frame old.output next (arrival_of arriving references) b) (next + 1) frame_of
+    (b : Buffer) (next : ℕ) (frame_of : ℕ → Frame 16) (references : List ℕ) →
+    IsBuffer old b next frame_of →
+    AreReferences old.frames references b → frame_of next ≡ frame →
+    IsReferenceAmong frame next references →
+    HasBuffer new out b (after_frame old.output next (arrival_of arriving references) b) (next + 1)
+    frame_of
 
 -- All pictures needed for output go out (C.4.4).
 abbrev pub OutputsAll : (old : Contents) (out : List Picture) (new : Contents) → Type 0
 OutputsAll old out new =
-    (b : Buffer) (next : ℕ) (frame_of : ℕ → Frame 16) → IsBuffer old b next frame_of → HasBuffer new out b (with_all_output b) next frame_of
+    (b : Buffer) (next : ℕ) (frame_of : ℕ → Frame 16) → IsBuffer old b next frame_of →
+    HasBuffer new out b (with_all_output b) next frame_of
 
 -- Some picture goes out with them.
 abbrev pub OutputsSome : (old : Contents) → Type 0
@@ -88,7 +98,11 @@ OutputsSome old =
 
 -- the frame at a place is needed for output
 abbrev pub is_needed_for_output_at : List Slot → (place : ℕ) → Bool
-is_needed_for_output_at slots place = elim (slice_get slots place) [ None ↦ false | Some s ↦ s.needed_for_output ]
+is_needed_for_output_at slots place =
+    elim (slice_get slots place) [
+      | None ↦ false
+      | Some s ↦ s.needed_for_output
+    ]
 
 -- the list with the element at one place changed
 abbrev pub changed_at : {A : Type 0} → (A → A) → List A → (place : ℕ) → List A
@@ -98,4 +112,5 @@ changed_at change (x ∷ xs) (suc place) = x ∷ changed_at change xs place
 
 -- the contents with the mark of the frame at this place changed
 abbrev pub with_mark : Contents → (place : ℕ) → Option Mark → Contents
-with_mark c place mark = record c { frames = changed_at (λ f. record f { mark = mark }) c.frames place }
+with_mark c place mark =
+    record c { frames = changed_at (λ f. record f { mark = mark }) c.frames place }

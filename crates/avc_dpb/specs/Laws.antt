@@ -1,8 +1,14 @@
--- Laws of the buffer: that what the definition puts out is what C.4 asks for. Each is proved as the contract of a function of its name.
-use Rattle.std.specs.Prelude.{◌≡◌, ℕ, ◌+◌, ◌≤◌, pos, ◌==◌, ◌≤ℤ◌, if◌then◌else◌, true, false, not, ◌||◌, List, [], ◌∷◌, ◌++◌, length, map, count_by, slice_get, Option, Some, None}
+-- Laws of the buffer: that what the definition puts out is what C.4 asks for. Each is proved as the
+-- contract of a function of its name.
+use Rattle.std.specs.Prelude.{◌≡◌, ℕ, ◌+◌, ◌≤◌, pos, ◌==◌, ◌≤ℤ◌, if◌then◌else◌, true, false, not}
+use Rattle.std.specs.Prelude.{◌||◌, List, [], ◌∷◌, ◌++◌, length, map, count_by, slice_get, Option}
+use Rattle.std.specs.Prelude.{Some, None}
 use Rattle.std.specs.List.{filter, list_any}
 use Rattle.avc_dpb.specs.declared.output.Output.{Output}
-use Rattle.avc_dpb.specs.Bumping.{remain, Arrival, Stored, Buffer, needed_in_output_order, is_reference_in, needed_frames, after_bumping, after_bumping_while, with_all_output, after_prior_pictures, after_frame, after_entry, buffer_after, new_output}
+use Rattle.avc_dpb.specs.Bumping.{remain, Arrival, Stored, Buffer, needed_in_output_order}
+use Rattle.avc_dpb.specs.Bumping.{is_reference_in, needed_frames, after_bumping}
+use Rattle.avc_dpb.specs.Bumping.{after_bumping_while, with_all_output, after_prior_pictures}
+use Rattle.avc_dpb.specs.Bumping.{after_frame, after_entry, buffer_after, new_output}
 use Rattle.avc_dpb.specs.Contents.{IsRising}
 
 -- ---- C.4.5.3
@@ -13,15 +19,19 @@ pub record IsNextOutput (frames : List Stored) (s : Stored) : Type 0 where
   pub index : ℕ
   pub among : slice_get frames index ≡ Some s
   pub needed_for_output : s.needed_for_output ≡ true
-  pub least : (k : ℕ) (t : Stored) → slice_get frames k ≡ Some t → t.needed_for_output ≡ true → s.pic_order_cnt ≤ℤ t.pic_order_cnt
-  pub first : (k : ℕ) (t : Stored) → slice_get frames k ≡ Some t → t.needed_for_output ≡ true → t.pic_order_cnt ≡ s.pic_order_cnt → s.decoding_index ≤ t.decoding_index
+  pub least : (k : ℕ) (t : Stored) → slice_get frames k ≡ Some t → t.needed_for_output ≡ true →
+      s.pic_order_cnt ≤ℤ t.pic_order_cnt
+  pub first : (k : ℕ) (t : Stored) → slice_get frames k ≡ Some t → t.needed_for_output ≡ true →
+      t.pic_order_cnt ≡ s.pic_order_cnt → s.decoding_index ≤ t.decoding_index
 
 -- Bumping puts out the picture that goes next; it does nothing only where no picture is needed for
 -- output.
 abbrev pub Bumps : (references : List ℕ) → Buffer → Option Stored → Type 0
-Bumps references b (Some s) = IsNextOutput b.frames s × ((after_bumping references b).out ≡ b.out ++ s.decoding_index ∷ [])
+Bumps references b (Some s) =
+    IsNextOutput b.frames s × ((after_bumping references b).out ≡ b.out ++ s.decoding_index ∷ [])
 Bumps references b None =
-    ((k : ℕ) (t : Stored) → slice_get b.frames k ≡ Some t → t.needed_for_output ≡ true → ⊥) × (after_bumping references b ≡ b)
+    ((k : ℕ) (t : Stored) → slice_get b.frames k ≡ Some t → t.needed_for_output ≡ true → ⊥) ×
+    (after_bumping references b ≡ b)
 
 -- Bumping puts out the picture needed for output that is first in output order (C.4.5.3).
 abbrev pub LeastGoesOut : Type 0
@@ -34,17 +44,23 @@ LeastGoesOut =
 -- What goes out at once is what bumping puts out, until nothing is needed for output (C.4.4).
 abbrev pub AllGoOutByBumping : Type 0
 AllGoOutByBumping = (references : List ℕ) (b : Buffer) (next : ℕ) → IsRising b.frames next
-    → (with_all_output b).out ≡ (after_bumping_while (λ _. true) references (count_by (λ s. s.needed_for_output) b.frames) b).out
+    → (with_all_output b).out
+    ≡ (after_bumping_while (λ _. true) references (count_by (λ s. s.needed_for_output) b.frames)
+    b).out
 
 -- They are those that are needed for output, in the order in which they go out.
 abbrev pub AllHeldGoOut : Type 0
-AllHeldGoOut = (b : Buffer) → new_output b (with_all_output b) ≡ map (λ s. s.decoding_index) (needed_in_output_order b.frames)
+AllHeldGoOut =
+    (b : Buffer) → new_output b (with_all_output b)
+    ≡ map (λ s. s.decoding_index) (needed_in_output_order b.frames)
 
 -- ---- over a history
 
 -- The frames of the buffer stand in decoding order.
 abbrev pub StandsInDecodingOrder : Type 0
-StandsInDecodingOrder = (output : Output) (history : List Arrival) → IsRising (buffer_after output history).frames (length history)
+StandsInDecodingOrder =
+    (output : Output) (history : List Arrival) →
+    IsRising (buffer_after output history).frames (length history)
 
 -- What has gone out stays so.
 abbrev pub OutOnlyGrows : Type 0
@@ -56,7 +72,8 @@ OutOnlyGrows = (output : Output) (index : ℕ) (a : Arrival) (b : Buffer)
 abbrev pub GoesOutInTurn : Type 0
 GoesOutInTurn = (output : Output) (index : ℕ) (a : Arrival) (b : Buffer)
     → new_output b (after_entry output index a b)
-    ≡ new_output b (after_prior_pictures a.prior_pictures b) ++ new_output (after_prior_pictures a.prior_pictures b) (after_entry output index a b)
+    ≡ new_output b (after_prior_pictures a.prior_pictures b)
+    ++ new_output (after_prior_pictures a.prior_pictures b) (after_entry output index a b)
 
 -- no entry's buffer is larger
 abbrev pub IsWithin : (most : ℕ) → List Arrival → Type 0
@@ -65,7 +82,9 @@ IsWithin most (a ∷ older) = (a.capacity ≤ most) × IsWithin most older
 
 -- The buffer never holds more frames than the largest capacity of an entry.
 abbrev pub HoldsAtMost : Type 0
-HoldsAtMost = (output : Output) (most : ℕ) (history : List Arrival) → IsWithin most history → length (buffer_after output history).frames ≤ most
+HoldsAtMost =
+    (output : Output) (most : ℕ) (history : List Arrival) → IsWithin most history →
+    length (buffer_after output history).frames ≤ most
 
 -- how often a decoding index stands among these
 abbrev pub occurrences : (index : ℕ) → List ℕ → ℕ
@@ -80,7 +99,8 @@ pictures (a ∷ older) = pictures older ++ (if a.existing then length older ∷ 
 -- Each picture goes out once in the end, and nothing else goes out.
 abbrev pub GoesOutOnce : Type 0
 GoesOutOnce = (output : Output) (history : List Arrival) (index : ℕ)
-    → occurrences index (with_all_output (buffer_after output history)).out ≡ occurrences index (pictures history)
+    → occurrences index (with_all_output (buffer_after output history)).out
+    ≡ occurrences index (pictures history)
 
 -- ---- the frames that stay
 
@@ -93,11 +113,13 @@ needed_in_order b = map (λ s. s.decoding_index) (needed_in_output_order b.frame
 abbrev pub MissingFramesKeepTheOrder : Type 0
 MissingFramesKeepTheOrder = (output : Output) (index : ℕ) (a : Arrival) (b : Buffer)
     → IsRising b.frames index → a.existing ≡ false → a.prior_pictures ≡ remain
-    → needed_in_order b ≡ new_output b (after_entry output index a b) ++ needed_in_order (after_entry output index a b)
+    → needed_in_order b ≡ new_output b (after_entry output index a b)
+    ++ needed_in_order (after_entry output index a b)
 
 -- the decoding indices of the frames in the buffer that are among these reference frames
 abbrev pub indices_of_references : (references : List ℕ) → Buffer → List ℕ
-indices_of_references references b = map (λ s. s.decoding_index) (filter (is_reference_in references) b.frames)
+indices_of_references references b =
+    map (λ s. s.decoding_index) (filter (is_reference_in references) b.frames)
 
 -- The arriving frame is stored where bumping makes room for it, and the reference frames beside it
 -- leave room for one more.
@@ -110,7 +132,8 @@ abbrev pub ReferencesStay : Type 0
 ReferencesStay = (output : Output) (index : ℕ) (a : Arrival) (b : Buffer)
     → IsRising b.frames index → (list_any (λ r. r == index) a.references ≡ true → HasRoom a b)
     → indices_of_references a.references (after_frame output index a b)
-    ≡ indices_of_references a.references b ++ (if list_any (λ r. r == index) a.references then index ∷ [] else [])
+    ≡ indices_of_references a.references b
+    ++ (if list_any (λ r. r == index) a.references then index ∷ [] else [])
 
 -- ---- missing frame numbers
 
@@ -129,7 +152,11 @@ missing_arrival capacity references = record {
 
 -- that frame in the buffer (C.4.2)
 abbrev pub missing_stored : (index : ℕ) → Stored
-missing_stored index = record { decoding_index = index; pic_order_cnt = pos 0; needed_for_output = false }
+missing_stored index = record {
+  decoding_index = index;
+  pic_order_cnt = pos 0;
+  needed_for_output = false;
+}
 
 -- Where the frames that are still needed leave room for it, a non-existing frame is stored, and
 -- nothing goes out (C.4.2, C.4.5.3).
@@ -137,4 +164,7 @@ abbrev pub MissingFramesFindRoom : Type 0
 MissingFramesFindRoom = (output : Output) (index capacity : ℕ) (references : List ℕ) (b : Buffer)
     → length (needed_frames references b.frames) + 1 ≤ capacity
     → after_entry output index (missing_arrival capacity references) b
-    ≡ record { frames = needed_frames references b.frames ++ missing_stored index ∷ []; out = b.out }
+    ≡ record {
+      frames = needed_frames references b.frames ++ missing_stored index ∷ [];
+      out = b.out;
+    }

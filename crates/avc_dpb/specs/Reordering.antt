@@ -1,5 +1,6 @@
 -- How far pictures are reordered for output (E.2.1), and what follows for early output.
-use Rattle.std.specs.Prelude.{◌≡◌, ◌⊎◌, ℕ, ◌≤◌, ◌==◌, nat_le, nat_lt, ◌&&◌, true, false, if◌then◌else◌, IfSome, Option, None, List, [], ◌∷◌, length, count_by}
+use Rattle.std.specs.Prelude.{◌≡◌, ◌⊎◌, ℕ, ◌≤◌, ◌==◌, nat_le, nat_lt, ◌&&◌, true, false}
+use Rattle.std.specs.Prelude.{if◌then◌else◌, IfSome, Option, None, List, [], ◌∷◌, length, count_by}
 use Rattle.std.specs.List.{list_any}
 use Rattle.avc_dpb.specs.declared.output.Output.{Output}
 use Rattle.avc_dpb.specs.declared.output.Output.TheVariants.{Full, Early}
@@ -20,14 +21,19 @@ indices_after index (p ∷ indices) = if p == index then indices else indices_af
 -- How many pictures from the decoding index `first` on are decoded before the one at `index` and go
 -- out after it, where they go out in this order (E.2.1).
 abbrev pub reordered : (first index : ℕ) → (order : List ℕ) → ℕ
-reordered first index order = count_by (λ p. nat_le first p && nat_lt p index) (indices_after index order)
+reordered first index order =
+    count_by (λ p. nat_le first p && nat_lt p index) (indices_after index order)
 
 -- ---- early output
 
 -- the decoding index of the last entry with which the pictures before went out (C.4.4)
 abbrev pub last_emptying : List Arrival → ℕ
 last_emptying [] = 0
-last_emptying (a ∷ older) = elim a.prior_pictures [ remain ↦ last_emptying older | are_output ↦ length older ]
+last_emptying (a ∷ older) =
+    elim a.prior_pictures [
+      | remain ↦ last_emptying older
+      | are_output ↦ length older
+    ]
 
 -- how many pictures may stay needed for output after these entries: non-existing frames set no
 -- limit
@@ -53,7 +59,8 @@ pub record CanGoOutEarly (order : List ℕ) (a : Arrival) (older : List Arrival)
   -- All pictures have one limit.
   pub limit : a.existing ≡ true → (older ≡ []) ⊎ (a.max_num_reorder_frames ≡ limit_after older)
   pub within : a.existing ≡ true →
-      IfSome a.max_num_reorder_frames (λ most. reordered (last_emptying (a ∷ older)) (length older) order ≤ most)
+      IfSome a.max_num_reorder_frames
+      (λ most. reordered (last_emptying (a ∷ older)) (length older) order ≤ most)
 
 -- each of the entries
 abbrev pub AllCanGoOutEarly : (order : List ℕ) → List Arrival → Type 0
@@ -64,4 +71,5 @@ AllCanGoOutEarly order (a ∷ older) = CanGoOutEarly order a older × AllCanGoOu
 -- order of full output.
 abbrev pub EarlyOutputKeepsTheOrder : Type 0
 EarlyOutputKeepsTheOrder =
-    (history : List Arrival) → AllCanGoOutEarly (whole_output Full history) history → whole_output Early history ≡ whole_output Full history
+    (history : List Arrival) → AllCanGoOutEarly (whole_output Full history) history →
+    whole_output Early history ≡ whole_output Full history

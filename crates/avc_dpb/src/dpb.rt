@@ -40,7 +40,12 @@ impl Model for Dpb {
 
     ghost use Rattle.std.specs.Prelude.{◌≡◌, false, length};
 
-    ghost view = { λ d. record { slots = d.slots.items; frames = d.frames.items; output = d.output; failed = d.failed } };
+    ghost view = { λ d. record {
+      slots = d.slots.items;
+      frames = d.frames.items;
+      output = d.output;
+      failed = d.failed;
+    } };
 
     ghost invariant = { λ d. d.failed ≡ false → length d.frames.items ≡ length d.slots.items };
 }
@@ -48,7 +53,12 @@ impl Model for Dpb {
 impl Dpb {
     /// With no frame.
     pub fn new(alloc: Global, output: Output) -> Dpb
-        ensures value { result ≡ record { slots = []; frames = []; output = output; failed = false } }
+        ensures value { result ≡ record {
+          slots = [];
+          frames = [];
+          output = output;
+          failed = false;
+        } }
         ensures buffer { (frame_of : ℕ → StoredFrame 16) → IsBuffer result empty_buffer 0 frame_of }
     {
         Dpb {
@@ -153,7 +163,12 @@ impl Dpb {
 
     /// Drops all frames; no picture goes out (C.4.4, no_output_of_prior_pics_flag 1).
     pub fn drop_all(&mut self)
-        ensures value { self.new ≡ record { slots = []; frames = []; output = self.old.output; failed = self.old.failed } }
+        ensures value { self.new ≡ record {
+          slots = [];
+          frames = [];
+          output = self.old.output;
+          failed = self.old.failed;
+        } }
     {
         self.slots.clear();
         empty_all(&mut self.frames, &mut self.emptied);
@@ -191,7 +206,8 @@ fn place(
     requires beside { length frames.old.items ≡ length slots.old.items }
     requires capacity { arriving.now.capacity ≤ 16 }
     ensures ok { OnOk result
-        (PlacesFrame slots.old.items frames.old.items out.old.items frame arriving.now slots.new.items frames.new.items out.new.items) }
+        (PlacesFrame slots.old.items frames.old.items out.old.items frame arriving.now
+        slots.new.items frames.new.items out.new.items) }
     ensures beside { OnOk result (length frames.new.items ≡ length slots.new.items) }
 {
     if is_full(slots.as_slice(), arriving.capacity) {

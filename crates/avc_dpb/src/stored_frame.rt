@@ -24,7 +24,8 @@ fn shown_frame(frame: &Frame<PADDING>) -> Result<Option<SharedPicture>, OutOfMem
 
 /// Adds the picture of a frame that has one.
 pub fn push_picture(frame: &Frame<PADDING>, out: &mut Vec<SharedPicture>) -> Result<(), OutOfMemory>
-    ensures pictures { OnOk result (out.new.items ≡ out.old.items ++ filter_map shown_frame (frame.now ∷ [])) }
+    ensures pictures { OnOk result (out.new.items ≡ out.old.items
+        ++ filter_map shown_frame (frame.now ∷ [])) }
     ensures memory { OnErr result (filter_map shown_frame (frame.now ∷ []) ≢ []) }
 {
     match shown_frame(frame)? {

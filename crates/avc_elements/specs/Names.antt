@@ -2,15 +2,19 @@
 use Rattle.std.specs.Prelude.{ℕ, List, ◌++◌, codes}
 use Rattle.std.specs.Fmt.{decimal}
 use Rattle.avc_types.specs.declared.macroblock.PMbType.{PMbType}
-use Rattle.avc_types.specs.declared.macroblock.PMbType.TheVariants.{P16x16, P16x8, P8x16, P8x8, P8x8Ref0}
+use Rattle.avc_types.specs.declared.macroblock.PMbType.TheVariants.{P16x16, P16x8, P8x16, P8x8}
+use Rattle.avc_types.specs.declared.macroblock.PMbType.TheVariants.{P8x8Ref0}
 use Rattle.avc_types.specs.declared.macroblock.SubMbType.{SubMbType}
-use Rattle.avc_types.specs.declared.macroblock.SubMbType.TheVariants.{Sub8x8, Sub8x4, Sub4x8, Sub4x4}
+use Rattle.avc_types.specs.declared.macroblock.SubMbType.TheVariants.{Sub8x8, Sub8x4, Sub4x8}
+use Rattle.avc_types.specs.declared.macroblock.SubMbType.TheVariants.{Sub4x4}
 use Rattle.avc_types.specs.Macroblock.{Residual, MbSyntax, p_skip, i_pcm, i_nxn, i_16x16, p_inter}
 
 -- the name of mb_type of an Intra 16x16 macroblock: Intra16x16PredMode, CodedBlockPatternChroma and
 -- CodedBlockPatternLuma stand in it (Table 7-11)
 abbrev pub i_16x16_name : (mode : ℕ) → Residual → List ℕ
-i_16x16_name mode r = codes "I_16x16_" ++ decimal mode ++ codes "_" ++ decimal r.chroma_pattern ++ codes "_" ++ decimal r.luma_pattern
+i_16x16_name mode r =
+    codes "I_16x16_" ++ decimal mode ++ codes "_" ++ decimal r.chroma_pattern ++ codes "_"
+    ++ decimal r.luma_pattern
 
 -- the name of mb_type 0 to 4 of a P macroblock (Table 7-13)
 abbrev pub p_name : PMbType → List ℕ

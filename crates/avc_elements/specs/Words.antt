@@ -4,12 +4,16 @@ use Rattle.std.specs.Fmt.{signed_decimal}
 use Rattle.std.specs.List.{flat_map}
 use Rattle.avc_types.specs.declared.macroblock.Mvd.{Mvd}
 use Rattle.avc_types.specs.declared.macroblock.PMbType.{PMbType}
-use Rattle.avc_types.specs.declared.macroblock.PMbType.TheVariants.{P16x16, P16x8, P8x16, P8x8, P8x8Ref0}
+use Rattle.avc_types.specs.declared.macroblock.PMbType.TheVariants.{P16x16, P16x8, P8x16, P8x8}
+use Rattle.avc_types.specs.declared.macroblock.PMbType.TheVariants.{P8x8Ref0}
 use Rattle.avc_types.specs.declared.macroblock.SubMbType.{SubMbType}
-use Rattle.avc_types.specs.Macroblock.{total_coeff, Residual, MbSyntax, p_skip, i_pcm, i_nxn, i_16x16, p_inter}
+use Rattle.avc_types.specs.Macroblock.{total_coeff, Residual, MbSyntax, p_skip, i_pcm, i_nxn}
+use Rattle.avc_types.specs.Macroblock.{i_16x16, p_inter}
 use Rattle.avc_neigh.specs.declared.neighbour_info.Motion.{Motion}
 use Rattle.avc_neigh.specs.declared.neighbour_info.NearMode.{NearMode}
-use Rattle.avc_neigh.specs.declared.neighbour_info.NearMode.TheVariants.{Absent as no_mode, Inter as inter_mode, Mode as mode_is}
+use Rattle.avc_neigh.specs.declared.neighbour_info.NearMode.TheVariants.{Absent as no_mode}
+use Rattle.avc_neigh.specs.declared.neighbour_info.NearMode.TheVariants.{Inter as inter_mode}
+use Rattle.avc_neigh.specs.declared.neighbour_info.NearMode.TheVariants.{Mode as mode_is}
 use Rattle.avc_tools.specs.Lines.{and_number}
 use Rattle.avc_selection.specs.Words.{vectors_text}
 use Rattle.avc_elements.specs.Levels.{up_to_last}
@@ -97,7 +101,8 @@ blocks_text facts r =
 
 -- of the DC levels of Cb and of Cr
 abbrev pub chroma_dc_text : BlockFacts → Residual → List ℕ
-chroma_dc_text facts r = codes " cbdc" ++ and_block facts r.cb_dc ++ codes " crdc" ++ and_block facts r.cr_dc
+chroma_dc_text facts r =
+    codes " cbdc" ++ and_block facts r.cb_dc ++ codes " crdc" ++ and_block facts r.cr_dc
 
 -- of the levels of Intra16x16DCLevel
 abbrev pub luma_dc_text : BlockFacts → List ℤ → List ℕ
@@ -115,15 +120,20 @@ elements_text p_skip derived vectors = vectors_text vectors
 elements_text (i_pcm luma cb cr) derived vectors = []
 elements_text (i_nxn modes chroma_mode r) derived vectors =
     modes_text modes ++ derived_modes_text derived ++ chroma_text chroma_mode ++ residual_text r
-elements_text (i_16x16 mode chroma_mode r) derived vectors = chroma_text chroma_mode ++ luma_dc_text TotalCoeff r.luma_dc ++ residual_text r
+elements_text (i_16x16 mode chroma_mode r) derived vectors =
+    chroma_text chroma_mode ++ luma_dc_text TotalCoeff r.luma_dc ++ residual_text r
 elements_text (p_inter mb_type ref_idx mvd r) derived vectors =
-    subs_text mb_type ++ ref_idx_text ref_idx ++ mvd_text mvd ++ vectors_text vectors ++ residual_text r
+    subs_text mb_type ++ ref_idx_text ref_idx ++ mvd_text mvd ++ vectors_text vectors
+    ++ residual_text r
 
 -- the levels of all blocks
 abbrev pub coefficients_text : MbSyntax → List ℕ
 coefficients_text p_skip = []
 coefficients_text (i_pcm luma cb cr) = []
-coefficients_text (i_nxn modes chroma_mode r) = codes " levels" ++ blocks_text CoeffLevel r ++ chroma_dc_text CoeffLevel r
+coefficients_text (i_nxn modes chroma_mode r) =
+    codes " levels" ++ blocks_text CoeffLevel r ++ chroma_dc_text CoeffLevel r
 coefficients_text (i_16x16 mode chroma_mode r) =
-    codes " levels" ++ luma_dc_text CoeffLevel r.luma_dc ++ blocks_text CoeffLevel r ++ chroma_dc_text CoeffLevel r
-coefficients_text (p_inter mb_type ref_idx mvd r) = codes " levels" ++ blocks_text CoeffLevel r ++ chroma_dc_text CoeffLevel r
+    codes " levels" ++ luma_dc_text CoeffLevel r.luma_dc ++ blocks_text CoeffLevel r
+    ++ chroma_dc_text CoeffLevel r
+coefficients_text (p_inter mb_type ref_idx mvd r) =
+    codes " levels" ++ blocks_text CoeffLevel r ++ chroma_dc_text CoeffLevel r

@@ -1,6 +1,7 @@
 //! The syntax elements of macroblocks, as words and numbers.
 
-ghost use Rattle.std.specs.Prelude.{◌≡◌, ◌≤◌, ◌+◌, ◌*◌, ◌++◌, [], OnOk, codes, length, string_bytes};
+ghost use Rattle.std.specs.Prelude.{◌≡◌, ◌≤◌, ◌+◌, ◌*◌, ◌++◌, [], OnOk, codes, length};
+ghost use Rattle.std.specs.Prelude.{string_bytes};
 ghost use Rattle.std.specs.Prelude.{take};
 ghost use Rattle.std.specs.List.{flat_map};
 ghost use Rattle.avc_types.specs.Macroblock.{parts_of, partitions};
@@ -9,7 +10,8 @@ ghost use Rattle.avc_tools.specs.Lines.{and_number};
 ghost use Rattle.avc_selection.specs.Words.{vectors_text};
 ghost use Rattle.avc_elements.specs.Words.{and_block, and_derived_mode, and_mode, and_mvd, and_sub};
 ghost use Rattle.avc_elements.specs.Words.{blocks_text, chroma_dc_text, chroma_text};
-ghost use Rattle.avc_elements.specs.Words.{coefficients_text, derived_modes_text, elements_text, level_behind};
+ghost use Rattle.avc_elements.specs.Words.{coefficients_text, derived_modes_text, elements_text};
+ghost use Rattle.avc_elements.specs.Words.{level_behind};
 ghost use Rattle.avc_elements.specs.Words.{levels_text};
 ghost use Rattle.avc_elements.specs.Words.{luma_dc_text, modes_text, mvd_text, pattern_text};
 ghost use Rattle.avc_elements.specs.Words.{pattern_of, ref_idx_text, residual_text, subs_text};
@@ -31,7 +33,8 @@ pub fn add_elements(
     derived_modes: &[NearMode],
     vectors: &[Motion],
 ) -> Result<(), OutOfMemory>
-    ensures { OnOk result (string_bytes text.new ≡ string_bytes text.old ++ elements_text (syntax_of syntax.now) derived_modes.now vectors.now) }
+    ensures { OnOk result (string_bytes text.new ≡ string_bytes text.old
+        ++ elements_text (syntax_of syntax.now) derived_modes.now vectors.now) }
 {
     match syntax {
         Syntax::PSkip => add_vectors(text, vectors),
@@ -65,7 +68,8 @@ fn add_nxn(
     levels: &BlockLevels<16>,
 ) -> Result<(), OutOfMemory>
     ensures { OnOk result (string_bytes text.new ≡ string_bytes text.old
-        ++ modes_text modes.now ++ derived_modes_text derived_modes.now ++ chroma_text chroma_mode ++ residual_text (residual_of [] levels.now)) }
+        ++ modes_text modes.now ++ derived_modes_text derived_modes.now ++ chroma_text chroma_mode
+        ++ residual_text (residual_of [] levels.now)) }
 {
     add_modes(text, modes)?;
     add_derived_modes(text, derived_modes)?;
@@ -82,7 +86,8 @@ fn add_16x16(
     levels: &BlockLevels<15>,
 ) -> Result<(), OutOfMemory>
     ensures { OnOk result (string_bytes text.new ≡ string_bytes text.old
-        ++ chroma_text chroma_mode ++ luma_dc_text TotalCoeff luma_dc.now ++ residual_text (residual_of [] levels.now)) }
+        ++ chroma_text chroma_mode ++ luma_dc_text TotalCoeff luma_dc.now
+        ++ residual_text (residual_of [] levels.now)) }
 {
     add_chroma(text, chroma_mode)?;
     add_luma_dc(text, BlockFacts::TotalCoeff, luma_dc)?;
@@ -151,7 +156,8 @@ fn add_derived_mode(text: &mut String, mode: NearMode) -> Result<(), OutOfMemory
 }
 
 fn add_derived_modes(text: &mut String, modes: &[NearMode]) -> Result<(), OutOfMemory>
-    ensures { OnOk result (string_bytes text.new ≡ string_bytes text.old ++ derived_modes_text modes.now) }
+    ensures { OnOk result (string_bytes text.new ≡ string_bytes text.old
+        ++ derived_modes_text modes.now) }
 {
     text.push_str(" intra4x4")?;
     for mode in modes {
@@ -161,7 +167,8 @@ fn add_derived_modes(text: &mut String, modes: &[NearMode]) -> Result<(), OutOfM
 }
 
 fn add_chroma(text: &mut String, chroma_mode: u8) -> Result<(), OutOfMemory>
-    ensures { OnOk result (string_bytes text.new ≡ string_bytes text.old ++ chroma_text chroma_mode) }
+    ensures { OnOk result (string_bytes text.new ≡ string_bytes text.old
+        ++ chroma_text chroma_mode) }
 {
     write!(text, " chroma {chroma_mode}")?;
     Ok(())
@@ -178,7 +185,8 @@ fn add_subs(text: &mut String, mb_type: &PMbType) -> Result<(), OutOfMemory>
 }
 
 fn add_sub_names(text: &mut String, subs: &[SubMbType]) -> Result<(), OutOfMemory>
-    ensures { OnOk result (string_bytes text.new ≡ string_bytes text.old ++ codes " sub" ++ flat_map and_sub subs.now) }
+    ensures { OnOk result (string_bytes text.new ≡ string_bytes text.old ++ codes " sub"
+        ++ flat_map and_sub subs.now) }
 {
     text.push_str(" sub")?;
     for sub in subs {
@@ -196,7 +204,8 @@ fn add_sub(text: &mut String, sub: SubMbType) -> Result<(), OutOfMemory>
 }
 
 fn add_ref_idx(text: &mut String, ref_idx: &[u8]) -> Result<(), OutOfMemory>
-    ensures { OnOk result (string_bytes text.new ≡ string_bytes text.old ++ ref_idx_text ref_idx.now) }
+    ensures { OnOk result (string_bytes text.new ≡ string_bytes text.old
+        ++ ref_idx_text ref_idx.now) }
 {
     text.push_str(" ref")?;
     for index in ref_idx {
@@ -228,7 +237,8 @@ fn add_residual<const MAXN: usize>(
     text: &mut String,
     levels: &BlockLevels<MAXN>,
 ) -> Result<(), OutOfMemory>
-    ensures { OnOk result (string_bytes text.new ≡ string_bytes text.old ++ residual_text (residual_of [] levels.now)) }
+    ensures { OnOk result (string_bytes text.new ≡ string_bytes text.old
+        ++ residual_text (residual_of [] levels.now)) }
 {
     add_pattern(text, levels)?;
     add_blocks(text, BlockFacts::TotalCoeff, levels)?;
@@ -238,7 +248,8 @@ fn add_residual<const MAXN: usize>(
 
 /// Adds the levels of all blocks of a macroblock.
 pub fn add_coefficients(text: &mut String, syntax: &Syntax) -> Result<(), OutOfMemory>
-    ensures { OnOk result (string_bytes text.new ≡ string_bytes text.old ++ coefficients_text (syntax_of syntax.now)) }
+    ensures { OnOk result (string_bytes text.new ≡ string_bytes text.old
+        ++ coefficients_text (syntax_of syntax.now)) }
 {
     match syntax {
         Syntax::PSkip | Syntax::IPcm { .. } => Ok(()),
@@ -254,7 +265,8 @@ pub fn add_coefficients(text: &mut String, syntax: &Syntax) -> Result<(), OutOfM
 
 fn add_all_levels(text: &mut String, levels: &BlockLevels<16>) -> Result<(), OutOfMemory>
     ensures { OnOk result (string_bytes text.new ≡ string_bytes text.old
-        ++ codes " levels" ++ blocks_text CoeffLevel (residual_of [] levels.now) ++ chroma_dc_text CoeffLevel (residual_of [] levels.now)) }
+        ++ codes " levels" ++ blocks_text CoeffLevel (residual_of [] levels.now)
+        ++ chroma_dc_text CoeffLevel (residual_of [] levels.now)) }
 {
     text.push_str(" levels")?;
     add_blocks(text, BlockFacts::CoeffLevel, levels)?;
@@ -267,8 +279,10 @@ fn add_levels_of_16x16(
     luma_dc: &Levels<16>,
     levels: &BlockLevels<15>,
 ) -> Result<(), OutOfMemory>
-    ensures { OnOk result (string_bytes text.new ≡ string_bytes text.old ++ codes " levels" ++ luma_dc_text CoeffLevel luma_dc.now
-        ++ blocks_text CoeffLevel (residual_of [] levels.now) ++ chroma_dc_text CoeffLevel (residual_of [] levels.now)) }
+    ensures { OnOk result (string_bytes text.new ≡ string_bytes text.old ++ codes " levels"
+        ++ luma_dc_text CoeffLevel luma_dc.now
+        ++ blocks_text CoeffLevel (residual_of [] levels.now)
+        ++ chroma_dc_text CoeffLevel (residual_of [] levels.now)) }
 {
     text.push_str(" levels")?;
     add_luma_dc(text, BlockFacts::CoeffLevel, luma_dc)?;
@@ -288,7 +302,8 @@ fn add_pattern<const MAXN: usize>(
     text: &mut String,
     levels: &BlockLevels<MAXN>,
 ) -> Result<(), OutOfMemory>
-    ensures { OnOk result (string_bytes text.new ≡ string_bytes text.old ++ pattern_text (residual_of [] levels.now)) }
+    ensures { OnOk result (string_bytes text.new ≡ string_bytes text.old
+        ++ pattern_text (residual_of [] levels.now)) }
 {
     let pattern = pattern_of(levels);
     write!(text, " cbp {pattern}")?;
@@ -300,7 +315,8 @@ fn add_blocks<const MAXN: usize>(
     facts: BlockFacts,
     levels: &BlockLevels<MAXN>,
 ) -> Result<(), OutOfMemory>
-    ensures { OnOk result (string_bytes text.new ≡ string_bytes text.old ++ blocks_text facts (residual_of [] levels.now)) }
+    ensures { OnOk result (string_bytes text.new ≡ string_bytes text.old
+        ++ blocks_text facts (residual_of [] levels.now)) }
 {
     text.push_str(" luma")?;
     add_each(text, facts, &levels.luma)?;
@@ -316,7 +332,8 @@ fn add_each<const MAXN: usize>(
     facts: BlockFacts,
     blocks: &[Levels<MAXN>],
 ) -> Result<(), OutOfMemory>
-    ensures { OnOk result (string_bytes text.new ≡ string_bytes text.old ++ flat_map (and_block facts) blocks.now) }
+    ensures { OnOk result (string_bytes text.new ≡ string_bytes text.old
+        ++ flat_map (and_block facts) blocks.now) }
 {
     for levels in blocks {
         add_block(text, facts, levels)?;
@@ -329,7 +346,8 @@ fn add_block<const MAXN: usize>(
     facts: BlockFacts,
     levels: &Levels<MAXN>,
 ) -> Result<(), OutOfMemory>
-    ensures { OnOk result (string_bytes text.new ≡ string_bytes text.old ++ and_block facts levels.now) }
+    ensures { OnOk result (string_bytes text.new ≡ string_bytes text.old
+        ++ and_block facts levels.now) }
 {
     match facts {
         BlockFacts::TotalCoeff => add_number(text, levels.total_coeff()),
@@ -341,7 +359,8 @@ fn add_block<const MAXN: usize>(
 }
 
 fn add_levels(text: &mut String, levels: &[i16]) -> Result<(), OutOfMemory>
-    ensures { OnOk result (string_bytes text.new ≡ string_bytes text.old ++ levels_text levels.now) }
+    ensures { OnOk result (string_bytes text.new ≡ string_bytes text.old
+        ++ levels_text levels.now) }
 {
     if levels.is_empty() {
         text.push_str(" -")?;
@@ -354,7 +373,8 @@ fn add_levels(text: &mut String, levels: &[i16]) -> Result<(), OutOfMemory>
 }
 
 fn add_levels_behind(text: &mut String, levels: &[i16]) -> Result<(), OutOfMemory>
-    ensures { OnOk result (string_bytes text.new ≡ string_bytes text.old ++ flat_map level_behind levels.now) }
+    ensures { OnOk result (string_bytes text.new ≡ string_bytes text.old
+        ++ flat_map level_behind levels.now) }
 {
     for level in levels {
         add_level_behind(text, *level)?;
@@ -374,7 +394,8 @@ fn add_luma_dc(
     facts: BlockFacts,
     luma_dc: &Levels<16>,
 ) -> Result<(), OutOfMemory>
-    ensures { OnOk result (string_bytes text.new ≡ string_bytes text.old ++ luma_dc_text facts luma_dc.now) }
+    ensures { OnOk result (string_bytes text.new ≡ string_bytes text.old
+        ++ luma_dc_text facts luma_dc.now) }
 {
     text.push_str(" dc")?;
     add_block(text, facts, luma_dc)?;
@@ -386,7 +407,8 @@ fn add_chroma_dc<const MAXN: usize>(
     facts: BlockFacts,
     levels: &BlockLevels<MAXN>,
 ) -> Result<(), OutOfMemory>
-    ensures { OnOk result (string_bytes text.new ≡ string_bytes text.old ++ chroma_dc_text facts (residual_of [] levels.now)) }
+    ensures { OnOk result (string_bytes text.new ≡ string_bytes text.old
+        ++ chroma_dc_text facts (residual_of [] levels.now)) }
 {
     text.push_str(" cbdc")?;
     add_block(text, facts, &levels.cb_dc)?;

@@ -8,7 +8,8 @@ use avc_types::{BlockLevels, OutOfMemory, PMbType, SubMbType, Syntax};
 
 /// Adds the name of mb_type (Tables 7-11 and 7-13).
 pub fn add_type_name(text: &mut String, syntax: &Syntax) -> Result<(), OutOfMemory>
-    ensures { OnOk result (string_bytes text.new ≡ string_bytes text.old ++ type_name (syntax_of syntax.now)) }
+    ensures { OnOk result (string_bytes text.new ≡ string_bytes text.old
+        ++ type_name (syntax_of syntax.now)) }
 {
     match syntax {
         Syntax::PSkip => add_word(text, "P_Skip"),
@@ -27,7 +28,8 @@ fn add_word(text: &mut String, word: &str) -> Result<(), OutOfMemory>
 }
 
 fn add_16x16_name(text: &mut String, mode: u8, levels: &BlockLevels<15>) -> Result<(), OutOfMemory>
-    ensures { OnOk result (string_bytes text.new ≡ string_bytes text.old ++ i_16x16_name mode (residual_of [] levels.now)) }
+    ensures { OnOk result (string_bytes text.new ≡ string_bytes text.old
+        ++ i_16x16_name mode (residual_of [] levels.now)) }
 {
     let chroma_pattern = levels.chroma_pattern;
     let luma_pattern = levels.luma_pattern;

@@ -17,7 +17,8 @@ pub fn vectors_of(
     syntax: &Syntax,
     motion: &[Motion; 16],
 ) -> Result<Vec<Motion>, OutOfMemory>
-    ensures { IfOk result (λ vectors. vectors.items ≡ vectors_of (syntax_of syntax.now) motion.now) }
+    ensures { IfOk result (λ vectors. vectors.items
+        ≡ vectors_of (syntax_of syntax.now) motion.now) }
 {
     let mut vectors = Vec::new(alloc);
     match syntax {
@@ -33,7 +34,8 @@ fn push_parts(
     mb_type: &PMbType,
     motion: &[Motion; 16],
 ) -> Result<(), OutOfMemory>
-    ensures { OnOk result (vectors.new.items ≡ vectors.old.items ++ map (motion_at motion.now) (parts_of mb_type.now)) }
+    ensures { OnOk result (vectors.new.items ≡ vectors.old.items
+        ++ map (motion_at motion.now) (parts_of mb_type.now)) }
 {
     match mb_type {
         PMbType::P16x16 => vectors.push(motion[0])?,
@@ -56,7 +58,8 @@ fn push_quarters(
     subs: &[SubMbType; 4],
     motion: &[Motion; 16],
 ) -> Result<(), OutOfMemory>
-    ensures { OnOk result (vectors.new.items ≡ vectors.old.items ++ map (motion_at motion.now) (parts_of_quarters subs.now 0)) }
+    ensures { OnOk result (vectors.new.items ≡ vectors.old.items
+        ++ map (motion_at motion.now) (parts_of_quarters subs.now 0)) }
 {
     push_quarter(vectors, subs[0], 0, motion)?;
     push_quarter(vectors, subs[1], 1, motion)?;
@@ -74,7 +77,8 @@ fn push_quarter(
 ) -> Result<(), OutOfMemory>
     requires { quarter < 4 }
     ensures { OnOk result (vectors.new.items ≡ vectors.old.items
-        ++ map (motion_at motion.now) (parts_of_quarter sub_mb_type (quarter_x quarter) (quarter_y quarter) quarter)) }
+        ++ map (motion_at motion.now)
+        (parts_of_quarter sub_mb_type (quarter_x quarter) (quarter_y quarter) quarter)) }
 {
     let first = 4 * quarter;
     vectors.push(motion[first])?;

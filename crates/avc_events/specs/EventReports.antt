@@ -22,13 +22,18 @@ events_defined m = events m.output max_unit m.bytes m.ended
 -- The report on these events: how many pictures there are (or the greatest number, once there), and
 -- each refusal.
 abbrev pub report_of : List Event → Report
-report_of events = record { pictures = saturated (length (pictures_in events)); refused = refusals_in events }
+report_of events = record {
+  pictures = saturated (length (pictures_in events));
+  refused = refusals_in events;
+}
 
 -- a report with these events more
 abbrev pub report_with : Report → List Event → Report
 report_with r [] = r
-report_with r (Picture p ∷ events) = report_with (record r { pictures = saturated (r.pictures + 1) }) events
-report_with r (Refused unit f ∷ events) = report_with (record r { refused = r.refused ++ (unit, f) ∷ [] }) events
+report_with r (Picture p ∷ events) =
+    report_with (record r { pictures = saturated (r.pictures + 1) }) events
+report_with r (Refused unit f ∷ events) =
+    report_with (record r { refused = r.refused ++ (unit, f) ∷ [] }) events
 
 -- of a picture this holds; of a refusal nothing is said
 abbrev pub IfPicture : Event → (Decoded → Type 0) → Type 0

@@ -1,4 +1,5 @@
-//! The decoder's calls, with the faults of a run. It feeds nothing after the end, so that want of memory is their only error.
+//! The decoder's calls, with the faults of a run. It feeds nothing after the end, so that want of
+//! memory is their only error.
 
 ghost use Rattle.std.specs.Prelude.{◌≡◌, take, IfErr, IfOk, OnOk};
 ghost use Rattle.avc_console.specs.Reading.{max_unit};

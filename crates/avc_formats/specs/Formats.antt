@@ -21,7 +21,11 @@ plain = record { text = λ number p. i420 p; fits = λ number p. true; enough = 
 
 -- every picture as a PNG file; one that PNG has no size for doesn't fit
 abbrev pub png : Format
-png = record { text = λ number p. png_of p; fits = λ number p. has_png_size p; enough = λ pictures. false }
+png = record {
+  text = λ number p. png_of p;
+  fits = λ number p. has_png_size p;
+  enough = λ pictures. false;
+}
 
 -- A fault stopped the writing of one picture. None comes from reading here.
 abbrev pub StopsPicture : RunFault → (fits : Bool) → (old new : Option (List ℕ)) → List ℕ → Type 0

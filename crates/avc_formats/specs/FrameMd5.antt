@@ -1,4 +1,5 @@
--- The MD5 of each picture in a line of its own, behind a head that says how pictures are shown, as ffmpeg's framemd5 writes it.
+-- The MD5 of each picture in a line of its own, behind a head that says how pictures are shown, as
+-- ffmpeg's framemd5 writes it.
 use Rattle.std.specs.Prelude.{ℕ, ◌-◌, ◌==◌, if◌then◌else◌, List, ◌++◌, length, replicate, codes}
 use Rattle.std.specs.Fmt.{decimal}
 use Rattle.md5.specs.Md5.{md5}
@@ -17,7 +18,9 @@ fraction n d = decimal n ++ codes "/" ++ decimal d
 
 -- what the lines of pictures are
 abbrev pub format_lines : List ℕ
-format_lines = codes "#format: frame checksums" ++ newline ++ codes "#version: 2" ++ newline ++ codes "#hash: MD5" ++ newline
+format_lines =
+    codes "#format: frame checksums" ++ newline ++ codes "#version: 2" ++ newline
+    ++ codes "#hash: MD5" ++ newline
 
 -- The unit of times: how many seconds a frame takes.
 abbrev pub time_base_line : (frame_rate : Ratio) → List ℕ
@@ -29,11 +32,14 @@ codec_lines = codes "#media_type 0: video" ++ newline ++ codes "#codec_id 0: raw
 
 -- width and height
 abbrev pub dimensions_line : Presentation → List ℕ
-dimensions_line s = codes "#dimensions 0: " ++ decimal s.width ++ codes "x" ++ decimal s.height ++ newline
+dimensions_line s =
+    codes "#dimensions 0: " ++ decimal s.width ++ codes "x" ++ decimal s.height ++ newline
 
 -- the shape of a sample: 0/1 where it is not given
 abbrev pub aspect_line : (sample_aspect : Ratio) → List ℕ
-aspect_line r = codes "#sar 0: " ++ (if r.denominator == 0 then codes "0/1" else fraction r.numerator r.denominator) ++ newline
+aspect_line r =
+    codes "#sar 0: "
+    ++ (if r.denominator == 0 then codes "0/1" else fraction r.numerator r.denominator) ++ newline
 
 -- what stands in the columns
 abbrev pub columns_line : List ℕ
@@ -41,7 +47,8 @@ columns_line = codes "#stream#, dts,        pts, duration,     size, hash" ++ ne
 
 abbrev pub framemd5_head : Presentation → List ℕ
 framemd5_head s =
-    format_lines ++ time_base_line s.frame_rate ++ codec_lines ++ dimensions_line s ++ aspect_line s.sample_aspect ++ columns_line
+    format_lines ++ time_base_line s.frame_rate ++ codec_lines ++ dimensions_line s
+    ++ aspect_line s.sample_aspect ++ columns_line
 
 -- ---- a picture
 
@@ -59,7 +66,8 @@ size_text size = codes ", " ++ column 8 1 ++ codes ", " ++ column 8 size
 
 -- the line of a picture of this number, with so many bytes, of which this is the MD5 (RFC 1321)
 abbrev pub checksum_line : (number size : ℕ) (digest : List ℕ) → List ℕ
-checksum_line number size digest = times_text number ++ size_text size ++ codes ", " ++ encode_lower digest ++ newline
+checksum_line number size digest =
+    times_text number ++ size_text size ++ codes ", " ++ encode_lower digest ++ newline
 
 -- of a picture as I420
 abbrev pub framemd5_line : (number : ℕ) → Picture → List ℕ

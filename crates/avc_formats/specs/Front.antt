@@ -1,5 +1,7 @@
--- The sequence parameter set of the first slice that is decoded, which is looked for in the front of a stream.
-use Rattle.std.specs.Prelude.{◌≡◌, ℕ, ◌<◌, ◌≤◌, Bool, true, false, if◌then◌else◌, List, [], ◌∷◌, ◌++◌, length, Option, Some, None}
+-- The sequence parameter set of the first slice that is decoded, which is looked for in the front
+-- of a stream.
+use Rattle.std.specs.Prelude.{◌≡◌, ℕ, ◌<◌, ◌≤◌, Bool, true, false, if◌then◌else◌, List, [], ◌∷◌}
+use Rattle.std.specs.Prelude.{◌++◌, length, Option, Some, None}
 use Rattle.std.specs.Io.KnownBytes.{Consumes}
 use Rattle.avc_annexb.specs.SplitterState.{SplitterState}
 use Rattle.avc_annexb.specs.Units.{units}
@@ -36,7 +38,8 @@ first_of None b = b
 -- came before
 abbrev pub first_sps : List SetUnit → List Unit → Option Sps
 first_sps sets [] = None
-first_sps sets (u ∷ us) = first_of (starting_sps (sets_after sets) u) (first_sps (sets ++ set_units (u ∷ [])) us)
+first_sps sets (u ∷ us) =
+    first_of (starting_sps (sets_after sets) u) (first_sps (sets ++ set_units (u ∷ [])) us)
 
 -- of a stream that begins with these bytes, or has only these
 abbrev pub stream_sps : (bytes : List ℕ) → (ended : Bool) → Option Sps
@@ -63,7 +66,8 @@ pub record ReadsFront (bytes : List ℕ) (empty : Bool) : Type 0 where
 
 -- These bytes were read, and this is what the set says of the first slice in them that is decoded.
 -- They go up to the end of that slice, in the last read, or are all, or as many as are looked at.
-pub record IsFront (unread left : Option (List ℕ)) (bytes : List ℕ) (said : Presentation) : Type 0 where
+pub record IsFront (unread left : Option (List ℕ)) (bytes : List ℕ)
+    (said : Presentation) : Type 0 where
   pub all : Bool
   pub has_read : HasRead unread left bytes all
   pub says : Says (stream_sps bytes all) said
@@ -86,13 +90,17 @@ IsSaid (Some s) (Some p) = IsPresented s p
 
 -- All units were taken, none of them with which decoding can start, and their sets. Or this is said
 -- by the set of the first with which it can start.
-abbrev pub IsFound : (old new : SplitterState) (before now : List SetUnit) → Option Presentation → Type 0
+abbrev pub IsFound : (old new : SplitterState) (before now : List SetUnit) → Option Presentation →
+    Type 0
 IsFound old new before now None =
-    (first_sps before (units_left max_unit old) ≡ None) × (now ≡ before ++ set_units (units_left max_unit old)) × (new ≡ after_units_left max_unit old)
+    (first_sps before (units_left max_unit old) ≡ None) ×
+    (now ≡ before ++ set_units (units_left max_unit old)) ×
+    (new ≡ after_units_left max_unit old)
 IsFound old new before now (Some p) = IsSaid (first_sps before (units_left max_unit old)) (Some p)
 
 -- These bytes were read, and all units in them taken, none of them with which decoding can start.
-pub record IsLooking (unread left : Option (List ℕ)) (bytes : List ℕ) (s : SplitterState) (sets : List SetUnit) : Type 0 where
+pub record IsLooking (unread left : Option (List ℕ)) (bytes : List ℕ) (s : SplitterState)
+    (sets : List SetUnit) : Type 0 where
   pub consumed : Consumes unread left bytes
   pub drained : IsDrained max_unit s
   pub open_end : s.ended ≡ false

@@ -1,4 +1,5 @@
--- Formats with a head in front of the first picture, or of each. It says how pictures are shown, as their sequence parameter set says.
+-- Formats with a head in front of the first picture, or of each. It says how pictures are shown, as
+-- their sequence parameter set says.
 use Rattle.std.specs.Prelude.{ℕ, Bool, true, false, ◌==◌, ◌&&◌, if◌then◌else◌, List, [], ◌++◌}
 use Rattle.avc_types.specs.declared.picture.Picture.{Picture}
 use Rattle.avc_yuv.specs.I420.{shown_height, shown_width}

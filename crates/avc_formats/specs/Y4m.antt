@@ -1,5 +1,5 @@
--- YUV4MPEG2: a line that says how pictures are shown, and then each picture behind a line of its own, as ffmpeg's yuv4mpegpipe
--- writes it.
+-- YUV4MPEG2: a line that says how pictures are shown, and then each picture behind a line of its
+-- own, as ffmpeg's yuv4mpegpipe writes it.
 use Rattle.std.specs.Prelude.{ℕ, Bool, true, false, List, [], ◌++◌, Option, Some, None, codes}
 use Rattle.std.specs.Fmt.{decimal}
 use Rattle.avc_types.specs.declared.picture.Picture.{Picture}
@@ -7,7 +7,8 @@ use Rattle.avc_yuv.specs.I420.{i420}
 use Rattle.avc_formats.specs.Text.{newline}
 use Rattle.avc_presentation.specs.Ratios.{ratio_word}
 use Rattle.avc_presentation.specs.declared.presentation.ChromaSite.{ChromaSite}
-use Rattle.avc_presentation.specs.declared.presentation.ChromaSite.TheVariants.{Left, Centre, TopLeft}
+use Rattle.avc_presentation.specs.declared.presentation.ChromaSite.TheVariants.{Left, Centre}
+use Rattle.avc_presentation.specs.declared.presentation.ChromaSite.TheVariants.{TopLeft}
 use Rattle.avc_presentation.specs.declared.presentation.Presentation.{Presentation}
 
 -- 4:2:0, and where chroma samples lie
@@ -25,7 +26,8 @@ range_words None = []
 -- width, height, frames in a second, frames and no fields, and the shape of a sample
 abbrev pub shape_words : Presentation → List ℕ
 shape_words s =
-    codes "YUV4MPEG2 W" ++ decimal s.width ++ codes " H" ++ decimal s.height ++ codes " F" ++ ratio_word s.frame_rate
+    codes "YUV4MPEG2 W" ++ decimal s.width ++ codes " H" ++ decimal s.height ++ codes " F"
+    ++ ratio_word s.frame_rate
     ++ codes " Ip A" ++ ratio_word s.sample_aspect
 
 -- the first line, which is the head

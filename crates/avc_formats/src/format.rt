@@ -27,10 +27,15 @@ pub trait PictureFormat {
         writer: &mut W,
     ) -> Result<(), RunFault>
         requires { IsWhole picture.now }
-        ensures ok { OnOk result (Appends (W.contents writer.old) (W.contents writer.new) ((format self.now).text number picture.now)) }
-        ensures err { IfErr result (λ fault. StopsPicture fault ((format self.now).fits number picture.now) (W.contents writer.old)
+        ensures ok { OnOk result
+            (Appends (W.contents writer.old) (W.contents writer.new)
+            ((format self.now).text number picture.now)) }
+        ensures err { IfErr result
+            (λ fault. StopsPicture fault ((format self.now).fits number picture.now)
+            (W.contents writer.old)
             (W.contents writer.new) ((format self.now).text number picture.now)) }
-        ensures size { (format self.now).fits number picture.now ≡ false → result ≡ Err faults.Size };
+        ensures size { (format self.now).fits number picture.now ≡ false →
+            result ≡ Err faults.Size };
 
     /// Whether so many pictures are all that are wanted.
     fn is_enough(&self, pictures: u64) -> bool

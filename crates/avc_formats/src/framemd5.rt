@@ -22,7 +22,8 @@ use std::alloc::Global;
 use std::io::Write;
 
 pub(crate) fn add_framemd5_head(text: &mut String, said: &Presentation) -> Result<(), OutOfMemory>
-    ensures { OnOk result (string_bytes text.new ≡ string_bytes text.old ++ framemd5_head said.now) }
+    ensures { OnOk result (string_bytes text.new ≡ string_bytes text.old
+        ++ framemd5_head said.now) }
 {
     text.push_str("#format: frame checksums\n#version: 2\n#hash: MD5\n")?;
     add_time_base(text, said.frame_rate)?;
@@ -34,7 +35,8 @@ pub(crate) fn add_framemd5_head(text: &mut String, said: &Presentation) -> Resul
 }
 
 fn add_time_base(text: &mut String, frame_rate: Ratio) -> Result<(), OutOfMemory>
-    ensures { OnOk result (string_bytes text.new ≡ string_bytes text.old ++ time_base_line frame_rate) }
+    ensures { OnOk result (string_bytes text.new ≡ string_bytes text.old
+        ++ time_base_line frame_rate) }
 {
     let frames = frame_rate.numerator;
     let seconds = frame_rate.denominator;
@@ -43,7 +45,8 @@ fn add_time_base(text: &mut String, frame_rate: Ratio) -> Result<(), OutOfMemory
 }
 
 fn add_dimensions(text: &mut String, said: &Presentation) -> Result<(), OutOfMemory>
-    ensures { OnOk result (string_bytes text.new ≡ string_bytes text.old ++ dimensions_line said.now) }
+    ensures { OnOk result (string_bytes text.new ≡ string_bytes text.old
+        ++ dimensions_line said.now) }
 {
     let width = said.width;
     let height = said.height;
@@ -52,7 +55,8 @@ fn add_dimensions(text: &mut String, said: &Presentation) -> Result<(), OutOfMem
 }
 
 fn add_aspect(text: &mut String, sample_aspect: Ratio) -> Result<(), OutOfMemory>
-    ensures { OnOk result (string_bytes text.new ≡ string_bytes text.old ++ aspect_line sample_aspect) }
+    ensures { OnOk result (string_bytes text.new ≡ string_bytes text.old
+        ++ aspect_line sample_aspect) }
 {
     if sample_aspect.denominator == 0 {
         text.push_str("#sar 0: 0/1\n")?;
@@ -74,8 +78,11 @@ pub(crate) fn write_line<W: Write>(
     writer: &mut W,
 ) -> Result<(), RunFault>
     requires { IsWhole picture.now }
-    ensures ok { OnOk result (Appends (W.contents writer.old) (W.contents writer.new) (string_bytes front ++ framemd5_line number picture.now)) }
-    ensures err { IfErr result (λ fault. StopsPicture fault true (W.contents writer.old) (W.contents writer.new)
+    ensures ok { OnOk result
+        (Appends (W.contents writer.old) (W.contents writer.new) (string_bytes front
+        ++ framemd5_line number picture.now)) }
+    ensures err { IfErr result
+        (λ fault. StopsPicture fault true (W.contents writer.old) (W.contents writer.new)
         (string_bytes front ++ framemd5_line number picture.now)) }
 {
     let digest = picture_digest(picture, room)?;
@@ -102,7 +109,8 @@ fn add_line(
     size: u128,
     digest: [u8; 16],
 ) -> Result<(), OutOfMemory>
-    ensures { OnOk result (string_bytes text.new ≡ string_bytes text.old ++ checksum_line number size digest) }
+    ensures { OnOk result (string_bytes text.new ≡ string_bytes text.old
+        ++ checksum_line number size digest) }
 {
     add_times(text, number)?;
     add_size(text, size)?;

@@ -25,8 +25,10 @@ pub struct Front {
 
 /// Reads the front of a stream.
 pub fn read_front<R: Read>(alloc: Global, reader: &mut R) -> Result<Front, RunFault>
-    ensures ok { IfOk result (λ front. IsFront (R.remaining reader.old) (R.remaining reader.new) front.bytes.items front.said) }
-    ensures err { IfErr result (λ fault. NoFront fault (R.remaining reader.old) (R.remaining reader.new)) }
+    ensures ok { IfOk result (λ front. IsFront (R.remaining reader.old) (R.remaining reader.new)
+        front.bytes.items front.said) }
+    ensures err { IfErr result
+        (λ fault. NoFront fault (R.remaining reader.old) (R.remaining reader.new)) }
 {
     let mut splitter = Splitter::<MAX_UNIT>::new(alloc);
     let mut headers = HeaderReader::new(alloc);
@@ -43,9 +45,12 @@ fn read_to_set<R: Read>(
     bytes: &mut Vec<u8>,
     reader: &mut R,
 ) -> Result<Presentation, RunFault>
-    requires { IsLooking (R.remaining reader.old) (R.remaining reader.old) bytes.old.items splitter.old headers.old }
-    ensures ok { IfOk result (λ said. IsFront (R.remaining reader.old) (R.remaining reader.new) bytes.new.items said) }
-    ensures err { IfErr result (λ fault. NoFront fault (R.remaining reader.old) (R.remaining reader.new)) }
+    requires { IsLooking (R.remaining reader.old) (R.remaining reader.old) bytes.old.items
+        splitter.old headers.old }
+    ensures ok { IfOk result
+        (λ said. IsFront (R.remaining reader.old) (R.remaining reader.new) bytes.new.items said) }
+    ensures err { IfErr result
+        (λ fault. NoFront fault (R.remaining reader.old) (R.remaining reader.new)) }
 {
     units_stay();
     let mut piece = [0; PIECE];

@@ -108,7 +108,8 @@ fn has_head(format: HeadedFormat, number: u64) -> bool
 }
 
 fn add_head(text: &mut String, format: HeadedFormat, said: &Presentation) -> Result<(), OutOfMemory>
-    ensures { OnOk result (string_bytes text.new ≡ string_bytes text.old ++ head_of format said.now) }
+    ensures { OnOk result (string_bytes text.new ≡ string_bytes text.old
+        ++ head_of format said.now) }
 {
     match format {
         HeadedFormat::Y4m | HeadedFormat::Y4mEach => add_y4m_header(text, said),
@@ -127,8 +128,11 @@ fn write_behind<W: Write>(
     writer: &mut W,
 ) -> Result<(), RunFault>
     requires { IsWhole picture.now }
-    ensures ok { OnOk result (Appends (W.contents writer.old) (W.contents writer.new) (string_bytes front ++ picture_text format number picture.now)) }
-    ensures err { IfErr result (λ fault. StopsPicture fault true (W.contents writer.old) (W.contents writer.new)
+    ensures ok { OnOk result
+        (Appends (W.contents writer.old) (W.contents writer.new) (string_bytes front
+        ++ picture_text format number picture.now)) }
+    ensures err { IfErr result
+        (λ fault. StopsPicture fault true (W.contents writer.old) (W.contents writer.new)
         (string_bytes front ++ picture_text format number picture.now)) }
 {
     match format {

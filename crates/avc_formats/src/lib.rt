@@ -1,4 +1,5 @@
-//! How pictures are written: as I420, some of them, their checksums, also one by one, as YUV4MPEG2 and as PNG.
+//! How pictures are written: as I420, some of them, their checksums, also one by one, as YUV4MPEG2
+//! and as PNG.
 #![tactic(auto)]
 
 mod first_set;

@@ -16,8 +16,11 @@ pub fn write_digest<W: Write>(
     digest: [u8; 16],
     writer: &mut W,
 ) -> Result<(), RunFault>
-    ensures ok { OnOk result (Appends (W.contents writer.old) (W.contents writer.new) (digest_line digest)) }
-    ensures err { IfErr result (λ fault. StopsPicture fault true (W.contents writer.old) (W.contents writer.new) (digest_line digest)) }
+    ensures ok { OnOk result
+        (Appends (W.contents writer.old) (W.contents writer.new) (digest_line digest)) }
+    ensures err { IfErr result
+        (λ fault. StopsPicture fault true (W.contents writer.old) (W.contents writer.new)
+        (digest_line digest)) }
 {
     let line = line_of(alloc, digest)?;
     write_text(&line, writer)

@@ -45,7 +45,8 @@ impl PictureFormat for Png {
 
 fn write_file<W: Write>(file: &[u8], writer: &mut W) -> Result<(), RunFault>
     ensures ok { OnOk result (Appends (W.contents writer.old) (W.contents writer.new) file.now) }
-    ensures err { IfErr result (λ fault. (fault ≡ faults.Write) × WritesFirst (W.contents writer.old) (W.contents writer.new) file.now) }
+    ensures err { IfErr result (λ fault. (fault ≡ faults.Write) ×
+        WritesFirst (W.contents writer.old) (W.contents writer.new) file.now) }
 {
     write_bytes(file, 0, writer)?;
     Ok(())

@@ -26,8 +26,11 @@ pub(crate) fn write_frame<W: Write>(
     writer: &mut W,
 ) -> Result<(), RunFault>
     requires { IsWhole picture.now }
-    ensures ok { OnOk result (Appends (W.contents writer.old) (W.contents writer.new) (string_bytes front ++ y4m_frame picture.now)) }
-    ensures err { IfErr result (λ fault. StopsPicture fault true (W.contents writer.old) (W.contents writer.new)
+    ensures ok { OnOk result
+        (Appends (W.contents writer.old) (W.contents writer.new) (string_bytes front
+        ++ y4m_frame picture.now)) }
+    ensures err { IfErr result
+        (λ fault. StopsPicture fault true (W.contents writer.old) (W.contents writer.new)
         (string_bytes front ++ y4m_frame picture.now)) }
 {
     let mut lines = front;
@@ -43,8 +46,10 @@ fn write_behind<W: Write>(
     writer: &mut W,
 ) -> Result<(), RunFault>
     requires { IsWhole picture.now }
-    ensures ok { OnOk result (Appends (W.contents writer.old) (W.contents writer.new) (lines.now ++ i420 picture.now)) }
-    ensures err { IfErr result (λ fault. (fault ≡ faults.Write) × WritesFirst (W.contents writer.old) (W.contents writer.new)
+    ensures ok { OnOk result
+        (Appends (W.contents writer.old) (W.contents writer.new) (lines.now ++ i420 picture.now)) }
+    ensures err { IfErr result (λ fault. (fault ≡ faults.Write) ×
+        WritesFirst (W.contents writer.old) (W.contents writer.new)
         (lines.now ++ i420 picture.now)) }
 {
     write_text(lines, writer)?;

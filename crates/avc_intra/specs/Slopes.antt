@@ -16,4 +16,5 @@ pub record IsWithin (n : ℕ) (z : ℤ) : Type 0 where
 -- row (8.3.3.4, 8.3.4.4)
 abbrev pub plane_sample : (middle : ℕ) → (height across down : ℤ) → ℕ → ℕ → ℕ
 plane_sample middle height across down x y =
-    clip1 (height +ℤ across *ℤ (pos x -ℤ pos middle) +ℤ down *ℤ (pos y -ℤ pos middle) +ℤ pos 16 >>ℤ 5)
+    clip1 (height +ℤ across *ℤ (pos x -ℤ pos middle) +ℤ down *ℤ (pos y -ℤ pos middle)
+    +ℤ pos 16 >>ℤ 5)

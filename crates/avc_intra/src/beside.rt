@@ -1,4 +1,5 @@
-//! The samples beside a block, read from the rows in which it lies. Where the rows have none, they are 0.
+//! The samples beside a block, read from the rows in which it lies. Where the rows have none, they
+//! are 0.
 
 ghost use Rattle.std.specs.Prelude.{◌≡◌, ℕ, ◌+◌, ◌-◌, ◌*◌, ◌<◌, ◌≤◌, length, slice_index};
 ghost use Rattle.avc_types.specs.Arithmetic.{sum_below};
@@ -12,7 +13,8 @@ use avc_plane::RowsPlace;
 #[inline(always)]
 pub fn above<const W: usize>(rows: &[u8], at: RowsPlace) -> [u8; W]
     requires { at.first + W ≤ length rows.now }
-    ensures { at.stride ≤ at.first → (x : ℕ) → x < W → slice_index result x ≡ slice_index rows.now (at.first - at.stride + x) }
+    ensures { at.stride ≤ at.first → (x : ℕ) → x < W → slice_index result x
+        ≡ slice_index rows.now (at.first - at.stride + x) }
 {
     if at.first < at.stride {
         return [0; W];
@@ -25,7 +27,8 @@ pub fn above<const W: usize>(rows: &[u8], at: RowsPlace) -> [u8; W]
 pub fn left<const W: usize, const H: usize>(rows: &[u8], at: RowsPlace) -> [u8; H]
     requires some { 0 < W }
     requires room { IsRoom W H at.first at.stride (length rows.now) }
-    ensures { 0 < at.first → (y : ℕ) → y < H → slice_index result y ≡ slice_index rows.now (at.first + y * at.stride - 1) }
+    ensures { 0 < at.first → (y : ℕ) → y < H → slice_index result y
+        ≡ slice_index rows.now (at.first + y * at.stride - 1) }
 {
     let mut column = [0; H];
     if at.first == 0 {
@@ -53,7 +56,8 @@ pub fn corner(rows: &[u8], at: RowsPlace) -> u8
 #[inline(always)]
 pub fn sum_above4(rows: &[u8], at: RowsPlace, column: usize) -> u16
     requires { at.first + column + 4 ≤ length rows.now }
-    ensures sum { at.stride ≤ at.first → result ≡ sum_below 4 (λ i. slice_index rows.now (at.first - at.stride + (column + i))) }
+    ensures sum { at.stride ≤ at.first →
+        result ≡ sum_below 4 (λ i. slice_index rows.now (at.first - at.stride + (column + i))) }
     ensures small { result ≤ 1020 }
 {
     if at.first < at.stride {
@@ -66,7 +70,8 @@ pub fn sum_above4(rows: &[u8], at: RowsPlace, column: usize) -> u16
 #[inline(always)]
 pub fn sum_left4(rows: &[u8], at: RowsPlace, row: usize) -> u16
     requires { at.first + (row + 3) * at.stride ≤ length rows.now }
-    ensures sum { 0 < at.first → result ≡ sum_below 4 (λ i. slice_index rows.now (at.first + (row + i) * at.stride - 1)) }
+    ensures sum { 0 < at.first →
+        result ≡ sum_below 4 (λ i. slice_index rows.now (at.first + (row + i) * at.stride - 1)) }
     ensures small { result ≤ 1020 }
 {
     if at.first == 0 {
@@ -83,7 +88,8 @@ pub fn sum_left4(rows: &[u8], at: RowsPlace, row: usize) -> u16
 #[inline(always)]
 pub fn sum_above16(rows: &[u8], at: RowsPlace) -> u16
     requires { at.first + 16 ≤ length rows.now }
-    ensures sum { at.stride ≤ at.first → result ≡ sum_below 16 (λ i. slice_index rows.now (at.first - at.stride + i)) }
+    ensures sum { at.stride ≤ at.first →
+        result ≡ sum_below 16 (λ i. slice_index rows.now (at.first - at.stride + i)) }
     ensures small { result ≤ 4080 }
 {
     if at.first < at.stride {
@@ -100,7 +106,8 @@ pub fn sum_above16(rows: &[u8], at: RowsPlace) -> u16
 #[inline(always)]
 pub fn sum_left16(rows: &[u8], at: RowsPlace) -> u16
     requires { IsRoom 16 16 at.first at.stride (length rows.now) }
-    ensures sum { 0 < at.first → result ≡ sum_below 16 (λ i. slice_index rows.now (at.first + i * at.stride - 1)) }
+    ensures sum { 0 < at.first →
+        result ≡ sum_below 16 (λ i. slice_index rows.now (at.first + i * at.stride - 1)) }
     ensures small { result ≤ 4080 }
 {
     if at.first == 0 {

@@ -74,7 +74,8 @@ fn dc_of_block(sides: Sides, above: u16, left: u16, column: usize, row: usize) -
     requires row { row < 2 }
     requires above { above ≤ 1020 }
     requires left { left ≤ 1020 }
-    ensures { (p : Around) → (sides.above ≡ true → above ≡ sum_above p column) → (sides.left ≡ true → left ≡ sum_left p row) →
+    ensures { (p : Around) → (sides.above ≡ true → above ≡ sum_above p column) →
+        (sides.left ≡ true → left ≡ sum_left p row) →
         result ≡ predict_dc_chroma sides p column row }
 {
     let counts_above = sides.above && (row <= column || !sides.left);
@@ -85,7 +86,8 @@ fn dc_of_block(sides: Sides, above: u16, left: u16, column: usize, row: usize) -
 /// One row of samples across a row of blocks, each block with its DC.
 #[inline(always)]
 fn row_of_two(left: u8, right: u8) -> [u8; 8]
-    ensures { (f : ℕ → ℕ) → left ≡ f 0 → right ≡ f 1 → (x : ℕ) → x < 8 → slice_index result x ≡ f (x / 4) }
+    ensures { (f : ℕ → ℕ) → left ≡ f 0 → right ≡ f 1 → (x : ℕ) → x < 8 → slice_index result x
+        ≡ f (x / 4) }
 {
     [left, left, left, left, right, right, right, right]
 }
@@ -95,7 +97,8 @@ impl AroundChroma {
     fn dc(&self, column: usize, row: usize) -> u8
         requires column { column < 2 }
         requires row { row < 2 }
-        ensures { (p : Around) → ShowsChroma p self.now → result ≡ predict_dc_chroma self.now.sides p column row }
+        ensures { (p : Around) → ShowsChroma p self.now →
+            result ≡ predict_dc_chroma self.now.sides p column row }
     {
         let above = sum_of_four(&self.above, 4 * column);
         let left = sum_of_four(&self.left, 4 * row);
@@ -105,7 +108,8 @@ impl AroundChroma {
     /// One row of samples across this row of blocks, each block with its DC.
     fn dc_row(&self, row: usize) -> [u8; 8]
         requires { row < 2 }
-        ensures { (p : Around) → ShowsChroma p self.now → (x : ℕ) → x < 8 → slice_index result x ≡ predict_dc_chroma self.now.sides p (x / 4) row }
+        ensures { (p : Around) → ShowsChroma p self.now → (x : ℕ) → x < 8 → slice_index result x
+            ≡ predict_dc_chroma self.now.sides p (x / 4) row }
     {
         row_of_two(self.dc(0, row), self.dc(1, row))
     }
@@ -131,7 +135,8 @@ impl AroundChroma {
         requires apart { 8 ≤ at.stride }
         requires room { IsRoom 8 8 at.first at.stride (length rows.old) }
         ensures long { length rows.new ≡ length rows.old }
-        ensures samples { (p : Around) → ShowsChroma p self.now → IsStridedSet 8 8 at.first at.stride (predict_plane_chroma p) rows.old rows.new }
+        ensures samples { (p : Around) → ShowsChroma p self.now →
+            IsStridedSet 8 8 at.first at.stride (predict_plane_chroma p) rows.old rows.new }
     {
         let height = height_between(self.left[7], self.above[7]);
         let across = gradient(slope(&self.above, self.corner));
@@ -144,7 +149,8 @@ impl AroundChroma {
         requires above { self.now.sides.above ≡ true }
         requires left { self.now.sides.left ≡ true }
         requires corner { self.now.sides.corner ≡ true }
-        ensures { (p : Around) → ShowsChroma p self.now → (x y : ℕ) → x < 8 → y < 8 → slice_index result (8 * y + x) ≡ predict_plane_chroma p x y }
+        ensures { (p : Around) → ShowsChroma p self.now → (x y : ℕ) → x < 8 → y < 8 →
+            slice_index result (8 * y + x) ≡ predict_plane_chroma p x y }
     {
         let mut samples = [0; 64];
         let at = RowsPlace {
@@ -173,7 +179,8 @@ impl AroundChroma {
 /// Predicts the samples of one chroma component of an intra macroblock (clause 8.3.4), row by row;
 /// `IntraUnavailable` where the mode needs a side that is not available.
 pub fn predict_chroma(around: &AroundChroma, mode: ModeChroma) -> Result<[u8; 64], Fault>
-    ensures { (p : Around) → ShowsChroma p around.now → Predicts 8 8 (intra_chroma around.now.sides p mode) result }
+    ensures { (p : Around) → ShowsChroma p around.now →
+        Predicts 8 8 (intra_chroma around.now.sides p mode) result }
 {
     if !mode.is_available(around.sides) {
         return Err(Fault::IntraUnavailable);
@@ -187,7 +194,8 @@ fn read_around(rows: &[u8], at: RowsPlace, sides: Sides) -> AroundChroma
     requires apart { 8 ≤ at.stride }
     requires room { IsRoom 8 8 at.first at.stride (length rows.now) }
     ensures sides { result.sides ≡ sides }
-    ensures shows { (p : Around) → IsSeen p sides 8 at.first at.stride rows.now → ShowsChroma p result }
+    ensures shows { (p : Around) → IsSeen p sides 8 at.first at.stride rows.now →
+        ShowsChroma p result }
 {
     AroundChroma {
         above: above::<8>(rows, at),
@@ -203,7 +211,8 @@ fn lay_dc(rows: &mut [u8], at: RowsPlace, sides: Sides)
     requires apart { 8 ≤ at.stride }
     requires room { IsRoom 8 8 at.first at.stride (length rows.old) }
     ensures { (p : Around) → IsSeen p sides 8 at.first at.stride rows.old →
-        IsStridedSet 8 8 at.first at.stride (λ x y. predict_dc_chroma sides p (x / 4) (y / 4)) rows.old rows.new }
+        IsStridedSet 8 8 at.first at.stride (λ x y. predict_dc_chroma sides p (x / 4) (y / 4))
+        rows.old rows.new }
 {
     let above = [sum_above4(rows, at, 0), sum_above4(rows, at, 4)];
     let left = [sum_left4(rows, at, 0), sum_left4(rows, at, 4)];

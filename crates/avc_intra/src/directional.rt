@@ -1,5 +1,5 @@
-//! The six directional modes of a 4x4 luma block (clauses 8.3.1.2.4 to 8.3.1.2.9), each from a line of nine samples that
-//! go round the block or along one side of it.
+//! The six directional modes of a 4x4 luma block (clauses 8.3.1.2.4 to 8.3.1.2.9), each from a line
+//! of nine samples that go round the block or along one side of it.
 
 ghost use Rattle.std.specs.Prelude.{◌≡◌, ℕ, ◌<◌, map, slice_index};
 ghost use Rattle.std.specs.List.{range_with_len};
@@ -38,7 +38,8 @@ fn triples(line: &[u8; 9]) -> [u8; 7]
 /// Intra_4x4_Diagonal_Down_Left, from the samples above.
 #[rattlefmt::skip]
 pub fn diagonal_down_left(line: &[u8; 9]) -> [u8; 16]
-    ensures { (p : Around) → line.now ≡ line_above p → result ≡ block4x4 (predict_diagonal_down_left p) }
+    ensures { (p : Around) → line.now ≡ line_above p →
+        result ≡ block4x4 (predict_diagonal_down_left p) }
 {
     let t = triples(line);
     [
@@ -52,7 +53,8 @@ pub fn diagonal_down_left(line: &[u8; 9]) -> [u8; 16]
 /// Intra_4x4_Diagonal_Down_Right, from the samples round the corner.
 #[rattlefmt::skip]
 pub fn diagonal_down_right(line: &[u8; 9]) -> [u8; 16]
-    ensures { (p : Around) → line.now ≡ line_round p → result ≡ block4x4 (predict_diagonal_down_right p) }
+    ensures { (p : Around) → line.now ≡ line_round p →
+        result ≡ block4x4 (predict_diagonal_down_right p) }
 {
     let t = triples(line);
     [
@@ -66,7 +68,8 @@ pub fn diagonal_down_right(line: &[u8; 9]) -> [u8; 16]
 /// Intra_4x4_Vertical_Right, from the samples round the corner.
 #[rattlefmt::skip]
 pub fn vertical_right(line: &[u8; 9]) -> [u8; 16]
-    ensures { (p : Around) → line.now ≡ line_round p → result ≡ block4x4 (predict_vertical_right p) }
+    ensures { (p : Around) → line.now ≡ line_round p →
+        result ≡ block4x4 (predict_vertical_right p) }
 {
     let p = pairs(line);
     let t = triples(line);
@@ -81,7 +84,8 @@ pub fn vertical_right(line: &[u8; 9]) -> [u8; 16]
 /// Intra_4x4_Horizontal_Down, from the samples round the corner.
 #[rattlefmt::skip]
 pub fn horizontal_down(line: &[u8; 9]) -> [u8; 16]
-    ensures { (p : Around) → line.now ≡ line_round p → result ≡ block4x4 (λ x y. predict_vertical_right (exchanged p) y x) }
+    ensures { (p : Around) → line.now ≡ line_round p →
+        result ≡ block4x4 (λ x y. predict_vertical_right (exchanged p) y x) }
 {
     let p = pairs(line);
     let t = triples(line);

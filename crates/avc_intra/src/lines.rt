@@ -42,7 +42,8 @@ pub fn lay_block<const W: usize, const H: usize, const N: usize>(
     requires all { W * H ≡ N }
     requires apart { W ≤ at.stride }
     requires room { IsRoom W H at.first at.stride (length rows.old) }
-    ensures { IsStridedSet W H at.first at.stride (λ x y. slice_index samples.now (W * y + x)) rows.old rows.new }
+    ensures { IsStridedSet W H at.first at.stride (λ x y. slice_index samples.now (W * y + x))
+        rows.old rows.new }
 {
     for y in 0..H {
         let line = line_at::<W>(samples, W * y);
@@ -59,7 +60,8 @@ pub fn lay_same_lines<const W: usize, const H: usize>(
 )
     requires apart { W ≤ at.stride }
     requires room { IsRoom W H at.first at.stride (length rows.old) }
-    ensures { IsStridedSet W H at.first at.stride (λ x y. slice_index line.now x) rows.old rows.new }
+    ensures { IsStridedSet W H at.first at.stride (λ x y. slice_index line.now x) rows.old
+        rows.new }
 {
     let line = *line;
     for y in 0..H {
@@ -75,7 +77,8 @@ pub fn lay_same_columns<const W: usize, const H: usize>(rows: &mut [u8], at: Row
     requires room { IsRoom W H at.first at.stride (length rows.old) }
     ensures long { length rows.new ≡ length rows.old }
     ensures lines { 0 < at.first → W < at.stride →
-        IsStridedSet W H at.first at.stride (λ x y. slice_index rows.old (at.first + y * at.stride - 1)) rows.old rows.new }
+        IsStridedSet W H at.first at.stride
+        (λ x y. slice_index rows.old (at.first + y * at.stride - 1)) rows.old rows.new }
 {
     if at.first == 0 {
         return;

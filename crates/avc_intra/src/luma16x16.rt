@@ -83,7 +83,8 @@ impl Around16x16 {
         requires apart { 16 ≤ at.stride }
         requires room { IsRoom 16 16 at.first at.stride (length rows.old) }
         ensures long { length rows.new ≡ length rows.old }
-        ensures samples { (p : Around) → Shows16x16 p self.now → IsStridedSet 16 16 at.first at.stride (predict_plane16x16 p) rows.old rows.new }
+        ensures samples { (p : Around) → Shows16x16 p self.now →
+            IsStridedSet 16 16 at.first at.stride (predict_plane16x16 p) rows.old rows.new }
     {
         let height = height_between(self.left[15], self.above[15]);
         let across = gradient(slope(&self.above, self.corner));
@@ -96,7 +97,8 @@ impl Around16x16 {
         requires above { self.now.sides.above ≡ true }
         requires left { self.now.sides.left ≡ true }
         requires corner { self.now.sides.corner ≡ true }
-        ensures { (p : Around) → Shows16x16 p self.now → (x y : ℕ) → x < 16 → y < 16 → slice_index result (16 * y + x) ≡ predict_plane16x16 p x y }
+        ensures { (p : Around) → Shows16x16 p self.now → (x y : ℕ) → x < 16 → y < 16 →
+            slice_index result (16 * y + x) ≡ predict_plane16x16 p x y }
     {
         let mut samples = [0; 256];
         let at = RowsPlace {
@@ -125,7 +127,8 @@ impl Around16x16 {
 /// Predicts the luma samples of an Intra 16x16 macroblock (clause 8.3.3), row by row;
 /// `IntraUnavailable` where the mode needs a side that is not available.
 pub fn predict16(around: &Around16x16, mode: Mode16x16) -> Result<[u8; 256], Fault>
-    ensures { (p : Around) → Shows16x16 p around.now → Predicts 16 16 (intra16x16 around.now.sides p mode) result }
+    ensures { (p : Around) → Shows16x16 p around.now →
+        Predicts 16 16 (intra16x16 around.now.sides p mode) result }
 {
     if !mode.is_available(around.sides) {
         return Err(Fault::IntraUnavailable);
@@ -139,7 +142,8 @@ fn read_around(rows: &[u8], at: RowsPlace, sides: Sides) -> Around16x16
     requires apart { 16 ≤ at.stride }
     requires room { IsRoom 16 16 at.first at.stride (length rows.now) }
     ensures sides { result.sides ≡ sides }
-    ensures shows { (p : Around) → IsSeen p sides 16 at.first at.stride rows.now → Shows16x16 p result }
+    ensures shows { (p : Around) → IsSeen p sides 16 at.first at.stride rows.now →
+        Shows16x16 p result }
 {
     Around16x16 {
         above: above::<16>(rows, at),

@@ -65,7 +65,8 @@ impl Around4x4 {
     /// available, the last one above the block stands for them.
     fn line_above(&self) -> [u8; 9]
         requires { self.now.sides.above ≡ true }
-        ensures { (p : Around) → Shows4x4 p self.now → result ≡ line_above (extended self.now.sides p) }
+        ensures { (p : Around) → Shows4x4 p self.now →
+            result ≡ line_above (extended self.now.sides p) }
     {
         let t = &self.above;
         if self.sides.above_right {
@@ -78,7 +79,8 @@ impl Around4x4 {
     /// The samples on the left, with the last going on.
     fn line_left(&self) -> [u8; 9]
         requires { self.now.sides.left ≡ true }
-        ensures { (p : Around) → Shows4x4 p self.now → result ≡ line_left (extended self.now.sides p) }
+        ensures { (p : Around) → Shows4x4 p self.now →
+            result ≡ line_left (extended self.now.sides p) }
     {
         let l = &self.left;
         [l[0], l[1], l[2], l[3], l[3], l[3], l[3], l[3], l[3]]
@@ -89,7 +91,8 @@ impl Around4x4 {
         requires above { self.now.sides.above ≡ true }
         requires left { self.now.sides.left ≡ true }
         requires corner { self.now.sides.corner ≡ true }
-        ensures { (p : Around) → Shows4x4 p self.now → result ≡ line_round (extended self.now.sides p) }
+        ensures { (p : Around) → Shows4x4 p self.now →
+            result ≡ line_round (extended self.now.sides p) }
     {
         let t = &self.above;
         let l = &self.left;
@@ -99,7 +102,8 @@ impl Around4x4 {
     /// Intra_4x4_Vertical.
     fn vertical(&self) -> [u8; 16]
         requires { self.now.sides.above ≡ true }
-        ensures { (p : Around) → Shows4x4 p self.now → result ≡ block4x4 (λ x y. top (extended self.now.sides p) (pos x)) }
+        ensures { (p : Around) → Shows4x4 p self.now →
+            result ≡ block4x4 (λ x y. top (extended self.now.sides p) (pos x)) }
     {
         let [a, b, c, d, ..] = self.above;
         [a, b, c, d, a, b, c, d, a, b, c, d, a, b, c, d]
@@ -108,7 +112,8 @@ impl Around4x4 {
     /// Intra_4x4_Horizontal.
     fn horizontal(&self) -> [u8; 16]
         requires { self.now.sides.left ≡ true }
-        ensures { (p : Around) → Shows4x4 p self.now → result ≡ block4x4 (λ x y. left_of (extended self.now.sides p) (pos y)) }
+        ensures { (p : Around) → Shows4x4 p self.now →
+            result ≡ block4x4 (λ x y. left_of (extended self.now.sides p) (pos y)) }
     {
         let [a, b, c, d] = self.left;
         [a, a, a, a, b, b, b, b, c, c, c, c, d, d, d, d]
@@ -116,7 +121,8 @@ impl Around4x4 {
 
     /// Intra_4x4_DC.
     fn dc(&self) -> [u8; 16]
-        ensures { (p : Around) → Shows4x4 p self.now → result ≡ block4x4 (λ x y. predict_dc4x4 self.now.sides (extended self.now.sides p)) }
+        ensures { (p : Around) → Shows4x4 p self.now →
+            result ≡ block4x4 (λ x y. predict_dc4x4 self.now.sides (extended self.now.sides p)) }
     {
         let above = sum_of_four(&self.above, 0);
         let left = sum_of_four(&self.left, 0);
@@ -126,7 +132,8 @@ impl Around4x4 {
     /// The prediction by a mode whose sides are available.
     pub fn predicted(&self, mode: Mode4x4) -> [u8; 16]
         requires { can_predict4x4 self.now.sides mode ≡ true }
-        ensures { (p : Around) → Shows4x4 p self.now → result ≡ block4x4 (predict4x4 self.now.sides (extended self.now.sides p) mode) }
+        ensures { (p : Around) → Shows4x4 p self.now →
+            result ≡ block4x4 (predict4x4 self.now.sides (extended self.now.sides p) mode) }
     {
         match mode {
             Mode4x4::Vertical => self.vertical(),
@@ -145,7 +152,8 @@ impl Around4x4 {
 /// Predicts a 4x4 luma block (clause 8.3.1.2): its samples row by row, or `IntraUnavailable` where
 /// the mode needs a side that is not available.
 pub fn predict4(around: &Around4x4, mode: Mode4x4) -> Result<[u8; 16], Fault>
-    ensures { (p : Around) → Shows4x4 p around.now → Predicts 4 4 (intra4x4 around.now.sides p mode) result }
+    ensures { (p : Around) → Shows4x4 p around.now →
+        Predicts 4 4 (intra4x4 around.now.sides p mode) result }
 {
     if !mode.is_available(around.sides) {
         return Err(Fault::IntraUnavailable);
@@ -159,7 +167,8 @@ fn read_around(rows: &[u8], at: RowsPlace, sides: Sides) -> Around4x4
     requires apart { 4 ≤ at.stride }
     requires room { IsRoom 4 4 at.first at.stride (length rows.now) }
     ensures sides { result.sides ≡ sides }
-    ensures shows { (p : Around) → IsSeen4x4 p sides at.first at.stride rows.now → Shows4x4 p result }
+    ensures shows { (p : Around) → IsSeen4x4 p sides at.first at.stride rows.now →
+        Shows4x4 p result }
 {
     Around4x4 {
         above: above::<8>(rows, at),
@@ -177,7 +186,8 @@ pub fn lay4x4(rows: &mut [u8], at: RowsPlace, sides: Sides, mode: Mode4x4)
     requires mode { can_predict4x4 sides mode ≡ true }
     ensures long { length rows.new ≡ length rows.old }
     ensures samples { (p : Around) → IsSeen4x4 p sides at.first at.stride rows.old →
-        IsStridedSet 4 4 at.first at.stride (predict4x4 sides (extended sides p) mode) rows.old rows.new }
+        IsStridedSet 4 4 at.first at.stride (predict4x4 sides (extended sides p) mode) rows.old
+        rows.new }
 {
     match mode {
         Mode4x4::Vertical => {

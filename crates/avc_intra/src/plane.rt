@@ -71,7 +71,8 @@ fn rise(slope: i32, place: usize, middle: usize) -> i32
 fn rises<const W: usize>(across: i32) -> [i32; W]
     requires narrow { (1 ≤ W / 2) × (W ≤ 16) }
     requires across { IsWithin 5000 across }
-    ensures value { (x : ℕ) → x < W → slice_index_or result x (pos 0) ≡ across *ℤ (pos x -ℤ pos (W / 2 - 1)) }
+    ensures value { (x : ℕ) → x < W → slice_index_or result x (pos 0)
+        ≡ across *ℤ (pos x -ℤ pos (W / 2 - 1)) }
     ensures small { (x : ℕ) → x < W → IsWithin 80000 (slice_index_or result x (pos 0)) }
 {
     let middle = W / 2 - 1;
@@ -95,7 +96,8 @@ fn sample_at(height: i32) -> u8
 fn plane_row<const W: usize>(height: i32, rises: &[i32; W]) -> [u8; W]
     requires height { IsWithin 100000 height }
     requires rises { (x : ℕ) → x < W → IsWithin 80000 (slice_index_or rises.now x (pos 0)) }
-    ensures { (x : ℕ) → x < W → slice_index result x ≡ clip1 (height +ℤ slice_index_or rises.now x (pos 0) >>ℤ 5) }
+    ensures { (x : ℕ) → x < W → slice_index result x
+        ≡ clip1 (height +ℤ slice_index_or rises.now x (pos 0) >>ℤ 5) }
 {
     let mut row = [0; W];
     for x in 0..W {
@@ -119,7 +121,8 @@ pub fn lay_plane<const W: usize>(
     requires down { IsWithin 5000 down }
     requires apart { W ≤ at.stride }
     requires room { IsRoom W W at.first at.stride (length rows.old) }
-    ensures { IsStridedSet W W at.first at.stride (λ x y. plane_sample (W / 2 - 1) height across down x y) rows.old rows.new }
+    ensures { IsStridedSet W W at.first at.stride
+        (λ x y. plane_sample (W / 2 - 1) height across down x y) rows.old rows.new }
 {
     let middle = W / 2 - 1;
     let rises = rises::<W>(across);

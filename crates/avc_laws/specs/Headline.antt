@@ -42,12 +42,17 @@ defined_events output max s = events output max s.bytes s.ended
 -- is defined on the bytes since then.
 abbrev pub TakesThem : Type 0
 TakesThem =
-    (output : Output) (max : ℕ) (calls : List Call) (answers : List Reply) (last : Machine) → Run max (new_machine output) calls answers last →
-    (others : List Event) × (defined_events output max (since_reset no_call calls answers) ≡ (since_reset no_call calls answers).taken ++ others)
+    (output : Output) (max : ℕ) (calls : List Call) (answers : List Reply) (last : Machine) →
+    Run max (new_machine output) calls answers last →
+    (others : List Event) ×
+    (defined_events output max (since_reset no_call calls answers)
+    ≡ (since_reset no_call calls answers).taken ++ others)
 
 -- Where a call of `take` after these calls is answered by None, these are all.
 abbrev pub TakesAll : Type 0
 TakesAll =
-    (output : Output) (max : ℕ) (calls : List Call) (answers : List Reply) (before last : Machine) → Run max (new_machine output) calls answers before →
+    (output : Output) (max : ℕ) (calls : List Call) (answers : List Reply) (before last : Machine) →
+    Run max (new_machine output) calls answers before →
     Run max before (Take ∷ []) (replies.Taken (Ok None) ∷ []) last →
-    defined_events output max (since_reset no_call calls answers) ≡ (since_reset no_call calls answers).taken
+    defined_events output max (since_reset no_call calls answers)
+    ≡ (since_reset no_call calls answers).taken

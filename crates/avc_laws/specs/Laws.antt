@@ -1,5 +1,6 @@
 -- Laws of whole streams: where decoding may begin anew, and what the numbers of units are for.
-use Rattle.std.specs.Prelude.{◌≡◌, ℕ, ◌+◌, ◌-◌, ◌^◌, ◌<◌, Bool, true, false, List, [], ◌∷◌, ◌++◌, length, map, take, drop, Ok, Some, slice_get, IsTrue, None}
+use Rattle.std.specs.Prelude.{◌≡◌, ℕ, ◌+◌, ◌-◌, ◌^◌, ◌<◌, Bool, true, false, List, [], ◌∷◌, ◌++◌}
+use Rattle.std.specs.Prelude.{length, map, take, drop, Ok, Some, slice_get, IsTrue, None}
 use Rattle.std.specs.List.{list_all}
 use Rattle.avc_types.specs.declared.references.Marking.TheVariants.{Idr}
 use Rattle.avc_annexb.specs.Laws.{contents}
@@ -11,7 +12,8 @@ use Rattle.avc_slice.specs.declared.slice.Slice.{Slice}
 use Rattle.avc_units.specs.Grouping.{is_start, slice_in, step, tables}
 use Rattle.avc_units.specs.Resuming.{sets_in_force, resumed}
 use Rattle.avc_units.specs.declared.step.Step.{Step}
-use Rattle.avc_decoder.specs.Events.{Phase, State, waiting, running, first_state, closed_picture, events_from, events, is_running}
+use Rattle.avc_decoder.specs.Events.{Phase, State, waiting, running, first_state, closed_picture}
+use Rattle.avc_decoder.specs.Events.{events_from, events, is_running}
 use Rattle.avc_decoder.specs.Events.{at_end, open_facts_in, state_through}
 use Rattle.avc_decoder.specs.SeenEvents.{Event}
 use Rattle.avc_decoder.specs.declared.event.Event.TheVariants.{Picture, Refused}
@@ -26,7 +28,8 @@ abbrev pub CanStart : Output → Step → Phase → Type 0
 CanStart output what waiting = Unit {0}
 CanStart output what (running h None) = ⊥
 CanStart output what (running h (Some o)) =
-    (what.closes ≡ true) × ((closed_picture output o).phase ≡ waiting) × (what.even_after_fault ≡ true)
+    (what.closes ≡ true) × ((closed_picture output o).phase ≡ waiting) ×
+    (what.even_after_fault ≡ true)
 
 -- the events of that closing: the held pictures and the refusal
 abbrev pub closing_events : Output → Phase → List Event
@@ -46,7 +49,8 @@ pub record StartsAt (output : Output) (all : List Piece) (k : ℕ) : Type 0 wher
 
 -- the same event of units with other numbers: of each number the one that is given
 abbrev pub renumbered_event : (ℕ → ℕ) → Event → Event
-renumbered_event number (Picture p) = Picture (record p { info = record p.info { unit = number (p.info).unit } })
+renumbered_event number (Picture p) =
+    Picture (record p { info = record p.info { unit = number (p.info).unit } })
 renumbered_event number (Refused unit f) = Refused (number unit) f
 
 -- unit numbers of a stream that begins with m parameter sets and then unit k, as those of the whole
@@ -72,7 +76,8 @@ StartsAnew =
     HaveOwnNumbers all → (starts : StartsAt output all k) → (starts.unit).offset < 2 ^ 64 - 1 →
     events_from s (drop k all) ended
     ≡ closing_events s.output s.phase
-    ++ map (renumbered (length (sets_in_force (take k all))) k) (events output max (resumed max bytes k) ended)
+    ++ map (renumbered (length (sets_in_force (take k all))) k)
+    (events output max (resumed max bytes k) ended)
 
 -- the event hands out a picture, and refuses none
 abbrev pub is_picture : Event → Bool
@@ -84,7 +89,8 @@ is_picture (Refused unit f) = false
 abbrev pub EventsKeepButNumbers : Type 0
 EventsKeepButNumbers =
     (s s' : State) (us us' : List Piece) →
-    s'.output ≡ s.output → s.phase ≡ waiting → s'.phase ≡ waiting → sets_after s'.sets ≡ sets_after s.sets →
+    s'.output ≡ s.output → s.phase ≡ waiting → s'.phase ≡ waiting →
+    sets_after s'.sets ≡ sets_after s.sets →
     map contents us ≡ map contents us' →
     unnumbered (events_from s' us' true) ≡ unnumbered (events_from s us true)
 
@@ -92,7 +98,8 @@ EventsKeepButNumbers =
 abbrev pub LetsPriorPicturesOut : (before : List Piece) → Piece → Type 0
 LetsPriorPicturesOut before u =
     (slice : Slice) (no_output long_term : Bool) →
-    slice_in (tables before) u ≡ Ok slice → (slice.header).marking ≡ Some (Idr no_output long_term) → no_output ≡ false
+    slice_in (tables before) u ≡ Ok slice → (slice.header).marking
+    ≡ Some (Idr no_output long_term) → no_output ≡ false
 
 -- At a unit with which decoding could start, whose IDR picture lets the pictures before go out
 -- where decoding runs, and with no refusal from there on: first comes what the end of the stream
@@ -103,4 +110,5 @@ StartUnitsBeginAnew =
     let s = state_through (first_state output) before in
     IsTrue (is_start u) → (is_running s.phase ≡ true → LetsPriorPicturesOut before u) →
     IsTrue (list_all is_picture (events_from s (u ∷ us) true)) →
-    events_from s (u ∷ us) true ≡ at_end s.output s.phase ++ events_from (record s { phase = waiting }) (u ∷ us) true
+    events_from s (u ∷ us) true ≡ at_end s.output s.phase
+    ++ events_from (record s { phase = waiting }) (u ∷ us) true

@@ -18,7 +18,9 @@ coefficients_if has_coefficients syntax = if has_coefficients then coefficients_
 
 -- the unit, the number of the slice in its picture, and the address
 abbrev pub place_text : MacroblockPlace → List ℕ
-place_text place = decimal place.unit ++ codes " slice" ++ and_number place.slice ++ codes " mb" ++ and_number place.address
+place_text place =
+    decimal place.unit ++ codes " slice" ++ and_number place.slice ++ codes " mb"
+    ++ and_number place.address
 
 -- mb_type
 abbrev pub type_text : MbSyntax → List ℕ
@@ -57,4 +59,8 @@ refusal_line unit f = decimal unit ++ refused_text f ++ newline
 
 -- the form for people
 abbrev pub for_people : (has_coefficients : Bool) → Form
-for_people has_coefficients = record { of_macroblock = macroblock_line has_coefficients; of_fault = fault_line; of_refusal = refusal_line }
+for_people has_coefficients = record {
+  of_macroblock = macroblock_line has_coefficients;
+  of_fault = fault_line;
+  of_refusal = refusal_line;
+}

@@ -1,5 +1,6 @@
 -- What the command `macroblocks` writes and answers.
-use Rattle.std.specs.Prelude.{◌≡◌, Bool, true, false, if◌then◌else◌, List, [], ◌++◌, codes, ℕ, Option, Some, None, is_some, Result, Ok, Err}
+use Rattle.std.specs.Prelude.{◌≡◌, Bool, true, false, if◌then◌else◌, List, [], ◌++◌, codes, ℕ}
+use Rattle.std.specs.Prelude.{Option, Some, None, is_some, Result, Ok, Err}
 use Rattle.std.specs.Fmt.{decimal}
 use Rattle.std.specs.Io.KnownBytes.{Appends}
 use Rattle.avc_tools.specs.Lines.{newline}
@@ -21,23 +22,31 @@ use Rattle.avc_macroblocks.specs.declared.listing.MacroblockListing.{MacroblockL
 
 -- The lines that are asked for of all bytes that the reader had are written, and whether there is
 -- the picture that is asked for is answered. After a fault the same is written as in `units`.
-abbrev pub ListsAsked : Asked → (unread left held holds : Option (List ℕ)) → Result Bool RunFault → Type 0
+abbrev pub ListsAsked : Asked → (unread left held holds : Option (List ℕ)) → Result Bool RunFault →
+    Type 0
 ListsAsked a unread left held holds (Ok found) =
-    (bytes : List ℕ) × HasRead unread left bytes true × Appends held holds (lines_so_far a bytes true) × (found ≡ has_picture a.selection bytes true)
-ListsAsked a unread left held holds (Err fault) = Lists (lines_so_far a) unread left held holds (Err fault)
+    (bytes : List ℕ) × HasRead unread left bytes true ×
+    Appends held holds (lines_so_far a bytes true) ×
+    (found ≡ has_picture a.selection bytes true)
+ListsAsked a unread left held holds (Err fault) =
+    Lists (lines_so_far a) unread left held holds (Err fault)
 
 -- the same of a listing
-abbrev pub ListsMacroblocks : MacroblockListing → (unread left held holds : Option (List ℕ)) → Result Bool RunFault → Type 0
+abbrev pub ListsMacroblocks : MacroblockListing → (unread left held holds : Option (List ℕ)) →
+    Result Bool RunFault → Type 0
 ListsMacroblocks l = ListsAsked (asked_by l)
 
--- The lines of a macroblock and its neighbours are written of all bytes that the reader had, or of so
--- many that it has come, and where it stands is answered, if it came. After a fault the same is
+-- The lines of a macroblock and its neighbours are written of all bytes that the reader had, or of
+-- so many that it has come, and where it stands is answered, if it came. After a fault the same is
 -- written as in `units`.
-abbrev pub ListsNear : AtMacroblock → (unread left held holds : Option (List ℕ)) → Result (Option MacroblockPosition) RunFault → Type 0
+abbrev pub ListsNear : AtMacroblock → (unread left held holds : Option (List ℕ)) →
+    Result (Option MacroblockPosition) RunFault → Type 0
 ListsNear m unread left held holds (Ok position) =
-    (bytes : List ℕ) × (all : Bool) × HasRead unread left bytes all × Appends held holds (lines_so_far (asked_near m) bytes all)
+    (bytes : List ℕ) × (all : Bool) × HasRead unread left bytes all ×
+    Appends held holds (lines_so_far (asked_near m) bytes all)
     × (is_some position ≡ has_met (Near m) bytes all) × (all ≡ false → is_some position ≡ true)
-ListsNear m unread left held holds (Err fault) = Lists (lines_so_far (asked_near m)) unread left held holds (Err fault)
+ListsNear m unread left held holds (Err fault) =
+    Lists (lines_so_far (asked_near m)) unread left held holds (Err fault)
 
 -- ---- how the command ends
 
@@ -62,7 +71,8 @@ text_after names picture (Ok found) = absence_text picture found
 text_after names picture (Err fault) = fault_line names fault
 
 -- What is asked for was listed, and the exit status and what is told are those of the run.
-pub record EndsMacroblocks (names : Names) (listing : MacroblockListing) (unread left held holds before now : Option (List ℕ)) (ending : Ending) : Type 0 where
+pub record EndsMacroblocks (names : Names) (listing : MacroblockListing)
+    (unread left held holds before now : Option (List ℕ)) (ending : Ending) : Type 0 where
   pub run : Result Bool RunFault
   pub lists : ListsMacroblocks listing unread left held holds run
   pub status_is : ending.status ≡ status_after run

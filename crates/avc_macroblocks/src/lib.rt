@@ -1,4 +1,5 @@
-//! The command `macroblocks`, which tells the macroblocks of a stream as they are read, without decoding a picture.
+//! The command `macroblocks`, which tells the macroblocks of a stream as they are read, without
+//! decoding a picture.
 #![tactic(auto)]
 
 mod form;

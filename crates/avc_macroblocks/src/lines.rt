@@ -23,7 +23,8 @@ pub(crate) fn add_macroblock_line(
     mb: &Mb,
     derived: &Derived,
 ) -> Result<(), OutOfMemory>
-    ensures { OnOk result (string_bytes text.new ≡ string_bytes text.old ++ macroblock_line has_coefficients place mb.now derived.now) }
+    ensures { OnOk result (string_bytes text.new ≡ string_bytes text.old
+        ++ macroblock_line has_coefficients place mb.now derived.now) }
 {
     let vectors = vectors_of(alloc, &mb.syntax, &derived.motion)?;
     add_line(
@@ -45,8 +46,10 @@ fn add_line(
     derived_modes: &[NearMode],
     vectors: &[Motion],
 ) -> Result<(), OutOfMemory>
-    ensures { OnOk result (string_bytes text.new ≡ string_bytes text.old ++ (place_text place ++ type_text mb.now.syntax ++ quantiser_text mb.now.qp
-        ++ elements_text mb.now.syntax derived_modes.now vectors.now ++ coefficients_if has_coefficients mb.now.syntax ++ newline)) }
+    ensures { OnOk result (string_bytes text.new ≡ string_bytes text.old
+        ++ (place_text place ++ type_text mb.now.syntax ++ quantiser_text mb.now.qp
+        ++ elements_text mb.now.syntax derived_modes.now vectors.now
+        ++ coefficients_if has_coefficients mb.now.syntax ++ newline)) }
 {
     add_place(text, place)?;
     add_type(text, &mb.syntax)?;
@@ -68,7 +71,8 @@ fn add_place(text: &mut String, place: MacroblockPlace) -> Result<(), OutOfMemor
 }
 
 fn add_type(text: &mut String, syntax: &Syntax) -> Result<(), OutOfMemory>
-    ensures { OnOk result (string_bytes text.new ≡ string_bytes text.old ++ type_text (syntax_of syntax.now)) }
+    ensures { OnOk result (string_bytes text.new ≡ string_bytes text.old
+        ++ type_text (syntax_of syntax.now)) }
 {
     text.push_str(" ")?;
     add_type_name(text, syntax)?;
@@ -87,7 +91,8 @@ fn add_coefficients_if(
     has_coefficients: bool,
     syntax: &Syntax,
 ) -> Result<(), OutOfMemory>
-    ensures { OnOk result (string_bytes text.new ≡ string_bytes text.old ++ coefficients_if has_coefficients (syntax_of syntax.now)) }
+    ensures { OnOk result (string_bytes text.new ≡ string_bytes text.old
+        ++ coefficients_if has_coefficients (syntax_of syntax.now)) }
 {
     if has_coefficients {
         add_coefficients(text, syntax)
@@ -109,7 +114,8 @@ pub(crate) fn add_fault_line(
     place: MacroblockPlace,
     fault: Fault,
 ) -> Result<(), OutOfMemory>
-    ensures { OnOk result (string_bytes text.new ≡ string_bytes text.old ++ fault_line place fault) }
+    ensures { OnOk result (string_bytes text.new ≡ string_bytes text.old
+        ++ fault_line place fault) }
 {
     add_slice(text, place)?;
     add_fault(text, fault)?;
@@ -150,7 +156,8 @@ pub(crate) fn add_refusal_line(
     unit: u64,
     fault: Fault,
 ) -> Result<(), OutOfMemory>
-    ensures { OnOk result (string_bytes text.new ≡ string_bytes text.old ++ refusal_line unit fault) }
+    ensures { OnOk result (string_bytes text.new ≡ string_bytes text.old
+        ++ refusal_line unit fault) }
 {
     let number = fault.number();
     let name = fault.name();

@@ -27,8 +27,10 @@ pub fn macroblocks<R: Read, W: Write, E: Write, V>(
     writer: &mut W,
     console: &mut Console<'_, E, V>,
 ) -> Ending
-    ensures { EndsMacroblocks console.old.names listing (R.remaining reader.old) (R.remaining reader.new) (W.contents writer.old)
-        (W.contents writer.new) (E.contents console.old.errors) (E.contents console.new.errors) result }
+    ensures { EndsMacroblocks console.old.names listing (R.remaining reader.old)
+        (R.remaining reader.new) (W.contents writer.old)
+        (W.contents writer.new) (E.contents console.old.errors) (E.contents console.new.errors)
+        result }
 {
     match run_macroblocks(alloc, listing, reader, writer) {
         Ok(found) => match absence_text(alloc, listing.picture, found) {
@@ -82,7 +84,8 @@ pub fn run_macroblocks<R: Read, W: Write>(
     reader: &mut R,
     writer: &mut W,
 ) -> Result<bool, RunFault>
-    ensures { ListsMacroblocks listing (R.remaining reader.old) (R.remaining reader.new) (W.contents writer.old) (W.contents writer.new) result }
+    ensures { ListsMacroblocks listing (R.remaining reader.old) (R.remaining reader.new)
+        (W.contents writer.old) (W.contents writer.new) result }
 {
     let picture = listing.picture;
     match (listing.is_json, listing.has_coefficients) {
@@ -101,7 +104,8 @@ fn run_in<F: MacroblockForm + Drop, R: Read, W: Write>(
     reader: &mut R,
     writer: &mut W,
 ) -> Result<bool, RunFault>
-    ensures { ListsAsked (asked_in F.form (selection_of picture)) (R.remaining reader.old) (R.remaining reader.new)
+    ensures { ListsAsked (asked_in F.form (selection_of picture)) (R.remaining reader.old)
+        (R.remaining reader.new)
         (W.contents writer.old) (W.contents writer.new) result }
 {
     let mut lines = MacroblockLines::new(alloc, form, Selection::of(picture));
@@ -110,15 +114,16 @@ fn run_in<F: MacroblockForm + Drop, R: Read, W: Write>(
 }
 
 /// Writes the line for people of a macroblock and of those of its neighbours that its picture has,
-/// without levels, as soon as the end of their units has been read, and answers where the macroblock
-/// stands, if it comes. Once it has come no more is read.
+/// without levels, as soon as the end of their units has been read, and answers where the
+/// macroblock stands, if it comes. Once it has come no more is read.
 pub fn run_macroblocks_at<R: Read, W: Write>(
     alloc: Global,
     macroblock: AtMacroblock,
     reader: &mut R,
     writer: &mut W,
 ) -> Result<Option<MacroblockPosition>, RunFault>
-    ensures { ListsNear macroblock (R.remaining reader.old) (R.remaining reader.new) (W.contents writer.old) (W.contents writer.new) result }
+    ensures { ListsNear macroblock (R.remaining reader.old) (R.remaining reader.new)
+        (W.contents writer.old) (W.contents writer.new) result }
 {
     let form = ForPeople::<false>;
     let mut lines = MacroblockLines::new(alloc, form, Selection::Near(macroblock));

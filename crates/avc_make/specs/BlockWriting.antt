@@ -1,5 +1,9 @@
--- Residual blocks as bits (7.3.5.3.2, 9.2): the codewords of a block's levels and runs in their order, and the blocks that have them.
-use Rattle.std.specs.Prelude.{◌≡◌, ℕ, zero, suc, ◌+◌, ◌-◌, ◌*◌, ◌/◌, ◌^◌, ◌<◌, ◌≤◌, ◌==◌, ◌&&◌, ◌||◌, nat_lt, ℤ, pos, negsuc, ◌<ℤ◌, int_lt, nat_abs, Bool, true, false, if◌then◌else◌, List, [], ◌∷◌, ◌++◌, drop, length, map, replicate, reverse, take, Ok}
+-- Residual blocks as bits (7.3.5.3.2, 9.2): the codewords of a block's levels and runs in their
+-- order, and the blocks that have them.
+use Rattle.std.specs.Prelude.{◌≡◌, ℕ, zero, suc, ◌+◌, ◌-◌, ◌*◌, ◌/◌, ◌^◌, ◌<◌, ◌≤◌, ◌==◌, ◌&&◌}
+use Rattle.std.specs.Prelude.{◌||◌, nat_lt, ℤ, pos, negsuc, ◌<ℤ◌, int_lt, nat_abs, Bool, true}
+use Rattle.std.specs.Prelude.{false, if◌then◌else◌, List, [], ◌∷◌, ◌++◌, drop, length, map}
+use Rattle.std.specs.Prelude.{replicate, reverse, take, Ok}
 use Rattle.std.specs.List.{All, sum}
 use Rattle.avc_bits.specs.Bits.{Bits, bits_of, or_none}
 use Rattle.avc_cavlc.specs.Block.{level_code, next_suffix_length, residual_block, suffix_size}
@@ -13,7 +17,8 @@ use Rattle.avc_rbsp.specs.Words.{ReadsBack, joined}
 -- before them all
 abbrev pub after_zeros : (before : ℕ) → List ℤ → List (ℤ × ℕ)
 after_zeros before [] = []
-after_zeros before (l ∷ levels) = if nat_abs l == 0 then after_zeros (before + 1) levels else (l, before) ∷ after_zeros 0 levels
+after_zeros before (l ∷ levels) =
+    if nat_abs l == 0 then after_zeros (before + 1) levels else (l, before) ∷ after_zeros 0 levels
 
 -- those of a block, the highest frequency first
 abbrev pub coded : List ℤ → List (ℤ × ℕ)
@@ -59,12 +64,16 @@ least_code suffix_length prefix = level_code prefix suffix_length 0 false
 abbrev pub level_bits : (suffix_length code : ℕ) → List Bool
 level_bits suffix_length code =
     let prefix = prefix_of suffix_length code in
-    replicate prefix false ++ true ∷ bits_of (suffix_size prefix suffix_length) (code - least_code suffix_length prefix)
+    replicate prefix false
+    ++ true ∷ bits_of (suffix_size prefix suffix_length)
+    (code - least_code suffix_length prefix)
 
 -- The levels that are no trailing ones.
 abbrev pub levels_bits : (suffix_length : ℕ) → (above_one : Bool) → List ℤ → List Bool
 levels_bits suffix_length above_one [] = []
-levels_bits suffix_length above_one (l ∷ values) = level_bits suffix_length (code_of_level above_one l) ++ levels_bits (next_suffix_length suffix_length l) false values
+levels_bits suffix_length above_one (l ∷ values) =
+    level_bits suffix_length (code_of_level above_one l)
+    ++ levels_bits (next_suffix_length suffix_length l) false values
 
 -- A levelCode that has a codeword: prefix 15 is the last.
 abbrev pub IsCode : (suffix_length code : ℕ) → Type 0
@@ -73,7 +82,9 @@ IsCode suffix_length code = code < least_code suffix_length 15 + 2 ^ suffix_size
 -- each level has a codeword, where suffixLength has come to be this (9.2.2.1)
 abbrev pub AreCodes : (suffix_length : ℕ) → (above_one : Bool) → List ℤ → Type 0
 AreCodes suffix_length above_one [] = Unit {0}
-AreCodes suffix_length above_one (l ∷ values) = IsCode suffix_length (code_of_level above_one l) × AreCodes (next_suffix_length suffix_length l) false values
+AreCodes suffix_length above_one (l ∷ values) =
+    IsCode suffix_length (code_of_level above_one l) ×
+    AreCodes (next_suffix_length suffix_length l) false values
 
 -- suffixLength of the first of them
 abbrev pub first_length : (total ones : ℕ) → ℕ
@@ -83,7 +94,8 @@ first_length total ones = if nat_lt 10 total && nat_lt ones 3 then 1 else 0
 
 -- total_zeros of a block of so many levels, where it isn't full or empty
 abbrev pub zeros_bits : (most total n : ℕ) → List Bool
-zeros_bits most total n = if total == 0 || total == most then [] else or_none (zeros_word total (most == 4) n)
+zeros_bits most total n =
+    if total == 0 || total == most then [] else or_none (zeros_word total (most == 4) n)
 
 -- One run: the last one and those after the last zero are not coded.
 abbrev pub run_bits : (others zeros_left run : ℕ) → List Bool
@@ -94,7 +106,8 @@ run_bits (suc others) (suc zeros_left) run = or_none (run_word (suc zeros_left) 
 -- the codewords of the runs, as long as zeros are left (9.2.3)
 abbrev pub runs_bits : (zeros_left : ℕ) → List ℕ → List Bool
 runs_bits zeros_left [] = []
-runs_bits zeros_left (run ∷ runs) = run_bits (length runs) zeros_left run ++ runs_bits (zeros_left - run) runs
+runs_bits zeros_left (run ∷ runs) =
+    run_bits (length runs) zeros_left run ++ runs_bits (zeros_left - run) runs
 
 -- ---- blocks
 
@@ -104,8 +117,10 @@ coded_bits most nc found =
     let values = values_of found in
     let total = length found in
     let ones = ones_first 3 values in
-    joined (or_none (token_word nc (token total ones)) ∷ sign_bits ones values ∷ levels_bits (first_length total ones) (nat_lt ones 3) (drop ones values)
-    ∷ zeros_bits most total (sum (runs_of found)) ∷ runs_bits (sum (runs_of found)) (runs_of found) ∷ [])
+    joined (or_none (token_word nc (token total ones)) ∷ sign_bits ones values ∷ levels_bits
+    (first_length total ones) (nat_lt ones 3) (drop ones values)
+    ∷ zeros_bits most total (sum (runs_of found)) ∷ runs_bits (sum (runs_of found)) (runs_of found)
+    ∷ [])
 
 -- residual_block_cavlc of so many levels (4 for chroma DC, 15 or 16), where nc is -1 for chroma DC.
 abbrev pub block_bits : (most : ℕ) → (nc : ℤ) → List ℤ → List Bool
@@ -125,7 +140,8 @@ IsWritable levels = HasCodes (coded levels)
 -- A block that can be written is read as it was, whatever comes after it.
 abbrev pub BlocksAreRead : Type 0
 BlocksAreRead =
-    (most : ℕ) (nc : ℤ) (levels : List ℤ) (rest : List Bool) → most ≤ 16 → (nc <ℤ pos 0 → most ≤ 4) → length levels ≡ most → IsWritable levels →
+    (most : ℕ) (nc : ℤ) (levels : List ℤ) (rest : List Bool) → most ≤ 16 →
+    (nc <ℤ pos 0 → most ≤ 4) → length levels ≡ most → IsWritable levels →
     ReadsBack rest (residual_block most nc) (block_bits most nc levels) levels
 
 -- Levels up to this size can be written, whatever stands beside them.
@@ -139,4 +155,6 @@ pub record IsRewritten (most : ℕ) (nc : ℤ) (b left : Bits) (levels : List �
 
 -- A block that was read can be written, and its bits are those that were read.
 abbrev pub BlocksAreWritable : Type 0
-BlocksAreWritable = (most : ℕ) (nc : ℤ) (b left : Bits) (levels : List ℤ) → residual_block most nc b ≡ Ok (levels, left) → IsRewritten most nc b left levels
+BlocksAreWritable =
+    (most : ℕ) (nc : ℤ) (b left : Bits) (levels : List ℤ) → residual_block most nc b
+    ≡ Ok (levels, left) → IsRewritten most nc b left levels

@@ -1,5 +1,8 @@
--- Slice headers as bits (7.3.3, 7.3.3.1, 7.3.3.3): the elements in their order, and the headers that can be written.
-use Rattle.std.specs.Prelude.{◌≡◌, ℕ, ◌+◌, ◌*◌, ◌^◌, ◌<◌, ◌≤◌, ℤ, pos, negsuc, ◌≤ℤ◌, Bool, true, false, not, ◌&&◌, if◌then◌else◌, List, [], ◌∷◌, length, Option, Some, None, is_some, IfSome}
+-- Slice headers as bits (7.3.3, 7.3.3.1, 7.3.3.3): the elements in their order, and the headers
+-- that can be written.
+use Rattle.std.specs.Prelude.{◌≡◌, ℕ, ◌+◌, ◌*◌, ◌^◌, ◌<◌, ◌≤◌, ℤ, pos, negsuc, ◌≤ℤ◌, Bool, true}
+use Rattle.std.specs.Prelude.{false, not, ◌&&◌, if◌then◌else◌, List, [], ◌∷◌, length, Option, Some}
+use Rattle.std.specs.Prelude.{None, is_some, IfSome}
 use Rattle.std.specs.List.{flat_map}
 use Rattle.avc_types.specs.declared.edges.FilteredEdges.{FilteredEdges}
 use Rattle.avc_types.specs.declared.edges.FilteredEdges.TheVariants as edges
@@ -8,7 +11,11 @@ use Rattle.avc_types.specs.declared.references.Marking.TheVariants.{Idr, Sliding
 use Rattle.avc_types.specs.declared.references.Modification.{Modification}
 use Rattle.avc_types.specs.declared.references.Modification.TheVariants.{Subtract, Add, LongTerm}
 use Rattle.avc_types.specs.declared.references.Operation.{Operation}
-use Rattle.avc_types.specs.declared.references.Operation.TheVariants.{UnmarkShortTerm, UnmarkLongTerm, AssignLongTerm, MaxLongTermFrameIdx, UnmarkAll, CurrentToLongTerm}
+use Rattle.avc_types.specs.declared.references.Operation.TheVariants.{UnmarkShortTerm}
+use Rattle.avc_types.specs.declared.references.Operation.TheVariants.{UnmarkLongTerm}
+use Rattle.avc_types.specs.declared.references.Operation.TheVariants.{AssignLongTerm}
+use Rattle.avc_types.specs.declared.references.Operation.TheVariants.{MaxLongTermFrameIdx}
+use Rattle.avc_types.specs.declared.references.Operation.TheVariants.{UnmarkAll, CurrentToLongTerm}
 use Rattle.avc_bits.specs.Bits.{bits_of}
 use Rattle.avc_rbsp.specs.Words.{joined, se_word, ue_word}
 use Rattle.avc_make.specs.SpsWriting.{IsSeValue}
@@ -46,9 +53,11 @@ se_where false v = []
 
 -- What tells the picture's order count, for each pic_order_cnt_type.
 abbrev pub coded_order_bits : OrderCount → (bottom_present : Bool) → CodedOrder → List Bool
-coded_order_bits (orders.Type0 log2_minus4) bottom_present (Type0 lsb bottom) = joined (bits_of (log2_minus4 + 4) lsb ∷ se_where bottom_present bottom ∷ [])
+coded_order_bits (orders.Type0 log2_minus4) bottom_present (Type0 lsb bottom) =
+    joined (bits_of (log2_minus4 + 4) lsb ∷ se_where bottom_present bottom ∷ [])
 coded_order_bits (orders.Type1 always_zero _ _ _) bottom_present (Type1 delta_0 delta_1) =
-    joined (se_where (not always_zero) delta_0 ∷ se_where (not always_zero && bottom_present) delta_1 ∷ [])
+    joined (se_where (not always_zero) delta_0 ∷ se_where (not always_zero
+    && bottom_present) delta_1 ∷ [])
 coded_order_bits _ _ _ = []
 
 -- modification_of_pic_nums_idc and its number (7.3.3.1)
@@ -64,7 +73,9 @@ modifications_bits list = joined (flat_map modification_bits list ∷ ue_word 3 
 -- num_ref_idx_active_override_flag and ref_pic_list_modification_flag_l0 with what they bring, and
 -- the weights, in P slices
 abbrev pub list_bits : Header → List Bool
-list_bits h = joined (optional_bits ue_word h.active_override ∷ optional_bits modifications_bits h.modifications ∷ where_bits pred_weight_table_bits h.pred_weight_table ∷ [])
+list_bits h =
+    joined (optional_bits ue_word h.active_override ∷ optional_bits modifications_bits
+    h.modifications ∷ where_bits pred_weight_table_bits h.pred_weight_table ∷ [])
 
 -- what a P slice alone has of the list; an I slice has nothing
 abbrev pub list_bits_where : (p : Bool) → Header → List Bool
@@ -82,31 +93,40 @@ operation_bits (CurrentToLongTerm index) = joined (ue_word 6 ∷ ue_word index �
 
 -- dec_ref_pic_marking (7.3.3.3)
 abbrev pub marking_bits : Marking → List Bool
-marking_bits (Idr no_output_of_prior_pics_flag long_term_reference_flag) = joined (flag_bits no_output_of_prior_pics_flag ∷ flag_bits long_term_reference_flag ∷ [])
+marking_bits (Idr no_output_of_prior_pics_flag long_term_reference_flag) =
+    joined (flag_bits no_output_of_prior_pics_flag ∷ flag_bits long_term_reference_flag ∷ [])
 marking_bits SlidingWindow = flag_bits false
-marking_bits (Adaptive list) = joined (flag_bits true ∷ flat_map operation_bits list ∷ ue_word 0 ∷ [])
+marking_bits (Adaptive list) =
+    joined (flag_bits true ∷ flat_map operation_bits list ∷ ue_word 0 ∷ [])
 
 -- the offsets, unless no edge is filtered
 abbrev pub deblocking_bits_of : FilteredEdges → (alpha beta : ℤ) → List Bool
 deblocking_bits_of edges.All alpha beta = joined (ue_word 0 ∷ se_word alpha ∷ se_word beta ∷ [])
 deblocking_bits_of edges.NoEdges alpha beta = ue_word 1
-deblocking_bits_of edges.WithinSlice alpha beta = joined (ue_word 2 ∷ se_word alpha ∷ se_word beta ∷ [])
+deblocking_bits_of edges.WithinSlice alpha beta =
+    joined (ue_word 2 ∷ se_word alpha ∷ se_word beta ∷ [])
 
 -- disable_deblocking_filter_idc and the two offsets (7.3.3)
 abbrev pub deblocking_bits : Deblocking → List Bool
-deblocking_bits d = deblocking_bits_of d.disable_deblocking_filter_idc d.slice_alpha_c0_offset_div2 d.slice_beta_offset_div2
+deblocking_bits d =
+    deblocking_bits_of d.disable_deblocking_filter_idc d.slice_alpha_c0_offset_div2
+    d.slice_beta_offset_div2
 
 -- ---- the header
 
 -- first_mb_in_slice, slice_type and pic_parameter_set_id (7.3.3)
 abbrev pub front_bits : Header → List Bool
-front_bits h = joined (ue_word h.first_mb_in_slice ∷ ue_word (slice_type_number h.slice_type) ∷ ue_word h.pic_parameter_set_id ∷ [])
+front_bits h =
+    joined (ue_word h.first_mb_in_slice ∷ ue_word (slice_type_number h.slice_type) ∷ ue_word
+    h.pic_parameter_set_id ∷ [])
 
 -- frame_num, idr_pic_id, the elements of the order count and redundant_pic_cnt (7.3.3)
 abbrev pub numbers_bits : Sps → Pps → Header → List Bool
 numbers_bits sps pps h =
-    joined (bits_of (sps.log2_max_frame_num_minus4 + 4) h.frame_num ∷ where_bits ue_word h.idr_pic_id
-    ∷ coded_order_bits sps.order_count pps.bottom_field_pic_order_in_frame_present_flag h.order ∷ where_bits ue_word h.redundant_pic_cnt ∷ [])
+    joined (bits_of (sps.log2_max_frame_num_minus4 + 4) h.frame_num ∷ where_bits ue_word
+    h.idr_pic_id
+    ∷ coded_order_bits sps.order_count pps.bottom_field_pic_order_in_frame_present_flag h.order ∷
+    where_bits ue_word h.redundant_pic_cnt ∷ [])
 
 -- slice_qp_delta, and what is said of deblocking (7.3.3)
 abbrev pub filtering_bits : Header → List Bool
@@ -115,7 +135,8 @@ filtering_bits h = joined (se_word h.slice_qp_delta ∷ where_bits deblocking_bi
 -- Under these sets. The field `position` is none of the syntax.
 abbrev pub header_bits : Sps → Pps → Header → List Bool
 header_bits sps pps h =
-    joined (front_bits h ∷ numbers_bits sps pps h ∷ list_bits_where (is_p h) h ∷ where_bits marking_bits h.marking ∷ filtering_bits h ∷ [])
+    joined (front_bits h ∷ numbers_bits sps pps h ∷ list_bits_where (is_p h) h ∷ where_bits
+    marking_bits h.marking ∷ filtering_bits h ∷ [])
 
 -- nal_ref_idc, and nal_unit_type 5 or 1 (7.3.1)
 abbrev pub slice_unit_header : Header → ℕ
@@ -130,7 +151,8 @@ IsSeWhere false v = v ≡ pos 0
 
 -- the elements of the order count are those of pic_order_cnt_type, and fit (7.3.3)
 abbrev pub IsOrderOf : OrderCount → (bottom_present : Bool) → CodedOrder → Type 0
-IsOrderOf (orders.Type0 log2_minus4) bottom_present (Type0 lsb bottom) = (lsb < 2 ^ (log2_minus4 + 4)) × IsSeWhere bottom_present bottom
+IsOrderOf (orders.Type0 log2_minus4) bottom_present (Type0 lsb bottom) =
+    (lsb < 2 ^ (log2_minus4 + 4)) × IsSeWhere bottom_present bottom
 IsOrderOf (orders.Type1 always_zero _ _ _) bottom_present (Type1 delta_0 delta_1) =
     IsSeWhere (not always_zero) delta_0 × IsSeWhere (not always_zero && bottom_present) delta_1
 IsOrderOf orders.Type2 bottom_present Type2 = Unit {0}
@@ -144,7 +166,8 @@ IsModification max_frame_num (LongTerm n) = IsUeValue n
 
 -- as many as the list has entries, at most
 abbrev pub IsModificationList : (max_frame_num room : ℕ) → List Modification → Type 0
-IsModificationList max_frame_num room list = (length list ≤ room) × Each (IsModification max_frame_num) list
+IsModificationList max_frame_num room list =
+    (length list ≤ room) × Each (IsModification max_frame_num) list
 
 -- The overriding count is at most 16; so is a default one that is used.
 abbrev pub IsOverride : Pps → Option ℕ → Type 0
@@ -155,7 +178,8 @@ IsOverride pps None = pps.num_ref_idx_l0_default_active_minus1 < 16
 pub record IsListOf (sps : Sps) (pps : Pps) (h : Header) : Type 0 where
   pub override : IsOverride pps h.active_override
   pub count : h.num_ref_idx_active ≡ num_ref_idx_active pps h.active_override
-  pub list : IfSome h.modifications (IsModificationList (max_frame_num sps) (num_ref_idx_active pps h.active_override))
+  pub list : IfSome h.modifications
+      (IsModificationList (max_frame_num sps) (num_ref_idx_active pps h.active_override))
   pub is_weighted : is_some h.pred_weight_table ≡ pps.weighted_pred_flag
   pub weights : IfSome h.pred_weight_table (IsPredWeightTable h.num_ref_idx_active)
 
@@ -199,7 +223,9 @@ IsDeblockingOf edges.WithinSlice alpha beta = IsOffset alpha × IsOffset beta
 
 -- the same of all three elements
 abbrev pub IsDeblocking : Deblocking → Type 0
-IsDeblocking d = IsDeblockingOf d.disable_deblocking_filter_idc d.slice_alpha_c0_offset_div2 d.slice_beta_offset_div2
+IsDeblocking d =
+    IsDeblockingOf d.disable_deblocking_filter_idc d.slice_alpha_c0_offset_div2
+    d.slice_beta_offset_div2
 
 -- a luma quantiser
 abbrev pub IsQp : ℤ → Type 0

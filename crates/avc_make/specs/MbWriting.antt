@@ -1,12 +1,18 @@
--- Macroblocks as bits (7.3.5): their elements in the order of the syntax, and the ranges in which they can be written.
-use Rattle.std.specs.Prelude.{◌≡◌, ℕ, zero, suc, ◌+◌, ◌-◌, ◌*◌, ◌%◌, ◌<◌, ◌≤◌, ℤ, pos, negsuc, neg_ℤ, ◌≤ℤ◌, ◌<ℤ◌, Bool, true, false, not, ◌==◌, nat_le, List, [], ◌∷◌, ◌++◌, length, map, replicate, Option, Some, None, Ok}
+-- Macroblocks as bits (7.3.5): their elements in the order of the syntax, and the ranges in which
+-- they can be written.
+use Rattle.std.specs.Prelude.{◌≡◌, ℕ, zero, suc, ◌+◌, ◌-◌, ◌*◌, ◌%◌, ◌<◌, ◌≤◌, ℤ, pos, negsuc}
+use Rattle.std.specs.Prelude.{neg_ℤ, ◌≤ℤ◌, ◌<ℤ◌, Bool, true, false, not, ◌==◌, nat_le, List, []}
+use Rattle.std.specs.Prelude.{◌∷◌, ◌++◌, length, map, replicate, Option, Some, None, Ok}
 use Rattle.std.specs.List.{flat_map, range_with_len}
 use Rattle.avc_types.specs.declared.macroblock.Mvd.{Mvd}
 use Rattle.avc_types.specs.declared.macroblock.PMbType.{PMbType}
-use Rattle.avc_types.specs.declared.macroblock.PMbType.TheVariants.{P16x16, P16x8, P8x16, P8x8, P8x8Ref0}
+use Rattle.avc_types.specs.declared.macroblock.PMbType.TheVariants.{P16x16, P16x8, P8x16, P8x8}
+use Rattle.avc_types.specs.declared.macroblock.PMbType.TheVariants.{P8x8Ref0}
 use Rattle.avc_types.specs.declared.macroblock.SubMbType.{SubMbType}
-use Rattle.avc_types.specs.declared.macroblock.SubMbType.TheVariants.{Sub8x8, Sub8x4, Sub4x8, Sub4x4}
-use Rattle.avc_types.specs.Macroblock.{Residual, MbSyntax, p_skip, i_pcm, i_nxn, i_16x16, p_inter, total_coeff, parts_of, partitions}
+use Rattle.avc_types.specs.declared.macroblock.SubMbType.TheVariants.{Sub8x8, Sub8x4, Sub4x8}
+use Rattle.avc_types.specs.declared.macroblock.SubMbType.TheVariants.{Sub4x4}
+use Rattle.avc_types.specs.Macroblock.{Residual, MbSyntax, p_skip, i_pcm, i_nxn, i_16x16, p_inter}
+use Rattle.avc_types.specs.Macroblock.{total_coeff, parts_of, partitions}
 use Rattle.avc_bits.specs.Bits.{bits_of, byte_bits}
 use Rattle.avc_vlc.specs.Tables.{cbp_intra, cbp_inter}
 use Rattle.avc_neigh.specs.TotalCoeffs.{nc}
@@ -24,9 +30,11 @@ bits_where_coded max nc true block = block_bits max nc block
 bits_where_coded max nc false block = []
 
 -- Further blocks of a component after those done, as they are read.
-abbrev pub blocks_bits : (max size : ℕ) → (coded : ℕ → Bool) → (left up : Option (List ℕ)) → (numbers : List ℕ) → (done blocks : List (List ℤ)) → List Bool
+abbrev pub blocks_bits : (max size : ℕ) → (coded : ℕ → Bool) → (left up : Option (List ℕ)) →
+    (numbers : List ℕ) → (done blocks : List (List ℤ)) → List Bool
 blocks_bits max size coded left up (k ∷ numbers) done (block ∷ blocks) =
-    bits_where_coded max (pos (nc size left up (map total_coeff done) k)) (coded k) block ++ blocks_bits max size coded left up numbers (done ++ block ∷ []) blocks
+    bits_where_coded max (pos (nc size left up (map total_coeff done) k)) (coded k) block
+    ++ blocks_bits max size coded left up numbers (done ++ block ∷ []) blocks
 blocks_bits max size coded left up numbers done blocks = []
 
 -- the DC levels of one chroma component, where CodedBlockPatternChroma is not 0 (7.3.5.3)
@@ -36,7 +44,8 @@ chroma_dc_bits (suc p) levels = block_bits 4 (negsuc 0) levels
 
 -- Intra16x16DCLevel, in an Intra 16x16 macroblock alone (7.3.5.3.1)
 abbrev pub luma_dc_bits : Context → (with_dc : Bool) → List ℤ → List Bool
-luma_dc_bits c true levels = block_bits 16 (pos (nc 16 (luma_side c.left) (luma_side c.up) [] 0)) levels
+luma_dc_bits c true levels =
+    block_bits 16 (pos (nc 16 (luma_side c.left) (luma_side c.up) [] 0)) levels
 luma_dc_bits c false levels = []
 
 -- how many levels a luma block has: the DC levels of Intra 16x16 stand apart
@@ -46,11 +55,13 @@ luma_max with_dc = elim with_dc [ true ↦ 15 | false ↦ 16 ]
 -- the sixteen luma blocks, each where CodedBlockPatternLuma says so (7.3.5.3.1)
 abbrev pub luma_words : Context → (max : ℕ) → (luma_pattern : ℕ) → List (List ℤ) → List Bool
 luma_words c max luma_pattern luma =
-    blocks_bits max 16 (is_coded luma_pattern) (luma_side c.left) (luma_side c.up) (range_with_len 0 16) [] luma
+    blocks_bits max 16 (is_coded luma_pattern) (luma_side c.left) (luma_side c.up)
+    (range_with_len 0 16) [] luma
 
 -- the AC blocks of a component
 abbrev pub ac_words : (chroma_pattern : ℕ) → (left up : Option (List ℕ)) → List (List ℤ) → List Bool
-ac_words chroma_pattern left up ac = blocks_bits 15 8 (λ k. chroma_pattern == 2) left up (range_with_len 0 4) [] ac
+ac_words chroma_pattern left up ac =
+    blocks_bits 15 8 (λ k. chroma_pattern == 2) left up (range_with_len 0 4) [] ac
 
 -- the blocks of Cb and Cr
 abbrev pub chroma_words : Context → Residual → List Bool
@@ -75,7 +86,8 @@ IsBlock max false block = block ≡ replicate max (pos 0)
 -- the blocks of these numbers: each can be written, and has no levels where it is not coded
 abbrev pub AreBlocks : (max : ℕ) → (coded : ℕ → Bool) → (numbers : List ℕ) → List (List ℤ) → Type 0
 AreBlocks max coded [] [] = Unit {0}
-AreBlocks max coded (k ∷ numbers) (block ∷ blocks) = IsBlock max (coded k) block × AreBlocks max coded numbers blocks
+AreBlocks max coded (k ∷ numbers) (block ∷ blocks) =
+    IsBlock max (coded k) block × AreBlocks max coded numbers blocks
 AreBlocks max coded [] (block ∷ blocks) = ⊥
 AreBlocks max coded (k ∷ numbers) [] = ⊥
 
@@ -125,7 +137,9 @@ qp_delta_bits (suc p) delta = se_word delta
 
 -- coded_block_pattern and what follows it
 abbrev pub pattern_bits : Context → (intra : Bool) → Residual → List Bool
-pattern_bits c intra r = joined (ue_word (pattern_number intra (pattern_of r)) ∷ qp_delta_bits (pattern_of r) r.mb_qp_delta ∷ residual_bits c false r ∷ [])
+pattern_bits c intra r =
+    joined (ue_word (pattern_number intra (pattern_of r)) ∷ qp_delta_bits (pattern_of r)
+    r.mb_qp_delta ∷ residual_bits c false r ∷ [])
 
 -- the residual of a macroblock with coded_block_pattern; where that is 0, mb_qp_delta is not coded
 -- (7.3.5)
@@ -147,15 +161,18 @@ IsCodedMode (Some rem) = rem < 8
 
 -- an I_NxN macroblock after mb_type: its modes, its pattern and its residual (7.3.5)
 abbrev pub i_nxn_bits : Context → List (Option ℕ) → (chroma_mode : ℕ) → Residual → List Bool
-i_nxn_bits c modes chroma_mode r = joined (flat_map mode_bits modes ∷ ue_word chroma_mode ∷ pattern_bits c true r ∷ [])
+i_nxn_bits c modes chroma_mode r =
+    joined (flat_map mode_bits modes ∷ ue_word chroma_mode ∷ pattern_bits c true r ∷ [])
 
 -- mb_type of Intra 16x16 (Table 7-11): 1 and on
 abbrev pub type_16x16 : (mode : ℕ) → Residual → ℕ
-type_16x16 mode r = suc (mode + 4 * r.chroma_pattern + elim (r.luma_pattern == 0) [ true ↦ 0 | false ↦ 12 ])
+type_16x16 mode r =
+    suc (mode + 4 * r.chroma_pattern + elim (r.luma_pattern == 0) [ true ↦ 0 | false ↦ 12 ])
 
 -- an Intra 16x16 macroblock after mb_type (7.3.5)
 abbrev pub i_16x16_bits : Context → (chroma_mode : ℕ) → Residual → List Bool
-i_16x16_bits c chroma_mode r = joined (ue_word chroma_mode ∷ se_word r.mb_qp_delta ∷ residual_bits c true r ∷ [])
+i_16x16_bits c chroma_mode r =
+    joined (ue_word chroma_mode ∷ se_word r.mb_qp_delta ∷ residual_bits c true r ∷ [])
 
 -- pcm_alignment_zero_bit up to the next byte
 abbrev pub zeros_to_byte : (position : ℕ) → List Bool
@@ -163,7 +180,8 @@ zeros_to_byte position = replicate ((8 - position % 8) % 8) false
 
 -- an I_PCM macroblock after mb_type: zeros up to the next byte, and the samples (7.3.5)
 abbrev pub i_pcm_bits : (position : ℕ) → (luma cb cr : List ℕ) → List Bool
-i_pcm_bits position luma cb cr = joined (zeros_to_byte position ∷ byte_bits luma ∷ byte_bits cb ∷ byte_bits cr ∷ [])
+i_pcm_bits position luma cb cr =
+    joined (zeros_to_byte position ∷ byte_bits luma ∷ byte_bits cb ∷ byte_bits cr ∷ [])
 
 -- so many samples of eight bits
 pub record AreSamples (n : ℕ) (samples : List ℕ) : Type 0 where
@@ -236,9 +254,12 @@ abbrev pub IsMvd : Mvd → Type 0
 IsMvd d = IsSe32 d.x × IsSe32 d.y
 
 -- an inter macroblock after mb_type (7.3.5.1, 7.3.5.2)
-abbrev pub p_inter_bits : Context → PMbType → (ref_idx : List ℕ) → (mvd : List Mvd) → Residual → List Bool
+abbrev pub p_inter_bits : Context → PMbType → (ref_idx : List ℕ) → (mvd : List Mvd) → Residual →
+    List Bool
 p_inter_bits c t ref_idx mvd r =
-    joined (sub_mb_types_bits t ∷ ref_idx_bits c.num_ref_idx_active (has_ref_idx c.num_ref_idx_active t) ref_idx ∷ flat_map mvd_bits mvd ∷ pattern_bits c false r ∷ [])
+    joined (sub_mb_types_bits t ∷ ref_idx_bits c.num_ref_idx_active
+    (has_ref_idx c.num_ref_idx_active t) ref_idx ∷ flat_map mvd_bits mvd ∷ pattern_bits c
+    false r ∷ [])
 
 -- ---- macroblock_layer
 
@@ -251,10 +272,14 @@ i_type false n = n
 abbrev pub mb_bits : Context → (position : ℕ) → MbSyntax → List Bool
 mb_bits c position p_skip = []
 mb_bits c position (i_pcm luma cb cr) =
-    ue_word (i_type c.is_p 25) ++ i_pcm_bits (position + length (ue_word (i_type c.is_p 25))) luma cb cr
-mb_bits c position (i_nxn modes chroma_mode r) = ue_word (i_type c.is_p 0) ++ i_nxn_bits c modes chroma_mode r
-mb_bits c position (i_16x16 mode chroma_mode r) = ue_word (i_type c.is_p (type_16x16 mode r)) ++ i_16x16_bits c chroma_mode r
-mb_bits c position (p_inter t ref_idx mvd r) = ue_word (p_mb_number t) ++ p_inter_bits c t ref_idx mvd r
+    ue_word (i_type c.is_p 25)
+    ++ i_pcm_bits (position + length (ue_word (i_type c.is_p 25))) luma cb cr
+mb_bits c position (i_nxn modes chroma_mode r) =
+    ue_word (i_type c.is_p 0) ++ i_nxn_bits c modes chroma_mode r
+mb_bits c position (i_16x16 mode chroma_mode r) =
+    ue_word (i_type c.is_p (type_16x16 mode r)) ++ i_16x16_bits c chroma_mode r
+mb_bits c position (p_inter t ref_idx mvd r) =
+    ue_word (p_mb_number t) ++ p_inter_bits c t ref_idx mvd r
 
 -- an I_NxN macroblock that can be written
 pub record IsINxN (modes : List (Option ℕ)) (chroma_mode : ℕ) (r : Residual) : Type 0 where
@@ -278,10 +303,12 @@ pub record IsIPcm (luma cb cr : List ℕ) : Type 0 where
 
 -- an inter macroblock that can be written: an index for each partition and a vector for each part,
 -- in a P slice
-pub record IsPInter (c : Context) (t : PMbType) (indices : List ℕ) (mvds : List Mvd) (r : Residual) : Type 0 where
+pub record IsPInter (c : Context) (t : PMbType) (indices : List ℕ) (mvds : List Mvd)
+    (r : Residual) : Type 0 where
   pub in_p : c.is_p ≡ true
   pub quarters : HasQuarters t
-  pub ref_idx : IsRefIdx c.num_ref_idx_active (partitions t) (has_ref_idx c.num_ref_idx_active t) indices
+  pub ref_idx : IsRefIdx c.num_ref_idx_active (partitions t) (has_ref_idx c.num_ref_idx_active t)
+      indices
   pub all : length mvds ≡ length (parts_of t)
   pub mvd : Each IsMvd mvds
   pub pattern : IsPattern r
@@ -308,4 +335,7 @@ abbrev pub MbIsRead : Type 0
 MbIsRead =
     (c : Context) (position : ℕ) (rest : List Bool) (syntax : MbSyntax) → HasRanges c syntax →
     macroblock c (record { position = position; ahead = mb_bits c position syntax ++ rest })
-    ≡ Ok (record { syntax = syntax; qp = qp_of c.qp syntax }, record { position = position + length (mb_bits c position syntax); ahead = rest })
+    ≡ Ok (
+      record { syntax = syntax; qp = qp_of c.qp syntax },
+      record { position = position + length (mb_bits c position syntax); ahead = rest },
+    )

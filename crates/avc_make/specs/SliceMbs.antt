@@ -1,5 +1,6 @@
 -- Units of slices of any macroblocks (7.3.2.8), and how they are read.
-use Rattle.std.specs.Prelude.{◌≡◌, ℕ, ◌+◌, ◌<◌, ◌≤◌, nat_abs, List, Bool, false, ◌++◌, drop, length, replicate, None, Ok}
+use Rattle.std.specs.Prelude.{◌≡◌, ℕ, ◌+◌, ◌<◌, ◌≤◌, nat_abs, List, Bool, false, ◌++◌, drop, length}
+use Rattle.std.specs.Prelude.{replicate, None, Ok}
 use Rattle.avc_types.specs.Pictures.{PicMb}
 use Rattle.avc_annexb.specs.Escapes.{rbsp}
 use Rattle.avc_bits.specs.Bits.{at}
@@ -50,12 +51,19 @@ pub record IsCodedSlice (c : CodedSlice) : Type 0 where
 -- one and for all of them, and none of its macroblocks before is of the slice.
 pub record IsReadBack (c : CodedSlice) (unit : List ℕ) : Type 0 where
   pub header_read : (sets : Sets) → AreInForce sets c.sps c.pps →
-      header_in_rbsp (slice_unit_header c.header) sets (rbsp (drop 1 unit)) ≡ Ok (placed_header c.sps c.pps c.header)
-  pub macroblocks_read : (s : SliceStart) (before : List PicMb) → IsLike (own_start c) s → length before ≡ c.header.first_mb_in_slice →
+      header_in_rbsp (slice_unit_header c.header) sets (rbsp (drop 1 unit))
+      ≡ Ok (placed_header c.sps c.pps c.header)
+  pub macroblocks_read : (s : SliceStart) (before : List PicMb) → IsLike (own_start c) s →
+      length before ≡ c.header.first_mb_in_slice →
       AreOthers s before → length before < s.size → length before + length c.macroblocks ≤ s.size →
-      slice_data s before (at (rbsp (drop 1 unit)) (placed_header c.sps c.pps c.header).position) ≡ record { mbs = c.macroblocks; fault = None }
+      slice_data s before (at (rbsp (drop 1 unit)) (placed_header c.sps c.pps c.header).position)
+      ≡ record {
+        mbs = c.macroblocks;
+        fault = None;
+      }
 
 -- Each slice that can be written is read back from its unit.
 abbrev pub CodedSlicesAreRead : Type 0
 CodedSlicesAreRead =
-    (c : CodedSlice) (unit : List ℕ) → IsCodedSlice c → IsUnit (slice_unit_header c.header) (coded_slice_bits c) unit → IsReadBack c unit
+    (c : CodedSlice) (unit : List ℕ) → IsCodedSlice c →
+    IsUnit (slice_unit_header c.header) (coded_slice_bits c) unit → IsReadBack c unit

@@ -23,5 +23,6 @@ placed_header sps pps h = record h { position = length (header_bits sps pps h) }
 abbrev pub HeaderIsRead : Type 0
 HeaderIsRead =
     (sets : Sets) (sps : Sps) (pps : Pps) (h : Header) (others : List Bool) (unit : List ℕ) →
-    AreInForce sets sps pps → IsHeader sps pps h → IsUnit (slice_unit_header h) (header_bits sps pps h ++ others) unit →
+    AreInForce sets sps pps → IsHeader sps pps h →
+    IsUnit (slice_unit_header h) (header_bits sps pps h ++ others) unit →
     header_in_rbsp (slice_unit_header h) sets (rbsp (drop 1 unit)) ≡ Ok (placed_header sps pps h)

@@ -1,5 +1,7 @@
--- Sequence parameter sets as bits (7.3.2.1.1): the elements in their order, and the ranges in which they can be written.
-use Rattle.std.specs.Prelude.{◌≡◌, ℕ, ◌*◌, ◌<◌, ◌≤◌, ◌==◌, ◌||◌, ℤ, pos, neg_ℤ, ◌<ℤ◌, Bool, true, List, [], ◌∷◌, length, IfSome, IsSome}
+-- Sequence parameter sets as bits (7.3.2.1.1): the elements in their order, and the ranges in which
+-- they can be written.
+use Rattle.std.specs.Prelude.{◌≡◌, ℕ, ◌*◌, ◌<◌, ◌≤◌, ◌==◌, ◌||◌, ℤ, pos, neg_ℤ, ◌<ℤ◌, Bool, true}
+use Rattle.std.specs.Prelude.{List, [], ◌∷◌, length, IfSome, IsSome}
 use Rattle.std.specs.List.{flat_map}
 use Rattle.avc_bits.specs.Bits.{bits_of}
 use Rattle.avc_rbsp.specs.Words.{joined, se_word, ue_word}
@@ -15,18 +17,23 @@ use Rattle.avc_params.specs.declared.sps.Sps.{Sps}
 -- constraint_set0_flag to constraint_set5_flag
 abbrev pub constraint_bits : ConstraintFlags → List Bool
 constraint_bits c =
-    c.constraint_set0_flag ∷ c.constraint_set1_flag ∷ c.constraint_set2_flag ∷ c.constraint_set3_flag ∷ c.constraint_set4_flag ∷ c.constraint_set5_flag ∷ []
+    c.constraint_set0_flag ∷ c.constraint_set1_flag ∷ c.constraint_set2_flag ∷
+    c.constraint_set3_flag ∷ c.constraint_set4_flag ∷ c.constraint_set5_flag ∷ []
 
 -- what a set begins with, up to its id
 abbrev pub identity_bits : Sps → List Bool
 identity_bits sps =
-    joined (bits_of 8 sps.profile_idc ∷ constraint_bits sps.constraint_flags ∷ bits_of 2 sps.reserved_zero_2bits ∷ bits_of 8 sps.level_idc ∷ ue_word sps.seq_parameter_set_id ∷ [])
+    joined (bits_of 8 sps.profile_idc ∷ constraint_bits sps.constraint_flags ∷ bits_of 2
+    sps.reserved_zero_2bits ∷ bits_of 8 sps.level_idc ∷ ue_word sps.seq_parameter_set_id ∷
+    [])
 
 -- pic_order_cnt_type and what it brings with it
 abbrev pub order_bits : OrderCount → List Bool
-order_bits (orders.Type0 log2_max_pic_order_cnt_lsb_minus4) = joined (ue_word 0 ∷ ue_word log2_max_pic_order_cnt_lsb_minus4 ∷ [])
+order_bits (orders.Type0 log2_max_pic_order_cnt_lsb_minus4) =
+    joined (ue_word 0 ∷ ue_word log2_max_pic_order_cnt_lsb_minus4 ∷ [])
 order_bits (orders.Type1 always_zero non_ref top_to_bottom offsets) =
-    joined (ue_word 1 ∷ flag_bits always_zero ∷ se_word non_ref ∷ se_word top_to_bottom ∷ ue_word (length offsets) ∷ flat_map se_word offsets ∷ [])
+    joined (ue_word 1 ∷ flag_bits always_zero ∷ se_word non_ref ∷ se_word top_to_bottom ∷ ue_word
+    (length offsets) ∷ flat_map se_word offsets ∷ [])
 order_bits orders.Type2 = ue_word 2
 
 -- the values of se(v)
@@ -36,21 +43,26 @@ IsSeValue v = (neg_ℤ (pos 2147483648) <ℤ v) × (v <ℤ pos 2147483648)
 -- the offsets of pic_order_cnt_type 1 have codewords
 abbrev pub HasSeValues : OrderCount → Type 0
 HasSeValues (orders.Type0 log2_max_pic_order_cnt_lsb_minus4) = Unit {0}
-HasSeValues (orders.Type1 always_zero non_ref top_to_bottom offsets) = IsSeValue non_ref × IsSeValue top_to_bottom × Each IsSeValue offsets
+HasSeValues (orders.Type1 always_zero non_ref top_to_bottom offsets) =
+    IsSeValue non_ref × IsSeValue top_to_bottom × Each IsSeValue offsets
 HasSeValues orders.Type2 = Unit {0}
 
 -- the four offsets of frame cropping
 abbrev pub cropping_bits : Cropping → List Bool
-cropping_bits c = joined (ue_word c.frame_crop_left_offset ∷ ue_word c.frame_crop_right_offset ∷ ue_word c.frame_crop_top_offset ∷ ue_word c.frame_crop_bottom_offset ∷ [])
+cropping_bits c =
+    joined (ue_word c.frame_crop_left_offset ∷ ue_word c.frame_crop_right_offset ∷ ue_word
+    c.frame_crop_top_offset ∷ ue_word c.frame_crop_bottom_offset ∷ [])
 
 -- width and height in macroblocks, each less one
 abbrev pub size_bits : Sps → List Bool
-size_bits sps = joined (ue_word sps.pic_width_in_mbs_minus1 ∷ ue_word sps.pic_height_in_map_units_minus1 ∷ [])
+size_bits sps =
+    joined (ue_word sps.pic_width_in_mbs_minus1 ∷ ue_word sps.pic_height_in_map_units_minus1 ∷ [])
 
 -- With frame_mbs_only_flag 1.
 abbrev pub sps_bits : Sps → List Bool
 sps_bits sps =
-    joined (identity_bits sps ∷ ue_word sps.log2_max_frame_num_minus4 ∷ order_bits sps.order_count ∷ ue_word sps.max_num_ref_frames ∷ flag_bits sps.gaps_in_frame_num_value_allowed_flag
+    joined (identity_bits sps ∷ ue_word sps.log2_max_frame_num_minus4 ∷ order_bits sps.order_count ∷
+    ue_word sps.max_num_ref_frames ∷ flag_bits sps.gaps_in_frame_num_value_allowed_flag
     ∷ size_bits sps ∷ flag_bits true ∷ flag_bits sps.direct_8x8_inference_flag
     ∷ optional_bits cropping_bits sps.frame_cropping ∷ optional_bits vui_bits sps.vui ∷ [])
 

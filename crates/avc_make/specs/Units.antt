@@ -19,9 +19,11 @@ pps_header = 0x68
 
 -- The unit of a picture parameter set in its ranges is read as that set.
 abbrev pub PpsIsRead : Type 0
-PpsIsRead = (pps : Pps) (unit : List ℕ) → IsPps pps → IsUnit pps_header (pps_bits pps) unit → pps_of (rbsp (drop 1 unit)) ≡ Ok pps
+PpsIsRead = (pps : Pps) (unit : List ℕ) → IsPps pps → IsUnit pps_header (pps_bits pps) unit →
+    pps_of (rbsp (drop 1 unit)) ≡ Ok pps
 
 -- The unit of a sequence parameter set in its ranges and of a size that is taken is read as that
 -- set.
 abbrev pub SpsIsRead : Type 0
-SpsIsRead = (sps : Sps) (unit : List ℕ) → IsWritable sps → IsSps sps → IsUnit sps_header (sps_bits sps) unit → sps_of (rbsp (drop 1 unit)) ≡ Ok sps
+SpsIsRead = (sps : Sps) (unit : List ℕ) → IsWritable sps → IsSps sps →
+    IsUnit sps_header (sps_bits sps) unit → sps_of (rbsp (drop 1 unit)) ≡ Ok sps

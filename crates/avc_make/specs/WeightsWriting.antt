@@ -18,9 +18,12 @@ chroma_weights_bits c = joined (coded_weight_bits c.cb ∷ coded_weight_bits c.c
 
 -- of one reference index
 abbrev pub entry_weights_bits : EntryWeights → List Bool
-entry_weights_bits e = joined (optional_bits coded_weight_bits e.luma ∷ optional_bits chroma_weights_bits e.chroma ∷ [])
+entry_weights_bits e =
+    joined (optional_bits coded_weight_bits e.luma ∷ optional_bits chroma_weights_bits e.chroma ∷
+    [])
 
 -- the denominators, and then each entry's weights
 abbrev pub pred_weight_table_bits : PredWeightTable → List Bool
 pred_weight_table_bits t =
-    joined (ue_word t.luma_log2_weight_denom ∷ ue_word t.chroma_log2_weight_denom ∷ flat_map entry_weights_bits t.entries ∷ [])
+    joined (ue_word t.luma_log2_weight_denom ∷ ue_word t.chroma_log2_weight_denom ∷ flat_map
+    entry_weights_bits t.entries ∷ [])

@@ -106,7 +106,8 @@ fn put_order(
     requires going { maker.old.failed ≡ false }
     requires within { IsOrderCount order_count.now }
     requires fits { IsOrderOf order_count.now bottom_present order }
-    ensures { Puts result (coded_order_bits order_count.now bottom_present order) maker.old maker.new }
+    ensures { Puts result (coded_order_bits order_count.now bottom_present order) maker.old
+        maker.new }
 {
     match (order_count, order) {
         (
@@ -148,7 +149,8 @@ fn put_lsb(
 ) -> Result<(), OutOfMemory>
     requires log2 { log2_minus4 ≤ 12 }
     requires fits { IsSeWhere bottom_present bottom }
-    ensures { Puts result (bits_of (log2_minus4 + 4) lsb ++ se_where bottom_present bottom) maker.old maker.new }
+    ensures { Puts result (bits_of (log2_minus4 + 4) lsb ++ se_where bottom_present bottom)
+        maker.old maker.new }
 {
     maker.put(log2_minus4 as u32 + 4, lsb)?;
     put_se_where(maker, bottom_present, bottom)?;
@@ -166,7 +168,8 @@ fn put_deltas(
     requires going { maker.old.failed ≡ false }
     requires first { IsSeWhere coded delta_0 }
     requires second { IsSeWhere bottom_coded delta_1 }
-    ensures { Puts result (se_where coded delta_0 ++ se_where bottom_coded delta_1) maker.old maker.new }
+    ensures { Puts result (se_where coded delta_0 ++ se_where bottom_coded delta_1) maker.old
+        maker.new }
 {
     put_se_where(maker, coded, delta_0)?;
     put_se_where(maker, bottom_coded, delta_1)?;
@@ -190,7 +193,8 @@ fn put_list(maker: &mut BitMaker, header: &Header) -> Result<(), OutOfMemory>
     requires going { maker.old.failed ≡ false }
     requires count { IfSome header.now.active_override IsUeValue }
     requires list { IfSome header.now.modifications (Each (IsModification 65536)) }
-    requires weights { IfSome header.now.pred_weight_table (IsPredWeightTable header.now.num_ref_idx_active) }
+    requires weights { IfSome header.now.pred_weight_table
+        (IsPredWeightTable header.now.num_ref_idx_active) }
     ensures { Puts result (list_bits_where (is_p header.now) header.now) maker.old maker.new }
 {
     if header.is_p() {
@@ -234,7 +238,8 @@ fn put_offsets(maker: &mut BitMaker, idc: u32, deblocking: &Deblocking) -> Resul
     requires alpha { IsOffset deblocking.now.slice_alpha_c0_offset_div2 }
     requires beta { IsOffset deblocking.now.slice_beta_offset_div2 }
     ensures { Puts result
-        (ue_word idc ++ (se_word deblocking.now.slice_alpha_c0_offset_div2 ++ se_word deblocking.now.slice_beta_offset_div2)) maker.old maker.new }
+        (ue_word idc ++ (se_word deblocking.now.slice_alpha_c0_offset_div2
+        ++ se_word deblocking.now.slice_beta_offset_div2)) maker.old maker.new }
 {
     maker.ue(idc)?;
     maker.se(deblocking.slice_alpha_c0_offset_div2)?;

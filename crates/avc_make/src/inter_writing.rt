@@ -29,8 +29,10 @@ pub(crate) fn put_p_inter(
     requires going { maker.old.failed ≡ false }
     requires ranges { IsPInter context.now mb_type.now (take (partitions mb_type.now) ref_idx.now)
         (take (length (parts_of mb_type.now)) mvd.now) (residual_of [] levels.now) }
-    ensures { Puts result (ue_word (p_mb_number mb_type.now) ++ p_inter_bits context.now mb_type.now (take (partitions mb_type.now) ref_idx.now)
-        (take (length (parts_of mb_type.now)) mvd.now) (residual_of [] levels.now)) maker.old maker.new }
+    ensures { Puts result (ue_word (p_mb_number mb_type.now)
+        ++ p_inter_bits context.now mb_type.now (take (partitions mb_type.now) ref_idx.now)
+        (take (length (parts_of mb_type.now)) mvd.now) (residual_of [] levels.now)) maker.old
+        maker.new }
 {
     put_p_type(maker, mb_type)?;
     put_sub_mb_types(maker, mb_type)?;
@@ -50,7 +52,8 @@ fn put_p_type(maker: &mut BitMaker, mb_type: &PMbType) -> Result<(), OutOfMemory
 fn put_mvd(maker: &mut BitMaker, mb_type: &PMbType, mvd: &[Mvd; 16]) -> Result<(), OutOfMemory>
     requires going { maker.old.failed ≡ false }
     requires ranges { Each IsMvd (take (length (parts_of mb_type.now)) mvd.now) }
-    ensures { Puts result (flat_map mvd_bits (take (length (parts_of mb_type.now)) mvd.now)) maker.old maker.new }
+    ensures { Puts result (flat_map mvd_bits (take (length (parts_of mb_type.now)) mvd.now))
+        maker.old maker.new }
 {
     put_each(maker, &mvd[..part_count(mb_type)])
 }
@@ -88,9 +91,11 @@ fn put_ref_idx(
     ref_idx: &[u8; 4],
 ) -> Result<(), OutOfMemory>
     requires going { maker.old.failed ≡ false }
-    requires ranges { IsRefIdx num_ref_idx_active (partitions mb_type.now) (has_ref_idx num_ref_idx_active mb_type.now)
+    requires ranges { IsRefIdx num_ref_idx_active (partitions mb_type.now)
+        (has_ref_idx num_ref_idx_active mb_type.now)
         (take (partitions mb_type.now) ref_idx.now) }
-    ensures { Puts result (ref_idx_bits num_ref_idx_active (has_ref_idx num_ref_idx_active mb_type.now)
+    ensures { Puts result
+        (ref_idx_bits num_ref_idx_active (has_ref_idx num_ref_idx_active mb_type.now)
         (take (partitions mb_type.now) ref_idx.now)) maker.old maker.new }
 {
     if has_ref_idx(num_ref_idx_active, mb_type) {

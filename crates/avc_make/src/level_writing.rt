@@ -21,7 +21,8 @@ pub(crate) fn put_levels(
     requires within { ones ≤ length found.now }
     requires some { All (λ level. 1 ≤ nat_abs level) (values_of found.now) }
     requires codes { HasCodes found.now }
-    ensures { Puts result (levels_bits (first_length (length found.now) ones) (nat_lt ones 3) (drop ones (values_of found.now))) maker.old maker.new }
+    ensures { Puts result (levels_bits (first_length (length found.now) ones) (nat_lt ones 3)
+        (drop ones (values_of found.now))) maker.old maker.new }
 {
     let few_ones = ones < 3;
     let mut suffix_length = if found.len() > 10 && few_ones { 1 } else { 0 };

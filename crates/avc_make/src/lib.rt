@@ -1,4 +1,5 @@
-//! Writing the syntax of H.264 (7.3): parameter sets, slices and their macroblocks, and their units.
+//! Writing the syntax of H.264 (7.3): parameter sets, slices and their macroblocks, and their
+//! units.
 #![tactic(auto)]
 
 mod block_writing;

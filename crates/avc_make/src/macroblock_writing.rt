@@ -36,7 +36,8 @@ pub fn write_macroblock(
 ) -> Result<(), OutOfMemory>
     requires going { maker.old.failed ≡ false }
     requires ranges { HasRanges context.now (syntax_of syntax.now) }
-    ensures { Puts result (mb_bits context.now (length maker.old.bits) (syntax_of syntax.now)) maker.old maker.new }
+    ensures { Puts result (mb_bits context.now (length maker.old.bits) (syntax_of syntax.now))
+        maker.old maker.new }
 {
     match syntax {
         Syntax::PSkip => Ok(()),
@@ -93,7 +94,8 @@ fn put_i_pcm(
 ) -> Result<(), OutOfMemory>
     requires { maker.old.failed ≡ false }
     ensures { Puts result (ue_word (i_type context.now.is_p 25) ++ i_pcm_bits
-        (length maker.old.bits + length (ue_word (i_type context.now.is_p 25))) luma.now cb.now cr.now) maker.old maker.new }
+        (length maker.old.bits + length (ue_word (i_type context.now.is_p 25))) luma.now cb.now
+        cr.now) maker.old maker.new }
 {
     put_i_type(maker, context, I_PCM)?;
     put_pcm_samples(maker, luma, cb, cr)?;
@@ -110,7 +112,9 @@ fn put_i_nxn(
     requires going { maker.old.failed ≡ false }
     requires ranges { IsINxN modes.now chroma_mode (residual_of [] levels.now) }
     ensures { Puts result
-        (ue_word (i_type context.now.is_p 0) ++ i_nxn_bits context.now modes.now chroma_mode (residual_of [] levels.now)) maker.old maker.new }
+        (ue_word (i_type context.now.is_p 0)
+        ++ i_nxn_bits context.now modes.now chroma_mode (residual_of [] levels.now)) maker.old
+        maker.new }
 {
     put_i_type(maker, context, 0)?;
     put_nxn_elements(maker, context, modes, chroma_mode, levels)?;
@@ -127,7 +131,8 @@ fn put_nxn_elements(
 ) -> Result<(), OutOfMemory>
     requires going { maker.old.failed ≡ false }
     requires ranges { IsINxN modes.now chroma_mode (residual_of [] levels.now) }
-    ensures { Puts result (i_nxn_bits context.now modes.now chroma_mode (residual_of [] levels.now)) maker.old maker.new }
+    ensures { Puts result (i_nxn_bits context.now modes.now chroma_mode (residual_of [] levels.now))
+        maker.old maker.new }
 {
     put_each(maker, modes)?;
     maker.ue(u32::from(chroma_mode))?;
@@ -147,7 +152,8 @@ fn put_i_16x16(
     requires ranges { IsI16x16 mode chroma_mode (residual_of luma_dc.now levels.now) }
     ensures { Puts result
         (ue_word (i_type context.now.is_p (type_16x16 mode (residual_of luma_dc.now levels.now)))
-        ++ i_16x16_bits context.now chroma_mode (residual_of luma_dc.now levels.now)) maker.old maker.new }
+        ++ i_16x16_bits context.now chroma_mode (residual_of luma_dc.now levels.now)) maker.old
+        maker.new }
 {
     put_i_type(maker, context, type_16x16(mode, levels))?;
     put_chroma_mode(maker, chroma_mode)?;
@@ -182,7 +188,8 @@ pub(crate) fn put_pattern(
 ) -> Result<(), OutOfMemory>
     requires going { maker.old.failed ≡ false }
     requires ranges { IsPattern (residual_of [] levels.now) }
-    ensures { Puts result (pattern_bits context.now intra (residual_of [] levels.now)) maker.old maker.new }
+    ensures { Puts result (pattern_bits context.now intra (residual_of [] levels.now)) maker.old
+        maker.new }
 {
     let pattern = pattern_of(levels);
     maker.ue(number_of_pattern(pattern, intra))?;

@@ -16,7 +16,8 @@ pub(crate) fn put_pcm_samples(
     cr: &[u8; 64],
 ) -> Result<(), OutOfMemory>
     requires { maker.old.failed ≡ false }
-    ensures { Puts result (i_pcm_bits (length maker.old.bits) luma.now cb.now cr.now) maker.old maker.new }
+    ensures { Puts result (i_pcm_bits (length maker.old.bits) luma.now cb.now cr.now) maker.old
+        maker.new }
 {
     put_alignment(maker)?;
     put_bytes(maker, luma)?;

@@ -1,4 +1,5 @@
-//! What a slice header says of reference pictures: how its list is modified, and how pictures are marked.
+//! What a slice header says of reference pictures: how its list is modified, and how pictures are
+//! marked.
 
 ghost use Rattle.std.specs.Prelude.{Bool};
 ghost use Rattle.avc_make.specs.HeaderWriting.{IsMarkingOf, IsModification, IsOperation};

@@ -24,7 +24,8 @@ pub(crate) fn put_residual(
 ) -> Result<(), OutOfMemory>
     requires going { maker.old.failed ≡ false }
     requires ranges { IsResidual false (residual_of [] levels.now) }
-    ensures { Puts result (residual_bits context.now false (residual_of [] levels.now)) maker.old maker.new }
+    ensures { Puts result (residual_bits context.now false (residual_of [] levels.now)) maker.old
+        maker.new }
 {
     put_luma(maker, context, levels.luma_pattern, &levels.luma)?;
     put_chroma(maker, context, levels)?;
@@ -40,7 +41,8 @@ pub(crate) fn put_residual_16x16(
 ) -> Result<(), OutOfMemory>
     requires going { maker.old.failed ≡ false }
     requires ranges { IsResidual true (residual_of luma_dc.now levels.now) }
-    ensures { Puts result (residual_bits context.now true (residual_of luma_dc.now levels.now)) maker.old maker.new }
+    ensures { Puts result (residual_bits context.now true (residual_of luma_dc.now levels.now))
+        maker.old maker.new }
 {
     put_luma_dc(maker, context, luma_dc)?;
     put_luma(maker, context, levels.luma_pattern, &levels.luma)?;
@@ -92,7 +94,8 @@ fn put_luma<const MAXN: usize>(
     requires going { maker.old.failed ≡ false }
     requires most { MAXN ≤ 16 }
     requires blocks { AreBlocks MAXN (is_coded luma_pattern) (range_with_len 0 16) blocks.now }
-    ensures { Puts result (luma_words context.now MAXN luma_pattern blocks.now) maker.old maker.new }
+    ensures { Puts result (luma_words context.now MAXN luma_pattern blocks.now) maker.old
+        maker.new }
 {
     put_luma_blocks(
         maker,
@@ -143,9 +146,12 @@ fn put_chroma<const MAXN: usize>(
     requires going { maker.old.failed ≡ false }
     requires cb_dc { IsChromaDc levels.now.chroma_pattern levels.now.cb_dc }
     requires cr_dc { IsChromaDc levels.now.chroma_pattern levels.now.cr_dc }
-    requires cb_ac { AreBlocks 15 (λ k. levels.now.chroma_pattern == 2) (range_with_len 0 4) levels.now.cb_ac }
-    requires cr_ac { AreBlocks 15 (λ k. levels.now.chroma_pattern == 2) (range_with_len 0 4) levels.now.cr_ac }
-    ensures { Puts result (chroma_words context.now (residual_of [] levels.now)) maker.old maker.new }
+    requires cb_ac { AreBlocks 15 (λ k. levels.now.chroma_pattern == 2) (range_with_len 0 4)
+        levels.now.cb_ac }
+    requires cr_ac { AreBlocks 15 (λ k. levels.now.chroma_pattern == 2) (range_with_len 0 4)
+        levels.now.cr_ac }
+    ensures { Puts result (chroma_words context.now (residual_of [] levels.now)) maker.old
+        maker.new }
 {
     let pattern = levels.chroma_pattern;
     put_chroma_dc(maker, pattern, &levels.cb_dc)?;
@@ -179,7 +185,9 @@ fn put_cb_ac(
 ) -> Result<(), OutOfMemory>
     requires going { maker.old.failed ≡ false }
     requires blocks { AreBlocks 15 (λ k. chroma_pattern == 2) (range_with_len 0 4) blocks.now }
-    ensures { Puts result (ac_words chroma_pattern (cb_side context.now.left) (cb_side context.now.up) blocks.now) maker.old maker.new }
+    ensures { Puts result
+        (ac_words chroma_pattern (cb_side context.now.left) (cb_side context.now.up) blocks.now)
+        maker.old maker.new }
 {
     put_ac(
         maker,
@@ -198,7 +206,9 @@ fn put_cr_ac(
 ) -> Result<(), OutOfMemory>
     requires going { maker.old.failed ≡ false }
     requires blocks { AreBlocks 15 (λ k. chroma_pattern == 2) (range_with_len 0 4) blocks.now }
-    ensures { Puts result (ac_words chroma_pattern (cr_side context.now.left) (cr_side context.now.up) blocks.now) maker.old maker.new }
+    ensures { Puts result
+        (ac_words chroma_pattern (cr_side context.now.left) (cr_side context.now.up) blocks.now)
+        maker.old maker.new }
 {
     put_ac(
         maker,
@@ -219,7 +229,9 @@ fn put_ac(
 ) -> Result<(), OutOfMemory>
     requires going { maker.old.failed ≡ false }
     requires blocks { AreBlocks 15 (λ k. chroma_pattern == 2) (range_with_len 0 4) blocks.now }
-    ensures { Puts result (ac_words chroma_pattern (option_copied left.entry) (option_copied up.entry) blocks.now) maker.old maker.new }
+    ensures { Puts result
+        (ac_words chroma_pattern (option_copied left.entry) (option_copied up.entry) blocks.now)
+        maker.old maker.new }
 {
     let mut total_coeffs = [0; 4];
     'each: for k in 0..4 {

@@ -27,7 +27,8 @@ const QP_AT_FIRST: i32 = 26;
 
 /// A row before the slice's first macroblock.
 pub(crate) fn row_before(alloc: Global, slice: &CodedSlice) -> Result<Row, OutOfMemory>
-    ensures { IfOk result (λ row. AreInfoOf (own_start slice.now).width (earlier_mbs slice.now) row) }
+    ensures { IfOk result
+        (λ row. AreInfoOf (own_start slice.now).width (earlier_mbs slice.now) row) }
 {
     let mut row = Row::new(alloc, slice.sps.width_in_mbs())?;
     let earlier = info(EARLIER_SLICE, all_total_coeffs(0));
@@ -39,7 +40,8 @@ pub(crate) fn row_before(alloc: Global, slice: &CodedSlice) -> Result<Row, OutOf
 
 /// Adds the slice's next macroblock.
 pub(crate) fn put_info(row: &mut Row, syntax: &Syntax)
-    ensures { (s : SliceStart) (before : List PicMb) (m : Mb) → s.slice ≡ 1 → m.syntax ≡ syntax_of syntax.now
+    ensures { (s : SliceStart) (before : List PicMb) (m : Mb) → s.slice ≡ 1 →
+        m.syntax ≡ syntax_of syntax.now
         → AreInfoOf s.width before row.old → AreInfoOf s.width (before ++ placed s m ∷ []) row.new }
 {
     row.put(&info(OWN_SLICE, total_coeffs_of(syntax)));
@@ -62,7 +64,8 @@ pub(crate) fn first_context(slice: &CodedSlice) -> Context
 
 /// The context of the slice's next macroblock, after one with this QP_Y.
 pub(crate) fn context_beside(first: &Context, qp: u8, row: &Row) -> Context
-    ensures { (s : SliceStart) (before : List PicMb) → IsOf s first.now → AreInfoOf s.width before row.now → result ≡ context s before qp }
+    ensures { (s : SliceStart) (before : List PicMb) → IsOf s first.now →
+        AreInfoOf s.width before row.now → result ≡ context s before qp }
 {
     let around = row.around(OWN_SLICE);
     Context {

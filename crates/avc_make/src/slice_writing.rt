@@ -25,7 +25,9 @@ use std::alloc::Global;
 /// type 1. It is read as the slice.
 pub fn write_slice(alloc: Global, slice: &CodedSlice) -> Result<Vec<u8>, OutOfMemory>
     requires { IsCodedSlice slice.now }
-    ensures unit { IfOk result (λ unit. IsUnit (slice_unit_header slice.now.header) (coded_slice_bits slice.now) unit.items) }
+    ensures unit { IfOk result
+        (λ unit. IsUnit (slice_unit_header slice.now.header) (coded_slice_bits slice.now)
+        unit.items) }
     ensures read { IfOk result (λ unit. IsReadBack slice.now unit.items) }
 {
     let mut maker = BitMaker::new(alloc);
@@ -40,7 +42,9 @@ fn slice_unit(
 ) -> Result<Vec<u8>, OutOfMemory>
     requires none { maker.old ≡ nothing }
     requires slice { IsCodedSlice slice.now }
-    ensures unit { IfOk result (λ unit. IsUnit (slice_unit_header slice.now.header) (coded_slice_bits slice.now) unit.items) }
+    ensures unit { IfOk result
+        (λ unit. IsUnit (slice_unit_header slice.now.header) (coded_slice_bits slice.now)
+        unit.items) }
     ensures read { IfOk result (λ unit. IsReadBack slice.now unit.items) }
 {
     put_header(maker, &slice.sps, &slice.pps, &slice.header)?;
@@ -55,7 +59,9 @@ fn put_data(maker: &mut BitMaker, row: &mut Row, slice: &CodedSlice) -> Result<(
     requires going { maker.old.failed ≡ false }
     requires slice { IsCodedSlice slice.now }
     requires row { AreInfoOf (own_start slice.now).width (earlier_mbs slice.now) row.old }
-    ensures { Puts result (data_bits (own_start slice.now) (earlier_mbs slice.now) (length maker.old.bits) slice.now.macroblocks) maker.old maker.new }
+    ensures { Puts result
+        (data_bits (own_start slice.now) (earlier_mbs slice.now) (length maker.old.bits)
+        slice.now.macroblocks) maker.old maker.new }
 {
     if slice.macroblocks.as_slice().is_empty() {
         put_run(maker, slice.header.is_p(), 0)
@@ -73,7 +79,9 @@ fn put_macroblocks(
     requires going { maker.old.failed ≡ false }
     requires slice { IsCodedSlice slice.now }
     requires row { AreInfoOf (own_start slice.now).width (earlier_mbs slice.now) row.old }
-    ensures { Puts result (some_bits (own_start slice.now) (earlier_mbs slice.now) (length maker.old.bits) slice.now.macroblocks) maker.old maker.new }
+    ensures { Puts result
+        (some_bits (own_start slice.now) (earlier_mbs slice.now) (length maker.old.bits)
+        slice.now.macroblocks) maker.old maker.new }
 {
     let first = first_context(slice);
     let mut qp = first.qp;
@@ -99,7 +107,8 @@ fn put_macroblock(
     requires going { maker.old.failed ≡ false }
     requires run { run < 4294967295 }
     requires stands { CanStand context.now (syntax_of syntax.now) }
-    ensures { Puts result (own_bits context.now (length maker.old.bits) run (syntax_of syntax.now)) maker.old maker.new }
+    ensures { Puts result (own_bits context.now (length maker.old.bits) run (syntax_of syntax.now))
+        maker.old maker.new }
 {
     if is_skip(syntax) {
         Ok(())
@@ -118,7 +127,9 @@ fn put_coded(
     requires run { run < 4294967295 }
     requires stands { CanStand context.now (syntax_of syntax.now) }
     requires coded { is_skip (syntax_of syntax.now) ≡ false }
-    ensures { Puts result (coded_bits context.now (length maker.old.bits) run (syntax_of syntax.now)) maker.old maker.new }
+    ensures { Puts result
+        (coded_bits context.now (length maker.old.bits) run (syntax_of syntax.now)) maker.old
+        maker.new }
 {
     put_run(maker, context.is_p, run)?;
     write_macroblock(maker, context, syntax)?;

@@ -28,7 +28,8 @@ const SPS_HEADER: u8 = 0x67;
 pub fn write_sps(alloc: Global, sps: &Sps) -> Result<Vec<u8>, OutOfMemory>
     requires { IsWritable sps.now }
     ensures unit { IfOk result (λ unit. IsUnit sps_header (sps_bits sps.now) unit.items) }
-    ensures read { IsSps sps.now → IfOk result (λ unit. sps_of (rbsp (drop 1 unit.items)) ≡ Ok sps.now) }
+    ensures read { IsSps sps.now →
+        IfOk result (λ unit. sps_of (rbsp (drop 1 unit.items)) ≡ Ok sps.now) }
 {
     let mut maker = BitMaker::new(alloc);
     sps_unit(alloc, &mut maker, sps)
@@ -39,7 +40,8 @@ fn sps_unit(alloc: Global, maker: &mut BitMaker, sps: &Sps) -> Result<Vec<u8>, O
     requires none { maker.old ≡ nothing }
     requires sps { IsWritable sps.now }
     ensures unit { IfOk result (λ unit. IsUnit sps_header (sps_bits sps.now) unit.items) }
-    ensures read { IsSps sps.now → IfOk result (λ unit. sps_of (rbsp (drop 1 unit.items)) ≡ Ok sps.now) }
+    ensures read { IsSps sps.now →
+        IfOk result (λ unit. sps_of (rbsp (drop 1 unit.items)) ≡ Ok sps.now) }
 {
     put_sps(maker, sps)?;
     let unit = unit_of(alloc, SPS_HEADER, maker)?;
@@ -137,7 +139,8 @@ fn put_cycle(
     requires non_ref { IsSeValue non_ref }
     requires top_to_bottom { IsSeValue top_to_bottom }
     requires offsets { Each IsSeValue offsets.now }
-    ensures { Puts result (order_bits (orders.Type1 always_zero non_ref top_to_bottom offsets.now)) maker.old maker.new }
+    ensures { Puts result (order_bits (orders.Type1 always_zero non_ref top_to_bottom offsets.now))
+        maker.old maker.new }
 {
     let offsets = offsets.as_slice();
     maker.ue(1)?;

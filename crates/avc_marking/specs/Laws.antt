@@ -1,18 +1,21 @@
 -- What holds of the marks of every history.
-use Rattle.std.specs.Prelude.{◌≡◌, ◌⊎◌, ℕ, ◌+◌, ◌%◌, ◌<◌, ◌≤◌, Bool, true, false, List, [], ◌∷◌, ◌++◌, length, All, Option, None, Some, Ok}
+use Rattle.std.specs.Prelude.{◌≡◌, ◌⊎◌, ℕ, ◌+◌, ◌%◌, ◌<◌, ◌≤◌, Bool, true, false, List, [], ◌∷◌}
+use Rattle.std.specs.Prelude.{◌++◌, length, All, Option, None, Some, Ok}
 use Rattle.std.specs.List.{filter, list_any}
 use Rattle.std.specs.Result.{is_ok}
 use Rattle.avc_types.specs.declared.references.Mark.TheVariants.{Short}
 use Rattle.avc_types.specs.declared.references.Marking.{Marking}
 use Rattle.avc_types.specs.declared.references.Marking.TheVariants.{Idr, SlidingWindow, Adaptive}
 use Rattle.avc_types.specs.References.{Reference, is_short}
-use Rattle.avc_marking.specs.Marks.{MarkingEntry, Marks, limit_of, current_frame, is_unmark_all, marks_after, marks}
+use Rattle.avc_marking.specs.Marks.{MarkingEntry, Marks, limit_of, current_frame, is_unmark_all}
+use Rattle.avc_marking.specs.Marks.{marks_after, marks}
 
 -- An entry leaves no more reference frames than n, where there were no more before it and it allows
 -- no more.
 abbrev pub StaysLimited : Type 0
 StaysLimited =
-    (n : ℕ) (s : MarkingEntry) (decoding_index : ℕ) (m m' : Marks) → limit_of s ≤ n → length m.references ≤ n →
+    (n : ℕ) (s : MarkingEntry) (decoding_index : ℕ) (m m' : Marks) → limit_of s ≤ n →
+    length m.references ≤ n →
     marks_after s decoding_index s.marking m ≡ Ok m' → length m'.references ≤ n
 
 -- nor do all entries of a history
@@ -33,12 +36,14 @@ pub record IsSameFrame (new old : Reference) : Type 0 where
 abbrev pub IsPartUpToMarks : (new old : List Reference) → Type 0
 IsPartUpToMarks [] old = Unit {0}
 IsPartUpToMarks (r ∷ new) [] = ⊥
-IsPartUpToMarks (r ∷ new) (s ∷ old) = (IsSameFrame r s × IsPartUpToMarks new old) ⊎ IsPartUpToMarks (r ∷ new) old
+IsPartUpToMarks (r ∷ new) (s ∷ old) =
+    (IsSameFrame r s × IsPartUpToMarks new old) ⊎ IsPartUpToMarks (r ∷ new) old
 
 -- An entry adds no frame but its own, which is the last (8.2.5.1).
 abbrev pub AddsOwnFrameAlone : Type 0
 AddsOwnFrameAlone =
-    (s : MarkingEntry) (decoding_index : ℕ) (m m' : Marks) → All (λ r. r.decoding_index < decoding_index) m.references →
+    (s : MarkingEntry) (decoding_index : ℕ) (m m' : Marks) →
+    All (λ r. r.decoding_index < decoding_index) m.references →
     marks_after s decoding_index s.marking m ≡ Ok m' →
     IsPartUpToMarks m'.references (m.references ++ current_frame s decoding_index Short ∷ [])
 
@@ -62,7 +67,8 @@ LeavesOwnFrameAlone =
 -- frame is a short-term one (8.2.5.3).
 abbrev pub SlidesAgain : Type 0
 SlidesAgain =
-    (s s' : MarkingEntry) (decoding_index decoding_index' : ℕ) (m m' : Marks) → marks_after s decoding_index (Some SlidingWindow) m ≡ Ok m' →
+    (s s' : MarkingEntry) (decoding_index decoding_index' : ℕ) (m m' : Marks) →
+    marks_after s decoding_index (Some SlidingWindow) m ≡ Ok m' →
     is_ok (marks_after s' decoding_index' (Some SlidingWindow) m') ≡ true
 
 -- ---- gaps in frame_num (8.2.5.2)
@@ -86,7 +92,8 @@ pub record IsShortTerm (max number : ℕ) (r : Reference) : Type 0 where
 -- numbers go on past MaxFrameNum.
 abbrev pub CountFrom : (max low next : ℕ) → List Reference → Type 0
 CountFrom max low next [] = low ≤ next
-CountFrom max low next (r ∷ rs) = (number : ℕ) × (low ≤ number × IsShortTerm max number r × CountFrom max (number + 1) next rs)
+CountFrom max low next (r ∷ rs) =
+    (number : ℕ) × (low ≤ number × IsShortTerm max number r × CountFrom max (number + 1) next rs)
 
 -- As many frames are marked as may be: long-term ones, whose decoding indices are below `start`,
 -- and short-term ones, from there on and before `next`.
@@ -100,8 +107,14 @@ pub record IsFullWindow (start next limit : ℕ) (longs shorts : List Reference)
 -- if less than MaxFrameNum apart (8.2.5.3).
 abbrev pub WindowTakesTheFirst : Type 0
 WindowTakesTheFirst =
-    (s : MarkingEntry) (decoding_index max low number start : ℕ) (longs shorts : List Reference) (first : Reference) (m : Marks) →
+    (s : MarkingEntry) (decoding_index max low number start : ℕ) (longs shorts : List Reference)
+    (first : Reference) (m : Marks) →
     s.current ≡ record { frame_num = number % max; max_frame_num = max } →
-    IsFullWindow start decoding_index (limit_of s) longs (first ∷ shorts) → CountFrom max low number (first ∷ shorts) → number < low + max →
+    IsFullWindow start decoding_index (limit_of s) longs (first ∷ shorts) →
+    CountFrom max low number (first ∷ shorts) → number < low + max →
     m.references ≡ longs ++ first ∷ shorts →
-    marks_after s decoding_index (Some SlidingWindow) m ≡ Ok (record m { references = (longs ++ shorts) ++ current_frame s decoding_index Short ∷ [] })
+    marks_after s decoding_index (Some SlidingWindow) m
+    ≡ Ok (record m {
+      references = (longs ++ shorts)
+          ++ current_frame s decoding_index Short ∷ [];
+    })

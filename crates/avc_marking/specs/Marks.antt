@@ -1,6 +1,9 @@
--- How frames are marked for reference (8.2.5), and gaps in frame_num (8.2.5.2), from the history. A history is written
--- with its newest entry first.
-use Rattle.std.specs.Prelude.{◌≡◌, ℕ, zero, suc, ◌+◌, ◌-◌, ◌%◌, ◌<◌, pos, ◌-ℤ◌, Bool, true, false, not, ◌==◌, ◌&&◌, ◌||◌, nat_lt, nat_le, max, if◌then◌else◌, List, [], ◌∷◌, ◌++◌, length, map, Option, Some, None, is_some, slice_get, Result, Ok, Err}
+-- How frames are marked for reference (8.2.5), and gaps in frame_num (8.2.5.2), from the history. A
+-- history is written with its newest entry first.
+use Rattle.std.specs.Prelude.{◌≡◌, ℕ, zero, suc, ◌+◌, ◌-◌, ◌%◌, ◌<◌, pos, ◌-ℤ◌, Bool, true, false}
+use Rattle.std.specs.Prelude.{not, ◌==◌, ◌&&◌, ◌||◌, nat_lt, nat_le, max, if◌then◌else◌, List, []}
+use Rattle.std.specs.Prelude.{◌∷◌, ◌++◌, length, map, Option, Some, None, is_some, slice_get}
+use Rattle.std.specs.Prelude.{Result, Ok, Err}
 use Rattle.std.specs.List.{filter, list_any}
 use Rattle.avc_types.specs.declared.current_frame_num.CurrentFrameNum.{CurrentFrameNum}
 use Rattle.avc_types.specs.declared.fault.Fault.{Fault}
@@ -10,8 +13,14 @@ use Rattle.avc_types.specs.declared.references.Mark.TheVariants.{Short, Long}
 use Rattle.avc_types.specs.declared.references.Marking.{Marking}
 use Rattle.avc_types.specs.declared.references.Marking.TheVariants.{Idr, SlidingWindow, Adaptive}
 use Rattle.avc_types.specs.declared.references.Operation.{Operation}
-use Rattle.avc_types.specs.declared.references.Operation.TheVariants.{UnmarkShortTerm, UnmarkLongTerm, AssignLongTerm, MaxLongTermFrameIdx, UnmarkAll, CurrentToLongTerm}
-use Rattle.avc_types.specs.References.{Reference, is_short, long_term_frame_idx, has_long_term_frame_idx, short_term_frame, long_term_frame, sorted_by, has_greater_pic_num}
+use Rattle.avc_types.specs.declared.references.Operation.TheVariants.{UnmarkShortTerm}
+use Rattle.avc_types.specs.declared.references.Operation.TheVariants.{UnmarkLongTerm}
+use Rattle.avc_types.specs.declared.references.Operation.TheVariants.{AssignLongTerm}
+use Rattle.avc_types.specs.declared.references.Operation.TheVariants.{MaxLongTermFrameIdx}
+use Rattle.avc_types.specs.declared.references.Operation.TheVariants.{UnmarkAll, CurrentToLongTerm}
+use Rattle.avc_types.specs.References.{Reference, is_short, long_term_frame_idx}
+use Rattle.avc_types.specs.References.{has_long_term_frame_idx, short_term_frame, long_term_frame}
+use Rattle.avc_types.specs.References.{sorted_by, has_greater_pic_num}
 use Rattle.avc_types.specs.Results.{◌>>=◌}
 
 -- What marking asks of an entry of the history: a closed picture, or a frame that stands for a
@@ -60,11 +69,13 @@ with_other_mark r mark = record r { mark = mark }
 
 -- An index is taken from the frame that has it, which becomes unused (8.2.5.4.3, 8.2.5.4.6).
 abbrev pub without_long_term_frame_idx : ℕ → List Reference → List Reference
-without_long_term_frame_idx index references = filter (λ s. not (has_long_term_frame_idx index s)) references
+without_long_term_frame_idx index references =
+    filter (λ s. not (has_long_term_frame_idx index s)) references
 
 -- the frames, one of them with this mark (8.2.5.4.3)
 abbrev pub with_mark : Reference → Mark → List Reference → List Reference
-with_mark r mark references = map (λ s. if s.decoding_index == r.decoding_index then with_other_mark s mark else s) references
+with_mark r mark references =
+    map (λ s. if s.decoding_index == r.decoding_index then with_other_mark s mark else s) references
 
 -- the index is not above MaxLongTermFrameIdx, if there is one (7.4.3.3)
 abbrev pub is_index_allowed : ℕ → Option ℕ → Bool
@@ -80,7 +91,8 @@ precedes_in_window current a b = has_greater_pic_num current b a
 
 -- the short-term frame with the least PicNum (8.2.5.3)
 abbrev pub first_in_window : CurrentFrameNum → List Reference → Option Reference
-first_in_window current references = slice_get (sorted_by (precedes_in_window current) (filter is_short references)) 0
+first_in_window current references =
+    slice_get (sorted_by (precedes_in_window current) (filter is_short references)) 0
 
 -- Where there are as many frames as there may be, that one becomes unused for reference (8.2.5.3);
 -- TooManyReferences is this decoder's rule.
@@ -103,24 +115,31 @@ pub record OperationState : Type 0 where
   pub assigned : Bool
 
 -- the short-term frame with picNumX (8.2.5.4.1)
-abbrev pub frame_with_pic_num_x : MarkingEntry → (difference_minus1 : ℕ) → List Reference → Result Reference Fault
+abbrev pub frame_with_pic_num_x : MarkingEntry → (difference_minus1 : ℕ) → List Reference →
+    Result Reference Fault
 frame_with_pic_num_x s d references =
-    frame_or faults.BadMarking (short_term_frame s.current (pos s.current.frame_num -ℤ pos (d + 1)) references)
+    frame_or faults.BadMarking
+    (short_term_frame s.current (pos s.current.frame_num -ℤ pos (d + 1)) references)
 
 -- 1: the short-term frame becomes unused (8.2.5.4.1)
-abbrev pub without_short_term : MarkingEntry → (difference_minus1 : ℕ) → List Reference → Result (List Reference) Fault
-without_short_term s d references = frame_with_pic_num_x s d references >>= λ r. Ok (without_frame r references)
+abbrev pub without_short_term : MarkingEntry → (difference_minus1 : ℕ) → List Reference →
+    Result (List Reference) Fault
+without_short_term s d references =
+    frame_with_pic_num_x s d references >>= λ r. Ok (without_frame r references)
 
 -- the long-term frame with this LongTermPicNum (8.2.5.4.2)
 abbrev pub long_term_frame_or_fault : (index : ℕ) → List Reference → Result Reference Fault
-long_term_frame_or_fault index references = frame_or faults.BadMarking (long_term_frame index references)
+long_term_frame_or_fault index references =
+    frame_or faults.BadMarking (long_term_frame index references)
 
 -- 2: the long-term frame becomes unused (8.2.5.4.2)
 abbrev pub without_long_term : (index : ℕ) → List Reference → Result (List Reference) Fault
-without_long_term index references = long_term_frame_or_fault index references >>= λ r. Ok (without_frame r references)
+without_long_term index references =
+    long_term_frame_or_fault index references >>= λ r. Ok (without_frame r references)
 
 -- 3: the short-term frame becomes long-term (8.2.5.4.3)
-abbrev pub with_long_term : MarkingEntry → (difference_minus1 index : ℕ) → (max_long_term_frame_idx : Option ℕ) →
+abbrev pub with_long_term : MarkingEntry → (difference_minus1 index : ℕ) →
+    (max_long_term_frame_idx : Option ℕ) →
     List Reference → Result (List Reference) Fault
 with_long_term s d index max_long_term_frame_idx references =
     frame_with_pic_num_x s d references >>= λ r.
@@ -129,7 +148,8 @@ with_long_term s d index max_long_term_frame_idx references =
 
 -- 4: the long-term frames with these indices and greater ones become unused (8.2.5.4.4)
 abbrev pub with_max_long_term_frame_idx : (plus1 : ℕ) → List Reference → List Reference
-with_max_long_term_frame_idx plus1 references = filter (λ r. is_short r || nat_lt (long_term_frame_idx r) plus1) references
+with_max_long_term_frame_idx plus1 references =
+    filter (λ r. is_short r || nat_lt (long_term_frame_idx r) plus1) references
 
 -- MaxLongTermFrameIdx from max_long_term_frame_idx_plus1; 0 is no long-term frame indices
 -- (8.2.5.4.4)
@@ -138,7 +158,8 @@ max_long_term_frame_idx_below zero = None
 max_long_term_frame_idx_below (suc max_long_term_frame_idx) = Some max_long_term_frame_idx
 
 -- the state with the frames as an operation has changed them (8.2.5.4)
-abbrev pub with_references : OperationState → Result (List Reference) Fault → Result OperationState Fault
+abbrev pub with_references : OperationState → Result (List Reference) Fault →
+    Result OperationState Fault
 with_references t changed = changed >>= λ references. Ok (record t { references = references })
 
 -- 6: the picture's own frame (8.2.5.4.6)
@@ -151,15 +172,19 @@ long_term_current s decoding_index index = record {
 }
 
 -- 6: it becomes long-term (8.2.5.4.6)
-abbrev pub with_long_term_current : MarkingEntry → (index decoding_index : ℕ) → List Reference → List Reference
+abbrev pub with_long_term_current : MarkingEntry → (index decoding_index : ℕ) → List Reference →
+    List Reference
 with_long_term_current s index decoding_index references =
     without_long_term_frame_idx index references ++ long_term_current s decoding_index index ∷ []
 
 -- One memory_management_control_operation (8.2.5.4, Table 7-9): s is the picture's own entry, of
 -- this decoding index. 5 (UnmarkAll) leaves no frame and no long-term indices (8.2.5.4.5).
-abbrev pub after_operation : MarkingEntry → (decoding_index : ℕ) → OperationState → Operation → Result OperationState Fault
-after_operation s decoding_index t (UnmarkShortTerm d) = with_references t (without_short_term s d t.references)
-after_operation s decoding_index t (UnmarkLongTerm index) = with_references t (without_long_term index t.references)
+abbrev pub after_operation : MarkingEntry → (decoding_index : ℕ) → OperationState → Operation →
+    Result OperationState Fault
+after_operation s decoding_index t (UnmarkShortTerm d) =
+    with_references t (without_short_term s d t.references)
+after_operation s decoding_index t (UnmarkLongTerm index) =
+    with_references t (without_long_term index t.references)
 after_operation s decoding_index t (AssignLongTerm d index) =
     with_references t (with_long_term s d index t.max_long_term_frame_idx t.references)
 after_operation s decoding_index t (MaxLongTermFrameIdx plus1) =
@@ -168,7 +193,10 @@ after_operation s decoding_index t (MaxLongTermFrameIdx plus1) =
       references = with_max_long_term_frame_idx plus1 t.references;
       max_long_term_frame_idx = max_long_term_frame_idx_below plus1;
     })
-after_operation s decoding_index t UnmarkAll = Ok (record t { references = []; max_long_term_frame_idx = None })
+after_operation s decoding_index t UnmarkAll = Ok (record t {
+  references = [];
+  max_long_term_frame_idx = None;
+})
 after_operation s decoding_index t (CurrentToLongTerm index) =
     refuse_unless (not t.assigned && is_index_allowed index t.max_long_term_frame_idx)
     (record t {
@@ -177,7 +205,8 @@ after_operation s decoding_index t (CurrentToLongTerm index) =
     })
 
 -- all of them in their order (8.2.5.4)
-abbrev pub after_operations : MarkingEntry → (decoding_index : ℕ) → OperationState → List Operation → Result OperationState Fault
+abbrev pub after_operations : MarkingEntry → (decoding_index : ℕ) → OperationState →
+    List Operation → Result OperationState Fault
 after_operations s decoding_index t [] = Ok t
 after_operations s decoding_index t (o ∷ operations) =
     after_operation s decoding_index t o >>= λ t'. after_operations s decoding_index t' operations
@@ -192,7 +221,8 @@ abbrev pub frame_num_after_marking : MarkingEntry → ℕ
 frame_num_after_marking s = elim s.marking [ None ↦ s.current.frame_num | Some m ↦ number_under m ]
   where
     number_under : Marking → ℕ
-    number_under (Adaptive operations) = if list_any is_unmark_all operations then 0 else s.current.frame_num
+    number_under (Adaptive operations) =
+        if list_any is_unmark_all operations then 0 else s.current.frame_num
     number_under _ = s.current.frame_num
 
 -- the entry's own frame (8.2.5.1)
@@ -210,7 +240,8 @@ abbrev pub with_current_frame : MarkingEntry → (decoding_index : ℕ) → Oper
 with_current_frame s decoding_index t =
     record {
       references = elim t.assigned [
-        | true ↦ map (λ r. if r.decoding_index == decoding_index then current_frame s decoding_index r.mark else r) t.references
+        | true ↦ map (λ r. if r.decoding_index == decoding_index
+            then current_frame s decoding_index r.mark else r) t.references
         | false ↦ t.references ++ current_frame s decoding_index Short ∷ []
       ];
       max_long_term_frame_idx = t.max_long_term_frame_idx;
@@ -219,7 +250,8 @@ with_current_frame s decoding_index t =
 -- the marks, where there are no more reference frames than there may be (8.2.5.1);
 -- TooManyReferences is this decoder's rule
 abbrev pub within_limit : MarkingEntry → Marks → Result Marks Fault
-within_limit s m = if nat_le (length m.references) (limit_of s) then Ok m else Err faults.TooManyReferences
+within_limit s m =
+    if nat_le (length m.references) (limit_of s) then Ok m else Err faults.TooManyReferences
 
 -- the marks as the operations find them (8.2.5.4)
 abbrev pub before_operations : Marks → OperationState
@@ -230,7 +262,8 @@ before_operations m = record {
 }
 
 -- the marks after all the operations (8.2.5.4)
-abbrev pub after_adaptive_marking : MarkingEntry → (decoding_index : ℕ) → Marks → List Operation → Result Marks Fault
+abbrev pub after_adaptive_marking : MarkingEntry → (decoding_index : ℕ) → Marks → List Operation →
+    Result Marks Fault
 after_adaptive_marking s decoding_index m operations =
     after_operations s decoding_index (before_operations m) operations
     >>= λ t. within_limit s (with_current_frame s decoding_index t)
@@ -238,16 +271,25 @@ after_adaptive_marking s decoding_index m operations =
 -- ---- the whole history (8.2.5.1)
 
 -- The marks after an entry, from those before it (8.2.5.1).
-abbrev pub marks_after : MarkingEntry → (decoding_index : ℕ) → Option Marking → Marks → Result Marks Fault
+abbrev pub marks_after : MarkingEntry → (decoding_index : ℕ) → Option Marking → Marks →
+    Result Marks Fault
 marks_after s decoding_index None m = Ok m
 marks_after s decoding_index (Some (Idr no_output false)) m =
-    Ok (record { references = current_frame s decoding_index Short ∷ []; max_long_term_frame_idx = None })
+    Ok (record {
+      references = current_frame s decoding_index Short ∷ [];
+      max_long_term_frame_idx = None;
+    })
 marks_after s decoding_index (Some (Idr no_output true)) m =
-    Ok (record { references = current_frame s decoding_index (Long 0) ∷ []; max_long_term_frame_idx = Some 0 })
+    Ok (record {
+      references = current_frame s decoding_index (Long 0) ∷ [];
+      max_long_term_frame_idx = Some 0;
+    })
 marks_after s decoding_index (Some SlidingWindow) m =
     after_sliding_window s m.references
-    >>= λ references. Ok (record m { references = references ++ current_frame s decoding_index Short ∷ [] })
-marks_after s decoding_index (Some (Adaptive operations)) m = after_adaptive_marking s decoding_index m operations
+    >>= λ references.
+    Ok (record m { references = references ++ current_frame s decoding_index Short ∷ [] })
+marks_after s decoding_index (Some (Adaptive operations)) m =
+    after_adaptive_marking s decoding_index m operations
 
 -- The marks that a history leaves, or the first fault. An entry's decoding index is the
 -- number of those before it (8.2.5.1).
@@ -260,7 +302,11 @@ marks (s ∷ older) = marks older >>= λ m. marks_after s (length older) s.marki
 -- PrevRefFrameNum: of the last reference picture or non-existing frame, 0 after operation 5 (7.4.3)
 abbrev pub prev_ref_frame_num : List MarkingEntry → ℕ
 prev_ref_frame_num [] = 0
-prev_ref_frame_num (s ∷ older) = elim (is_some s.marking) [ true ↦ frame_num_after_marking s | false ↦ prev_ref_frame_num older ]
+prev_ref_frame_num (s ∷ older) =
+    elim (is_some s.marking) [
+      | true ↦ frame_num_after_marking s
+      | false ↦ prev_ref_frame_num older
+    ]
 
 -- n numbers from a on, modulo max (UnusedShortTermFrameNum, 7.4.3)
 abbrev pub frame_nums_from : (max a n : ℕ) → List ℕ
@@ -275,18 +321,21 @@ pub record AreCountedFrom (max number : ℕ) (numbers : List ℕ) : Type 0 where
 
 -- how many numbers stand between PrevRefFrameNum and frame_num, modulo MaxFrameNum (7.4.3)
 abbrev pub gap_of : (previous : ℕ) → CurrentFrameNum → ℕ
-gap_of previous current = (current.frame_num + current.max_frame_num - previous - 1) % current.max_frame_num
+gap_of previous current =
+    (current.frame_num + current.max_frame_num - previous - 1) % current.max_frame_num
 
 -- The frame numbers that are missing before a picture that is no IDR picture (7.4.3), or the
 -- fault (this decoder's rule).
-abbrev pub missing_frame_nums : (previous : ℕ) → (gaps_allowed : Bool) → MarkingEntry → Result (List ℕ) Fault
+abbrev pub missing_frame_nums : (previous : ℕ) → (gaps_allowed : Bool) → MarkingEntry →
+    Result (List ℕ) Fault
 missing_frame_nums previous gaps_allowed s =
     elim (s.current.frame_num == previous) [
       | true ↦ (if is_some s.marking then Err faults.FrameNumRepeated else Ok [])
       | false ↦ elim (s.current.frame_num == (previous + 1) % s.current.max_frame_num) [
         | true ↦ Ok []
         | false ↦ (if gaps_allowed
-            then Ok (frame_nums_from s.current.max_frame_num (previous + 1) (gap_of previous s.current))
+            then Ok (frame_nums_from s.current.max_frame_num (previous + 1)
+            (gap_of previous s.current))
             else Err faults.FrameNumGap)
       ]
     ]

@@ -61,7 +61,8 @@ fn unmarked_if(frame: MarkedFrame, to_unmark: FramesToUnmark) -> MarkedFrame
 /// The frames become unused.
 pub fn unmark_frames(frames: &mut [MarkedFrame], to_unmark: FramesToUnmark)
     ensures each { UnmarksEach (is_to_unmark to_unmark) frames.old frames.new }
-    ensures references { ChangesFrames (filter (λ r. not (is_to_unmark to_unmark r))) frames.old frames.new }
+    ensures references { ChangesFrames (filter (λ r. not (is_to_unmark to_unmark r))) frames.old
+        frames.new }
 {
     for place in 0..frames.len() {
         frames[place] = unmarked_if(frames[place], to_unmark);

@@ -26,9 +26,11 @@ fn next_frame_num(number: u32, max_frame_num: u32) -> u32
 #[tactic(auto, using(crate::proofs::KeptFrames::numbers_low, crate::proofs::KeptFrames::alike))]
 fn are_alike(first: u32, count: u32, max_frame_num: u32, other: u32) -> bool
     requires { first < max_frame_num }
-    ensures same { result ≡ true → frame_nums_from max_frame_num first count ≡ frame_nums_from other first count }
+    ensures same { result ≡ true → frame_nums_from max_frame_num first count
+        ≡ frame_nums_from other first count }
     ensures found { (number : ℕ) → number < other → 0 < count →
-        frame_nums_from max_frame_num first count ≡ frame_nums_from other number count → result ≡ true }
+        frame_nums_from max_frame_num first count ≡ frame_nums_from other number count →
+        result ≡ true }
 {
     if max_frame_num == other {
         return true;
@@ -90,8 +92,10 @@ impl MissingFrameNums {
     /// The first of them, if there is one, where they are counted modulo this MaxFrameNum.
     #[tactic(auto, using(crate::proofs::KeptFrames::length_numbers, crate::proofs::KeptFrames::numbers_begin))]
     pub fn first(&self, max_frame_num: u32) -> Option<u32>
-        ensures numbers { IfSome result (λ number. self.now ≡ frame_nums_from max_frame_num number (length self.now)) }
-        ensures found { (number : ℕ) → AreCountedFrom max_frame_num number self.now → result ≡ Some number }
+        ensures numbers { IfSome result (λ number. self.now
+            ≡ frame_nums_from max_frame_num number (length self.now)) }
+        ensures found { (number : ℕ) → AreCountedFrom max_frame_num number self.now →
+            result ≡ Some number }
     {
         if self.left == 0 || !are_alike(self.next, self.left, self.max_frame_num, max_frame_num) {
             return None;

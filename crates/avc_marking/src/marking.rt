@@ -43,7 +43,9 @@ pub fn frame_num_after_marking(new: NewFrame, marking: &Option<Marking>) -> u32
 fn mark_idr(frames: &mut ArrayVec<MarkedFrame, 17>, new: NewFrame, mark: Mark)
     requires { length frames.old.items ≤ 16 }
     ensures length { length frames.new.items ≡ length frames.old.items + 1 }
-    ensures references { AddsFrame (λ decoding_index _. marked_frame (marking_entry new None) decoding_index mark ∷ []) frames.old.items frames.new.items }
+    ensures references { AddsFrame
+        (λ decoding_index _. marked_frame (marking_entry new None) decoding_index mark ∷ [])
+        frames.old.items frames.new.items }
 {
     unmark_frames(frames.as_mut_slice(), FramesToUnmark::Every);
     frames.push(MarkedFrame {
@@ -64,8 +66,10 @@ fn mark_current(
 )
     requires room { assigned ≡ false → length frames.old.items ≤ 16 }
     requires own { assigned ≡ true → 1 ≤ length frames.old.items }
-    ensures length { length frames.new.items + (if assigned then 1 else 0) ≡ length frames.old.items + 1 }
-    ensures marks { MarksCurrent (marking_entry new marking.now) assigned frames.old.items frames.new.items }
+    ensures length { length frames.new.items + (if assigned then 1 else 0)
+        ≡ length frames.old.items + 1 }
+    ensures marks { MarksCurrent (marking_entry new marking.now) assigned frames.old.items
+        frames.new.items }
 {
     let frame_num = frame_num_after_marking(new, marking);
     if assigned {
@@ -96,8 +100,10 @@ fn adaptive_marking(
 ) -> Result<(), Fault>
     requires { length frames.old.items ≤ 16 }
     ensures length { OnOk result (length frames.new.items ≡ length frames.old.items + 1) }
-    ensures marks { MarksFrame (λ decoding_index m. after_adaptive_marking (marking_entry new marking.now) decoding_index m operations.now)
-        frames.old.items max_long_term_frame_idx.old result frames.new.items max_long_term_frame_idx.new }
+    ensures marks { MarksFrame (λ decoding_index m.
+        after_adaptive_marking (marking_entry new marking.now) decoding_index m operations.now)
+        frames.old.items max_long_term_frame_idx.old result frames.new.items
+        max_long_term_frame_idx.new }
 {
     let assigned = operate_all(frames, max_long_term_frame_idx, new, operations)?;
     mark_current(frames, new, marking, assigned);
@@ -126,8 +132,10 @@ pub fn mark(
 ) -> Result<(), Fault>
     requires { length frames.old.items ≤ 16 }
     ensures length { OnOk result (length frames.new.items ≡ length frames.old.items + 1) }
-    ensures marks { MarksFrame (λ decoding_index. marks_after (marking_entry new marking.now) decoding_index marking.now)
-        frames.old.items max_long_term_frame_idx.old result frames.new.items max_long_term_frame_idx.new }
+    ensures marks { MarksFrame
+        (λ decoding_index. marks_after (marking_entry new marking.now) decoding_index marking.now)
+        frames.old.items max_long_term_frame_idx.old result frames.new.items
+        max_long_term_frame_idx.new }
 {
     match marking {
         None => {

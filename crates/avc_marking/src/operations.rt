@@ -31,7 +31,8 @@ fn frame_with_pic_num_x(
 ) -> Result<usize, Fault>
     ensures within { IfOk result (IsPlaceIn frames.now) }
     ensures short { IfOk result (IsShortTermIn frames.now) }
-    ensures named { NamesFrames frames.now result_map (frame_with_pic_num_x (marking_entry new None) difference_minus1) result }
+    ensures named { NamesFrames frames.now result_map
+        (frame_with_pic_num_x (marking_entry new None) difference_minus1) result }
 {
     match short_term_place(frames, new.current, pic_num_x(new, difference_minus1)) {
         Some(place) => Ok(place),
@@ -91,7 +92,8 @@ fn unmark_short_term(
     new: NewFrame,
     difference_minus1: u32,
 ) -> Result<(), Fault>
-    ensures { MayChangeFrames (without_short_term (marking_entry new None) difference_minus1) frames.old result frames.new }
+    ensures { MayChangeFrames (without_short_term (marking_entry new None) difference_minus1)
+        frames.old result frames.new }
 {
     let place = frame_with_pic_num_x(frames, new, difference_minus1)?;
     unmark(frames, place);
@@ -115,7 +117,8 @@ fn assign_long_term(
     index: u32,
     max_long_term_frame_idx: Option<u32>,
 ) -> Result<(), Fault>
-    ensures { MayChangeFrames (with_long_term (marking_entry new None) difference_minus1 index max_long_term_frame_idx)
+    ensures { MayChangeFrames
+        (with_long_term (marking_entry new None) difference_minus1 index max_long_term_frame_idx)
         frames.old result frames.new }
 {
     let place = frame_with_pic_num_x(frames, new, difference_minus1)?;
@@ -131,7 +134,8 @@ fn assign_long_term(
 fn current_to_long_term(frames: &mut ArrayVec<MarkedFrame, 17>, new: NewFrame, index: u32)
     requires { length frames.old.items ≤ 16 }
     ensures length { length frames.new.items ≡ length frames.old.items + 1 }
-    ensures references { AddsFrame (with_long_term_current (marking_entry new None) index) frames.old.items frames.new.items }
+    ensures references { AddsFrame (with_long_term_current (marking_entry new None) index)
+        frames.old.items frames.new.items }
 {
     unmark_frames(frames.as_mut_slice(), FramesToUnmark::Index(index));
     frames.push(MarkedFrame {
@@ -152,9 +156,12 @@ fn operate(
     operation: Operation,
 ) -> Result<bool, Fault>
     requires { assigned ≡ false → length frames.old.items ≤ 16 }
-    ensures length { IfOk result (λ done. length frames.new.items + (if assigned then 1 else 0) ≡ length frames.old.items + (if done then 1 else 0)) }
-    ensures turn { Operates assigned (λ own t. after_operation (marking_entry new None) own t operation)
-        frames.old.items max_long_term_frame_idx.old result frames.new.items max_long_term_frame_idx.new }
+    ensures length { IfOk result (λ done. length frames.new.items + (if assigned then 1 else 0)
+        ≡ length frames.old.items + (if done then 1 else 0)) }
+    ensures turn { Operates assigned
+        (λ own t. after_operation (marking_entry new None) own t operation)
+        frames.old.items max_long_term_frame_idx.old result frames.new.items
+        max_long_term_frame_idx.new }
 {
     match operation {
         Operation::UnmarkShortTerm(difference_minus1) => {
@@ -206,9 +213,12 @@ pub fn operate_all(
     operations: &[Operation],
 ) -> Result<bool, Fault>
     requires { length frames.old.items ≤ 16 }
-    ensures length { IfOk result (λ assigned. length frames.new.items ≡ length frames.old.items + (if assigned then 1 else 0)) }
-    ensures turn { OperatesAll (λ own t. after_operations (marking_entry new None) own t operations.now)
-        frames.old.items max_long_term_frame_idx.old result frames.new.items max_long_term_frame_idx.new }
+    ensures length { IfOk result (λ assigned. length frames.new.items
+        ≡ length frames.old.items + (if assigned then 1 else 0)) }
+    ensures turn { OperatesAll
+        (λ own t. after_operations (marking_entry new None) own t operations.now)
+        frames.old.items max_long_term_frame_idx.old result frames.new.items
+        max_long_term_frame_idx.new }
 {
     let mut assigned = false;
     for operation in operations {

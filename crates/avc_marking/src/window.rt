@@ -47,7 +47,8 @@ fn first_in_window_with(
     ensures later { IfSome result (λ other. place ≤ other) }
     ensures within { IfSome result (IsPlaceIn frames.now) }
     ensures long { IsShortAt frames.now place false → result ≡ later }
-    ensures short { IsShortAt frames.now place true → IsFirstOf new.current frames.now place later result }
+    ensures short { IsShortAt frames.now place true →
+        IsFirstOf new.current frames.now place later result }
 {
     let frame = frames[place];
     if !matches!(frame.mark, Some(Mark::Short)) {
@@ -82,7 +83,8 @@ fn first_in_window(frames: &[MarkedFrame], new: NewFrame) -> Option<usize>
 /// Where as many frames are used for reference as may be, the short-term one with the least PicNum
 /// becomes unused.
 fn free_a_frame(frames: &mut [MarkedFrame], new: NewFrame) -> Result<(), Fault>
-    ensures { MayChangeFrames (after_sliding_window (marking_entry new None)) frames.old result frames.new }
+    ensures { MayChangeFrames (after_sliding_window (marking_entry new None)) frames.old result
+        frames.new }
 {
     if count(frames) < limit(new) {
         return Ok(());
@@ -104,7 +106,9 @@ fn free_a_frame(frames: &mut [MarkedFrame], new: NewFrame) -> Result<(), Fault>
 pub fn sliding_window(frames: &mut ArrayVec<MarkedFrame, 17>, new: NewFrame) -> Result<(), Fault>
     requires { length frames.old.items ≤ 16 }
     ensures length { OnOk result (length frames.new.items ≡ length frames.old.items + 1) }
-    ensures marks { (idx : Option ℕ) → MarksFrame (λ decoding_index. marks_after (marking_entry new (Some SlidingWindow)) decoding_index (Some SlidingWindow))
+    ensures marks { (idx : Option ℕ) →
+        MarksFrame (λ decoding_index. marks_after (marking_entry new (Some SlidingWindow))
+        decoding_index (Some SlidingWindow))
         frames.old.items idx result frames.new.items idx }
 {
     free_a_frame(frames.as_mut_slice(), new)?;

@@ -24,6 +24,9 @@ pub record IsResidual (r : Residual) : Type 0 where
 abbrev pub IsSyntax : (num_ref_idx_active : ℕ) → MbSyntax → Type 0
 IsSyntax num_ref_idx_active p_skip = Unit {0}
 IsSyntax num_ref_idx_active (i_pcm luma cb cr) = Unit {0}
-IsSyntax num_ref_idx_active (i_nxn modes chroma_mode r) = All (λ m. IfSome m (λ rem. rem ≤ 7)) modes × (chroma_mode ≤ 3) × IsResidual r
-IsSyntax num_ref_idx_active (i_16x16 mode chroma_mode r) = (mode ≤ 3) × (chroma_mode ≤ 3) × IsResidual r
-IsSyntax num_ref_idx_active (p_inter mb_type ref_idx mvd r) = All (λ ref. ref ≤ num_ref_idx_active - 1) ref_idx × IsResidual r
+IsSyntax num_ref_idx_active (i_nxn modes chroma_mode r) =
+    All (λ m. IfSome m (λ rem. rem ≤ 7)) modes × (chroma_mode ≤ 3) × IsResidual r
+IsSyntax num_ref_idx_active (i_16x16 mode chroma_mode r) =
+    (mode ≤ 3) × (chroma_mode ≤ 3) × IsResidual r
+IsSyntax num_ref_idx_active (p_inter mb_type ref_idx mvd r) =
+    All (λ ref. ref ≤ num_ref_idx_active - 1) ref_idx × IsResidual r

@@ -1,13 +1,18 @@
 -- One macroblock from its bits (7.3.5, 7.3.5.1 to 7.3.5.3).
-use Rattle.std.specs.Prelude.{ℕ, zero, suc, ◌-◌, ◌/◌, ◌%◌, ◌^◌, ℤ, pos, negsuc, ◌+ℤ◌, nat_abs, Bool, true, false, not, ◌==◌, nat_le, nat_lt, List, [], ◌∷◌, ◌++◌, length, map, replicate, Option, Some, None}
+use Rattle.std.specs.Prelude.{ℕ, zero, suc, ◌-◌, ◌/◌, ◌%◌, ◌^◌, ℤ, pos, negsuc, ◌+ℤ◌, nat_abs, Bool}
+use Rattle.std.specs.Prelude.{true, false, not, ◌==◌, nat_le, nat_lt, List, [], ◌∷◌, ◌++◌, length}
+use Rattle.std.specs.Prelude.{map, replicate, Option, Some, None}
 use Rattle.std.specs.List.{range_with_len}
 use Rattle.std.specs.Option.{option_map}
 use Rattle.avc_types.specs.declared.macroblock.Mvd.{Mvd}
 use Rattle.avc_types.specs.declared.macroblock.PMbType.{PMbType}
-use Rattle.avc_types.specs.declared.macroblock.PMbType.TheVariants.{P16x16, P16x8, P8x16, P8x8, P8x8Ref0}
+use Rattle.avc_types.specs.declared.macroblock.PMbType.TheVariants.{P16x16, P16x8, P8x16, P8x8}
+use Rattle.avc_types.specs.declared.macroblock.PMbType.TheVariants.{P8x8Ref0}
 use Rattle.avc_types.specs.declared.macroblock.SubMbType.{SubMbType}
-use Rattle.avc_types.specs.declared.macroblock.SubMbType.TheVariants.{Sub8x8, Sub8x4, Sub4x8, Sub4x4}
-use Rattle.avc_types.specs.Macroblock.{total_coeff, Residual, MbSyntax, i_pcm, i_nxn, i_16x16, p_inter, Mb, parts_of, partitions}
+use Rattle.avc_types.specs.declared.macroblock.SubMbType.TheVariants.{Sub8x8, Sub8x4, Sub4x8}
+use Rattle.avc_types.specs.declared.macroblock.SubMbType.TheVariants.{Sub4x4}
+use Rattle.avc_types.specs.Macroblock.{total_coeff, Residual, MbSyntax, i_pcm, i_nxn, i_16x16}
+use Rattle.avc_types.specs.Macroblock.{p_inter, Mb, parts_of, partitions}
 use Rattle.avc_bits.specs.Bits.{Read, ◌>>=◌, ◌>>◌, give, times}
 use Rattle.avc_bits.specs.Codes.{u, flag, ue_to, se, se_within, te_to, align}
 use Rattle.avc_vlc.specs.Reading.{coded_block_pattern}
@@ -29,7 +34,8 @@ block_where max false nC = give (no_levels max)
 
 -- Further blocks of a component, after those done, each of max levels where it is coded (7.3.5.3,
 -- 7.3.5.3.1).
-unfoldable pub blocks : (max size : ℕ) → (coded : ℕ → Bool) → (left up : Option (List ℕ)) → (numbers : List ℕ) → (done : List (List ℤ)) → Read (List (List ℤ))
+unfoldable pub blocks : (max size : ℕ) → (coded : ℕ → Bool) → (left up : Option (List ℕ)) →
+    (numbers : List ℕ) → (done : List (List ℤ)) → Read (List (List ℤ))
 blocks max size coded left up [] done = give done
 blocks max size coded left up (k ∷ numbers) done = do
   block ← block_where max (coded k) (nc size left up (map total_coeff done) k)
@@ -61,13 +67,17 @@ abbrev pub luma_dc_levels : Context → Read (List ℤ)
 luma_dc_levels c = residual_block 16 (pos (nc 16 (luma_side c.left) (luma_side c.up) [] 0))
 
 -- The residual of these patterns behind luma_dc, where a luma block has max levels (7.3.5.3).
-abbrev pub residual_blocks : Context → (max : ℕ) → (luma_dc : List ℤ) → (luma_pattern chroma_pattern : ℕ) → (mb_qp_delta : ℤ) → Read Residual
+abbrev pub residual_blocks : Context → (max : ℕ) → (luma_dc : List ℤ) →
+    (luma_pattern chroma_pattern : ℕ) → (mb_qp_delta : ℤ) → Read Residual
 residual_blocks c max luma_dc luma_pattern chroma_pattern mb_qp_delta = do
-  luma ← blocks max 16 (is_coded luma_pattern) (luma_side c.left) (luma_side c.up) (range_with_len 0 16) []
+  luma ← blocks max 16 (is_coded luma_pattern) (luma_side c.left) (luma_side c.up)
+      (range_with_len 0 16) []
   cb_dc ← chroma_dc chroma_pattern
   cr_dc ← chroma_dc chroma_pattern
-  cb_ac ← blocks 15 8 (λ k. chroma_pattern == 2) (cb_side c.left) (cb_side c.up) (range_with_len 0 4) []
-  cr_ac ← blocks 15 8 (λ k. chroma_pattern == 2) (cr_side c.left) (cr_side c.up) (range_with_len 0 4) []
+  cb_ac ← blocks 15 8 (λ k. chroma_pattern == 2) (cb_side c.left) (cb_side c.up)
+      (range_with_len 0 4) []
+  cr_ac ← blocks 15 8 (λ k. chroma_pattern == 2) (cr_side c.left) (cr_side c.up)
+      (range_with_len 0 4) []
   give (record {
     luma_pattern = luma_pattern;
     chroma_pattern = chroma_pattern;
@@ -81,11 +91,13 @@ residual_blocks c max luma_dc luma_pattern chroma_pattern mb_qp_delta = do
   })
 
 -- residual( ) of these patterns (7.3.5.3); with_dc says that the macroblock is Intra 16x16
-abbrev pub residual : Context → (with_dc : Bool) → (luma_pattern chroma_pattern : ℕ) → (mb_qp_delta : ℤ) → Read Residual
+abbrev pub residual : Context → (with_dc : Bool) → (luma_pattern chroma_pattern : ℕ) →
+    (mb_qp_delta : ℤ) → Read Residual
 residual c true luma_pattern chroma_pattern mb_qp_delta = do
   luma_dc ← luma_dc_levels c
   residual_blocks c 15 luma_dc luma_pattern chroma_pattern mb_qp_delta
-residual c false luma_pattern chroma_pattern mb_qp_delta = residual_blocks c 16 [] luma_pattern chroma_pattern mb_qp_delta
+residual c false luma_pattern chroma_pattern mb_qp_delta =
+    residual_blocks c 16 [] luma_pattern chroma_pattern mb_qp_delta
 
 -- mb_qp_delta, -26 to 25 at 8 bits (7.4.5)
 abbrev pub qp_delta : Read ℤ
@@ -185,7 +197,10 @@ p_mb_type (suc (suc (suc (suc _)))) = sub_mb_types >>= λ subs. give (P8x8Ref0 s
 abbrev pub ref_idx_l0 : (num_ref_idx_active : ℕ) → PMbType → Read (List ℕ)
 ref_idx_l0 num_ref_idx_active (P8x8Ref0 subs) = give (replicate 4 0)
 ref_idx_l0 num_ref_idx_active s =
-    elim (nat_le num_ref_idx_active 1) [ true ↦ give (replicate (partitions s) 0) | false ↦ times (partitions s) (te_to (num_ref_idx_active - 1)) ]
+    elim (nat_le num_ref_idx_active 1) [
+      | true ↦ give (replicate (partitions s) 0)
+      | false ↦ times (partitions s) (te_to (num_ref_idx_active - 1))
+    ]
 
 -- mvd_l0 of a part, its horizontal and its vertical component (7.3.5.1, 7.3.5.2)
 abbrev pub mvd_l0 : Read Mvd
@@ -209,5 +224,6 @@ abbrev pub macroblock : Context → Read Mb
 macroblock c =
     elim c.is_p [
       | false ↦ (ue_to 25 >>= λ mb_type. i_mb c mb_type)
-      | true ↦ (ue_to 30 >>= λ mb_type. elim (nat_lt mb_type 5) [ true ↦ p_mb c mb_type | false ↦ i_mb c (mb_type - 5) ])
+      | true ↦ (ue_to 30 >>= λ mb_type.
+          elim (nat_lt mb_type 5) [ true ↦ p_mb c mb_type | false ↦ i_mb c (mb_type - 5) ])
     ]

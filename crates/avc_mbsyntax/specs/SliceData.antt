@@ -1,5 +1,6 @@
 -- The macroblocks of a slice (7.3.4).
-use Rattle.std.specs.Prelude.{ℕ, zero, suc, ◌-◌, Bool, true, false, ◌==◌, nat_lt, List, [], ◌∷◌, ◌++◌, length, replicate, Option, Some, None, Result, Ok, Err}
+use Rattle.std.specs.Prelude.{ℕ, zero, suc, ◌-◌, Bool, true, false, ◌==◌, nat_lt, List, [], ◌∷◌}
+use Rattle.std.specs.Prelude.{◌++◌, length, replicate, Option, Some, None, Result, Ok, Err}
 use Rattle.std.specs.Option.{option_map}
 use Rattle.avc_types.specs.declared.fault.Fault.{Fault}
 use Rattle.avc_types.specs.declared.fault.Fault.TheVariants as faults
@@ -54,11 +55,13 @@ skipped qp = record { syntax = p_skip; qp = qp }
 -- total_coeff of the macroblock to the left of the next one, where that is available (9.2.1);
 -- `before` is the picture up to it.
 abbrev pub left_total_coeffs : SliceStart → (before : List PicMb) → Option TotalCoeffs
-left_total_coeffs s before = option_map (λ m. total_coeffs_of m.syntax) (left_of before s.width s.slice (length before))
+left_total_coeffs s before =
+    option_map (λ m. total_coeffs_of m.syntax) (left_of before s.width s.slice (length before))
 
 -- total_coeff of the macroblock above it, likewise (9.2.1)
 abbrev pub up_total_coeffs : SliceStart → (before : List PicMb) → Option TotalCoeffs
-up_total_coeffs s before = option_map (λ m. total_coeffs_of m.syntax) (above before s.width s.slice (length before))
+up_total_coeffs s before =
+    option_map (λ m. total_coeffs_of m.syntax) (above before s.width s.slice (length before))
 
 -- The next macroblock's context: `before` is the picture up to it, qp that of the macroblock before
 -- in the slice (QP_Y,PRED, 7.4.5).
@@ -78,11 +81,16 @@ where_more_data b rest = elim (more_data b) [ true ↦ rest | false ↦ ended ]
 -- the rest where the picture has room for a macroblock more, else TooManyMacroblocks (this
 -- decoder's rule)
 abbrev pub where_room : SliceStart → (before : List PicMb) → SliceMbs → SliceMbs
-where_room s before rest = elim (length before == s.size) [ true ↦ stopped faults.TooManyMacroblocks | false ↦ rest ]
+where_room s before rest =
+    elim (length before == s.size) [
+      | true ↦ stopped faults.TooManyMacroblocks
+      | false ↦ rest
+    ]
 
 -- A macroblock that is read, with what is left, and then `next` where there is more data (7.3.4):
 -- with the picture up to there, its QP_Y and what is left. Where it cannot be read, its fault.
-abbrev pub from_macroblock : SliceStart → (before : List PicMb) → (next : List PicMb → ℕ → Bits → SliceMbs) → Result (Mb × Bits) Fault → SliceMbs
+abbrev pub from_macroblock : SliceStart → (before : List PicMb) →
+    (next : List PicMb → ℕ → Bits → SliceMbs) → Result (Mb × Bits) Fault → SliceMbs
 from_macroblock s before next (Err f) = stopped f
 from_macroblock s before next (Ok (mb, left)) =
     after (mb ∷ []) (where_more_data left (next (before ++ placed s mb ∷ []) mb.qp left))
@@ -91,23 +99,28 @@ from_macroblock s before next (Ok (mb, left)) =
 -- is more data (7.3.4). TooManyMacroblocks is this decoder's rule.
 abbrev pub i_data : SliceStart → (left : ℕ) → (before : List PicMb) → (qp : ℕ) → Bits → SliceMbs
 i_data s zero before qp b = stopped faults.TooManyMacroblocks
-i_data s (suc left) before qp b = from_macroblock s before (i_data s left) (macroblock (context s before qp) b)
+i_data s (suc left) before qp b =
+    from_macroblock s before (i_data s left) (macroblock (context s before qp) b)
 
 -- What stands after a run of skipped macroblocks (7.3.4), all of them in `before`: nothing,
 -- or one macroblock, and then `next` with the picture up to there, its QP and what is left,
 -- where there is more data.
-abbrev pub after_run : SliceStart → (before : List PicMb) → (qp : ℕ) → Bits → (next : List PicMb → ℕ → Bits → SliceMbs) → SliceMbs
+abbrev pub after_run : SliceStart → (before : List PicMb) → (qp : ℕ) → Bits →
+    (next : List PicMb → ℕ → Bits → SliceMbs) → SliceMbs
 after_run s before qp b next =
-    where_more_data b (where_room s before (from_macroblock s before next (macroblock (context s before qp) b)))
+    where_more_data b
+    (where_room s before (from_macroblock s before next (macroblock (context s before qp) b)))
 
 -- A run of skipped macroblocks that is read (mb_skip_run), with what is left, and then as after_run
 -- says (7.3.4); or the fault. TooManyMacroblocks, where the picture has no room for them, is this
 -- decoder's rule.
-abbrev pub from_run : SliceStart → (before : List PicMb) → (qp : ℕ) → (next : List PicMb → ℕ → Bits → SliceMbs) → Result (ℕ × Bits) Fault → SliceMbs
+abbrev pub from_run : SliceStart → (before : List PicMb) → (qp : ℕ) →
+    (next : List PicMb → ℕ → Bits → SliceMbs) → Result (ℕ × Bits) Fault → SliceMbs
 from_run s before qp next (Err f) = stopped f
 from_run s before qp next (Ok (run, left)) = elim (nat_lt (s.size - length before) run) [
   | true ↦ stopped faults.TooManyMacroblocks
-  | false ↦ after (replicate run (skipped qp)) (after_run s (before ++ replicate run (placed s (skipped qp))) qp left next)
+  | false ↦ after (replicate run (skipped qp))
+      (after_run s (before ++ replicate run (placed s (skipped qp))) qp left next)
 ]
 
 -- In a P slice, in so many turns at most: mb_skip_run, then as from_run says (7.3.4). There are as
@@ -115,7 +128,8 @@ from_run s before qp next (Ok (run, left)) = elim (nat_lt (s.size - length befor
 -- decoder's rule.
 abbrev pub p_data : SliceStart → (turns : ℕ) → (before : List PicMb) → (qp : ℕ) → Bits → SliceMbs
 p_data s zero before qp b = stopped faults.TooManyMacroblocks
-p_data s (suc turns) before qp b = where_room s before (from_run s before qp (p_data s turns) (ue b))
+p_data s (suc turns) before qp b =
+    where_room s before (from_run s before qp (p_data s turns) (ue b))
 
 -- The data from a macroblock of an I slice or a run of a P slice on (7.3.4); qp is that of the
 -- macroblock before in the slice.

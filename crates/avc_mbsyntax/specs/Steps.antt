@@ -1,5 +1,6 @@
 -- What is read of a macroblock into its place.
-use Rattle.std.specs.Prelude.{◌≡◌, ℕ, pos, Bool, true, false, List, replicate, Result, Ok, Err, MatchResult}
+use Rattle.std.specs.Prelude.{◌≡◌, ℕ, pos, Bool, true, false, List, replicate, Result, Ok, Err}
+use Rattle.std.specs.Prelude.{MatchResult}
 use Rattle.std.specs.Option.{option_copied}
 use Rattle.avc_types.specs.declared.fault.Fault.{Fault}
 use Rattle.avc_types.specs.declared.macroblock.PMbType.{PMbType}
@@ -7,7 +8,8 @@ use Rattle.avc_types.specs.declared.macroblock.Mvd.{Mvd}
 use Rattle.avc_types.specs.declared.mb.BlockLevels.{BlockLevels}
 use Rattle.avc_types.specs.declared.mb.Syntax.{Syntax}
 use Rattle.avc_types.specs.declared.mb.Syntax.TheVariants.{PSkip, IPcm, INxN, I16x16, PInter}
-use Rattle.avc_types.specs.declared.macroblock.PMbType.TheVariants.{P16x16, P16x8, P8x16, P8x8, P8x8Ref0}
+use Rattle.avc_types.specs.declared.macroblock.PMbType.TheVariants.{P16x16, P16x8, P8x16, P8x8}
+use Rattle.avc_types.specs.declared.macroblock.PMbType.TheVariants.{P8x8Ref0}
 use Rattle.avc_bits.specs.declared.reader.BitReader.{BitReader}
 use Rattle.avc_bits.specs.Bits.{Read}
 use Rattle.avc_bits.specs.Reader.{reader_bits, reader_bytes}
@@ -17,9 +19,11 @@ use Rattle.avc_mbsyntax.specs.declared.context.LentContext.{LentContext}
 
 -- What was read into a place is what this part of the syntax reads, and the reader goes on after
 -- it. After a fault anything may stand there.
-abbrev pub ReadsInto : {V : Type 0} → Result (Unit {0}) Fault → (value : V) → Read V → BitReader → BitReader → Type 0
+abbrev pub ReadsInto : {V : Type 0} → Result (Unit {0}) Fault → (value : V) → Read V → BitReader →
+    BitReader → Type 0
 ReadsInto result value read old new = MatchResult result
-    (λ _. (read (reader_bits old) ≡ Ok (value, reader_bits new)) × (reader_bytes new ≡ reader_bytes old))
+    (λ _. (read (reader_bits old) ≡ Ok (value, reader_bits new)) ×
+    (reader_bytes new ≡ reader_bytes old))
     (λ fault. read (reader_bits old) ≡ Err fault)
 
 -- Nothing is coded yet: all is 0.

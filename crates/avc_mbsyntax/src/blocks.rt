@@ -34,7 +34,9 @@ pub(crate) fn read_luma_dc(
     left: Option<&[u8; 16]>,
     up: Option<&[u8; 16]>,
 ) -> Result<Levels<16>, Fault>
-    ensures read { Reads result (block_where 16 true (nc 16 (option_copied left.entry) (option_copied up.entry) [] 0)) reader.old reader.new }
+    ensures read { Reads result
+        (block_where 16 true (nc 16 (option_copied left.entry) (option_copied up.entry) [] 0))
+        reader.old reader.new }
     ensures small { IfOk result AreSmall }
 {
     let mut levels = Levels::zero();
@@ -54,7 +56,8 @@ pub(crate) fn read_luma_blocks<const MAXN: usize>(
     requires max { MAXN ≤ 16 }
     ensures small { IfOk result (λ _. All AreSmall levels.new) }
     ensures read { ReadsInto result levels.new
-        (blocks MAXN 16 (is_coded luma_pattern) (option_copied left.entry) (option_copied up.entry) (range_with_len 0 16) []) reader.old reader.new }
+        (blocks MAXN 16 (is_coded luma_pattern) (option_copied left.entry) (option_copied up.entry)
+        (range_with_len 0 16) []) reader.old reader.new }
 {
     if luma_pattern == 0 {
         clear(levels);
@@ -85,7 +88,8 @@ pub(crate) fn read_chroma_blocks(
 ) -> Result<(), Fault>
     ensures small { IfOk result (λ _. All AreSmall levels.new) }
     ensures read { ReadsInto result levels.new
-        (blocks 15 8 (λ k. chroma_pattern == 2) (option_copied left.entry) (option_copied up.entry) (range_with_len 0 4) []) reader.old reader.new }
+        (blocks 15 8 (λ k. chroma_pattern == 2) (option_copied left.entry) (option_copied up.entry)
+        (range_with_len 0 4) []) reader.old reader.new }
 {
     if chroma_pattern != 2 {
         clear(levels);

@@ -30,8 +30,10 @@ pub(crate) fn read_elements<T: Element, const N: usize>(
     requires room { count ≤ N }
     requires some { 1 ≤ most }
     requires byte { most < 256 }
-    ensures read { ReadsInto result (take count elements.new) (times count (T.part most)) reader.old reader.new }
-    ensures whole { count ≡ N → ReadsInto result elements.new (times N (T.part most)) reader.old reader.new }
+    ensures read { ReadsInto result (take count elements.new) (times count (T.part most)) reader.old
+        reader.new }
+    ensures whole { count ≡ N →
+        ReadsInto result elements.new (times N (T.part most)) reader.old reader.new }
 {
     'elements: for k in 0..count {
         let element = T::read(reader, most)?;

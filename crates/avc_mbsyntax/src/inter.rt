@@ -26,7 +26,8 @@ pub(crate) fn read_p_mb(
     mb_type: u32,
     mb: &mut Mb,
 ) -> Result<(), Fault>
-    ensures read { ReadsInto result mb.new (p_mb (context_of context.now) mb_type) reader.old reader.new }
+    ensures read { ReadsInto result mb.new (p_mb (context_of context.now) mb_type) reader.old
+        reader.new }
     ensures range { IfOk result (λ _. IsSyntax context.now.num_ref_idx_active mb.new.syntax) }
     ensures quantiser { context.now.qp ≤ 51 → IfOk result (λ _. mb.new.qp ≤ 51) }
 {
@@ -98,8 +99,11 @@ fn read_ref_idx(
     ref_idx: &mut [u8; 4],
 ) -> Result<(), Fault>
     requires zero { ref_idx.old ≡ replicate 4 0 }
-    ensures range { IfOk result (λ _. All (λ ref. ref ≤ num_ref_idx_active - 1) (take (partitions mb_type.now) ref_idx.new)) }
-    ensures read { ReadsInto result (take (partitions mb_type.now) ref_idx.new) (ref_idx_l0 num_ref_idx_active mb_type.now) reader.old reader.new }
+    ensures range { IfOk result
+        (λ _. All (λ ref. ref ≤ num_ref_idx_active - 1)
+        (take (partitions mb_type.now) ref_idx.new)) }
+    ensures read { ReadsInto result (take (partitions mb_type.now) ref_idx.new)
+        (ref_idx_l0 num_ref_idx_active mb_type.now) reader.old reader.new }
 {
     if is_ref0(mb_type) {
         return Ok(());
@@ -112,7 +116,8 @@ fn read_ref_idx(
 }
 
 fn read_mvd(reader: &mut BitReader, mb_type: &PMbType, mvd: &mut [Mvd; 16]) -> Result<(), Fault>
-    ensures { ReadsInto result (take (length (parts_of mb_type.now)) mvd.new) (times (length (parts_of mb_type.now)) mvd_l0) reader.old reader.new }
+    ensures { ReadsInto result (take (length (parts_of mb_type.now)) mvd.new)
+        (times (length (parts_of mb_type.now)) mvd_l0) reader.old reader.new }
 {
     read_elements(reader, part_count(mb_type), 1, mvd)
 }

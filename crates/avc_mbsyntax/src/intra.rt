@@ -25,7 +25,8 @@ pub(crate) fn read_i_mb(
     mb: &mut Mb,
 ) -> Result<(), Fault>
     requires { mb_type ≤ 25 }
-    ensures read { ReadsInto result mb.new (i_mb (context_of context.now) mb_type) reader.old reader.new }
+    ensures read { ReadsInto result mb.new (i_mb (context_of context.now) mb_type) reader.old
+        reader.new }
     ensures range { IfOk result (λ _. IsSyntax context.now.num_ref_idx_active mb.new.syntax) }
     ensures quantiser { context.now.qp ≤ 51 → IfOk result (λ _. mb.new.qp ≤ 51) }
 {
@@ -44,7 +45,8 @@ fn read_modes(reader: &mut BitReader, modes: &mut [Option<u8>; 16]) -> Result<()
 }
 
 fn read_i_nxn(reader: &mut BitReader, context: &LentContext<'_>, mb: &mut Mb) -> Result<(), Fault>
-    ensures read { ReadsInto result mb.new (i_nxn_mb (context_of context.now)) reader.old reader.new }
+    ensures read { ReadsInto result mb.new (i_nxn_mb (context_of context.now)) reader.old
+        reader.new }
     ensures range { IfOk result (λ _. IsSyntax context.now.num_ref_idx_active mb.new.syntax) }
     ensures quantiser { context.now.qp ≤ 51 → IfOk result (λ _. mb.new.qp ≤ 51) }
 {
@@ -93,7 +95,8 @@ fn read_i_16x16(
     mb: &mut Mb,
 ) -> Result<(), Fault>
     requires { n ≤ 24 }
-    ensures read { ReadsInto result mb.new (i_16x16_mb (context_of context.now) n) reader.old reader.new }
+    ensures read { ReadsInto result mb.new (i_16x16_mb (context_of context.now) n) reader.old
+        reader.new }
     ensures range { IfOk result (λ _. IsSyntax context.now.num_ref_idx_active mb.new.syntax) }
     ensures quantiser { context.now.qp ≤ 51 → IfOk result (λ _. mb.new.qp ≤ 51) }
 {
@@ -149,7 +152,8 @@ fn luma_pattern_of(n: u8) -> u8
 }
 
 fn read_i_pcm(reader: &mut BitReader, context: &LentContext<'_>, mb: &mut Mb) -> Result<(), Fault>
-    ensures read { ReadsInto result mb.new (i_pcm_mb (context_of context.now)) reader.old reader.new }
+    ensures read { ReadsInto result mb.new (i_pcm_mb (context_of context.now)) reader.old
+        reader.new }
     ensures range { IfOk result (λ _. IsSyntax context.now.num_ref_idx_active mb.new.syntax) }
     ensures quantiser { context.now.qp ≤ 51 → IfOk result (λ _. mb.new.qp ≤ 51) }
 {

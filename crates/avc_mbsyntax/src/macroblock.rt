@@ -35,7 +35,8 @@ pub(crate) fn read_into(
     context: &LentContext<'_>,
     mb: &mut Mb,
 ) -> Result<(), Fault>
-    ensures read { ReadsInto result mb.new (macroblock (context_of context.now)) reader.old reader.new }
+    ensures read { ReadsInto result mb.new (macroblock (context_of context.now)) reader.old
+        reader.new }
     ensures range { IfOk result (λ _. IsSyntax context.now.num_ref_idx_active mb.new.syntax) }
     ensures quantiser { context.now.qp ≤ 51 → IfOk result (λ _. mb.new.qp ≤ 51) }
 {

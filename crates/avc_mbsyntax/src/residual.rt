@@ -66,7 +66,8 @@ pub(crate) fn read_after_pattern(
     requires { pattern < 48 }
     ensures delta { IfOk result (λ _. negsuc 25 ≤ℤ levels.new.mb_qp_delta) }
     ensures range { IfOk result (λ _. IsResidual (residual_of [] levels.new)) }
-    ensures read { ReadsInto result (residual_of [] levels.new) (after_pattern (context_of context.now) pattern) reader.old reader.new }
+    ensures read { ReadsInto result (residual_of [] levels.new)
+        (after_pattern (context_of context.now) pattern) reader.old reader.new }
 {
     if pattern == 0 {
         clear_levels(levels);
@@ -120,7 +121,8 @@ fn read_luma<const MAXN: usize>(
 ) -> Result<(), Fault>
     requires { MAXN ≤ 16 }
     ensures small { IfOk result (λ _. All AreSmall levels.new) }
-    ensures read { ReadsInto result levels.new (blocks MAXN 16 (is_coded luma_pattern) (luma_side (option_copied context.now.left))
+    ensures read { ReadsInto result levels.new
+        (blocks MAXN 16 (is_coded luma_pattern) (luma_side (option_copied context.now.left))
         (luma_side (option_copied context.now.up)) (range_with_len 0 16) []) reader.old reader.new }
 {
     let left = luma_counts(context.left);
@@ -173,9 +175,11 @@ pub(crate) fn read_levels<const MAXN: usize>(
     requires luma { patterns.luma_pattern ≤ 15 }
     requires chroma { patterns.chroma_pattern ≤ 2 }
     ensures read { (luma_dc : List ℤ) → ReadsInto result (residual_of luma_dc levels.new)
-        (residual_blocks (context_of context.now) MAXN luma_dc patterns.luma_pattern patterns.chroma_pattern patterns.mb_qp_delta) reader.old reader.new }
+        (residual_blocks (context_of context.now) MAXN luma_dc patterns.luma_pattern
+        patterns.chroma_pattern patterns.mb_qp_delta) reader.old reader.new }
     ensures delta { IfOk result (λ _. levels.new.mb_qp_delta ≡ patterns.mb_qp_delta) }
-    ensures range { IfOk result (λ _. (luma_dc : List ℤ) → AreSmall luma_dc → IsResidual (residual_of luma_dc levels.new)) }
+    ensures range { IfOk result (λ _. (luma_dc : List ℤ) → AreSmall luma_dc →
+        IsResidual (residual_of luma_dc levels.new)) }
 {
     levels.luma_pattern = patterns.luma_pattern;
     levels.chroma_pattern = patterns.chroma_pattern;

@@ -52,9 +52,11 @@ impl<'a> SliceData<'a> {
         qp: u8,
         remaining: u32,
     ) -> Self
-        ensures { (s : SliceStart) (before : List PicMb) → s.is_p ≡ is_p → s.num_ref_idx_active ≡ num_ref_idx_active → s.qp ≡ qp
+        ensures { (s : SliceStart) (before : List PicMb) → s.is_p ≡ is_p → s.num_ref_idx_active
+            ≡ num_ref_idx_active → s.qp ≡ qp
             → s.size ≡ length before + remaining
-            → Follows s before result × (rest_of s before result ≡ slice_data s before (reader_bits reader.entry)) }
+            → Follows s before result ×
+            (rest_of s before result ≡ slice_data s before (reader_bits reader.entry)) }
     {
         SliceData {
             reader,
@@ -76,8 +78,10 @@ impl<'a> SliceData<'a> {
         up: Option<&TotalCoeffs>,
         mb: &mut Mb,
     ) -> Result<bool, Fault>
-        ensures { (s : SliceStart) (before : List PicMb) → Follows s before self.old → option_copied left.entry ≡ left_total_coeffs s before
-            → option_copied up.entry ≡ up_total_coeffs s before → IsHandedOut s before (handed_out result mb.new) self.old self.new }
+        ensures { (s : SliceStart) (before : List PicMb) → Follows s before self.old →
+            option_copied left.entry ≡ left_total_coeffs s before
+            → option_copied up.entry ≡ up_total_coeffs s before →
+            IsHandedOut s before (handed_out result mb.new) self.old self.new }
     {
         match self.stage {
             Stage::Next => self.start(left, up, mb),
@@ -86,12 +90,13 @@ impl<'a> SliceData<'a> {
         }
     }
 
-    /// Reads how many skipped macroblocks come next (mb_skip_run) where that is what comes next in a
-    /// P slice, so that `next_skipped` hands out the first of them. Else nothing is read. The fault is
-    /// the one that `next` would give.
+    /// Reads how many skipped macroblocks come next (mb_skip_run) where that is what comes next in
+    /// a P slice, so that `next_skipped` hands out the first of them. Else nothing is read. The
+    /// fault is the one that `next` would give.
     #[inline]
     pub fn begin_run(&mut self) -> Result<(), Fault>
-        ensures { (s : SliceStart) (before : List PicMb) → Follows s before self.old → IsRun s before result self.old self.new }
+        ensures { (s : SliceStart) (before : List PicMb) → Follows s before self.old →
+            IsRun s before result self.old self.new }
     {
         match self.stage {
             Stage::Next if self.is_p => {
@@ -106,7 +111,8 @@ impl<'a> SliceData<'a> {
     /// read, for which no neighbour is asked. Answers whether it is; if not, nothing was read.
     #[inline]
     pub fn next_skipped(&mut self, mb: &mut Mb) -> bool
-        ensures skipped { result ≡ true → (s : SliceStart) (before : List PicMb) → Follows s before self.old
+        ensures skipped { result ≡ true → (s : SliceStart) (before : List PicMb) →
+            Follows s before self.old
             → IsHandedOut s before (Ok (Some mb.new)) self.old self.new }
         ensures other { result ≡ false → self.new ≡ self.old }
     {
@@ -127,8 +133,10 @@ impl<'a> SliceData<'a> {
         mb: &mut Mb,
     ) -> Result<bool, Fault>
         requires { self.old.stage ≡ Next }
-        ensures { (s : SliceStart) (before : List PicMb) → Follows s before self.old → option_copied left.entry ≡ left_total_coeffs s before
-            → option_copied up.entry ≡ up_total_coeffs s before → IsHandedOut s before (handed_out result mb.new) self.old self.new }
+        ensures { (s : SliceStart) (before : List PicMb) → Follows s before self.old →
+            option_copied left.entry ≡ left_total_coeffs s before
+            → option_copied up.entry ≡ up_total_coeffs s before →
+            IsHandedOut s before (handed_out result mb.new) self.old self.new }
     {
         let is_p = self.is_p;
         if is_p {
@@ -144,7 +152,8 @@ impl<'a> SliceData<'a> {
     fn read_run(&mut self) -> Result<u32, Fault>
         requires { self.old.stage ≡ Next }
         ensures stage { IfOk result (λ count. self.new.stage ≡ Skipped count) }
-        ensures run { (s : SliceStart) (before : List PicMb) → Follows s before self.old → s.is_p ≡ true → IsRun s before result self.old self.new }
+        ensures run { (s : SliceStart) (before : List PicMb) → Follows s before self.old →
+            s.is_p ≡ true → IsRun s before result self.old self.new }
     {
         if self.remaining == 0 {
             return Err(Fault::TooManyMacroblocks);
@@ -168,8 +177,10 @@ impl<'a> SliceData<'a> {
         mb: &mut Mb,
     ) -> Result<bool, Fault>
         requires { self.old.stage ≡ Skipped count }
-        ensures { (s : SliceStart) (before : List PicMb) → Follows s before self.old → option_copied left.entry ≡ left_total_coeffs s before
-            → option_copied up.entry ≡ up_total_coeffs s before → IsHandedOut s before (handed_out result mb.new) self.old self.new }
+        ensures { (s : SliceStart) (before : List PicMb) → Follows s before self.old →
+            option_copied left.entry ≡ left_total_coeffs s before
+            → option_copied up.entry ≡ up_total_coeffs s before →
+            IsHandedOut s before (handed_out result mb.new) self.old self.new }
     {
         if count > 0 {
             self.skip(count, mb);
@@ -188,7 +199,8 @@ impl<'a> SliceData<'a> {
     fn skip(&mut self, count: u32, mb: &mut Mb)
         requires stage { self.old.stage ≡ Skipped count }
         requires some { 0 < count }
-        ensures { (s : SliceStart) (before : List PicMb) → Follows s before self.old → IsSkipped s before count mb.new self.old self.new }
+        ensures { (s : SliceStart) (before : List PicMb) → Follows s before self.old →
+            IsSkipped s before count mb.new self.old self.new }
     {
         self.stage = Stage::Skipped(count - 1);
         self.remaining = self.remaining.saturating_sub(1);
@@ -203,8 +215,10 @@ impl<'a> SliceData<'a> {
         up: Option<&TotalCoeffs>,
         mb: &mut Mb,
     ) -> Result<(), Fault>
-        ensures { (s : SliceStart) (before : List PicMb) → Follows s before self.old → option_copied left.entry ≡ left_total_coeffs s before
-            → option_copied up.entry ≡ up_total_coeffs s before → IsOneMore s before (read_out result mb.new) self.old self.new }
+        ensures { (s : SliceStart) (before : List PicMb) → Follows s before self.old →
+            option_copied left.entry ≡ left_total_coeffs s before
+            → option_copied up.entry ≡ up_total_coeffs s before →
+            IsOneMore s before (read_out result mb.new) self.old self.new }
     {
         if self.remaining == 0 {
             return Err(Fault::TooManyMacroblocks);

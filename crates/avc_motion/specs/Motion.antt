@@ -1,5 +1,8 @@
 -- Reference indices and motion vectors of P macroblocks, ITU-T H.264 clauses 8.4.1.1 and 8.4.1.3.
-use Rattle.std.specs.Prelude.{◌≡◌, ℕ, zero, suc, ◌+◌, ◌==◌, nat_lt, nat_le, ℤ, pos, ◌+ℤ◌, ◌-ℤ◌, int_lt, neg_ℤ, Bool, true, false, not, ◌&&◌, ◌||◌, if◌then◌else◌, List, [], ◌∷◌, ◌++◌, map, replicate, Option, Some, None, Result, Ok, Err, slice_get, slice_index, slice_index_or}
+use Rattle.std.specs.Prelude.{◌≡◌, ℕ, zero, suc, ◌+◌, ◌==◌, nat_lt, nat_le, ℤ, pos, ◌+ℤ◌, ◌-ℤ◌}
+use Rattle.std.specs.Prelude.{int_lt, neg_ℤ, Bool, true, false, not, ◌&&◌, ◌||◌, if◌then◌else◌}
+use Rattle.std.specs.Prelude.{List, [], ◌∷◌, ◌++◌, map, replicate, Option, Some, None, Result, Ok}
+use Rattle.std.specs.Prelude.{Err, slice_get, slice_index, slice_index_or}
 use Rattle.std.specs.List.{list_all, range_with_len}
 use Rattle.avc_types.specs.Arithmetic.{median, ◌==ℤ◌}
 use Rattle.avc_types.specs.declared.fault.Fault.{Fault}
@@ -8,12 +11,15 @@ use Rattle.avc_types.specs.declared.vector.Mv.{Mv}
 use Rattle.avc_types.specs.declared.macroblock.Mvd.{Mvd}
 use Rattle.avc_types.specs.declared.macroblock.Part.{Part}
 use Rattle.avc_types.specs.declared.macroblock.PMbType.{PMbType}
-use Rattle.avc_types.specs.declared.macroblock.PMbType.TheVariants.{P16x16, P16x8, P8x16, P8x8, P8x8Ref0}
+use Rattle.avc_types.specs.declared.macroblock.PMbType.TheVariants.{P16x16, P16x8, P8x16, P8x8}
+use Rattle.avc_types.specs.declared.macroblock.PMbType.TheVariants.{P8x8Ref0}
 use Rattle.avc_types.specs.declared.edges.FilteredEdges.TheVariants.{NoEdges}
 use Rattle.avc_types.specs.Macroblock.{MbSyntax, p_skip, i_pcm, i_nxn, i_16x16, p_inter, parts_of}
 use Rattle.avc_types.specs.Pictures.{Coded, PicMb, SliceInfo, Frame}
 use Rattle.avc_neigh.specs.declared.neighbour_info.Motion.{Motion}
-use Rattle.avc_neigh.specs.declared.neighbour_info.Motion.TheVariants.{Absent as absent, Intra as intra, Inter as inter}
+use Rattle.avc_neigh.specs.declared.neighbour_info.Motion.TheVariants.{Absent as absent}
+use Rattle.avc_neigh.specs.declared.neighbour_info.Motion.TheVariants.{Intra as intra}
+use Rattle.avc_neigh.specs.declared.neighbour_info.Motion.TheVariants.{Inter as inter}
 use Rattle.avc_motion.specs.declared.neighbouring.NeighbouringPartitions.{NeighbouringPartitions}
 use Rattle.avc_neigh.specs.Blocks.{block_x, block_y, location_at}
 use Rattle.avc_neigh.specs.Nearby.{nearby}
@@ -63,7 +69,8 @@ abbrev pub neighbours_of : Near → List Motion → (x y width : ℕ) → Neighb
 neighbours_of near mine x y width = record {
   a = near mine (pos x -ℤ pos 1) (pos y);
   b = near mine (pos x) (pos y -ℤ pos 1);
-  c = else_motion (near mine (pos (x + width)) (pos y -ℤ pos 1)) (near mine (pos x -ℤ pos 1) (pos y -ℤ pos 1));
+  c = else_motion (near mine (pos (x + width)) (pos y -ℤ pos 1))
+      (near mine (pos x -ℤ pos 1) (pos y -ℤ pos 1));
 }
 
 -- ---- prediction (8.4.1.3)
@@ -71,7 +78,11 @@ neighbours_of near mine x y width = record {
 -- where only A is available, B and C are as A (8.4.1.3.1)
 abbrev pub completed : NeighbouringPartitions → NeighbouringPartitions
 completed n =
-    if is_absent n.b && is_absent n.c && not (is_absent n.a) then record { a = n.a; b = n.a; c = n.a } else n
+    if is_absent n.b && is_absent n.c && not (is_absent n.a) then record {
+      a = n.a;
+      b = n.a;
+      c = n.a;
+    } else n
 
 -- the median of each component (8.4.1.3.1)
 abbrev pub median_vector : Mv → Mv → Mv → Mv
@@ -91,7 +102,8 @@ only_or_median false false false u v w = median_vector u v w
 abbrev pub median_prediction : ℕ → NeighbouringPartitions → Mv
 median_prediction r around =
     let n = completed around in
-    only_or_median (has_reference r n.a) (has_reference r n.b) (has_reference r n.c) (vector_of n.a) (vector_of n.b) (vector_of n.c)
+    only_or_median (has_reference r n.a) (has_reference r n.b) (has_reference r n.c) (vector_of n.a)
+    (vector_of n.b) (vector_of n.c)
 
 -- The neighbour that a partition of a macroblock in two halves asks first: upper B, lower A;
 -- left A, right C (8.4.1.3).
@@ -126,11 +138,13 @@ skip_vector n = if is_still n.a || is_still n.b then zero_vector else median_pre
 -- the block with this number lies in the part (6.4.2)
 abbrev pub is_in_part : Part → ℕ → Bool
 is_in_part p k =
-    nat_le p.x (block_x k) && nat_lt (block_x k) (p.x + p.width) && nat_le p.y (block_y k) && nat_lt (block_y k) (p.y + p.height)
+    nat_le p.x (block_x k) && nat_lt (block_x k) (p.x + p.width) && nat_le p.y (block_y k)
+    && nat_lt (block_y k) (p.y + p.height)
 
 -- `mine` with a part's blocks filled in (6.4.2)
 unfoldable pub with_part : List Motion → Part → Motion → List Motion
-with_part mine p m = map (λ k. if is_in_part p k then m else slice_index_or mine k absent) (range_with_len 0 16)
+with_part mine p m =
+    map (λ k. if is_in_part p k then m else slice_index_or mine k absent) (range_with_len 0 16)
 
 -- 8.4.1: mvL0 = mvpL0 + mvd_l0
 abbrev pub sum_with_mvd : Mv → Mvd → Mv
@@ -139,15 +153,19 @@ sum_with_mvd u d = record { x = u.x +ℤ d.x; y = u.y +ℤ d.y }
 -- what the blocks of a part with reference index r have (8.4.1)
 abbrev pub motion_of_part : Near → PMbType → ℕ → List Motion → Part → Mvd → Motion
 motion_of_part near shape r mine part mvd =
-    inter r (sum_with_mvd (predicted_vector shape part.partition r (neighbours_of near mine part.x part.y part.width)) mvd)
+    inter r (sum_with_mvd
+    (predicted_vector shape part.partition r
+    (neighbours_of near mine part.x part.y part.width)) mvd)
 
 -- the parts in decoding order, each with its prediction from what is decoded before it and its mvd
 -- (8.4.1)
-abbrev pub motion_of_parts : Near → PMbType → List ℕ → List Motion → List Part → List Mvd → List Motion
+abbrev pub motion_of_parts : Near → PMbType → List ℕ → List Motion → List Part → List Mvd →
+    List Motion
 motion_of_parts near shape ref_idx mine [] mvds = mine
 motion_of_parts near shape ref_idx mine (part ∷ parts) [] = mine
 motion_of_parts near shape ref_idx mine (part ∷ parts) (mvd ∷ mvds) =
-    let filled = with_part mine part (motion_of_part near shape (slice_index ref_idx part.partition) mine part mvd) in
+    let filled = with_part mine part
+    (motion_of_part near shape (slice_index ref_idx part.partition) mine part mvd) in
     motion_of_parts near shape ref_idx filled parts mvds
 
 -- no block of the macroblock is decoded yet, so none is available (6.4.11.7)
@@ -161,7 +179,8 @@ motion_by near (i_pcm luma cb cr) = replicate 16 intra
 motion_by near (i_nxn modes chroma residual) = replicate 16 intra
 motion_by near (i_16x16 mode chroma residual) = replicate 16 intra
 motion_by near p_skip = replicate 16 (inter 0 (skip_vector (neighbours_of near no_motion 0 0 16)))
-motion_by near (p_inter shape ref_idx mvd residual) = motion_of_parts near shape ref_idx no_motion (parts_of shape) mvd
+motion_by near (p_inter shape ref_idx mvd residual) =
+    motion_of_parts near shape ref_idx no_motion (parts_of shape) mvd
 
 -- A or B alone makes a skipped macroblock with these neighbours stand still (8.4.1.1).
 abbrev pub is_held : Around → Bool
@@ -202,7 +221,8 @@ motion_or_fault motion = if list_all is_in_range motion then Ok motion else Err 
 
 -- likewise their vectors alone
 abbrev pub vectors_or_fault : List Motion → Result (List Mv) Fault
-vectors_or_fault motion = if list_all is_in_range motion then Ok (map vector_of motion) else Err VectorRange
+vectors_or_fault motion =
+    if list_all is_in_range motion then Ok (map vector_of motion) else Err VectorRange
 
 -- The result is that of every macroblock with this syntax and these neighbours, in every picture.
 abbrev pub HasMotion : Around → MbSyntax → Result (List Motion) Fault → Type 0
@@ -252,7 +272,14 @@ AreOfOneMotion motion = motion ≡ replicate 16 (slice_index_or motion 0 absent)
 
 -- A slice that is not there: part of no picture, but the definitions are total.
 abbrev pub no_slice : SliceInfo
-no_slice = record { is_p = false; references = []; weights = []; disable_deblocking_filter_idc = NoEdges; filter_offset_a = pos 0; filter_offset_b = pos 0 }
+no_slice = record {
+  is_p = false;
+  references = [];
+  weights = [];
+  disable_deblocking_filter_idc = NoEdges;
+  filter_offset_a = pos 0;
+  filter_offset_b = pos 0;
+}
 
 -- the info of the slice with this number (7.4.3)
 abbrev pub slice_info : Coded → ℕ → SliceInfo

@@ -53,7 +53,9 @@ fn set_all(blocks: &mut [Motion; 16], motion: Motion)
 
 /// A skipped macroblock does not move by what A and B have alone (8.4.1.1).
 fn is_held(neighbours: &Neighbours<'_>) -> bool
-    ensures still { result ≡ true → skip_vector (neighbours_of (motion_near (info_of neighbours.now)) (replicate 16 absent) 0 0 16) ≡ zero_vector }
+    ensures still { result ≡ true →
+        skip_vector (neighbours_of (motion_near (info_of neighbours.now)) (replicate 16 absent) 0 0
+        16) ≡ zero_vector }
     ensures exact { result ≡ is_held (info_of neighbours.now) }
 {
     let mine = [Motion::Absent; 16];
@@ -110,9 +112,11 @@ fn set_inter(
     blocks: &mut [Motion; 16],
 ) -> Result<(), Fault>
     ensures motion { let near = motion_near (info_of neighbours.now) in
-        result_map (λ _. blocks.new) result ≡ blocks_or_fault (decoded_whole near mb_type.now ref_idx.now mvd.now) }
+        result_map (λ _. blocks.new) result
+        ≡ blocks_or_fault (decoded_whole near mb_type.now ref_idx.now mvd.now) }
     ensures quarters { HasFourQuarters mb_type.now }
-    ensures alike { is_one_partition_by mb_type.now ≡ true → OnOk result (AreOfOneMotion blocks.new) }
+    ensures alike { is_one_partition_by mb_type.now ≡ true →
+        OnOk result (AreOfOneMotion blocks.new) }
 {
     let inter = Inter {
         mb_type,
@@ -128,8 +132,10 @@ fn set_inter(
 /// (8.4.1), in block order. `neighbours` are those of the macroblock. `VectorRange` where a
 /// component of a vector is no 16-bit number; the blocks are then any.
 pub fn motion(mb: &Mb, neighbours: &Neighbours<'_>, blocks: &mut [Motion; 16]) -> Result<(), Fault>
-    ensures motion { HasMotion (info_of neighbours.now) mb.now.syntax (result_map (λ _. blocks.new) result) }
-    ensures alike { has_one_motion_by mb.now.syntax ≡ true → OnOk result (AreOfOneMotion blocks.new) }
+    ensures motion { HasMotion (info_of neighbours.now) mb.now.syntax
+        (result_map (λ _. blocks.new) result) }
+    ensures alike { has_one_motion_by mb.now.syntax ≡ true →
+        OnOk result (AreOfOneMotion blocks.new) }
 {
     match &mb.syntax {
         Syntax::PSkip => {

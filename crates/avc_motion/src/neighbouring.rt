@@ -80,7 +80,8 @@ pub(crate) fn above(neighbours: &Neighbours<'_>, mine: &[Motion; 16], x: usize, 
 fn above_left(neighbours: &Neighbours<'_>, mine: &[Motion; 16], x: usize, y: usize) -> Motion
     requires column { x < 16 }
     requires row { y < 16 }
-    ensures { result ≡ motion_near (info_of neighbours.now) mine.now (pos x -ℤ pos 1) (pos y -ℤ pos 1) }
+    ensures { result
+        ≡ motion_near (info_of neighbours.now) mine.now (pos x -ℤ pos 1) (pos y -ℤ pos 1) }
 {
     if x != 0 {
         above(neighbours, mine, x - 1, y)

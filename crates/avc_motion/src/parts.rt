@@ -93,8 +93,10 @@ fn is_apart(part: Part, quarter: usize) -> bool
 fn fill_whole(mine: &mut [Motion; 16], quarter: usize, motion: Motion)
     requires { quarter < 4 }
     ensures here { (k : ℕ) → IsOfQuarter quarter k → slice_index_or mine.new k absent ≡ motion }
-    ensures before { (k : ℕ) → k < 4 * quarter → slice_index_or mine.new k absent ≡ slice_index_or mine.old k absent }
-    ensures behind { (k : ℕ) → 4 * quarter + 4 ≤ k → slice_index_or mine.new k absent ≡ slice_index_or mine.old k absent }
+    ensures before { (k : ℕ) → k < 4 * quarter → slice_index_or mine.new k absent
+        ≡ slice_index_or mine.old k absent }
+    ensures behind { (k : ℕ) → 4 * quarter + 4 ≤ k → slice_index_or mine.new k absent
+        ≡ slice_index_or mine.old k absent }
 {
     for k in 4 * quarter..4 * quarter + 4 {
         mine[k] = motion;
@@ -209,7 +211,8 @@ impl Inter<'_> {
     ) -> Result<(), Fault>
         requires quarter { quarter < 4 }
         requires enough { 4 ≤ length mvd.now }
-        ensures { Decodes result mine.new (decoded_by self.now mine.old (parts_in_quarter sub_mb_type quarter) mvd.now) }
+        ensures { Decodes result mine.new
+            (decoded_by self.now mine.old (parts_in_quarter sub_mb_type quarter) mvd.now) }
     {
         let (x, y) = (8 * (quarter % 2), 8 * (quarter / 2));
         match sub_mb_type {
@@ -244,7 +247,9 @@ impl Inter<'_> {
         sub_mb_type: &[SubMbType; 4],
         mvd: &[Mvd; 16],
     ) -> Result<(), Fault>
-        ensures motion { Decodes result mine.new (decoded_by self.now mine.old (macroblocks.parts_of_quarters sub_mb_type.now 0) mvd.now) }
+        ensures motion { Decodes result mine.new
+            (decoded_by self.now mine.old (macroblocks.parts_of_quarters sub_mb_type.now 0)
+            mvd.now) }
         ensures quarters { length sub_mb_type.now ≡ 4 }
     {
         let mut used = 0;
@@ -258,7 +263,8 @@ impl Inter<'_> {
 
     /// All parts of the macroblock.
     pub(crate) fn decode(&self, mine: &mut [Motion; 16], mvd: &[Mvd; 16]) -> Result<(), Fault>
-        ensures motion { Decodes result mine.new (decoded_by self.now mine.old (macroblocks.parts_of self.now.mb_type.now) mvd.now) }
+        ensures motion { Decodes result mine.new
+            (decoded_by self.now mine.old (macroblocks.parts_of self.now.mb_type.now) mvd.now) }
         ensures quarters { HasFourQuarters self.now.mb_type.now }
     {
         match self.mb_type {

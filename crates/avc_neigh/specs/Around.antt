@@ -1,9 +1,13 @@
 -- The neighbouring macroblocks of the macroblock that comes next, by their addresses (6.4.9).
-use Rattle.std.specs.Prelude.{ℕ, ◌+◌, ◌-◌, ◌%◌, ◌==◌, nat_lt, if◌then◌else◌, List, [], ◌∷◌, ◌++◌, length, Bool, true, false, Option, Some, None, slice_get, slice_index_or}
+use Rattle.std.specs.Prelude.{ℕ, ◌+◌, ◌-◌, ◌%◌, ◌==◌, nat_lt, if◌then◌else◌, List, [], ◌∷◌, ◌++◌}
+use Rattle.std.specs.Prelude.{length, Bool, true, false, Option, Some, None, slice_get}
+use Rattle.std.specs.Prelude.{slice_index_or}
 use Rattle.std.specs.Option.{option_copied}
 use Rattle.avc_neigh.specs.declared.neighbour_info.NeighbourInfo.{NeighbourInfo}
 use Rattle.avc_neigh.specs.declared.neighbour_info.Motion.{Motion}
-use Rattle.avc_neigh.specs.declared.neighbour_info.Motion.TheVariants.{Absent as absent, Intra as intra, Inter as inter}
+use Rattle.avc_neigh.specs.declared.neighbour_info.Motion.TheVariants.{Absent as absent}
+use Rattle.avc_neigh.specs.declared.neighbour_info.Motion.TheVariants.{Intra as intra}
+use Rattle.avc_neigh.specs.declared.neighbour_info.Motion.TheVariants.{Inter as inter}
 use Rattle.avc_neigh.specs.declared.neighbours.Neighbours.{Neighbours}
 
 -- What is known of a picture's macroblocks so far (6.4.9).
@@ -55,12 +59,14 @@ mb_b p slice = of_slice slice (back p.info p.width)
 -- mbAddrC, CurrMbAddr - PicWidthInMbs + 1: above right, and not available from the last column
 -- (6.4.9)
 abbrev pub mb_c : PictureInfo → (slice : ℕ) → Option NeighbourInfo
-mb_c p slice = if (next_address p + 1) % p.width == 0 then None else of_slice slice (back p.info (p.width - 1))
+mb_c p slice =
+    if (next_address p + 1) % p.width == 0 then None else of_slice slice (back p.info (p.width - 1))
 
 -- mbAddrD, CurrMbAddr - PicWidthInMbs - 1: above left, and not available from the first column
 -- (6.4.9)
 abbrev pub mb_d : PictureInfo → (slice : ℕ) → Option NeighbourInfo
-mb_d p slice = if next_address p % p.width == 0 then None else of_slice slice (back p.info (p.width + 1))
+mb_d p slice =
+    if next_address p % p.width == 0 then None else of_slice slice (back p.info (p.width + 1))
 
 -- the four, where they are available (6.4.9)
 pub record Around : Type 0 where

@@ -1,5 +1,6 @@
 -- Neighbours by address are those by sample coordinates (6.4.8, 6.4.9, 6.4.12).
-use Rattle.std.specs.Prelude.{◌≡◌, ℕ, ◌<◌, ◌==◌, nat_lt, ◌&&◌, ◌||◌, Bool, false, ℤ, pos, negsuc, if◌then◌else◌, List, ◌++◌, map, Option, Some, None, slice_get}
+use Rattle.std.specs.Prelude.{◌≡◌, ℕ, ◌<◌, ◌==◌, nat_lt, ◌&&◌, ◌||◌, Bool, false, ℤ, pos, negsuc}
+use Rattle.std.specs.Prelude.{if◌then◌else◌, List, ◌++◌, map, Option, Some, None, slice_get}
 use Rattle.std.specs.Option.{option_map}
 use Rattle.avc_types.specs.Pictures.{PicMb}
 use Rattle.avc_neigh.specs.declared.neighbour_info.NeighbourInfo.{NeighbourInfo}
@@ -11,7 +12,8 @@ use Rattle.avc_neigh.specs.Blocks.{Location, location_at, same_slice, left_of, a
 use Rattle.avc_neigh.specs.TotalCoeffs.{total_coeffs_of}
 
 -- What is said of a picture's macroblocks, this info says of its first ones.
-abbrev pub InfoTell : {Y : Type 0} → (PicMb → Y) → (NeighbourInfo → Y) → List PicMb → List NeighbourInfo → Type 0
+abbrev pub InfoTell : {Y : Type 0} → (PicMb → Y) → (NeighbourInfo → Y) → List PicMb →
+    List NeighbourInfo → Type 0
 InfoTell {Y} of_mb of_info mbs info = (rest : List Y) × (map of_mb mbs ≡ map of_info info ++ rest)
 
 -- the info says in which slice each macroblock is
@@ -47,14 +49,18 @@ ModesAreFound = BlocksAreFound modes.Absent (λ f. f.modes)
 -- macroblock need not be there.
 abbrev pub TotalCoeffsAreFound : Type 0
 TotalCoeffsAreFound =
-    (mbs : List PicMb) (p : PictureInfo) (slice : ℕ) → 0 < p.width → TellSlices mbs p.info → TellTotalCoeffs mbs p.info
-    → (option_map (λ m. total_coeffs_of m.syntax) (left_of mbs p.width slice (next_address p)) ≡ option_map (λ f. f.total_coeffs) (mb_a p slice))
-    × (option_map (λ m. total_coeffs_of m.syntax) (above mbs p.width slice (next_address p)) ≡ option_map (λ f. f.total_coeffs) (mb_b p slice))
+    (mbs : List PicMb) (p : PictureInfo) (slice : ℕ) → 0 < p.width → TellSlices mbs p.info →
+    TellTotalCoeffs mbs p.info
+    → (option_map (λ m. total_coeffs_of m.syntax) (left_of mbs p.width slice (next_address p))
+    ≡ option_map (λ f. f.total_coeffs) (mb_a p slice))
+    × (option_map (λ m. total_coeffs_of m.syntax) (above mbs p.width slice (next_address p))
+    ≡ option_map (λ f. f.total_coeffs) (mb_b p slice))
 
 -- The sample at this location is there for a block of macroblock a: of its slice, decoded before
 -- the block, and of a macroblock that passes the test. `earlier` says which samples of macroblock a
 -- itself are decoded before the block.
-abbrev pub is_there_by : (test : Option PicMb → Bool) → (earlier : (x y : ℕ) → Bool) → List PicMb → (a : ℕ) → Option Location → Bool
+abbrev pub is_there_by : (test : Option PicMb → Bool) → (earlier : (x y : ℕ) → Bool) → List PicMb →
+    (a : ℕ) → Option Location → Bool
 is_there_by test earlier mbs a None = false
 is_there_by test earlier mbs a (Some s) =
     same_slice mbs a s.address
@@ -68,17 +74,21 @@ holds_of told (Some f) = told f
 
 -- the same by the neighbour that covers the sample (6.4.12.1, Table 6-3); `mine` is for samples of
 -- the macroblock itself
-abbrev pub is_there_near : (told : NeighbourInfo → Bool) → (mine : (x y : ℕ) → Bool) → Around → (x y : ℤ) → Bool
+abbrev pub is_there_near : (told : NeighbourInfo → Bool) → (mine : (x y : ℕ) → Bool) → Around →
+    (x y : ℤ) → Bool
 is_there_near told mine n (pos x) (pos y) = if nat_lt x 16 then mine x y else false
 is_there_near told mine n (negsuc _) (pos y) = holds_of told n.a
-is_there_near told mine n (pos x) (negsuc _) = if nat_lt x 16 then holds_of told n.b else holds_of told n.c
+is_there_near told mine n (pos x) (negsuc _) =
+    if nat_lt x 16 then holds_of told n.b else holds_of told n.c
 is_there_near told mine n (negsuc _) (negsuc _) = holds_of told n.d
 
 -- Where the info tells what the test says, as whether a macroblock is intra, the neighbours say
 -- which samples are there.
 abbrev pub AvailabilityIsFound : Type 0
 AvailabilityIsFound =
-    (test : Option PicMb → Bool) (told : NeighbourInfo → Bool) (earlier : (x y : ℕ) → Bool) (mbs : List PicMb) (p : PictureInfo) (slice : ℕ)
+    (test : Option PicMb → Bool) (told : NeighbourInfo → Bool) (earlier : (x y : ℕ) →
+    Bool) (mbs : List PicMb) (p : PictureInfo) (slice : ℕ)
     → IsNext mbs p slice → InfoTell (λ m. test (Some m)) told mbs p.info → (x y : ℤ) → IsAsked x y
     → is_there_by test earlier mbs (next_address p) (location_at p.width (next_address p) x y)
-    ≡ is_there_near told (λ u v. earlier u v && test (slice_get mbs (next_address p))) (around p slice) x y
+    ≡ is_there_near told (λ u v. earlier u v && test (slice_get mbs (next_address p)))
+    (around p slice) x y

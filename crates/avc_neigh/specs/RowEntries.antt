@@ -1,5 +1,6 @@
 -- How two rows of info stand for the info of the whole picture.
-use Rattle.std.specs.Prelude.{◌≡◌, ◌≢◌, ℕ, ◌+◌, ◌-◌, ◌%◌, ◌<◌, ◌≤◌, nat_lt, if◌then◌else◌, Bool, true, false, Option, None, slice_index_or, length, List}
+use Rattle.std.specs.Prelude.{◌≡◌, ◌≢◌, ℕ, ◌+◌, ◌-◌, ◌%◌, ◌<◌, ◌≤◌, nat_lt, if◌then◌else◌, Bool}
+use Rattle.std.specs.Prelude.{true, false, Option, None, slice_index_or, length, List}
 use Rattle.avc_neigh.specs.declared.neighbour_info.NeighbourInfo.{NeighbourInfo}
 use Rattle.avc_neigh.specs.declared.row.Place.{Place}
 use Rattle.avc_neigh.specs.Around.{back}
@@ -13,12 +14,15 @@ place_after p width =
 
 -- From `first` on stand the macroblocks left of the next one in its row, from `first_above` on
 -- those of the row above, where the picture has one.
-pub record AreRowEntries (info : List NeighbourInfo) (width : ℕ) (p : Place) (has_above : Bool) (entries : List (Option NeighbourInfo)) : Type 0 where
+pub record AreRowEntries (info : List NeighbourInfo) (width : ℕ) (p : Place) (has_above : Bool)
+    (entries : List (Option NeighbourInfo)) : Type 0 where
   pub inside : p.column < width
   pub address : p.column ≡ length info % width
   pub room : p.first + width ≤ length entries
   pub room_above : p.first_above + width ≤ length entries
   pub apart : (j k : ℕ) → j < width → k < width → p.first + j ≢ p.first_above + k
-  pub left : (k : ℕ) → k < p.column → slice_index_or entries (p.first + k) None ≡ back info (p.column - k)
+  pub left : (k : ℕ) → k < p.column → slice_index_or entries (p.first + k) None
+      ≡ back info (p.column - k)
   pub first_row : has_above ≡ false → length info ≡ p.column
-  pub above : has_above ≡ true → (k : ℕ) → k < width → slice_index_or entries (p.first_above + k) None ≡ back info (width + p.column - k)
+  pub above : has_above ≡ true → (k : ℕ) → k < width →
+      slice_index_or entries (p.first_above + k) None ≡ back info (width + p.column - k)

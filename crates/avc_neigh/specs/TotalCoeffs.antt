@@ -1,8 +1,10 @@
 -- total_coeff of the blocks of a macroblock, and nC (9.2.1).
-use Rattle.std.specs.Prelude.{ℕ, zero, suc, ◌+◌, ◌-◌, ◌/◌, List, map, replicate, Option, Some, None, slice_index}
+use Rattle.std.specs.Prelude.{ℕ, zero, suc, ◌+◌, ◌-◌, ◌/◌, List, map, replicate, Option, Some, None}
+use Rattle.std.specs.Prelude.{slice_index}
 use Rattle.std.specs.Option.{option_map}
 use Rattle.avc_neigh.specs.declared.neighbour_info.TotalCoeffs.{TotalCoeffs}
-use Rattle.avc_types.specs.Macroblock.{total_coeff, Residual, MbSyntax, p_skip, i_pcm, i_nxn, i_16x16, p_inter}
+use Rattle.avc_types.specs.Macroblock.{total_coeff, Residual, MbSyntax, p_skip, i_pcm, i_nxn}
+use Rattle.avc_types.specs.Macroblock.{i_16x16, p_inter}
 use Rattle.avc_neigh.specs.Blocks.{block_x, block_y, block_at}
 
 -- the same total_coeff for each block of a macroblock (9.2.1)
@@ -11,7 +13,11 @@ all_total_coeffs n = record { luma = replicate 16 n; cb = replicate 4 n; cr = re
 
 -- total_coeff of each block of a residual; the DC blocks do not count (9.2.1)
 abbrev pub residual_total_coeffs : Residual → TotalCoeffs
-residual_total_coeffs r = record { luma = map total_coeff r.luma; cb = map total_coeff r.cb_ac; cr = map total_coeff r.cr_ac }
+residual_total_coeffs r = record {
+  luma = map total_coeff r.luma;
+  cb = map total_coeff r.cb_ac;
+  cr = map total_coeff r.cr_ac;
+}
 
 -- total_coeff of each block of a macroblock: 0 in a skipped one, 16 in I_PCM (9.2.1)
 abbrev pub total_coeffs_of : MbSyntax → TotalCoeffs
@@ -28,7 +34,8 @@ total_coeffs_of (p_inter shape ref_idx mvd r) = residual_total_coeffs r
 abbrev pub nA : (size : ℕ) → Option (List ℕ) → (mine : List ℕ) → ℕ → Option ℕ
 nA size left mine k =
     elim (block_x k) [
-      | zero ↦ option_map (λ total_coeffs. slice_index total_coeffs (block_at (size - 1) (block_y k))) left
+      | zero ↦ option_map
+          (λ total_coeffs. slice_index total_coeffs (block_at (size - 1) (block_y k))) left
       | suc x ↦ Some (slice_index mine (block_at x (block_y k)))
     ]
 
@@ -36,7 +43,8 @@ nA size left mine k =
 abbrev pub nB : (size : ℕ) → Option (List ℕ) → (mine : List ℕ) → ℕ → Option ℕ
 nB size up mine k =
     elim (block_y k) [
-      | zero ↦ option_map (λ total_coeffs. slice_index total_coeffs (block_at (block_x k) (size - 1))) up
+      | zero ↦ option_map
+          (λ total_coeffs. slice_index total_coeffs (block_at (block_x k) (size - 1))) up
       | suc y ↦ Some (slice_index mine (block_at (block_x k) y))
     ]
 

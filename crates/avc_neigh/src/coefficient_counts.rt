@@ -59,7 +59,8 @@ fn luma_b(up: Option<&[u8; 16]>, done: &[u8; 16], k: usize) -> Option<u8>
 #[inline]
 pub fn nc_luma(left: Option<&[u8; 16]>, up: Option<&[u8; 16]>, done: &[u8; 16], k: usize) -> u8
     requires { k < 16 }
-    ensures { result ≡ nc 16 (option_copied left.entry) (option_copied up.entry) (take k done.now) k }
+    ensures { result
+        ≡ nc 16 (option_copied left.entry) (option_copied up.entry) (take k done.now) k }
 {
     mean_of(luma_a(left, done, k), luma_b(up, done, k))
 }
@@ -100,7 +101,8 @@ fn chroma_b(up: Option<&[u8; 4]>, done: &[u8; 4], k: usize) -> Option<u8>
 #[inline]
 pub fn nc_chroma(left: Option<&[u8; 4]>, up: Option<&[u8; 4]>, done: &[u8; 4], k: usize) -> u8
     requires { k < 4 }
-    ensures { result ≡ nc 8 (option_copied left.entry) (option_copied up.entry) (take k done.now) k }
+    ensures { result
+        ≡ nc 8 (option_copied left.entry) (option_copied up.entry) (take k done.now) k }
 {
     mean_of(chroma_a(left, done, k), chroma_b(up, done, k))
 }

@@ -58,7 +58,9 @@ fn chosen(predicted: u8, coded: Option<u8>) -> u8
 #[inline]
 fn mode_at_left(neighbours: &Neighbours, modes: &[NearMode; 16], k: usize) -> NearMode
     requires { k < 16 }
-    ensures { result ≡ mode_near (info_of neighbours.now) (take k modes.now) (pos (block_x k) -ℤ pos 1) (pos (block_y k)) }
+    ensures { result
+        ≡ mode_near (info_of neighbours.now) (take k modes.now) (pos (block_x k) -ℤ pos 1)
+        (pos (block_y k)) }
 {
     let place = left_block(k);
     if is_leftmost(k) {
@@ -75,7 +77,8 @@ fn mode_at_left(neighbours: &Neighbours, modes: &[NearMode; 16], k: usize) -> Ne
 #[inline]
 fn mode_above(neighbours: &Neighbours, modes: &[NearMode; 16], k: usize) -> NearMode
     requires { k < 16 }
-    ensures { result ≡ mode_near (info_of neighbours.now) (take k modes.now) (pos (block_x k)) (pos (block_y k) -ℤ pos 1) }
+    ensures { result ≡ mode_near (info_of neighbours.now) (take k modes.now) (pos (block_x k))
+        (pos (block_y k) -ℤ pos 1) }
 {
     let place = above_block(k);
     if is_topmost(k) {
@@ -100,7 +103,9 @@ fn set_mode(
 )
     requires number { k < 16 }
     requires rems { All IsRem coded.now }
-    ensures { modes.new ≡ slice_set modes.old k (mode_of_block (info_of neighbours.now) constrained_intra_pred modes.old coded.now k) }
+    ensures { modes.new
+        ≡ slice_set modes.old k
+        (mode_of_block (info_of neighbours.now) constrained_intra_pred modes.old coded.now k) }
 {
     let left = brought(mode_at_left(neighbours, modes, k), constrained_intra_pred);
     let above = brought(mode_above(neighbours, modes, k), constrained_intra_pred);
@@ -117,7 +122,8 @@ pub fn intra4x4_modes(
 ) -> [NearMode; 16]
     requires { All IsRem coded.now }
     ensures modes { AreNxnModes (info_of neighbours.now) constrained_intra_pred coded.now result }
-    ensures within { HasModes (option_copied neighbours.now.a) → HasModes (option_copied neighbours.now.b) → All IsMode result }
+    ensures within { HasModes (option_copied neighbours.now.a) →
+        HasModes (option_copied neighbours.now.b) → All IsMode result }
 {
     let mut modes = [NearMode::Absent; 16];
     set_mode(&mut modes, neighbours, constrained_intra_pred, coded, 0);

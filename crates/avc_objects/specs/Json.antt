@@ -1,6 +1,8 @@
--- The JSON of macroblocks: an object in one line (RFC 8259) for each. The members stand in the order of their names.
+-- The JSON of macroblocks: an object in one line (RFC 8259) for each. The members stand in the
+-- order of their names.
 use Rattle.std.specs.Prelude.{ℤ, Bool, if◌then◌else◌, List, [], ◌∷◌, map, codes}
-use Rattle.serde_json.specs.Data.{Data, Members, array, member, put, no_members, null, number, object, string}
+use Rattle.serde_json.specs.Data.{Data, Members, array, member, put, no_members, null, number}
+use Rattle.serde_json.specs.Data.{object, string}
 use Rattle.serde_json.specs.Find.{of_integer}
 use Rattle.serde_json.specs.View.{items_of}
 use Rattle.avc_types.specs.declared.fault.Fault.{Fault}
@@ -10,11 +12,16 @@ use Rattle.avc_types.specs.declared.macroblock.PMbType.{PMbType}
 use Rattle.avc_types.specs.declared.macroblock.PMbType.TheVariants.{P8x8, P8x8Ref0}
 use Rattle.avc_types.specs.declared.macroblock.SubMbType.{SubMbType}
 use Rattle.avc_types.specs.Faults.{number_of, name_of}
-use Rattle.avc_types.specs.Macroblock.{total_coeff, Residual, MbSyntax, p_skip, i_pcm, i_nxn, i_16x16, p_inter, Mb}
+use Rattle.avc_types.specs.Macroblock.{total_coeff, Residual, MbSyntax, p_skip, i_pcm, i_nxn}
+use Rattle.avc_types.specs.Macroblock.{i_16x16, p_inter, Mb}
 use Rattle.avc_neigh.specs.declared.neighbour_info.Motion.{Motion}
-use Rattle.avc_neigh.specs.declared.neighbour_info.Motion.TheVariants.{Absent as absent, Intra as intra, Inter as inter}
+use Rattle.avc_neigh.specs.declared.neighbour_info.Motion.TheVariants.{Absent as absent}
+use Rattle.avc_neigh.specs.declared.neighbour_info.Motion.TheVariants.{Intra as intra}
+use Rattle.avc_neigh.specs.declared.neighbour_info.Motion.TheVariants.{Inter as inter}
 use Rattle.avc_neigh.specs.declared.neighbour_info.NearMode.{NearMode}
-use Rattle.avc_neigh.specs.declared.neighbour_info.NearMode.TheVariants.{Absent as no_mode, Inter as inter_mode, Mode as mode_is}
+use Rattle.avc_neigh.specs.declared.neighbour_info.NearMode.TheVariants.{Absent as no_mode}
+use Rattle.avc_neigh.specs.declared.neighbour_info.NearMode.TheVariants.{Inter as inter_mode}
+use Rattle.avc_neigh.specs.declared.neighbour_info.NearMode.TheVariants.{Mode as mode_is}
 use Rattle.avc_selection.specs.Forms.{Form}
 use Rattle.avc_objects.specs.JsonLines.{count, count_if_given, line_of_data, refused_data}
 use Rattle.avc_elements.specs.Levels.{up_to_last}
@@ -66,7 +73,8 @@ derived_mode_data inter_mode = null
 
 -- of each block of a macroblock that has some
 abbrev pub derived_modes_data : MbSyntax → (modes : List NearMode) → Data
-derived_modes_data (i_nxn coded chroma_mode r) modes = array (items_of (map derived_mode_data modes))
+derived_modes_data (i_nxn coded chroma_mode r) modes =
+    array (items_of (map derived_mode_data modes))
 derived_modes_data _ modes = array (items_of [])
 
 -- a vector: its horizontal and its vertical component
@@ -131,7 +139,8 @@ abbrev pub residual_data : BlockFacts → MbSyntax → Data
 residual_data facts p_skip = null
 residual_data facts (i_pcm luma cb cr) = null
 residual_data facts (i_nxn modes chroma_mode r) = all_blocks_data facts null r
-residual_data facts (i_16x16 mode chroma_mode r) = all_blocks_data facts (block_data facts r.luma_dc) r
+residual_data facts (i_16x16 mode chroma_mode r) =
+    all_blocks_data facts (block_data facts r.luma_dc) r
 residual_data facts (p_inter mb_type ref_idx mvd r) = all_blocks_data facts null r
 
 -- ---- lines
@@ -139,13 +148,15 @@ residual_data facts (p_inter mb_type ref_idx mvd r) = all_blocks_data facts null
 -- with the levels of all blocks, where they are asked for
 abbrev pub with_coefficients : (has_coefficients : Bool) → MbSyntax → Members → Members
 with_coefficients has_coefficients syntax members =
-    if has_coefficients then put (codes "coeffLevel") (residual_data CoeffLevel syntax) members else members
+    if has_coefficients then put (codes "coeffLevel") (residual_data CoeffLevel syntax) members
+    else members
 
 -- a macroblock at this place: mbAddr is its address, slice the number of its slice in its picture,
 -- QPY is QP_Y
 abbrev pub macroblock_data : (has_coefficients : Bool) → MacroblockPlace → Mb → Derived → Data
 macroblock_data has_coefficients place mb d =
-    object (with_coefficients has_coefficients mb.syntax (member (codes "Intra4x4PredMode") (derived_modes_data mb.syntax d.modes)
+    object (with_coefficients has_coefficients mb.syntax
+    (member (codes "Intra4x4PredMode") (derived_modes_data mb.syntax d.modes)
     (member (codes "QPY") (count mb.qp)
     (member (codes "coded_block_pattern") (pattern_data mb.syntax)
     (member (codes "intra_chroma_pred_mode") (chroma_mode_data mb.syntax)

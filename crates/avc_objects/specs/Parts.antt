@@ -12,7 +12,8 @@ use Rattle.avc_elements.specs.Names.{type_name}
 use Rattle.avc_elements.specs.Vectors.{vectors_of}
 use Rattle.avc_elements.specs.declared.block_facts.BlockFacts.{BlockFacts}
 use Rattle.avc_elements.specs.declared.block_facts.BlockFacts.TheVariants.{TotalCoeff}
-use Rattle.avc_objects.specs.Json.{block_data, blocks_data, chroma_mode_data, derived_modes_data, modes_data, mvd_data, pattern_data, ref_idx_data}
+use Rattle.avc_objects.specs.Json.{block_data, blocks_data, chroma_mode_data, derived_modes_data}
+use Rattle.avc_objects.specs.Json.{modes_data, mvd_data, pattern_data, ref_idx_data}
 use Rattle.avc_objects.specs.Json.{residual_data, subs_data, vectors_data, with_coefficients}
 use Rattle.avc_objects.specs.JsonLines.{count}
 
@@ -37,7 +38,8 @@ with_type qp syntax members =
 -- its prediction modes, as they are coded and as they follow
 abbrev pub with_modes : MbSyntax → (derived : List NearMode) → Members → Members
 with_modes syntax derived members =
-    put (codes "rem_intra4x4_pred_mode") (modes_data syntax) (put (codes "Intra4x4PredMode") (derived_modes_data syntax derived) members)
+    put (codes "rem_intra4x4_pred_mode") (modes_data syntax)
+    (put (codes "Intra4x4PredMode") (derived_modes_data syntax derived) members)
 
 -- its reference indices and vectors
 abbrev pub with_motion : MbSyntax → List Motion → Members → Members
@@ -56,16 +58,22 @@ with_place kind place members =
 
 -- the name and the number of a fault
 abbrev pub with_fault : Fault → Members → Members
-with_fault fault members = put (codes "number") (count (number_of fault)) (put (codes "name") (string (name_of fault)) members)
+with_fault fault members =
+    put (codes "number") (count (number_of fault))
+    (put (codes "name") (string (name_of fault)) members)
 
 -- that a unit is refused, and why
 abbrev pub with_refused : (unit : ℕ) → Fault → Members → Members
 with_refused unit fault members =
-    with_fault fault (put (codes "unit") (count unit) (put (codes "kind") (string (codes "refused")) members))
+    with_fault fault
+    (put (codes "unit") (count unit) (put (codes "kind") (string (codes "refused")) members))
 
 -- all of a macroblock
-abbrev pub with_macroblock : (has_coefficients : Bool) → MacroblockPlace → Mb → Derived → Members → Members
+abbrev pub with_macroblock : (has_coefficients : Bool) → MacroblockPlace → Mb → Derived → Members →
+    Members
 with_macroblock has_coefficients place mb d members =
     with_coefficients has_coefficients mb.syntax
     (put (codes "total_coeff") (residual_data TotalCoeff mb.syntax)
-    (with_place (codes "macroblock") place (with_motion mb.syntax d.motion (with_modes mb.syntax d.modes (with_type mb.qp mb.syntax members)))))
+    (with_place (codes "macroblock") place
+    (with_motion mb.syntax d.motion
+    (with_modes mb.syntax d.modes (with_type mb.qp mb.syntax members)))))

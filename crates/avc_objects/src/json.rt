@@ -70,7 +70,8 @@ fn add_macroblock_object(
     mb: &Mb,
     derived: &Derived,
 ) -> Result<(), OutOfMemory>
-    ensures { OnOk result (string_bytes text.new ≡ string_bytes text.old ++ line_of_data (macroblock_data has_coefficients place mb.now derived.now)) }
+    ensures { OnOk result (string_bytes text.new ≡ string_bytes text.old
+        ++ line_of_data (macroblock_data has_coefficients place mb.now derived.now)) }
 {
     let value = macroblock_value(alloc, has_coefficients, place, mb.qp, &mb.syntax, derived)?;
     add_value(alloc, text, &value)
@@ -79,7 +80,8 @@ fn add_macroblock_object(
 // Adds a value in a line of its own.
 fn add_value(alloc: Global, text: &mut String, value: &Value) -> Result<(), OutOfMemory>
     requires { has_float (view value.now) ≡ false }
-    ensures { OnOk result (string_bytes text.new ≡ string_bytes text.old ++ line_of_data (view value.now)) }
+    ensures { OnOk result (string_bytes text.new ≡ string_bytes text.old
+        ++ line_of_data (view value.now)) }
 {
     let line = value.to_string(alloc)?;
     text.push_str(&line)?;
@@ -112,7 +114,11 @@ fn macroblock_value(
     syntax: &Syntax,
     derived: &Derived,
 ) -> Result<Value, OutOfMemory>
-    ensures data { IfOk result (λ value. view value ≡ macroblock_data has_coefficients place (record { syntax = syntax_of syntax.now; qp = qp }) derived.now) }
+    ensures data { IfOk result (λ value. view value
+        ≡ macroblock_data has_coefficients place (record {
+          syntax = syntax_of syntax.now;
+          qp = qp;
+        }) derived.now) }
     ensures float { IfOk result (λ value. has_float (view value) ≡ false) }
 {
     let mut map = Map::new(alloc);
@@ -139,7 +145,8 @@ fn put_macroblock(
     derived: &Derived,
 ) -> Result<(), OutOfMemory>
     ensures { OnOk result (members_view map.new.entries
-        ≡ with_macroblock has_coefficients place (record { syntax = syntax_of syntax.now; qp = qp }) derived.now (members_view map.old.entries)) }
+        ≡ with_macroblock has_coefficients place (record { syntax = syntax_of syntax.now; qp = qp })
+        derived.now (members_view map.old.entries)) }
 {
     put_type(map, alloc, qp, syntax)?;
     put_modes(map, alloc, syntax, &derived.modes)?;
@@ -158,7 +165,8 @@ fn put_type(
     qp: u8,
     syntax: &Syntax,
 ) -> Result<(), OutOfMemory>
-    ensures { OnOk result (members_view map.new.entries ≡ with_type qp (syntax_of syntax.now) (members_view map.old.entries)) }
+    ensures { OnOk result (members_view map.new.entries
+        ≡ with_type qp (syntax_of syntax.now) (members_view map.old.entries)) }
 {
     put(map, alloc, "QPY", Value::from(qp))?;
     put(map, alloc, "coded_block_pattern", pattern_value(syntax))?;
@@ -178,7 +186,8 @@ fn put_modes(
     syntax: &Syntax,
     derived_modes: &[NearMode],
 ) -> Result<(), OutOfMemory>
-    ensures { OnOk result (members_view map.new.entries ≡ with_modes (syntax_of syntax.now) derived_modes.now (members_view map.old.entries)) }
+    ensures { OnOk result (members_view map.new.entries
+        ≡ with_modes (syntax_of syntax.now) derived_modes.now (members_view map.old.entries)) }
 {
     let derived = derived_modes_value(alloc, syntax, derived_modes)?;
     put(map, alloc, "Intra4x4PredMode", derived)?;
@@ -194,7 +203,8 @@ fn put_motion(
     syntax: &Syntax,
     motion: &[Motion; 16],
 ) -> Result<(), OutOfMemory>
-    ensures { OnOk result (members_view map.new.entries ≡ with_motion (syntax_of syntax.now) motion.now (members_view map.old.entries)) }
+    ensures { OnOk result (members_view map.new.entries
+        ≡ with_motion (syntax_of syntax.now) motion.now (members_view map.old.entries)) }
 {
     let vectors = vectors_value(alloc, syntax, motion)?;
     put(map, alloc, "mv_l0", vectors)?;
@@ -212,7 +222,8 @@ fn put_place(
     kind: &str,
     place: MacroblockPlace,
 ) -> Result<(), OutOfMemory>
-    ensures { OnOk result (members_view map.new.entries ≡ with_place kind.now place (members_view map.old.entries)) }
+    ensures { OnOk result (members_view map.new.entries
+        ≡ with_place kind.now place (members_view map.old.entries)) }
 {
     let kind = Value::try_from_str(alloc, kind)?;
     put(map, alloc, "kind", kind)?;
@@ -229,7 +240,8 @@ fn put_refused(
     unit: u64,
     fault: Fault,
 ) -> Result<(), OutOfMemory>
-    ensures { OnOk result (members_view map.new.entries ≡ with_refused unit fault (members_view map.old.entries)) }
+    ensures { OnOk result (members_view map.new.entries
+        ≡ with_refused unit fault (members_view map.old.entries)) }
 {
     let kind = Value::try_from_str(alloc, "refused")?;
     put(map, alloc, "kind", kind)?;
@@ -240,7 +252,8 @@ fn put_refused(
 
 // A fault, by its name and its number.
 fn put_fault(map: &mut Map<String, Value>, alloc: Global, fault: Fault) -> Result<(), OutOfMemory>
-    ensures { OnOk result (members_view map.new.entries ≡ with_fault fault (members_view map.old.entries)) }
+    ensures { OnOk result (members_view map.new.entries
+        ≡ with_fault fault (members_view map.old.entries)) }
 {
     let name = Value::try_from_str(alloc, fault.name())?;
     put(map, alloc, "name", name)?;
@@ -255,7 +268,9 @@ fn put_coefficients(
     has_coefficients: bool,
     syntax: &Syntax,
 ) -> Result<(), OutOfMemory>
-    ensures { OnOk result (members_view map.new.entries ≡ with_coefficients has_coefficients (syntax_of syntax.now) (members_view map.old.entries)) }
+    ensures { OnOk result (members_view map.new.entries
+        ≡ with_coefficients has_coefficients (syntax_of syntax.now)
+        (members_view map.old.entries)) }
 {
     if has_coefficients {
         let levels = residual_value(alloc, BlockFacts::CoeffLevel, syntax)?;

@@ -60,7 +60,8 @@ pub(crate) fn derived_modes_value(
     syntax: &Syntax,
     modes: &[NearMode],
 ) -> Result<Value, OutOfMemory>
-    ensures { IfOk result (λ value. view value ≡ derived_modes_data (syntax_of syntax.now) modes.now) }
+    ensures { IfOk result (λ value. view value
+        ≡ derived_modes_data (syntax_of syntax.now) modes.now) }
 {
     match syntax {
         Syntax::INxN { .. } => {
@@ -96,7 +97,8 @@ pub(crate) fn vectors_value(
     syntax: &Syntax,
     motion: &[Motion; 16],
 ) -> Result<Value, OutOfMemory>
-    ensures { IfOk result (λ value. view value ≡ vectors_data (vectors_of (syntax_of syntax.now) motion.now)) }
+    ensures { IfOk result (λ value. view value
+        ≡ vectors_data (vectors_of (syntax_of syntax.now) motion.now)) }
 {
     let vectors = vectors_of(alloc, syntax, motion)?;
     let values = motion_values(alloc, vectors.as_slice())?;
@@ -186,7 +188,8 @@ fn difference_value(alloc: Global, mvd: Mvd) -> Result<Value, OutOfMemory>
 
 // A horizontal and a vertical component.
 fn components_value(alloc: Global, right: i32, down: i32) -> Result<Value, OutOfMemory>
-    ensures { IfOk result (λ value. view value ≡ array (items_of (number (of_integer right) ∷ number (of_integer down) ∷ []))) }
+    ensures { IfOk result (λ value. view value
+        ≡ array (items_of (number (of_integer right) ∷ number (of_integer down) ∷ []))) }
 {
     Ok(json!(in alloc; [right, down])?)
 }
@@ -259,7 +262,8 @@ fn all_blocks_value<const MAXN: usize>(
     luma_dc: Value,
     levels: &BlockLevels<MAXN>,
 ) -> Result<Value, OutOfMemory>
-    ensures { IfOk result (λ value. view value ≡ all_blocks_data facts (view luma_dc) (residual_of [] levels.now)) }
+    ensures { IfOk result (λ value. view value
+        ≡ all_blocks_data facts (view luma_dc) (residual_of [] levels.now)) }
 {
     let mut map = Map::new(alloc);
     put(&mut map, alloc, "luma_dc", luma_dc)?;
@@ -274,7 +278,8 @@ fn put_blocks<const MAXN: usize>(
     facts: BlockFacts,
     levels: &BlockLevels<MAXN>,
 ) -> Result<(), OutOfMemory>
-    ensures { OnOk result (members_view map.new.entries ≡ with_blocks facts (residual_of [] levels.now) (members_view map.old.entries)) }
+    ensures { OnOk result (members_view map.new.entries
+        ≡ with_blocks facts (residual_of [] levels.now) (members_view map.old.entries)) }
 {
     let cb = blocks_value(alloc, facts, &levels.cb_ac)?;
     put(map, alloc, "cb", cb)?;

@@ -1,4 +1,5 @@
--- Picture parameter sets from their bits (7.3.2.2): the elements in their order, each check where its element stands.
+-- Picture parameter sets from their bits (7.3.2.2): the elements in their order, each check where
+-- its element stands.
 use Rattle.std.specs.Prelude.{ℕ, pos, negsuc, not, ◌==◌}
 use Rattle.avc_types.specs.declared.fault.Fault.TheVariants as faults
 use Rattle.avc_bits.specs.Bits.{Read, ◌>>=◌, ◌>>◌, give, check, more}
@@ -14,7 +15,10 @@ abbrev pub default_counts : Read DefaultCounts
 default_counts = do
   num_ref_idx_l0_default_active_minus1 ← ue_to 31
   num_ref_idx_l1_default_active_minus1 ← ue_to 31
-  give (record { num_ref_idx_l0_default_active_minus1 = num_ref_idx_l0_default_active_minus1; num_ref_idx_l1_default_active_minus1 = num_ref_idx_l1_default_active_minus1 })
+  give (record {
+    num_ref_idx_l0_default_active_minus1 = num_ref_idx_l0_default_active_minus1;
+    num_ref_idx_l1_default_active_minus1 = num_ref_idx_l1_default_active_minus1;
+  })
 
 -- weighted_pred_flag to chroma_qp_index_offset, in their ranges at 8 bits (7.3.2.2, 7.4.2.2)
 abbrev pub quantisation : Read Quantisation

@@ -1,5 +1,5 @@
--- What the RBSP of a parameter set says (7.3.2.1, 7.3.2.2), and which id it has. The bits that are left before the stop bit
--- don't matter (this decoder's rule).
+-- What the RBSP of a parameter set says (7.3.2.1, 7.3.2.2), and which id it has. The bits that are
+-- left before the stop bit don't matter (this decoder's rule).
 use Rattle.std.specs.Prelude.{ℕ, List, Option, Some, None, Result, Ok, Err}
 use Rattle.std.specs.Option.{option_map}
 use Rattle.avc_bits.specs.Bits.{Bits, Read, start}

@@ -1,4 +1,5 @@
--- Sequence parameter sets from their bits (7.3.2.1.1): the elements in their order, each check where its element stands.
+-- Sequence parameter sets from their bits (7.3.2.1.1): the elements in their order, each check
+-- where its element stands.
 use Rattle.std.specs.Prelude.{ℕ, ◌+◌, ◌*◌, true, false, ◌==◌, ◌&&◌, ◌||◌, nat_le, nat_lt, is_some}
 use Rattle.avc_types.specs.declared.fault.Fault.TheVariants as faults
 use Rattle.avc_bits.specs.Bits.{Read, ◌>>=◌, ◌>>◌, give, check, times}
@@ -63,12 +64,16 @@ cycle = do
   offset_for_top_to_bottom_field ← se
   num_ref_frames_in_pic_order_cnt_cycle ← ue_to 255
   offset_for_ref_frame ← times num_ref_frames_in_pic_order_cnt_cycle se
-  give (orders.Type1 delta_pic_order_always_zero_flag offset_for_non_ref_pic offset_for_top_to_bottom_field offset_for_ref_frame)
+  give (orders.Type1 delta_pic_order_always_zero_flag offset_for_non_ref_pic
+      offset_for_top_to_bottom_field offset_for_ref_frame)
 
 -- what follows pic_order_cnt_type (7.3.2.1.1)
 abbrev pub order_count_of : ℕ → Read OrderCount
 order_count_of kind =
-    elim (kind == 0) [ true ↦ lsb | false ↦ elim (kind == 1) [ true ↦ cycle | false ↦ give orders.Type2 ] ]
+    elim (kind == 0) [
+      | true ↦ lsb
+      | false ↦ elim (kind == 1) [ true ↦ cycle | false ↦ give orders.Type2 ]
+    ]
 
 -- pic_order_cnt_type, 0 to 2, and what follows it (7.3.2.1.1, 7.4.2.1.1)
 abbrev pub order_count : Read OrderCount
@@ -81,8 +86,13 @@ size = do
   pic_width_in_mbs_minus1 ← ue
   check (nat_lt pic_width_in_mbs_minus1 max_side) faults.PictureSize
   pic_height_in_map_units_minus1 ← ue
-  check (nat_lt pic_height_in_map_units_minus1 max_side && nat_le ((pic_width_in_mbs_minus1 + 1) * (pic_height_in_map_units_minus1 + 1)) max_macroblocks) faults.PictureSize
-  give (record { pic_width_in_mbs_minus1 = pic_width_in_mbs_minus1; pic_height_in_map_units_minus1 = pic_height_in_map_units_minus1 })
+  check (nat_lt pic_height_in_map_units_minus1 max_side
+      && nat_le ((pic_width_in_mbs_minus1 + 1) * (pic_height_in_map_units_minus1 + 1))
+      max_macroblocks) faults.PictureSize
+  give (record {
+    pic_width_in_mbs_minus1 = pic_width_in_mbs_minus1;
+    pic_height_in_map_units_minus1 = pic_height_in_map_units_minus1;
+  })
 
 -- The four offsets, of a picture of so many luma samples, of which some have to be left (7.3.2.1.1,
 -- 7.4.2.1.1).
@@ -94,14 +104,20 @@ cropping width height = do
   top ← ue
   bottom ← ue
   check (nat_lt (2 * (top + bottom)) height) faults.OutOfRange
-  give (record { frame_crop_left_offset = left; frame_crop_right_offset = right; frame_crop_top_offset = top; frame_crop_bottom_offset = bottom })
+  give (record {
+    frame_crop_left_offset = left;
+    frame_crop_right_offset = right;
+    frame_crop_top_offset = top;
+    frame_crop_bottom_offset = bottom;
+  })
 
 -- what follows the id (7.3.2.1.1); that other profiles, levels and interlaced coding are
 -- refused is this decoder's rule
 abbrev pub sps_after : Identity → Read Sps
 sps_after head = do
   check (head.profile_idc == 66 || head.profile_idc == 77 || head.profile_idc == 88) faults.Profile
-  check (is_some (max_dpb_mbs head.level_idc head.constraint_flags.constraint_set3_flag)) faults.Level
+  check (is_some (max_dpb_mbs head.level_idc head.constraint_flags.constraint_set3_flag))
+      faults.Level
   log2_max_frame_num_minus4 ← ue_to 12
   order ← order_count
   max_num_ref_frames ← ue_to 16
@@ -110,7 +126,9 @@ sps_after head = do
   frame_mbs_only_flag ← flag
   check frame_mbs_only_flag faults.Interlaced
   direct_8x8_inference_flag ← flag
-  frame_cropping ← optional (cropping (16 * (mbs.pic_width_in_mbs_minus1 + 1)) (16 * (mbs.pic_height_in_map_units_minus1 + 1)))
+  frame_cropping ← optional
+      (cropping (16 * (mbs.pic_width_in_mbs_minus1 + 1))
+      (16 * (mbs.pic_height_in_map_units_minus1 + 1)))
   usability ← optional vui
   give (record {
     profile_idc = head.profile_idc;

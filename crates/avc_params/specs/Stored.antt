@@ -10,6 +10,7 @@ abbrev pub stored : {A : Type 0} → List (Option A) → ℕ → Option A
 stored sets id = slice_index_or sets id None
 
 -- The two tables say of each id which set is in force.
-pub record Keeps (units : List SetUnit) (sps : List (Option Sps)) (pps : List (Option Pps)) : Type 0 where
+pub record Keeps (units : List SetUnit) (sps : List (Option Sps))
+    (pps : List (Option Pps)) : Type 0 where
   pub sequence : (id : ℕ) → stored sps id ≡ sps_in_force units id
   pub picture : (id : ℕ) → stored pps id ≡ pps_in_force units id

@@ -1,5 +1,6 @@
 -- How pictures are meant to be shown, by their sequence parameter set (E.2.1).
-use Rattle.std.specs.Prelude.{ℕ, ◌==◌, Bool, false, if◌then◌else◌, Option, Some, None, option_and_then}
+use Rattle.std.specs.Prelude.{ℕ, ◌==◌, Bool, false, if◌then◌else◌, Option, Some, None}
+use Rattle.std.specs.Prelude.{option_and_then}
 use Rattle.std.specs.Option.{option_map}
 use Rattle.avc_types.specs.PictureInfos.{unspecified}
 use Rattle.avc_types.specs.declared.picture_info.VideoUsability.{VideoUsability}
@@ -68,11 +69,14 @@ usability_of s =
     record {
       sar_width = shape.sar_width;
       sar_height = shape.sar_height;
-      video_full_range_flag = or_inferred false (λ v. v.video_full_range_flag) (in_vui (λ v. v.video_signal) s);
+      video_full_range_flag =
+          or_inferred false (λ v. v.video_full_range_flag) (in_vui (λ v. v.video_signal) s);
       colour_primaries = or_inferred 2 (λ c. c.colour_primaries) (colour_in s);
       transfer_characteristics = or_inferred 2 (λ c. c.transfer_characteristics) (colour_in s);
       matrix_coefficients = or_inferred 2 (λ c. c.matrix_coefficients) (colour_in s);
-      chroma_sample_loc_type = or_inferred 0 (λ l. l.chroma_sample_loc_type_top_field) (in_vui (λ v. v.chroma_location) s);
+      chroma_sample_loc_type =
+          or_inferred 0 (λ l. l.chroma_sample_loc_type_top_field)
+          (in_vui (λ v. v.chroma_location) s);
       num_units_in_tick = or_inferred 0 (λ t. t.num_units_in_tick) (in_vui (λ v. v.timing) s);
       time_scale = or_inferred 0 (λ t. t.time_scale) (in_vui (λ v. v.timing) s);
       max_num_reorder_frames = option_map (λ r. r.max_num_reorder_frames) (restriction_of s);

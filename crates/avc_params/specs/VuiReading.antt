@@ -20,7 +20,11 @@ hrd_entry = do
   bit_rate_value_minus1 ← ue
   cpb_size_value_minus1 ← ue
   cbr_flag ← flag
-  give (record { bit_rate_value_minus1 = bit_rate_value_minus1; cpb_size_value_minus1 = cpb_size_value_minus1; cbr_flag = cbr_flag })
+  give (record {
+    bit_rate_value_minus1 = bit_rate_value_minus1;
+    cpb_size_value_minus1 = cpb_size_value_minus1;
+    cbr_flag = cbr_flag;
+  })
 
 -- hrd_parameters; cpb_cnt_minus1 is 0 to 31 (E.1.2, E.2.2)
 abbrev pub hrd : Read Hrd
@@ -63,7 +67,11 @@ colour = do
   colour_primaries ← u 8
   transfer_characteristics ← u 8
   matrix_coefficients ← u 8
-  give (record { colour_primaries = colour_primaries; transfer_characteristics = transfer_characteristics; matrix_coefficients = matrix_coefficients })
+  give (record {
+    colour_primaries = colour_primaries;
+    transfer_characteristics = transfer_characteristics;
+    matrix_coefficients = matrix_coefficients;
+  })
 
 -- video_format to the colour description (E.1.1)
 abbrev pub video_signal : Read VideoSignal
@@ -71,14 +79,21 @@ video_signal = do
   video_format ← u 3
   video_full_range_flag ← flag
   described ← optional colour
-  give (record { video_format = video_format; video_full_range_flag = video_full_range_flag; colour = described })
+  give (record {
+    video_format = video_format;
+    video_full_range_flag = video_full_range_flag;
+    colour = described;
+  })
 
 -- chroma_sample_loc_type_top_field and chroma_sample_loc_type_bottom_field (E.1.1)
 abbrev pub chroma_location : Read ChromaLocation
 chroma_location = do
   top ← ue
   bottom ← ue
-  give (record { chroma_sample_loc_type_top_field = top; chroma_sample_loc_type_bottom_field = bottom })
+  give (record {
+    chroma_sample_loc_type_top_field = top;
+    chroma_sample_loc_type_bottom_field = bottom;
+  })
 
 -- num_units_in_tick to fixed_frame_rate_flag (E.1.1)
 abbrev pub timing : Read Timing
@@ -86,7 +101,11 @@ timing = do
   num_units_in_tick ← u 32
   time_scale ← u 32
   fixed_frame_rate_flag ← flag
-  give (record { num_units_in_tick = num_units_in_tick; time_scale = time_scale; fixed_frame_rate_flag = fixed_frame_rate_flag })
+  give (record {
+    num_units_in_tick = num_units_in_tick;
+    time_scale = time_scale;
+    fixed_frame_rate_flag = fixed_frame_rate_flag;
+  })
 
 -- motion_vectors_over_pic_boundaries_flag to max_dec_frame_buffering (E.1.1)
 abbrev pub restriction : Read Restriction

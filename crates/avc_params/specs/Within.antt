@@ -1,6 +1,8 @@
 -- What each accepted parameter set keeps to.
-use Rattle.std.specs.Prelude.{◌≡◌, ℕ, ◌+◌, ◌*◌, ◌<◌, ◌≤◌, pos, negsuc, ◌≤ℤ◌, List, length, Some, IfSome, IsSome, Ok}
-use Rattle.avc_params.specs.Limits.{max_dpb_mbs, max_macroblocks, max_side, width_in_mbs, height_in_mbs, size_in_mbs}
+use Rattle.std.specs.Prelude.{◌≡◌, ℕ, ◌+◌, ◌*◌, ◌<◌, ◌≤◌, pos, negsuc, ◌≤ℤ◌, List, length, Some}
+use Rattle.std.specs.Prelude.{IfSome, IsSome, Ok}
+use Rattle.avc_params.specs.Limits.{max_dpb_mbs, max_macroblocks, max_side, width_in_mbs}
+use Rattle.avc_params.specs.Limits.{height_in_mbs, size_in_mbs}
 use Rattle.avc_params.specs.Reading.{pps_of, sps_of}
 use Rattle.avc_params.specs.Tables.{pps_in_force, sps_in_force}
 use Rattle.avc_params.specs.declared.pps.Pps.{Pps}
@@ -12,8 +14,10 @@ use Rattle.avc_params.specs.declared.sps.Sps.{Sps}
 
 -- log2_max_pic_order_cnt_lsb_minus4 is at most 12, and a cycle has at most 255 frames (7.4.2.1.1)
 abbrev pub IsOrderCount : OrderCount → Type 0
-IsOrderCount (orders.Type0 log2_max_pic_order_cnt_lsb_minus4) = log2_max_pic_order_cnt_lsb_minus4 ≤ 12
-IsOrderCount (orders.Type1 always_zero non_ref top_to_bottom offset_for_ref_frame) = length offset_for_ref_frame ≤ 255
+IsOrderCount (orders.Type0 log2_max_pic_order_cnt_lsb_minus4) =
+    log2_max_pic_order_cnt_lsb_minus4 ≤ 12
+IsOrderCount (orders.Type1 always_zero non_ref top_to_bottom offset_for_ref_frame) =
+    length offset_for_ref_frame ≤ 255
 IsOrderCount orders.Type2 = Unit {0}
 
 -- Of a picture of this size in luma samples some samples are left.
@@ -68,8 +72,12 @@ PpsKeepsLimits = (rbsp : List ℕ) (pps : Pps) → pps_of rbsp ≡ Ok pps → Is
 
 -- and each sequence parameter set in force,
 abbrev pub SpsInForceKeepsLimits : Type 0
-SpsInForceKeepsLimits = (units : List SetUnit) (id : ℕ) (sps : Sps) → sps_in_force units id ≡ Some sps → SpsIsInForce id sps
+SpsInForceKeepsLimits =
+    (units : List SetUnit) (id : ℕ) (sps : Sps) → sps_in_force units id ≡ Some sps →
+    SpsIsInForce id sps
 
 -- and each picture parameter set in force.
 abbrev pub PpsInForceKeepsLimits : Type 0
-PpsInForceKeepsLimits = (units : List SetUnit) (id : ℕ) (pps : Pps) → pps_in_force units id ≡ Some pps → PpsIsInForce id pps
+PpsInForceKeepsLimits =
+    (units : List SetUnit) (id : ℕ) (pps : Pps) → pps_in_force units id ≡ Some pps →
+    PpsIsInForce id pps

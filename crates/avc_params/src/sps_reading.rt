@@ -172,7 +172,8 @@ fn read_frame_cropping(reader: &mut BitReader, size: Size) -> Result<Option<Crop
     requires width { size.pic_width_in_mbs_minus1 < max_side }
     requires height { size.pic_height_in_map_units_minus1 < max_side }
     ensures read { Reads result
-        (optional (cropping (16 * (size.pic_width_in_mbs_minus1 + 1)) (16 * (size.pic_height_in_map_units_minus1 + 1)))) reader.old reader.new }
+        (optional (cropping (16 * (size.pic_width_in_mbs_minus1 + 1))
+        (16 * (size.pic_height_in_map_units_minus1 + 1)))) reader.old reader.new }
 {
     if !reader.flag()? {
         return Ok(None);

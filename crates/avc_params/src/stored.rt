@@ -22,7 +22,8 @@ fn make_room<T: Drop>(sets: &mut Vec<Option<T>>, id: usize) -> Result<(), OutOfM
 
 /// Keeps the set under its id, in place of the one that is there.
 pub(crate) fn put<T: Drop>(sets: &mut Vec<Option<T>>, id: u8, set: T) -> Result<(), OutOfMemory>
-    ensures ok { OnOk result ((k : ℕ) → stored sets.new.items k ≡ (if is_id k (Some id) then Some set else stored sets.old.items k)) }
+    ensures ok { OnOk result ((k : ℕ) → stored sets.new.items k
+        ≡ (if is_id k (Some id) then Some set else stored sets.old.items k)) }
     ensures err { OnErr result ((k : ℕ) → stored sets.new.items k ≡ stored sets.old.items k) }
 {
     let place = usize::from(id);
@@ -33,7 +34,8 @@ pub(crate) fn put<T: Drop>(sets: &mut Vec<Option<T>>, id: u8, set: T) -> Result<
 
 /// Forgets the set of this id.
 pub(crate) fn erase<T: Drop>(sets: &mut Vec<Option<T>>, id: Option<u8>)
-    ensures { (k : ℕ) → stored sets.new.items k ≡ (if is_id k id then None else stored sets.old.items k) }
+    ensures { (k : ℕ) → stored sets.new.items k
+        ≡ (if is_id k id then None else stored sets.old.items k) }
 {
     if let Some(id) = id {
         let place = usize::from(id);

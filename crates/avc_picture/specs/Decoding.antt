@@ -1,10 +1,12 @@
 -- What a picture decoder stands for, and how it answers.
-use Rattle.std.specs.Prelude.{◌≡◌, ℕ, Bool, true, false, List, [], ◌∷◌, map, Option, Some, None, Result, Ok, Err}
+use Rattle.std.specs.Prelude.{◌≡◌, ℕ, Bool, true, false, List, [], ◌∷◌, map, Option, Some, None}
+use Rattle.std.specs.Prelude.{Result, Ok, Err}
 use Rattle.std.specs.Option.{option_map}
 use Rattle.avc_types.specs.declared.fault.Fault.{Fault}
 use Rattle.avc_types.specs.declared.fault.Fault.TheVariants.{MissingMacroblocks}
 use Rattle.avc_types.specs.declared.picture_error.PictureError.{PictureError}
-use Rattle.avc_types.specs.declared.picture_error.PictureError.TheVariants.{Fault as Faulty, OutOfMemory}
+use Rattle.avc_types.specs.declared.picture_error.PictureError.TheVariants.{Fault as Faulty}
+use Rattle.avc_types.specs.declared.picture_error.PictureError.TheVariants.{OutOfMemory}
 use Rattle.avc_types.specs.References.{StandAt}
 use Rattle.avc_params.specs.declared.sps.Sps.{Sps}
 use Rattle.avc_params.specs.declared.pps.Pps.{Pps}
@@ -53,19 +55,25 @@ HasNoFault d = (indices : List ℕ) → CanStandAt indices d → (progress_at in
 
 -- One slice more was refused with this fault: it is the first fault in the slices so far, and it
 -- stands in this slice where none was in those before.
-pub record Refuses {PAD : ℕ} (old : Decoding PAD) (s : Slice) (f : Fault) (new : Decoding PAD) : Type 0 where
-  pub fault : (indices : List ℕ) → CanStandAt indices new → option_map (λ found. found.1) (progress_at indices new).fault ≡ Some f
-  pub unit : HasNoFault old → (indices : List ℕ) → CanStandAt indices new → (progress_at indices new).fault ≡ Some (s.unit, f)
+pub record Refuses {PAD : ℕ} (old : Decoding PAD) (s : Slice) (f : Fault)
+    (new : Decoding PAD) : Type 0 where
+  pub fault : (indices : List ℕ) → CanStandAt indices new →
+      option_map (λ found. found.1) (progress_at indices new).fault ≡ Some f
+  pub unit : HasNoFault old → (indices : List ℕ) → CanStandAt indices new →
+      (progress_at indices new).fault ≡ Some (s.unit, f)
 
 -- From `old`, one slice more may be answered so and leave `new`. No memory is wanted.
-abbrev pub IsSliceAnswer : {PAD : ℕ} → Decoding PAD → Slice → Result (Unit {0}) PictureError → (new : Decoding PAD) → Type 0
+abbrev pub IsSliceAnswer : {PAD : ℕ} → Decoding PAD → Slice → Result (Unit {0}) PictureError →
+    (new : Decoding PAD) → Type 0
 IsSliceAnswer old s (Ok done) new = (new ≡ with_slice_more s old) × HasNoFault new
 IsSliceAnswer old s (Err (Faulty f)) new = (new ≡ with_slice_more s old) × Refuses old s f new
 IsSliceAnswer old s (Err (OutOfMemory _)) new = ⊥
 
 -- The next expected address is the number of macroblocks.
 abbrev pub IsFull : {PAD : ℕ} → (full : Bool) → Decoding PAD → Type 0
-IsFull full d = (indices : List ℕ) → CanStandAt indices d → is_full (start_at indices d) (progress_at indices d) ≡ full
+IsFull full d =
+    (indices : List ℕ) → CanStandAt indices d → is_full (start_at indices d) (progress_at indices d)
+    ≡ full
 
 -- so many macroblocks have been read, up to the first fault
 abbrev pub HasRead : {PAD : ℕ} → (count : ℕ) → Decoding PAD → Type 0
@@ -80,12 +88,17 @@ fault_at_end None false = Some MissingMacroblocks
 
 -- the fault of a picture that is to be closed now: of its slices, or that macroblocks are missing
 abbrev pub end_fault : {PAD : ℕ} → List ℕ → Decoding PAD → Option Fault
-end_fault indices d = fault_at_end (progress_at indices d).fault (is_full (start_at indices d) (progress_at indices d))
+end_fault indices d =
+    fault_at_end (progress_at indices d).fault
+    (is_full (start_at indices d) (progress_at indices d))
 
 -- The picture, or why there is none. No memory is wanted.
-abbrev pub IsFinishAnswer : {PAD : ℕ} → Decoding PAD → Result (PaddedPlanes PAD) PictureError → Type 0
+abbrev pub IsFinishAnswer : {PAD : ℕ} → Decoding PAD → Result (PaddedPlanes PAD) PictureError →
+    Type 0
 IsFinishAnswer d (Ok planes) =
     ((indices : List ℕ) → CanStandAt indices d → end_fault indices d ≡ None)
-    × ((indices : List ℕ) → CanStandAt indices d → padded_planes_of planes ≡ planes_after_slices (start_at indices d) d.slices)
-IsFinishAnswer d (Err (Faulty f)) = (indices : List ℕ) → CanStandAt indices d → end_fault indices d ≡ Some f
+    × ((indices : List ℕ) → CanStandAt indices d → padded_planes_of planes
+    ≡ planes_after_slices (start_at indices d) d.slices)
+IsFinishAnswer d (Err (Faulty f)) =
+    (indices : List ℕ) → CanStandAt indices d → end_fault indices d ≡ Some f
 IsFinishAnswer d (Err (OutOfMemory _)) = ⊥

@@ -1,5 +1,7 @@
 -- The three rows of macroblocks whose info is kept for the deblocking filter.
-use Rattle.std.specs.Prelude.{◌≡◌, ℕ, ◌+◌, ◌-◌, ◌*◌, ◌/◌, ◌<◌, ◌≤◌, nat_le, nat_lt, Bool, ◌&&◌, if◌then◌else◌, List, ◌++◌, ◌∷◌, [], length, Option, None, slice_get, slice_index_or}
+use Rattle.std.specs.Prelude.{◌≡◌, ℕ, ◌+◌, ◌-◌, ◌*◌, ◌/◌, ◌<◌, ◌≤◌, nat_le, nat_lt, Bool, ◌&&◌}
+use Rattle.std.specs.Prelude.{if◌then◌else◌, List, ◌++◌, ◌∷◌, [], length, Option, None, slice_get}
+use Rattle.std.specs.Prelude.{slice_index_or}
 use Rattle.avc_types.specs.Macroblock.{Mb}
 use Rattle.avc_neigh.specs.declared.neighbour_info.Motion.{Motion}
 use Rattle.avc_deblock.specs.declared.mb_info.MbInfo.{MbInfo}
@@ -10,11 +12,13 @@ use Rattle.avc_picture.specs.declared.slice_context.SliceContext.{SliceContext}
 -- the first n entries of `kept` are the info from this address on
 abbrev pub AreFrom : (info : List MbInfo) → (address n : ℕ) → (kept : List MbInfo) → Type 0
 AreFrom info address n kept =
-    (k : ℕ) (other : MbInfo) → k < n → slice_index_or kept k other ≡ slice_index_or info (address + k) other
+    (k : ℕ) (other : MbInfo) → k < n → slice_index_or kept k other
+    ≡ slice_index_or info (address + k) other
 
 -- Of all info so far that is kept of the row of the macroblock that comes next, which is in this
 -- column and row, and of the two rows above it.
-pub record AreLastRows (info : List MbInfo) (width column row : ℕ) (current last above : List MbInfo) : Type 0 where
+pub record AreLastRows (info : List MbInfo) (width column row : ℕ)
+    (current last above : List MbInfo) : Type 0 where
   pub narrow : column < width
   pub count : length info ≡ row * width + column
   pub current_long : length current ≡ width
@@ -31,14 +35,16 @@ is_in_last_rows width n address = nat_le ((n / width - 2) * width) address && na
 
 -- the info of macroblock `address`, where it is in those rows
 abbrev pub kept_info : (width : ℕ) → (info : List MbInfo) → (address : ℕ) → Option MbInfo
-kept_info width info address = if is_in_last_rows width (length info) address then slice_get info address else None
+kept_info width info address =
+    if is_in_last_rows width (length info) address then slice_get info address else None
 
 -- with the info of one macroblock more
 abbrev pub with_info_more : FilterInfo → MbInfo → FilterInfo
 with_info_more old f = record { width = old.width; info = old.info ++ f ∷ [] }
 
 -- The info of a macroblock of the slice with this motion is added.
-pub record AddsInfo {PAD : ℕ} (mb : Mb) (motion : List Motion) (s : SliceContext PAD) (old new : FilterInfo) : Type 0 where
+pub record AddsInfo {PAD : ℕ} (mb : Mb) (motion : List Motion) (s : SliceContext PAD)
+    (old new : FilterInfo) : Type 0 where
   pub info : MbInfo
   pub told : IsFilterInfo mb motion s info
   pub new_is : new ≡ with_info_more old info

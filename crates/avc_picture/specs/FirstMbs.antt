@@ -1,5 +1,7 @@
--- The first macroblocks of a picture as they are decoded one after another, whatever macroblocks and slices come behind them.
-use Rattle.std.specs.Prelude.{◌≡◌, ℕ, ◌≤◌, ◌<◌, true, List, ◌++◌, length, map, Some, None, Result, Ok, Err, slice_index_or}
+-- The first macroblocks of a picture as they are decoded one after another, whatever macroblocks
+-- and slices come behind them.
+use Rattle.std.specs.Prelude.{◌≡◌, ℕ, ◌≤◌, ◌<◌, true, List, ◌++◌, length, map, Some, None, Result}
+use Rattle.std.specs.Prelude.{Ok, Err, slice_index_or}
 use Rattle.avc_types.specs.declared.fault.Fault.{Fault}
 use Rattle.avc_types.specs.Pictures.{Coded, PicMb, SliceInfo, Frame}
 use Rattle.avc_params.specs.declared.sps.Sps.{Sps}
@@ -93,12 +95,15 @@ pub record HasNumber (c : Coded) (names : Names) (slice r number : ℕ) : Type 0
 pub record IsSlice {PAD : ℕ} (c : Coded) (names : Names) (s : SliceContext PAD) : Type 0 where
   pub references : AreReferences c s.number s.references
   -- of each reference index that names a picture
-  pub numbers : (r : ℕ) → is_picture (frame_named c s.number r) ≡ true → HasNumber c names s.number r (slice_index_or s.frame_numbers r 0)
+  pub numbers : (r : ℕ) → is_picture (frame_named c s.number r) ≡ true →
+      HasNumber c names s.number r (slice_index_or s.frame_numbers r 0)
   pub edges : s.filtered_edges ≡ (slice_info c s.number).disable_deblocking_filter_idc
   pub offset_a : s.offset_a ≡ (slice_info c s.number).filter_offset_a
   pub offset_b : s.offset_b ≡ (slice_info c s.number).filter_offset_b
 
 -- One macroblock more was decoded, or refused by the first of its faults.
-abbrev pub IsDecoded : Coded → Names → (address : ℕ) → Result (Unit {0}) Fault → (new : MbsState) → Type 0
-IsDecoded c names address (Ok done) new = (macroblock_fault c address ≡ None) × HoldsFirst c names new
+abbrev pub IsDecoded : Coded → Names → (address : ℕ) → Result (Unit {0}) Fault → (new : MbsState) →
+    Type 0
+IsDecoded c names address (Ok done) new =
+    (macroblock_fault c address ≡ None) × HoldsFirst c names new
 IsDecoded c names address (Err f) new = macroblock_fault c address ≡ Some f

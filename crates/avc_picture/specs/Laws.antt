@@ -11,5 +11,7 @@ use Rattle.avc_picture.specs.Sizes.{IsSized}
 -- macroblocks are built on: each is built from samples of those before it.
 abbrev pub PicturesComeFromTheirMacroblocks : Type 0
 PicturesComeFromTheirMacroblocks =
-    (c : Coded) (s : Planes) → 0 < c.width → length c.mbs ≡ c.width * c.height → IsSized c.width c.height s
-    → built_on c (modes_before c (length c.mbs)) (motion_before c (length c.mbs)) 0 s c.mbs ≡ built c
+    (c : Coded) (s : Planes) → 0 < c.width → length c.mbs ≡ c.width * c.height →
+    IsSized c.width c.height s
+    → built_on c (modes_before c (length c.mbs)) (motion_before c (length c.mbs)) 0 s c.mbs
+    ≡ built c

@@ -25,7 +25,12 @@ pub record PartsAgree (m : MbsState) : Type 0 where
 
 -- what the fields keep of the macroblocks so far
 abbrev pub state_of : {PAD : ℕ} → Inside PAD → MbsState
-state_of m = record { canvas = with_planes m.canvas (planes_of m.planes); row = m.row; filter_info = m.filter_rows.info; next = m.next }
+state_of m = record {
+  canvas = with_planes m.canvas (planes_of m.planes);
+  row = m.row;
+  filter_info = m.filter_rows.info;
+  next = m.next;
+}
 
 -- the planes and the rows of the filter are of the canvas's size
 pub record AgreesWithCanvas {PAD : ℕ} (m : Inside PAD) : Type 0 where

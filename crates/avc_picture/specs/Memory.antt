@@ -50,8 +50,10 @@ pub record LosesNone (width height : ℕ) (old new : MemoryState) : Type 0 where
 
 -- A picture of this size was to begin: it uses planes that were left over or new ones, and where
 -- memory is refused, all that is left over of its size stays.
-abbrev pub TakesMemory : {P : Type 0} → (width height : ℕ) → MemoryState → Result P OutOfMemory → MemoryState → Type 0
-TakesMemory width height old (Ok picture) new = AreTaken 0 width height old new ⊎ AreTaken 1 width height old new
+abbrev pub TakesMemory : {P : Type 0} → (width height : ℕ) → MemoryState → Result P OutOfMemory →
+    MemoryState → Type 0
+TakesMemory width height old (Ok picture) new =
+    AreTaken 0 width height old new ⊎ AreTaken 1 width height old new
 TakesMemory width height old (Err refusal) new = LosesNone width height old new
 
 -- A picture of this size is over and became no frame: all that it was decoded in is left over.
@@ -61,6 +63,7 @@ pub record LeavesAll (width height : ℕ) (old new : MemoryState) : Type 0 where
 
 -- A picture of this size was closed: its rows of info are left over, and its planes too where it
 -- became no frame.
-abbrev pub LeavesMemory : {PAD : ℕ} → (width height : ℕ) → MemoryState → Result (PaddedPlanes PAD) PictureError → MemoryState → Type 0
+abbrev pub LeavesMemory : {PAD : ℕ} → (width height : ℕ) → MemoryState →
+    Result (PaddedPlanes PAD) PictureError → MemoryState → Type 0
 LeavesMemory width height old (Ok planes) new = new ≡ with_info width old
 LeavesMemory width height old (Err error) new = LeavesAll width height old new

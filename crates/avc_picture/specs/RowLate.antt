@@ -1,7 +1,7 @@
--- A picture's planes while it is decoded: a row of macroblocks is filtered as soon as the row below it is built, ITU-T H.264 clause 8.7.
--- The filter goes through the macroblocks in the order of their addresses, so through one row after
--- another, and the macroblocks of a row are predicted from what stands above it before deblocking
--- (8.3).
+-- A picture's planes while it is decoded: a row of macroblocks is filtered as soon as the row below
+-- it is built, ITU-T H.264 clause 8.7. The filter goes through the macroblocks in the order of
+-- their addresses, so through one row after another, and the macroblocks of a row are predicted
+-- from what stands above it before deblocking (8.3).
 use Rattle.std.specs.Prelude.{◌≡◌, ℕ, zero, suc, ◌+◌, ◌-◌, ◌*◌, ◌/◌, ℤ, List, length, take}
 use Rattle.avc_types.specs.Pictures.{Coded}
 use Rattle.avc_neigh.specs.Modes.{modes_before}
@@ -20,7 +20,8 @@ first_built c s n = built_on c (modes_before c n) (motion_before c n) 0 s (take 
 -- another (8.7)
 abbrev pub rows_filtered : Coded → (rows : ℕ) → Planes → Planes
 rows_filtered c zero s = s
-rows_filtered c (suc row) s = all_filtered c (motion_before c (length c.mbs)) (rows_filtered c row s) (row_lines c row)
+rows_filtered c (suc row) s =
+    all_filtered c (motion_before c (length c.mbs)) (rows_filtered c row s) (row_lines c row)
 
 -- how many rows are filtered of a picture of this width whose first n macroblocks are decoded: the
 -- whole ones but the last
@@ -50,4 +51,5 @@ pub record AreInfoOf (c : Coded) (names : Names) (offset : ℤ) (f : FilterInfo)
 
 -- Of planes in which so many rows are filtered, so many are filtered then.
 abbrev pub FiltersUpTo : Coded → (before after : ℕ) → (old new : Planes) → Type 0
-FiltersUpTo c before after old new = (s : Planes) → old ≡ rows_filtered c before s → new ≡ rows_filtered c after s
+FiltersUpTo c before after old new =
+    (s : Planes) → old ≡ rows_filtered c before s → new ≡ rows_filtered c after s

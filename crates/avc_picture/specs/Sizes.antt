@@ -21,4 +21,5 @@ pub record IsSized (width height : ℕ) (planes : Planes) : Type 0 where
 -- Whatever its slices are, a picture has the size of its sequence parameter set.
 abbrev pub PicturesAreSized : Type 0
 PicturesAreSized =
-    (p : PictureStart) (slices : List Slice) → IsSized (width_in_mbs p.sps) (height_in_mbs p.sps) (planes_after_slices p slices)
+    (p : PictureStart) (slices : List Slice) →
+    IsSized (width_in_mbs p.sps) (height_in_mbs p.sps) (planes_after_slices p slices)

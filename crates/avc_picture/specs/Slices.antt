@@ -1,5 +1,7 @@
 -- The slices of one picture, in the order of checks.
-use Rattle.std.specs.Prelude.{ℕ, zero, suc, ◌+◌, pos, ◌+ℤ◌, nat_abs, Bool, true, false, ◌==◌, nat_lt, if◌then◌else◌, List, [], ◌∷◌, ◌++◌, length, map, Option, Some, None, Result, Ok, Err}
+use Rattle.std.specs.Prelude.{ℕ, zero, suc, ◌+◌, pos, ◌+ℤ◌, nat_abs, Bool, true, false, ◌==◌}
+use Rattle.std.specs.Prelude.{nat_lt, if◌then◌else◌, List, [], ◌∷◌, ◌++◌, length, map, Option, Some}
+use Rattle.std.specs.Prelude.{None, Result, Ok, Err}
 use Rattle.std.specs.Option.{option_map}
 use Rattle.std.specs.List.{find}
 use Rattle.avc_types.specs.declared.current_frame_num.CurrentFrameNum.{CurrentFrameNum}
@@ -63,7 +65,11 @@ frame_of p r = record {
 -- the fields, and what is inferred where they are not coded (7.4.3)
 abbrev pub deblocking_of : Option Deblocking → Deblocking
 deblocking_of (Some d) = d
-deblocking_of None = record { disable_deblocking_filter_idc = All; slice_alpha_c0_offset_div2 = pos 0; slice_beta_offset_div2 = pos 0 }
+deblocking_of None = record {
+  disable_deblocking_filter_idc = All;
+  slice_alpha_c0_offset_div2 = pos 0;
+  slice_beta_offset_div2 = pos 0;
+}
 
 -- the modifications; none where ref_pic_list_modification_flag_l0 is 0 (7.3.3.1)
 abbrev pub or_empty : Option (List Modification) → List Modification
@@ -78,7 +84,8 @@ current_of p h = record { frame_num = h.frame_num; max_frame_num = max_frame_num
 abbrev pub list_of : PictureStart → Header → Result (List (Option Reference)) Fault
 list_of p h =
     elim (is_p h) [
-      | true ↦ reference_list (current_of p h) h.num_ref_idx_active (or_empty h.modifications) (references_in p)
+      | true ↦ reference_list (current_of p h) h.num_ref_idx_active (or_empty h.modifications)
+          (references_in p)
       | false ↦ Ok []
     ]
 
@@ -139,7 +146,10 @@ coded_of p progress = record {
 abbrev pub first_mb_fault : Coded → (a n : ℕ) → Option (ℕ × Fault)
 first_mb_fault c a zero = None
 first_mb_fault c a (suc n) =
-    elim (macroblock_fault c a) [ Some f ↦ Some (1, f) | None ↦ option_map (λ found. (found.0 + 1, found.1)) (first_mb_fault c (a + 1) n) ]
+    elim (macroblock_fault c a) [
+      | Some f ↦ Some (1, f)
+      | None ↦ option_map (λ found. (found.0 + 1, found.1)) (first_mb_fault c (a + 1) n)
+    ]
 
 -- the first fault, with the slice's unit (this decoder's rule)
 abbrev pub refused : Progress → (unit : ℕ) → Fault → Progress
@@ -168,20 +178,27 @@ read_whole s before info ms = record {
 -- to it, itself included, count as read (this decoder's rule)
 abbrev pub with_first_fault : Slice → (before whole : Progress) → Option (ℕ × Fault) → Progress
 with_first_fault s before whole None = whole
-with_first_fault s before whole (Some found) = record whole { fault = Some (s.unit, found.1); read = before.read + found.0 }
+with_first_fault s before whole (Some found) = record whole {
+  fault = Some (s.unit, found.1);
+  read = before.read + found.0;
+}
 
 -- The slice's data has been read: its faults are those of its macroblocks, lowest address first,
 -- and then its own (this decoder's rule).
-abbrev pub with_slice_data : PictureStart → Slice → (before : Progress) → SliceInfo → SliceMbs → Progress
+abbrev pub with_slice_data : PictureStart → Slice → (before : Progress) → SliceInfo → SliceMbs →
+    Progress
 with_slice_data p s before info ms =
     let whole = read_whole s before info ms in
-    with_first_fault s before whole (first_mb_fault (coded_of p whole) (length before.mbs) (length ms.mbs))
+    with_first_fault s before whole
+    (first_mb_fault (coded_of p whole) (length before.mbs) (length ms.mbs))
 
 -- its list, then its macroblocks (the order is this decoder's rule)
-abbrev pub with_reference_list : PictureStart → Slice → Progress → Result (List (Option Reference)) Fault → Progress
+abbrev pub with_reference_list : PictureStart → Slice → Progress →
+    Result (List (Option Reference)) Fault → Progress
 with_reference_list p s before (Err f) = refused before s.unit f
 with_reference_list p s before (Ok list) =
-    with_slice_data p s before (info_of p s.header list) (slice_data (start_of p s.header (length before.slices)) before.mbs (data_of s))
+    with_slice_data p s before (info_of p s.header list)
+    (slice_data (start_of p s.header (length before.slices)) before.mbs (data_of s))
 
 -- One slice more where there is no fault yet: its first address, its list, its macroblocks. It has
 -- to go on where the slice before it ended, in a picture's first slice at 0 (this decoder's rule).

@@ -1,4 +1,5 @@
-//! What neighbours are told of the macroblock that is decoded, which is written once for all that stand still one after another.
+//! What neighbours are told of the macroblock that is decoded, which is written once for all that
+//! stand still one after another.
 
 ghost use Rattle.std.specs.Prelude.{◌≡◌, true, OnOk};
 ghost use Rattle.avc_types.specs.Macroblock.{p_skip};
@@ -105,9 +106,13 @@ impl CurrentInfo {
         constrained_intra_pred: bool,
     ) -> Result<(), Fault>
         requires { HasRems mb.now.syntax }
-        ensures motion { HasMotion (info_of neighbours.now) mb.now.syntax (result_map (λ _. self.new.motion) result) }
-        ensures one { has_one_motion mb.now.syntax ≡ true → OnOk result (AreOfOneMotion self.new.motion) }
-        ensures told { OnOk result (IsNeighbourInfo slice (info_of neighbours.now) constrained_intra_pred mb.now self.new) }
+        ensures motion { HasMotion (info_of neighbours.now) mb.now.syntax
+            (result_map (λ _. self.new.motion) result) }
+        ensures one { has_one_motion mb.now.syntax ≡ true →
+            OnOk result (AreOfOneMotion self.new.motion) }
+        ensures told { OnOk result
+            (IsNeighbourInfo slice (info_of neighbours.now) constrained_intra_pred mb.now
+            self.new) }
     {
         if is_skipped(mb) && stands_still(neighbours) {
             self.set_still(slice);

@@ -11,9 +11,9 @@ use avc_neigh::TotalCoeffs;
 use avc_types::{Fault, Mb, Syntax};
 use std::marker::Model;
 
-/// The macroblock that was read last. Skipped macroblocks are read into one place and all others into
-/// another, since what is written where one kind follows the other is large. A contract sees the
-/// macroblock alone.
+/// The macroblock that was read last. Skipped macroblocks are read into one place and all others
+/// into another, since what is written where one kind follows the other is large. A contract sees
+/// the macroblock alone.
 #[derive(Drop)]
 pub(crate) struct CurrentMacroblock {
     skipped: Mb,
@@ -60,11 +60,12 @@ impl CurrentMacroblock {
         }
     }
 
-    /// Reads the next macroblock of the data where it is one of a run of skipped ones that was read.
-    /// Answers whether it is; if not, nothing was read.
+    /// Reads the next macroblock of the data where it is one of a run of skipped ones that was
+    /// read. Answers whether it is; if not, nothing was read.
     #[inline]
     pub(crate) fn read_skipped(&mut self, unread: &mut SliceData<'_>) -> bool
-        ensures skipped { result ≡ true → (s : SliceStart) (before : List PicMb) → Follows s before unread.old
+        ensures skipped { result ≡ true → (s : SliceStart) (before : List PicMb) →
+            Follows s before unread.old
             → IsHandedOut s before (Ok (Some self.new)) unread.old unread.new }
         ensures other { result ≡ false → unread.new ≡ unread.old }
     {
@@ -81,8 +82,10 @@ impl CurrentMacroblock {
         left: Option<&TotalCoeffs>,
         up: Option<&TotalCoeffs>,
     ) -> Result<bool, Fault>
-        ensures { (s : SliceStart) (before : List PicMb) → Follows s before unread.old → option_copied left.entry ≡ left_total_coeffs s before
-            → option_copied up.entry ≡ up_total_coeffs s before → IsHandedOut s before (handed_out result self.new) unread.old unread.new }
+        ensures { (s : SliceStart) (before : List PicMb) → Follows s before unread.old →
+            option_copied left.entry ≡ left_total_coeffs s before
+            → option_copied up.entry ≡ up_total_coeffs s before →
+            IsHandedOut s before (handed_out result self.new) unread.old unread.new }
     {
         self.is_skipped = false;
         unread.next(left, up, &mut self.other)

@@ -48,9 +48,15 @@ impl<const PAD: usize> Model for PictureDecoder<PAD> {
 
     ghost Value = { Decoding PAD };
 
-    ghost view = { λ d. record { sps = d.sps; pps = d.pps; frames = d.frames.items; slices = d.slices.items } };
+    ghost view = { λ d. record {
+      sps = d.sps;
+      pps = d.pps;
+      frames = d.frames.items;
+      slices = d.slices.items;
+    } };
 
-    ghost invariant = { λ d. IsDecoderState d.sps d.pps d.frames.items d.slices.items d.slice_count d.read d.fault d.macroblocks };
+    ghost invariant = { λ d. IsDecoderState d.sps d.pps d.frames.items d.slices.items d.slice_count d.read d.fault
+        d.macroblocks };
 }
 
 /// The number of the slice behind one with this number, in which the picture went from `before`
@@ -79,8 +85,10 @@ impl<const PAD: usize> PictureDecoder<PAD> {
         requires pps { IsPps pps.now }
         requires frames { AreFramesOf sps.now frames.now }
         ensures begun { IfOk result (λ d. d ≡ no_slice_yet sps.now pps.now frames.now) }
-        ensures memory { HasMemoryFor (width_in_mbs sps.now) (height_in_mbs sps.now) memory.old → IsOk result }
-        ensures kept { TakesMemory (width_in_mbs sps.now) (height_in_mbs sps.now) memory.old result memory.new }
+        ensures memory { HasMemoryFor (width_in_mbs sps.now) (height_in_mbs sps.now) memory.old →
+            IsOk result }
+        ensures kept { TakesMemory (width_in_mbs sps.now) (height_in_mbs sps.now) memory.old result
+            memory.new }
     {
         let macroblocks = Macroblocks::new(alloc, sps, pps, memory)?;
         Ok(PictureDecoder {
@@ -192,8 +200,11 @@ impl<const PAD: usize> PictureDecoder<PAD> {
     /// memory, and never wants any.
     pub fn finish(self, memory: &mut PictureMemory<PAD>) -> Result<PaddedPlanes<PAD>, PictureError>
         ensures answer { IsFinishAnswer self.entry result }
-        ensures sized { IfOk result (λ planes. AreSized (width_in_mbs self.entry.sps) (height_in_mbs self.entry.sps) (padded_planes_of planes)) }
-        ensures memory { LeavesMemory (width_in_mbs self.entry.sps) (height_in_mbs self.entry.sps) memory.old result memory.new }
+        ensures sized { IfOk result
+            (λ planes. AreSized (width_in_mbs self.entry.sps) (height_in_mbs self.entry.sps)
+            (padded_planes_of planes)) }
+        ensures memory { LeavesMemory (width_in_mbs self.entry.sps) (height_in_mbs self.entry.sps)
+            memory.old result memory.new }
     {
         if let Some(fault) = self.fault {
             self.macroblocks.discard(memory);
@@ -208,7 +219,8 @@ impl<const PAD: usize> PictureDecoder<PAD> {
 
     /// Gives the memory of a picture back that is refused.
     pub fn discard(self, memory: &mut PictureMemory<PAD>)
-        ensures { LeavesAll (width_in_mbs self.entry.sps) (height_in_mbs self.entry.sps) memory.old memory.new }
+        ensures { LeavesAll (width_in_mbs self.entry.sps) (height_in_mbs self.entry.sps) memory.old
+            memory.new }
     {
         self.macroblocks.discard(memory);
     }

@@ -80,7 +80,8 @@ fn frame_number(motion: Motion, frame_numbers: &[u8; 16]) -> u8
 
 /// Writes it for each quarter of a macroblock.
 fn set_pictures(pictures: &mut [u8; 4], motion: &[Motion; 16], frame_numbers: &[u8; 16])
-    ensures { (q : ℕ) → q < 4 → slice_index pictures.new q ≡ number_of frame_numbers.now (slice_index_or motion.now (4 * q) absent) }
+    ensures { (q : ℕ) → q < 4 → slice_index pictures.new q
+        ≡ number_of frame_numbers.now (slice_index_or motion.now (4 * q) absent) }
 {
     for q in 0..4 {
         pictures[q] = frame_number(motion[4 * q], frame_numbers);
@@ -121,7 +122,8 @@ fn set_motion(
     frame_numbers: &[u8; 16],
 )
     requires { has_one_motion ≡ true → motions.AreOfOneMotion motion.now }
-    ensures pictures { (q : ℕ) → q < 4 → slice_index pictures.new q ≡ number_of frame_numbers.now (slice_index_or motion.now (4 * q) absent) }
+    ensures pictures { (q : ℕ) → q < 4 → slice_index pictures.new q
+        ≡ number_of frame_numbers.now (slice_index_or motion.now (4 * q) absent) }
     ensures vectors { vectors.new ≡ map motions.vector_of motion.now }
     ensures blocks { length motion.now ≡ 16 }
 {
@@ -142,7 +144,8 @@ pub(crate) fn set_filter_info<const PAD: usize>(
     slice: &SliceContext<'_, PAD>,
 )
     requires total_coeffs { neighbour_info.now.total_coeffs ≡ total_coeffs_of mb.now.syntax }
-    requires one { motions.has_one_motion mb.now.syntax ≡ true → motions.AreOfOneMotion neighbour_info.now.motion }
+    requires one { motions.has_one_motion mb.now.syntax ≡ true →
+        motions.AreOfOneMotion neighbour_info.now.motion }
     ensures info { IsFilterInfo mb.now neighbour_info.now.motion slice.now info.new }
     ensures blocks { length neighbour_info.now.motion ≡ 16 }
 {

@@ -1,6 +1,7 @@
 //! The deblocking filter one row late, and what it asks of the last rows of macroblocks (8.7).
 
-ghost use Rattle.std.specs.Prelude.{◌≡◌, ℕ, suc, ◌+◌, ◌-◌, ◌/◌, ◌%◌, ◌^◌, ◌<◌, true, [], length, IfOk};
+ghost use Rattle.std.specs.Prelude.{◌≡◌, ℕ, suc, ◌+◌, ◌-◌, ◌/◌, ◌%◌, ◌^◌, ◌<◌, true, [], length};
+ghost use Rattle.std.specs.Prelude.{IfOk};
 ghost use Rattle.avc_types.specs.Pictures.{Coded};
 ghost use Rattle.avc_plane.specs.Frames.{planes_of, AreSized};
 ghost use Rattle.avc_deblock.specs.FilterInfo.{Names};
@@ -68,7 +69,8 @@ impl Model for FilterRows {
 
     ghost view = { λ r. record { width = r.width; info = r.info.items } };
 
-    ghost invariant = { λ r. AreLastRows r.info.items r.width r.column r.row r.current.items r.last.items r.above.items };
+    ghost invariant = { λ r. AreLastRows r.info.items r.width r.column r.row r.current.items r.last.items
+        r.above.items };
 }
 
 impl FilterRows {
@@ -141,10 +143,14 @@ impl FilterRows {
         planes: &mut Planes<PAD>,
         chroma_qp_index_offset: i8,
     )
-        requires room { (column : ℕ) → column < self.now.width → HasRoom column (length self.now.info / self.now.width - 1) (planes_of planes.old) }
-        ensures sized { (width height : ℕ) → AreSized width height (planes_of planes.old) → AreSized width height (planes_of planes.new) }
-        ensures lines { (c : Coded) (names : Names) → AreInfoOf c names chroma_qp_index_offset self.now
-            → FiltersUpTo c (filtered_rows self.now.width (length self.now.info)) (length self.now.info / self.now.width)
+        requires room { (column : ℕ) → column < self.now.width →
+            HasRoom column (length self.now.info / self.now.width - 1) (planes_of planes.old) }
+        ensures sized { (width height : ℕ) → AreSized width height (planes_of planes.old) →
+            AreSized width height (planes_of planes.new) }
+        ensures lines { (c : Coded) (names : Names) →
+            AreInfoOf c names chroma_qp_index_offset self.now
+            → FiltersUpTo c (filtered_rows self.now.width (length self.now.info))
+            (length self.now.info / self.now.width)
             (planes_of planes.old) (planes_of planes.new) }
     {
         if self.row > 0 {
@@ -165,12 +171,17 @@ impl FilterRows {
         planes: &mut Planes<PAD>,
         chroma_qp_index_offset: i8,
     )
-        requires room { (column : ℕ) → column < self.now.width → HasRoom column (length self.now.info / self.now.width - 1) (planes_of planes.old) }
-        ensures sized { (width height : ℕ) → AreSized width height (planes_of planes.old) → AreSized width height (planes_of planes.new) }
-        ensures lines { (c : Coded) (names : Names) → AreInfoOf c names chroma_qp_index_offset self.now
+        requires room { (column : ℕ) → column < self.now.width →
+            HasRoom column (length self.now.info / self.now.width - 1) (planes_of planes.old) }
+        ensures sized { (width height : ℕ) → AreSized width height (planes_of planes.old) →
+            AreSized width height (planes_of planes.new) }
+        ensures lines { (c : Coded) (names : Names) →
+            AreInfoOf c names chroma_qp_index_offset self.now
             → FiltersUpTo c (filtered_rows self.now.width (length self.now.info))
-            (filtered_rows self.now.width (suc (length self.now.info))) (planes_of planes.old) (planes_of planes.new) }
-        ensures inside { 0 < suc (length self.now.info) % self.now.width → planes_of planes.new ≡ planes_of planes.old }
+            (filtered_rows self.now.width (suc (length self.now.info))) (planes_of planes.old)
+            (planes_of planes.new) }
+        ensures inside { 0 < suc (length self.now.info) % self.now.width → planes_of planes.new
+            ≡ planes_of planes.old }
     {
         if self.column + 1 == self.width {
             self.filter_last_row(planes, chroma_qp_index_offset);
@@ -186,7 +197,8 @@ impl FilterRows {
     )
         requires small { length self.old.info < 2 ^ 32 }
         requires total_coeffs { neighbour_info.now.total_coeffs ≡ total_coeffs_of mb.now.syntax }
-        requires one { has_one_motion mb.now.syntax ≡ true → AreOfOneMotion neighbour_info.now.motion }
+        requires one { has_one_motion mb.now.syntax ≡ true →
+            AreOfOneMotion neighbour_info.now.motion }
         ensures info { AddsInfo mb.now neighbour_info.now.motion slice.now self.old self.new }
         ensures blocks { length neighbour_info.now.motion ≡ 16 }
     {

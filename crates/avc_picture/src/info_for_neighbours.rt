@@ -70,8 +70,10 @@ fn set_modes(
     constrained_intra_pred: bool,
 )
     requires { HasRems mb.now.syntax }
-    ensures modes { AreModes (info_of neighbours.now) constrained_intra_pred mb.now.syntax modes.new }
-    ensures within { HasModes (option_copied neighbours.now.a) → HasModes (option_copied neighbours.now.b) → All IsMode modes.new }
+    ensures modes { AreModes (info_of neighbours.now) constrained_intra_pred mb.now.syntax
+        modes.new }
+    ensures within { HasModes (option_copied neighbours.now.a) →
+        HasModes (option_copied neighbours.now.b) → All IsMode modes.new }
 {
     match &mb.syntax {
         Syntax::PSkip | Syntax::PInter { .. } => *modes = [NearMode::Inter; 16],
@@ -94,9 +96,12 @@ pub(crate) fn set_neighbour_info(
     constrained_intra_pred: bool,
 ) -> Result<(), Fault>
     requires { HasRems mb.now.syntax }
-    ensures motion { HasMotion (info_of neighbours.now) mb.now.syntax (result_map (λ _. info.new.motion) result) }
-    ensures one { has_one_motion mb.now.syntax ≡ true → OnOk result (AreOfOneMotion info.new.motion) }
-    ensures told { OnOk result (IsNeighbourInfo slice (info_of neighbours.now) constrained_intra_pred mb.now info.new) }
+    ensures motion { HasMotion (info_of neighbours.now) mb.now.syntax
+        (result_map (λ _. info.new.motion) result) }
+    ensures one { has_one_motion mb.now.syntax ≡ true →
+        OnOk result (AreOfOneMotion info.new.motion) }
+    ensures told { OnOk result
+        (IsNeighbourInfo slice (info_of neighbours.now) constrained_intra_pred mb.now info.new) }
 {
     motion(mb, neighbours, &mut info.motion)?;
     info.slice = slice;

@@ -117,12 +117,15 @@ impl<const PAD: usize> Macroblocks<PAD> {
         requires padding { PAD < 2 ^ 29 }
         requires sps { IsSps sps.now }
         requires pps { IsPps pps.now }
-        ensures holds { IfOk result (λ m. (c : Coded) (names : Names) → HasSets sps.now pps.now c → HoldsFirst c names m) }
+        ensures holds { IfOk result (λ m. (c : Coded) (names : Names) → HasSets sps.now pps.now c →
+            HoldsFirst c names m) }
         ensures next { IfOk result (λ m. m.next ≡ 0) }
         ensures width { IfOk result (λ m. m.canvas.width ≡ width_in_mbs sps.now) }
         ensures height { IfOk result (λ m. m.canvas.height ≡ height_in_mbs sps.now) }
-        ensures memory { HasMemoryFor (width_in_mbs sps.now) (height_in_mbs sps.now) memory.old → IsOk result }
-        ensures kept { TakesMemory (width_in_mbs sps.now) (height_in_mbs sps.now) memory.old result memory.new }
+        ensures memory { HasMemoryFor (width_in_mbs sps.now) (height_in_mbs sps.now) memory.old →
+            IsOk result }
+        ensures kept { TakesMemory (width_in_mbs sps.now) (height_in_mbs sps.now) memory.old result
+            memory.new }
     {
         let columns = sps.width_in_mbs();
         let width = columns as usize;
@@ -156,9 +159,11 @@ impl<const PAD: usize> Macroblocks<PAD> {
     /// total_coeff of the blocks of the macroblocks to the left of the next one and above it, where
     /// these are available to this slice (9.2.1).
     pub(crate) fn left_and_above(&self, slice: u32) -> (Option<&TotalCoeffs>, Option<&TotalCoeffs>)
-        ensures left { (c : Coded) (names : Names) (s : SliceStart) → HoldsFirst c names self.now → s.width ≡ c.width → s.slice ≡ slice
+        ensures left { (c : Coded) (names : Names) (s : SliceStart) → HoldsFirst c names self.now →
+            s.width ≡ c.width → s.slice ≡ slice
             → option_copied result.0 ≡ left_total_coeffs s (take self.now.next c.mbs) }
-        ensures up { (c : Coded) (names : Names) (s : SliceStart) → HoldsFirst c names self.now → s.width ≡ c.width → s.slice ≡ slice
+        ensures up { (c : Coded) (names : Names) (s : SliceStart) → HoldsFirst c names self.now →
+            s.width ≡ c.width → s.slice ≡ slice
             → option_copied result.1 ≡ up_total_coeffs s (take self.now.next c.mbs) }
     {
         let around = self.row.around(slice);
@@ -182,13 +187,18 @@ impl<const PAD: usize> Macroblocks<PAD> {
     ) -> Result<(), Fault>
         requires room { self.old.next < self.old.canvas.width * self.old.canvas.height }
         requires mb { IsRead mb.now }
-        requires references { AreUsable self.old.canvas.width self.old.canvas.height slice.now.references }
-        requires copied { AreCopiedFrom slice.now.references self.old.canvas.width self.old.next run.old.copied self.old.canvas.planes }
+        requires references { AreUsable self.old.canvas.width self.old.canvas.height
+            slice.now.references }
+        requires copied { AreCopiedFrom slice.now.references self.old.canvas.width self.old.next
+            run.old.copied self.old.canvas.planes }
         ensures size { HasSameSize self.old self.new }
         ensures next { OnOk result (self.new.next ≡ suc self.old.next) }
-        ensures copied { OnOk result (AreCopiedFrom slice.now.references self.new.canvas.width self.new.next run.new.copied self.new.canvas.planes) }
+        ensures copied { OnOk result
+            (AreCopiedFrom slice.now.references self.new.canvas.width self.new.next run.new.copied
+            self.new.canvas.planes) }
         ensures decoded { (c : Coded) (names : Names) → HoldsFirst c names self.old
-            → slice_get c.mbs self.old.next ≡ Some (record { slice = slice.now.number; mb = mb.now })
+            → slice_get c.mbs self.old.next
+            ≡ Some (record { slice = slice.now.number; mb = mb.now })
             → IsSlice c names slice.now → IsDecoded c names self.old.next result self.new }
     {
         let sources = sources(self.row.around(slice.number), &slice.references);
@@ -218,7 +228,8 @@ impl<const PAD: usize> Macroblocks<PAD> {
         requires row { y < size_of component * self.now.canvas.height }
         requires built { covering_address self.now.canvas.width component x y < self.now.next }
         ensures { (c : Coded) (names : Names) → HoldsFirst c names self.now
-            → result ≡ samples_of (row_late c (empty_planes c.width c.height) self.now.next) component x y }
+            → result ≡ samples_of (row_late c (empty_planes c.width c.height) self.now.next)
+            component x y }
     {
         sample_of(&self.planes, component, x, y)
     }
@@ -226,7 +237,8 @@ impl<const PAD: usize> Macroblocks<PAD> {
     /// What the filter is told of the macroblock with this address, where that is kept: of those so
     /// far in the row of the macroblock that comes next, and in the two rows above that.
     pub(crate) fn filter_info(&self, address: usize) -> Option<&MbInfo>
-        ensures info { option_copied result ≡ kept_info self.now.canvas.width self.now.filter_info address }
+        ensures info { option_copied result
+            ≡ kept_info self.now.canvas.width self.now.filter_info address }
         ensures count { length self.now.filter_info ≡ self.now.next }
     {
         self.filter_rows.info(address)
@@ -237,7 +249,8 @@ impl<const PAD: usize> Macroblocks<PAD> {
         ensures luma { HasSamples result.luma }
         ensures cb { HasSamples result.cb }
         ensures cr { HasSamples result.cr }
-        ensures samples { (c : Coded) (names : Names) → HoldsFirst c names self.entry → self.entry.next ≡ length c.mbs
+        ensures samples { (c : Coded) (names : Names) → HoldsFirst c names self.entry →
+            self.entry.next ≡ length c.mbs
             → length c.mbs ≡ c.width * c.height → planes_of result ≡ deblocked c }
         ensures memory { memory.new ≡ with_info self.entry.canvas.width memory.old }
     {

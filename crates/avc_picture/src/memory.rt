@@ -29,7 +29,10 @@ impl FactRows {
     fn new(alloc: Global, width: u32) -> Result<Self, OutOfMemory>
         requires { 0 < width }
         ensures row { IfOk result (λ info. info.row ≡ no_info width) }
-        ensures filter_rows { IfOk result (λ info. info.filter_rows ≡ record { width = width; info = [] }) }
+        ensures filter_rows { IfOk result (λ info. info.filter_rows ≡ record {
+          width = width;
+          info = [];
+        }) }
     {
         Ok(FactRows {
             row: Row::new(alloc, width)?,
@@ -63,7 +66,10 @@ impl<const PAD: usize> Model for PictureMemory<PAD> {
 
     ghost Value = { MemoryState };
 
-    ghost view = { λ m. record { planes = m.planes; info_width = option_map (λ f. f.row.width) m.info } };
+    ghost view = { λ m. record {
+      planes = m.planes;
+      info_width = option_map (λ f. f.row.width) m.info;
+    } };
 }
 
 impl<const PAD: usize> PictureMemory<PAD> {
@@ -118,9 +124,12 @@ impl<const PAD: usize> PictureMemory<PAD> {
         requires narrow { 16 * width + 2 * PAD < 2 ^ 31 }
         requires low { 16 * height + 2 * PAD < 2 ^ 31 }
         ensures sized { IfOk result (λ planes. AreSized width height (planes_of planes)) }
-        ensures open_ones { HasOpen width height self.old.planes → IsOkAnd result (λ planes. Some (planes_of planes) ≡ self.old.planes.open_planes) }
-        ensures had { IfOk result (λ planes. AreHad width height self.old.planes self.new.planes (planes_of planes)) }
-        ensures stay { OnErr result (left_over width height self.new.planes ≡ left_over width height self.old.planes) }
+        ensures open_ones { HasOpen width height self.old.planes →
+            IsOkAnd result (λ planes. Some (planes_of planes) ≡ self.old.planes.open_planes) }
+        ensures had { IfOk result
+            (λ planes. AreHad width height self.old.planes self.new.planes (planes_of planes)) }
+        ensures stay { OnErr result (left_over width height self.new.planes
+            ≡ left_over width height self.old.planes) }
         ensures info { self.new.info_width ≡ self.old.info_width }
     {
         Planes::of_size(alloc, width, height, &mut self.planes)
@@ -130,7 +139,10 @@ impl<const PAD: usize> PictureMemory<PAD> {
     pub(crate) fn info(&mut self, alloc: Global, width: u32) -> Result<FactRows, OutOfMemory>
         requires { 0 < width }
         ensures row { IfOk result (λ info. info.row ≡ no_info width) }
-        ensures filter_rows { IfOk result (λ info. info.filter_rows ≡ record { width = width; info = [] }) }
+        ensures filter_rows { IfOk result (λ info. info.filter_rows ≡ record {
+          width = width;
+          info = [];
+        }) }
         ensures memory { self.old.info_width ≡ Some width → IsOk result }
         ensures taken { self.new ≡ without_info self.old }
     {

@@ -59,7 +59,10 @@ fn p_list<const PAD: usize>(
     requires frames { length frames.now ≤ 16 }
     ensures within { IfOk result (AreEntriesIn (map marked_frame frames.now)) }
     ensures list { NamesFrames (map marked_frame frames.now) each_entry
-        (lists.reference_list (record { frame_num = header.now.frame_num; max_frame_num = max_frame_num sps.now }) header.now.num_ref_idx_active
+        (lists.reference_list (record {
+          frame_num = header.now.frame_num;
+          max_frame_num = max_frame_num sps.now;
+        }) header.now.num_ref_idx_active
         (or_empty header.now.modifications)) result }
 {
     let marked = marked_frames(frames);
@@ -74,7 +77,8 @@ fn p_list<const PAD: usize>(
 /// The entries of a list, and empty ones behind them.
 fn places_of(list: &ReferenceList) -> Places
     ensures long { length result ≡ 16 }
-    ensures each { (r : ℕ) → r < 16 → slice_index_or result r None ≡ unwrap_or (slice_get list.now r) None }
+    ensures each { (r : ℕ) → r < 16 → slice_index_or result r None
+        ≡ unwrap_or (slice_get list.now r) None }
 {
     let mut places = [None; MAX_ENTRIES];
     for r in 0..MAX_ENTRIES {

@@ -41,8 +41,8 @@ fn read_macroblock_row<const PAD: usize>(planes: &PaddedPlanes<PAD>, row: usize)
 }
 
 /// Where a row of so many macroblocks begins at this place, reads the row below it in the picture
-/// that reference index 0 names: the rows above that were read ahead before. Where macroblocks stand
-/// still, rows are copied from left to right anyway. Answers something of what was read.
+/// that reference index 0 names: the rows above that were read ahead before. Where macroblocks
+/// stand still, rows are copied from left to right anyway. Answers something of what was read.
 #[inline(always)]
 pub(crate) fn read_ahead<const PAD: usize>(
     place: MbPlace,

@@ -43,7 +43,8 @@ fn picture_at<'a, const PAD: usize>(
     place: Option<usize>,
 ) -> Option<ReferencePicture<'a, PAD>>
     requires within { IfSome place (λ k. k < length frames.now) }
-    requires weights { IfSome header.now.pred_weight_table (IsPredWeightTable header.now.num_ref_idx_active) }
+    requires weights { IfSome header.now.pred_weight_table
+        (IsPredWeightTable header.now.num_ref_idx_active) }
     ensures { IsPictureAt frames.now header.now reference_index place result }
 {
     let place = place?;
@@ -63,7 +64,8 @@ fn pictures<'a, const PAD: usize>(
     places: &Places,
 ) -> [Option<ReferencePicture<'a, PAD>>; 16]
     requires within { ArePlacesIn frames.now places.now }
-    requires weights { IfSome header.now.pred_weight_table (IsPredWeightTable header.now.num_ref_idx_active) }
+    requires weights { IfSome header.now.pred_weight_table
+        (IsPredWeightTable header.now.num_ref_idx_active) }
     ensures long { length result ≡ 16 }
     ensures each { ArePicturesAt frames.now header.now 16 places.now result }
 {
@@ -88,7 +90,8 @@ fn number_of(place: Option<usize>) -> u8
 /// The places of a list as numbers of frames.
 fn numbers(places: &Places) -> [u8; 16]
     requires { All (λ entry. IfSome entry (λ k. k < 16)) places.now }
-    ensures { (r : ℕ) → r < 16 → slice_index_or result r 0 ≡ unwrap_or (slice_index_or places.now r None) 0 }
+    ensures { (r : ℕ) → r < 16 → slice_index_or result r 0
+        ≡ unwrap_or (slice_index_or places.now r None) 0 }
 {
     let mut numbers = [0; 16];
     for r in 0..16 {
@@ -136,7 +139,8 @@ impl<'a, const PAD: usize> SliceContext<'a, PAD> {
         requires few { length frames.now ≤ 16 }
         requires within { ArePlacesIn frames.now places.now }
         requires deblocking { IfSome header.now.deblocking IsDeblocking }
-        requires weights { IfSome header.now.pred_weight_table (IsPredWeightTable header.now.num_ref_idx_active) }
+        requires weights { IfSome header.now.pred_weight_table
+            (IsPredWeightTable header.now.num_ref_idx_active) }
         ensures { IsContextAt number frames.now header.now places.now result }
     {
         let deblocking = deblocking(header);

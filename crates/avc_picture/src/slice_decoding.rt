@@ -58,7 +58,8 @@ fn slice_data<'a>(sps: &Sps, pps: &Pps, slice: &'a Slice, read: u32) -> SliceDat
     requires header { IsHeader sps.now pps.now slice.now.rbsp slice.now.header }
     requires within { read ≤ size_in_mbs sps.now }
     ensures { (frames : List StoredFrame) (number : ℕ) (before : List PicMb) → length before ≡ read
-        → IsDataOf (start_of (record { sps = sps.now; pps = pps.now; frames = frames }) slice.now.header number) before (data_of slice.now) result }
+        → IsDataOf (start_of (record { sps = sps.now; pps = pps.now; frames = frames })
+        slice.now.header number) before (data_of slice.now) result }
 {
     SliceData::new(
         BitReader::at(slice.rbsp.as_slice(), slice.header.position),
@@ -78,9 +79,11 @@ fn next_macroblock<const PAD: usize>(
     number: u32,
     current: &mut CurrentMacroblock,
 ) -> Result<bool, Fault>
-    ensures { (c : Coded) (names : Names) (s : SliceStart) → HoldsFirst c names macroblocks.now → s.width ≡ c.width → s.slice ≡ number
+    ensures { (c : Coded) (names : Names) (s : SliceStart) → HoldsFirst c names macroblocks.now →
+        s.width ≡ c.width → s.slice ≡ number
         → Follows s (take macroblocks.now.next c.mbs) unread.old
-        → IsHandedOut s (take macroblocks.now.next c.mbs) (handed_out result current.new) unread.old unread.new }
+        → IsHandedOut s (take macroblocks.now.next c.mbs) (handed_out result current.new) unread.old
+        unread.new }
 {
     unread.begin_run()?;
     if current.read_skipped(unread) {
@@ -91,8 +94,9 @@ fn next_macroblock<const PAD: usize>(
 }
 
 /// Decodes the macroblocks of a slice, and counts in `read` those that are read, a faulty one
-/// included. Answers the first fault. Anything may stand in `current`, which is where they are read,
-/// and in `info`, which is where the info of each is written. `run` has those that were copied ahead.
+/// included. Answers the first fault. Anything may stand in `current`, which is where they are
+/// read, and in `info`, which is where the info of each is written. `run` has those that were
+/// copied ahead.
 fn decode_data<const PAD: usize>(
     unread: &mut SliceData<'_>,
     context: &SliceContext<'_, PAD>,
@@ -103,15 +107,20 @@ fn decode_data<const PAD: usize>(
     run: &mut StillRun,
 ) -> Result<(), Fault>
     requires some { CanGoOn macroblocks.old unread.old context.now }
-    requires usable { AreUsable macroblocks.old.canvas.width macroblocks.old.canvas.height context.now.references }
-    requires copied { AreCopiedFrom context.now.references macroblocks.old.canvas.width macroblocks.old.next run.old.copied macroblocks.old.canvas.planes }
+    requires usable { AreUsable macroblocks.old.canvas.width macroblocks.old.canvas.height
+        context.now.references }
+    requires copied { AreCopiedFrom context.now.references macroblocks.old.canvas.width
+        macroblocks.old.next run.old.copied macroblocks.old.canvas.planes }
     requires read { macroblocks.old.next ≡ read.old }
     requires within { read.old ≤ macroblocks.old.canvas.width * macroblocks.old.canvas.height }
-    requires small { macroblocks.old.canvas.width * macroblocks.old.canvas.height ≤ max_macroblocks }
+    requires small { macroblocks.old.canvas.width * macroblocks.old.canvas.height
+        ≤ max_macroblocks }
     ensures size { HasSameSize macroblocks.old macroblocks.new }
     ensures within { read.new ≤ macroblocks.old.canvas.width * macroblocks.old.canvas.height }
-    ensures answer { (c : Coded) (names : Names) (s : SliceStart) → GoesOn c names s macroblocks.old unread.old context.now
-        → IsDataAnswer c names macroblocks.old.next (outcome_from c s macroblocks.old unread.old) result read.new macroblocks.new }
+    ensures answer { (c : Coded) (names : Names) (s : SliceStart) →
+        GoesOn c names s macroblocks.old unread.old context.now
+        → IsDataAnswer c names macroblocks.old.next (outcome_from c s macroblocks.old unread.old)
+        result read.new macroblocks.new }
 {
     'macroblocks: while next_macroblock(unread, macroblocks, context.number, current)? {
         *read += 1;
@@ -120,8 +129,8 @@ fn decode_data<const PAD: usize>(
     Ok(())
 }
 
-/// Likewise from the first macroblock on, which is the current one. What all macroblocks of a slice are
-/// decoded with is large: it is made here, so that a slice without any pays nothing for it.
+/// Likewise from the first macroblock on, which is the current one. What all macroblocks of a slice
+/// are decoded with is large: it is made here, so that a slice without any pays nothing for it.
 #[inline(never)]
 fn decode_macroblocks<const PAD: usize>(
     unread: &mut SliceData<'_>,
@@ -133,18 +142,24 @@ fn decode_macroblocks<const PAD: usize>(
     read: &mut u32,
     current: &mut CurrentMacroblock,
 ) -> Result<(), Fault>
-    requires frames { AreFrames macroblocks.old.canvas.width macroblocks.old.canvas.height frames.now }
+    requires frames { AreFrames macroblocks.old.canvas.width macroblocks.old.canvas.height
+        frames.now }
     requires places { ArePlacesIn frames.now places.now }
     requires deblocking { IfSome header.now.deblocking IsDeblocking }
-    requires weights { IfSome header.now.pred_weight_table (IsPredWeightTable header.now.num_ref_idx_active) }
-    requires some { CanHaveFirst (IsContextAt number frames.now header.now places.now) macroblocks.old current.old unread.old }
+    requires weights { IfSome header.now.pred_weight_table
+        (IsPredWeightTable header.now.num_ref_idx_active) }
+    requires some { CanHaveFirst (IsContextAt number frames.now header.now places.now)
+        macroblocks.old current.old unread.old }
     requires read { macroblocks.old.next ≡ read.old }
-    requires small { macroblocks.old.canvas.width * macroblocks.old.canvas.height ≤ max_macroblocks }
+    requires small { macroblocks.old.canvas.width * macroblocks.old.canvas.height
+        ≤ max_macroblocks }
     ensures size { HasSameSize macroblocks.old macroblocks.new }
     ensures within { read.new ≤ macroblocks.old.canvas.width * macroblocks.old.canvas.height }
     ensures answer { (c : Coded) (names : Names) (s : SliceStart) (d : SliceFrom)
-        → HasFirst (IsContextAt number frames.now header.now places.now) c names s d macroblocks.old current.old unread.old
-        → IsDataAnswer c names macroblocks.old.next (outcome_from c s macroblocks.old d) result read.new macroblocks.new }
+        → HasFirst (IsContextAt number frames.now header.now places.now) c names s d macroblocks.old
+        current.old unread.old
+        → IsDataAnswer c names macroblocks.old.next (outcome_from c s macroblocks.old d) result
+        read.new macroblocks.new }
 {
     let context = SliceContext::new(number, header, frames, places);
     let mut info = CurrentInfo::new();
@@ -183,7 +198,8 @@ pub(crate) fn decode_slice<const PAD: usize>(
     requires some { IsWellSomewhere sps.now pps.now frames.now number read.old macroblocks.old }
     ensures size { HasSameSize macroblocks.old macroblocks.new }
     ensures within { read.new ≤ size_in_mbs sps.now }
-    ensures state { IsDecodedSlice sps.now pps.now frames.now slice.now number read.old macroblocks.old result read.new macroblocks.new }
+    ensures state { IsDecodedSlice sps.now pps.now frames.now slice.now number read.old
+        macroblocks.old result read.new macroblocks.new }
 {
     check_address(*read, &slice.header)?;
     let places = reference_places(sps, &slice.header, frames)?;

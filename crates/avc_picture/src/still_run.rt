@@ -1,4 +1,5 @@
-//! Macroblocks that stand still one after another: they are copied several at a time, ahead of their decoding.
+//! Macroblocks that stand still one after another: they are copied several at a time, ahead of
+//! their decoding.
 
 ghost use Rattle.std.specs.Prelude.{◌≡◌, ◌+◌, ◌*◌, ◌<◌, ◌≤◌, true, Some, None, All, IfSome, OnOk};
 ghost use Rattle.std.specs.Prelude.{slice_index_or};
@@ -39,7 +40,9 @@ pub(crate) struct StillRun {
 fn plain_first<'r, 'a, const PAD: usize>(
     references: &'r [Option<ReferencePicture<'a, PAD>>],
 ) -> Option<&'r ReferencePicture<'a, PAD>>
-    ensures { IfSome (option_copied result) (λ picture. (slice_index_or references.now 0 None ≡ Some picture) × (picture.weights ≡ None)) }
+    ensures { IfSome (option_copied result)
+        (λ picture. (slice_index_or references.now 0 None ≡ Some picture) ×
+        (picture.weights ≡ None)) }
 {
     match references.first() {
         Some(Some(picture)) if picture.weights.is_none() => Some(picture),
@@ -61,8 +64,10 @@ fn copy_ahead<const PAD: usize>(
     requires row { place.row < canvas.now.height }
     requires sized { AreSized canvas.now.width canvas.now.height (planes_of planes.old) }
     requires references { AreUsable canvas.now.width canvas.now.height references.now }
-    ensures copied { AreCopied references.now canvas.now.width place.column place.row result (planes_of planes.new) }
-    ensures earlier { KeepsEarlier canvas.now.width canvas.now.height (address_of canvas.now.width place) (planes_of planes.old) (planes_of planes.new) }
+    ensures copied { AreCopied references.now canvas.now.width place.column place.row result
+        (planes_of planes.new) }
+    ensures earlier { KeepsEarlier canvas.now.width canvas.now.height
+        (address_of canvas.now.width place) (planes_of planes.old) (planes_of planes.new) }
     ensures sized { AreSized canvas.now.width canvas.now.height (planes_of planes.new) }
 {
     match plain_first(references) {
@@ -115,9 +120,12 @@ impl StillRun {
         requires row { place.row < canvas.now.height }
         requires sized { AreSized canvas.now.width canvas.now.height (planes_of planes.old) }
         requires references { AreUsable canvas.now.width canvas.now.height references.now }
-        requires copied { AreCopied references.now canvas.now.width place.column place.row self.old.copied (planes_of planes.old) }
-        ensures copied { AreCopied references.now canvas.now.width place.column place.row self.new.copied (planes_of planes.new) }
-        ensures earlier { KeepsEarlier canvas.now.width canvas.now.height (address_of canvas.now.width place) (planes_of planes.old) (planes_of planes.new) }
+        requires copied { AreCopied references.now canvas.now.width place.column place.row
+            self.old.copied (planes_of planes.old) }
+        ensures copied { AreCopied references.now canvas.now.width place.column place.row
+            self.new.copied (planes_of planes.new) }
+        ensures earlier { KeepsEarlier canvas.now.width canvas.now.height
+            (address_of canvas.now.width place) (planes_of planes.old) (planes_of planes.new) }
         ensures sized { AreSized canvas.now.width canvas.now.height (planes_of planes.new) }
     {
         let count = self.count_ahead(place.column, canvas.width);
@@ -146,12 +154,17 @@ impl StillRun {
         requires quantiser { mb.now.qp ≤ 51 }
         requires modes { All IsMode info.now.modes }
         requires one { has_one_motion mb.now.syntax ≡ true → AreOfOneMotion info.now.motion }
-        requires references { AreUsable canvas.now.width canvas.now.height sources.now.references.now }
-        requires copied { AreCopied sources.now.references.now canvas.now.width place.column place.row self.old.copied (planes_of planes.old) }
+        requires references { AreUsable canvas.now.width canvas.now.height
+            sources.now.references.now }
+        requires copied { AreCopied sources.now.references.now canvas.now.width place.column
+            place.row self.old.copied (planes_of planes.old) }
         ensures copied { OnOk result
-            (AreCopied sources.now.references.now canvas.now.width (place.column + 1) place.row self.new.copied (planes_of planes.new)) }
-        ensures built { IsBuiltAhead (address_of canvas.now.width place) mb.now info.now (info_of sources.now.neighbours) sources.now.references.now result
-            (with_planes canvas.now (planes_of planes.old)) (with_planes canvas.now (planes_of planes.new)) }
+            (AreCopied sources.now.references.now canvas.now.width (place.column + 1) place.row
+            self.new.copied (planes_of planes.new)) }
+        ensures built { IsBuiltAhead (address_of canvas.now.width place) mb.now info.now
+            (info_of sources.now.neighbours) sources.now.references.now result
+            (with_planes canvas.now (planes_of planes.old))
+            (with_planes canvas.now (planes_of planes.new)) }
         ensures sized { AreSized canvas.now.width canvas.now.height (planes_of planes.new) }
     {
         if info.is_still() && is_skipped(mb) {

@@ -1,5 +1,7 @@
--- A picture that is being built, and what one of its macroblocks is built from, ITU-T H.264 clauses 8.3 to 8.5.
-use Rattle.std.specs.Prelude.{◌≡◌, ℕ, ◌+◌, ◌*◌, ◌<◌, ◌≤◌, ℤ, pos, ◌+ℤ◌, ◌-ℤ◌, nat_lt, Bool, true, not, ◌||◌, List, Option, Some, None, Result, Ok, Err}
+-- A picture that is being built, and what one of its macroblocks is built from, ITU-T H.264 clauses
+-- 8.3 to 8.5.
+use Rattle.std.specs.Prelude.{◌≡◌, ℕ, ◌+◌, ◌*◌, ◌<◌, ◌≤◌, ℤ, pos, ◌+ℤ◌, ◌-ℤ◌, nat_lt, Bool, true}
+use Rattle.std.specs.Prelude.{not, ◌||◌, List, Option, Some, None, Result, Ok, Err}
 use Rattle.avc_types.specs.declared.fault.Fault.{Fault}
 use Rattle.avc_types.specs.Macroblock.{Mb, MbSyntax, p_skip, i_pcm, i_nxn, i_16x16, p_inter}
 use Rattle.avc_neigh.specs.Around.{Around, is_intra_info}
@@ -26,7 +28,8 @@ pub record CanvasState : Type 0 where
   pub planes : Planes
 
 -- with no macroblock yet
-abbrev pub blank : (width height : ℕ) → (chroma_qp_index_offset : ℤ) → (constrained_intra_pred : Bool) → CanvasState
+abbrev pub blank : (width height : ℕ) → (chroma_qp_index_offset : ℤ) →
+    (constrained_intra_pred : Bool) → CanvasState
 blank width height offset constrained = record {
   width = width;
   height = height;
@@ -40,7 +43,9 @@ blank width height offset constrained = record {
 -- own blocks before it (6.4.12, 8.3.1.2).
 abbrev pub sides_near : (constrained_intra_pred : Bool) → Around → (k : ℕ) → Sides
 sides_near constrained n k =
-    let at : ℤ → ℤ → Bool = is_there_near (λ f. not constrained || is_intra_info f) (λ x y. nat_lt (block_at x y) k) n in
+    let at : ℤ → ℤ → Bool =
+    is_there_near (λ f. not constrained || is_intra_info f) (λ x y. nat_lt (block_at x y) k) n
+    in
     let x = pos (block_x k) in
     let y = pos (block_y k) in
     record {
@@ -56,7 +61,8 @@ address_of width p = p.row * width + p.column
 
 -- The place of the macroblock at this address of the canvas, with these modes, motion, neighbours
 -- and reference pictures.
-pub record IsPlaceOn {PAD : ℕ} (canvas : CanvasState) (address : ℕ) (mb : Mb) (info : NeighbourInfo) (n : Around)
+pub record IsPlaceOn {PAD : ℕ} (canvas : CanvasState) (address : ℕ) (mb : Mb) (info : NeighbourInfo)
+    (n : Around)
     (references : List (Option (ReferencePicture PAD))) (p : Place) : Type 0 where
   pub width : p.coded.width ≡ canvas.width
   pub height : p.coded.height ≡ canvas.height
@@ -65,7 +71,8 @@ pub record IsPlaceOn {PAD : ℕ} (canvas : CanvasState) (address : ℕ) (mb : Mb
   pub mb_is : p.mb ≡ mb
   pub modes : p.modes ≡ info.modes
   pub motion : p.motion ≡ info.motion
-  pub sides : is_intra mb.syntax ≡ true → (k : ℕ) → k < 16 → sides_of p.coded p.address k ≡ sides_near canvas.constrained_intra_pred n k
+  pub sides : is_intra mb.syntax ≡ true → (k : ℕ) → k < 16 → sides_of p.coded p.address k
+      ≡ sides_near canvas.constrained_intra_pred n k
   pub references_are : AreReferences p.coded p.slice references
 
 -- what the syntax of a macroblock keeps to, as far as its samples ask
@@ -80,5 +87,6 @@ IsInRange (p_inter mb_type ref_idx mvd r) = IsResidual r
 -- samples for an intra prediction. Nothing is said of the samples then, since its picture is
 -- dropped whole (this decoder's rule).
 abbrev pub IsBuilt : Place → Result (Unit {0}) Fault → (old new : CanvasState) → Type 0
-IsBuilt p (Ok done) old new = (refusal p ≡ None) × (new ≡ record old { planes = planes_after p old.planes })
+IsBuilt p (Ok done) old new =
+    (refusal p ≡ None) × (new ≡ record old { planes = planes_after p old.planes })
 IsBuilt p (Err f) old new = refusal p ≡ Some f

@@ -1,8 +1,11 @@
--- What refuses a macroblock that is read whole: its vectors, its reference pictures, its intra predictions.
-use Rattle.std.specs.Prelude.{ℕ, suc, Bool, true, false, not, ◌&&◌, if◌then◌else◌, Option, Some, None, slice_get, slice_index_or}
+-- What refuses a macroblock that is read whole: its vectors, its reference pictures, its intra
+-- predictions.
+use Rattle.std.specs.Prelude.{ℕ, suc, Bool, true, false, not, ◌&&◌, if◌then◌else◌, Option, Some}
+use Rattle.std.specs.Prelude.{None, slice_get, slice_index_or}
 use Rattle.std.specs.List.{range_with_len, list_all}
 use Rattle.avc_types.specs.declared.fault.Fault.{Fault}
-use Rattle.avc_types.specs.declared.fault.Fault.TheVariants.{IntraUnavailable, VectorRange, RefMissing}
+use Rattle.avc_types.specs.declared.fault.Fault.TheVariants.{IntraUnavailable, VectorRange}
+use Rattle.avc_types.specs.declared.fault.Fault.TheVariants.{RefMissing}
 use Rattle.avc_types.specs.Macroblock.{MbSyntax, p_skip, i_pcm, i_nxn, i_16x16, p_inter}
 use Rattle.avc_types.specs.Pictures.{Coded, PicMb, Frame}
 use Rattle.avc_neigh.specs.declared.neighbour_info.NearMode.TheVariants.{Absent as absent}
@@ -21,7 +24,8 @@ is_picture (Some f) = f.existing
 -- each block of the macroblock has a picture to be predicted from (8.4.2.1)
 abbrev pub has_references : Place → MbSyntax → Bool
 has_references p p_skip = list_all (λ m. is_picture (reference_of p.coded p.slice m)) p.motion
-has_references p (p_inter shape ref_idx mvd r) = list_all (λ m. is_picture (reference_of p.coded p.slice m)) p.motion
+has_references p (p_inter shape ref_idx mvd r) =
+    list_all (λ m. is_picture (reference_of p.coded p.slice m)) p.motion
 has_references p (i_pcm luma cb cr) = true
 has_references p (i_nxn modes chroma r) = true
 has_references p (i_16x16 m chroma r) = true
@@ -32,9 +36,11 @@ has_sides p p_skip = true
 has_sides p (p_inter shape ref_idx mvd r) = true
 has_sides p (i_pcm luma cb cr) = true
 has_sides p (i_16x16 m chroma r) =
-    can_predict16x16 (sides_of p.coded p.address 0) (mode16x16_of m) && can_predict_chroma (sides_of p.coded p.address 0) (mode_chroma_of chroma)
+    can_predict16x16 (sides_of p.coded p.address 0) (mode16x16_of m)
+    && can_predict_chroma (sides_of p.coded p.address 0) (mode_chroma_of chroma)
 has_sides p (i_nxn modes chroma r) =
-    list_all (λ k. can_predict4x4 (sides_of p.coded p.address k) (mode4x4_of (mode_number (slice_index_or p.modes k absent)))) (range_with_len 0 16)
+    list_all (λ k. can_predict4x4 (sides_of p.coded p.address k)
+    (mode4x4_of (mode_number (slice_index_or p.modes k absent)))) (range_with_len 0 16)
     && can_predict_chroma (sides_of p.coded p.address 0) (mode_chroma_of chroma)
 
 -- why a macroblock whose vectors can be had has no samples, if it has none (this decoder's rule)

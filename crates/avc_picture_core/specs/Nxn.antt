@@ -9,7 +9,8 @@ use Rattle.avc_picture_core.specs.declared.sides.ReadableNeighbours.{ReadableNei
 
 -- p is the place of an I_NxN macroblock with these modes and this residual, as far as its luma
 -- asks.
-pub record IsNxnAt (column row width : ℕ) (r : ReadableNeighbours) (modes : List NearMode) (qp : ℕ) (residual : Residual) (p : Place) : Type 0 where
+pub record IsNxnAt (column row width : ℕ) (r : ReadableNeighbours) (modes : List NearMode) (qp : ℕ)
+    (residual : Residual) (p : Place) : Type 0 where
   pub left : left_of_mb p 0 ≡ 16 * column
   pub top : top_of_mb p 0 ≡ 16 * row
   pub may_read : MayRead column row width r p

@@ -1,5 +1,7 @@
--- The place of a macroblock as the code knows it: by column and row, quantisers, and what its neighbours let it read.
-use Rattle.std.specs.Prelude.{◌≡◌, ℕ, true, ◌+◌, ◌*◌, ◌/◌, ◌%◌, ◌<◌, List, Option, Some, None, Result, Ok, Err}
+-- The place of a macroblock as the code knows it: by column and row, quantisers, and what its
+-- neighbours let it read.
+use Rattle.std.specs.Prelude.{◌≡◌, ℕ, true, ◌+◌, ◌*◌, ◌/◌, ◌%◌, ◌<◌, List, Option, Some, None}
+use Rattle.std.specs.Prelude.{Result, Ok, Err}
 use Rattle.avc_types.specs.declared.fault.Fault.{Fault}
 use Rattle.avc_types.specs.Macroblock.{MbSyntax}
 use Rattle.avc_neigh.specs.Blocks.{block_x, block_y}
@@ -16,7 +18,8 @@ use Rattle.avc_picture_core.specs.Sides.{readable_sides, AreInside}
 use Rattle.avc_picture_core.specs.declared.sides.ReadableNeighbours.{ReadableNeighbours}
 
 -- p is the place of a macroblock in this column and row with these elements and quantisers.
-pub record IsAt (column row : ℕ) (syntax : MbSyntax) (qp qp_of_chroma : ℕ) (p : Place) : Type 0 where
+pub record IsAt (column row : ℕ) (syntax : MbSyntax) (qp qp_of_chroma : ℕ)
+    (p : Place) : Type 0 where
   pub column_is : p.address % p.coded.width ≡ column
   pub row_is : p.address / p.coded.width ≡ row
   pub syntax_is : p.mb.syntax ≡ syntax
@@ -26,7 +29,8 @@ pub record IsAt (column row : ℕ) (syntax : MbSyntax) (qp qp_of_chroma : ℕ) (
 -- Its blocks may read what these neighbours have, in a luma plane that is so wide.
 pub record MayRead (column row width : ℕ) (r : ReadableNeighbours) (p : Place) : Type 0 where
   pub sides : (k : ℕ) → k < 16 → sides_of p.coded p.address k ≡ readable_sides r k
-  pub inside : (k : ℕ) → k < 16 → AreInside (16 * column + block_x k) (16 * row + block_y k) width (readable_sides r k)
+  pub inside : (k : ℕ) → k < 16 →
+      AreInside (16 * column + block_x k) (16 * row + block_y k) width (readable_sides r k)
 
 -- The macroblock was built, or refused, and then the planes are any.
 abbrev pub ArePlanesBuilt : Place → Result (Unit {0}) Fault → (old new : Planes) → Type 0
@@ -41,13 +45,15 @@ IsSameSize old new = (new.width ≡ old.width) × (new.height ≡ old.height)
 
 -- each plane kept its sides
 abbrev pub AreSameSize : (old new : Planes) → Type 0
-AreSameSize old new = IsSameSize old.luma new.luma × IsSameSize old.cb new.cb × IsSameSize old.cr new.cr
+AreSameSize old new =
+    IsSameSize old.luma new.luma × IsSameSize old.cb new.cb × IsSameSize old.cr new.cr
 
 -- ---- all of it
 
 -- p is the place of a macroblock of a picture of this size, with these elements, quantisers, info,
 -- neighbours and reference pictures.
-pub record IsPlaceIn {PAD : ℕ} (column row width height : ℕ) (syntax : MbSyntax) (qp qp_of_chroma : ℕ) (info : NeighbourInfo) (r : ReadableNeighbours)
+pub record IsPlaceIn {PAD : ℕ} (column row width height : ℕ) (syntax : MbSyntax)
+    (qp qp_of_chroma : ℕ) (info : NeighbourInfo) (r : ReadableNeighbours)
     (references : List (Option (ReferencePicture PAD))) (p : Place) : Type 0 where
   pub at : IsAt column row syntax qp qp_of_chroma p
   pub may_read : is_intra syntax ≡ true → MayRead column row (16 * width) r p

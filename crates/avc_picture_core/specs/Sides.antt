@@ -1,5 +1,7 @@
--- Which samples around the blocks of a macroblock an intra prediction may read, ITU-T H.264 clauses 6.4.12 and 8.3.1.2.
-use Rattle.std.specs.Prelude.{◌≡◌, ℕ, ◌+◌, ◌<◌, ◌≤◌, ℤ, pos, negsuc, ◌+ℤ◌, ◌-ℤ◌, nat_lt, Bool, true, false, not, ◌||◌, if◌then◌else◌}
+-- Which samples around the blocks of a macroblock an intra prediction may read, ITU-T H.264 clauses
+-- 6.4.12 and 8.3.1.2.
+use Rattle.std.specs.Prelude.{◌≡◌, ℕ, ◌+◌, ◌<◌, ◌≤◌, ℤ, pos, negsuc, ◌+ℤ◌, ◌-ℤ◌, nat_lt, Bool, true}
+use Rattle.std.specs.Prelude.{false, not, ◌||◌, if◌then◌else◌}
 use Rattle.avc_neigh.specs.Around.{Around, is_intra_info}
 use Rattle.avc_neigh.specs.Blocks.{block_x, block_y, block_at}
 use Rattle.avc_neigh.specs.Laws.{holds_of}

@@ -1,4 +1,5 @@
--- Macroblocks that stand still: their samples are those of a reference picture at the same places, ITU-T H.264 clause 8.4.2.2.
+-- Macroblocks that stand still: their samples are those of a reference picture at the same places,
+-- ITU-T H.264 clause 8.4.2.2.
 use Rattle.std.specs.Prelude.{◌≡◌, ℕ, ◌+◌, ◌*◌, ◌<◌, ◌≤◌, List, Option, Some, None, slice_index_or}
 use Rattle.avc_plane.specs.Frames.{padded_planes_of}
 use Rattle.avc_plane.specs.Plane.{Plane, sample, with_block}
@@ -16,7 +17,8 @@ pub record CoverRun (column row count : ℕ) (p : Planes) : Type 0 where
 
 -- a plane with the samples of another in a rectangle
 abbrev pub with_rectangle_of : (from : Plane) → (left top width height : ℕ) → Plane → Plane
-with_rectangle_of from left top width height p = with_block p left top width height (λ x y. sample from (left + x) (top + y))
+with_rectangle_of from left top width height p =
+    with_block p left top width height (λ x y. sample from (left + x) (top + y))
 
 -- planes with the samples of others in these macroblocks (6.2, 6.4.1)
 abbrev pub with_run_of : (from : Planes) → (column row count : ℕ) → Planes → Planes
@@ -29,7 +31,8 @@ with_run_of from column row count s = record {
 -- in a rectangle the planes have the same samples
 abbrev pub IsSameIn : (left top width height : ℕ) → (p q : Plane) → Type 0
 IsSameIn left top width height p q =
-    (x y : ℕ) → left ≤ x → x < left + width → top ≤ y → y < top + height → sample q x y ≡ sample p x y
+    (x y : ℕ) → left ≤ x → x < left + width → top ≤ y → y < top + height →
+    sample q x y ≡ sample p x y
 
 -- in these macroblocks the planes have the same samples
 pub record AreSameIn (column row count : ℕ) (s t : Planes) : Type 0 where
@@ -40,7 +43,8 @@ pub record AreSameIn (column row count : ℕ) (s t : Planes) : Type 0 where
 -- In these macroblocks the planes have the samples that they have where they are skipped and stand
 -- still: those of the picture that reference index 0 names, which has no weights (8.4.1.1,
 -- 8.4.2.2.1, 8.4.2.3).
-pub record AreInPlace {PAD : ℕ} (references : List (Option (ReferencePicture PAD))) (column row count : ℕ) (s : Planes) : Type 0 where
+pub record AreInPlace {PAD : ℕ} (references : List (Option (ReferencePicture PAD)))
+    (column row count : ℕ) (s : Planes) : Type 0 where
   pub picture : ReferencePicture PAD
   pub named : slice_index_or references 0 None ≡ Some picture
   pub unweighted : picture.weights ≡ None

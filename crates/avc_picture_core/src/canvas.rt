@@ -51,7 +51,8 @@ fn readable_neighbours(
     neighbours: &Neighbours<'_>,
     constrained_intra_pred: bool,
 ) -> ReadableNeighbours
-    ensures { is_intra (syntax_of syntax.now) ≡ true → result ≡ readable_near constrained_intra_pred (info_of neighbours.now) }
+    ensures { is_intra (syntax_of syntax.now) ≡ true →
+        result ≡ readable_near constrained_intra_pred (info_of neighbours.now) }
 {
     match syntax {
         Syntax::PSkip | Syntax::PInter { .. } => ReadableNeighbours {
@@ -86,9 +87,12 @@ impl Canvas {
         requires modes { All IsMode info.now.modes }
         requires one { has_one_motion mb.now.syntax ≡ true → AreOfOneMotion info.now.motion }
         requires references { AreUsable self.now.width self.now.height sources.now.references.now }
-        ensures built { (p : Place) → IsPlaceOn (with_planes self.now (planes_of planes.old)) (address_of self.now.width place) mb.now info.now
+        ensures built { (p : Place) →
+            IsPlaceOn (with_planes self.now (planes_of planes.old))
+            (address_of self.now.width place) mb.now info.now
             (info_of sources.now.neighbours) sources.now.references.now p →
-            IsBuilt p result (with_planes self.now (planes_of planes.old)) (with_planes self.now (planes_of planes.new)) }
+            IsBuilt p result (with_planes self.now (planes_of planes.old))
+            (with_planes self.now (planes_of planes.new)) }
         ensures sized { AreSized self.now.width self.now.height (planes_of planes.new) }
     {
         let size = PictureSize {

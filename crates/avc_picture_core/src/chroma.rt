@@ -25,7 +25,9 @@ pub(crate) fn predict_component<const PAD: usize>(
     ensures size { IsSameSize plane.old plane.new }
     ensures samples { AreInside (8 * place.column) (8 * place.row) plane.old.width sides →
         plane.new ≡ with_block plane.old (8 * place.column) (8 * place.row) 8 8
-        (λ x y. unwrap_or (intra_chroma sides (seen_from plane.old (8 * place.column) (8 * place.row)) mode x y) 0) }
+        (λ x y. unwrap_or
+        (intra_chroma sides (seen_from plane.old (8 * place.column) (8 * place.row)) mode x y)
+        0) }
 {
     let left = first_column(plane, 8, place.column);
     let top = first_row(plane, 8, place.row);

@@ -107,7 +107,8 @@ fn predict_part<const W: usize, const H: usize, const CW: usize, const CH: usize
     requires pictures { have_pictures references.now motion.now ≡ true }
     requires one { HaveOneMotion motion.now corner.x corner.y W H }
     ensures { planes_of planes.new
-        ≡ with_part place.column place.row corner.x corner.y W H (wanted references.now place.column place.row motion.now) (planes_of planes.old) }
+        ≡ with_part place.column place.row corner.x corner.y W H
+        (wanted references.now place.column place.row motion.now) (planes_of planes.old) }
 {
     let block = motion[block_at(corner.x, corner.y)];
     if let (Motion::Inter { mv, .. }, Some(picture)) = (block, picture_of(references, block)) {
@@ -140,7 +141,8 @@ fn predict_wide_halves<
     requires upper { HaveOneMotion motion.now corner.x corner.y S H }
     requires lower { HaveOneMotion motion.now corner.x (corner.y + H) S H }
     ensures { planes_of planes.new
-        ≡ with_part place.column place.row corner.x corner.y S S (wanted references.now place.column place.row motion.now) (planes_of planes.old) }
+        ≡ with_part place.column place.row corner.x corner.y S S
+        (wanted references.now place.column place.row motion.now) (planes_of planes.old) }
 {
     let lower = Corner {
         x: corner.x,
@@ -174,7 +176,8 @@ fn predict_tall_halves<
     requires left { HaveOneMotion motion.now corner.x corner.y W S }
     requires right { HaveOneMotion motion.now (corner.x + W) corner.y W S }
     ensures { planes_of planes.new
-        ≡ with_part place.column place.row corner.x corner.y S S (wanted references.now place.column place.row motion.now) (planes_of planes.old) }
+        ≡ with_part place.column place.row corner.x corner.y S S
+        (wanted references.now place.column place.row motion.now) (planes_of planes.old) }
 {
     let right = Corner {
         x: corner.x + W,
@@ -198,7 +201,8 @@ fn predict_blocks<const PAD: usize>(
     requires usable { AreUsableAt place.column place.row references.now }
     requires pictures { have_pictures references.now motion.now ≡ true }
     ensures { planes_of planes.new
-        ≡ with_part place.column place.row corner.x corner.y 8 8 (wanted references.now place.column place.row motion.now) (planes_of planes.old) }
+        ≡ with_part place.column place.row corner.x corner.y 8 8
+        (wanted references.now place.column place.row motion.now) (planes_of planes.old) }
 {
     let (x, y) = (corner.x, corner.y);
     predict_part::<4, 4, 2, 2, PAD>(references, place, motion, corner, planes);
@@ -259,7 +263,8 @@ fn predict_quarters<const PAD: usize>(
     requires usable { AreUsableAt place.column place.row references.now }
     requires pictures { have_pictures references.now motion.now ≡ true }
     ensures { planes_of planes.new
-        ≡ with_part place.column place.row 0 0 16 16 (wanted references.now place.column place.row motion.now) (planes_of planes.old) }
+        ≡ with_part place.column place.row 0 0 16 16
+        (wanted references.now place.column place.row motion.now) (planes_of planes.old) }
 {
     predict_quarter(references, place, motion, 0, planes);
     predict_quarter(references, place, motion, 1, planes);
@@ -281,7 +286,8 @@ fn predict_macroblock<const PAD: usize>(
     requires pictures { have_pictures references.now motion.now ≡ true }
     requires shape { IsMacroblockShape motion.now shape }
     ensures { planes_of planes.new
-        ≡ with_part place.column place.row 0 0 16 16 (wanted references.now place.column place.row motion.now) (planes_of planes.old) }
+        ≡ with_part place.column place.row 0 0 16 16
+        (wanted references.now place.column place.row motion.now) (planes_of planes.old) }
 {
     let corner = Corner { x: 0, y: 0 };
     match shape {
@@ -313,8 +319,10 @@ fn predict_parts<const PAD: usize>(
     requires row { place.row < size.height }
     requires shape { IsMacroblockShape motion.now shape }
     ensures size { AreSameSize (planes_of planes.old) (planes_of planes.new) }
-    ensures built { (c : Coded) (slice : ℕ) → c.width ≡ size.width → c.height ≡ size.height → AreReferences c slice references.now →
-        IsInterPredicted c slice place.column place.row motion.now result (planes_of planes.old) (planes_of planes.new) }
+    ensures built { (c : Coded) (slice : ℕ) → c.width ≡ size.width → c.height ≡ size.height →
+        AreReferences c slice references.now →
+        IsInterPredicted c slice place.column place.row motion.now result (planes_of planes.old)
+        (planes_of planes.new) }
 {
     if !have_pictures(references, motion) {
         return Err(Fault::RefMissing);
@@ -337,8 +345,10 @@ fn predict_whole<const PAD: usize>(
     requires row { place.row < size.height }
     requires shape { IsMacroblockShape motion.now Whole }
     ensures size { AreSameSize (planes_of planes.old) (planes_of planes.new) }
-    ensures built { (c : Coded) (slice : ℕ) → c.width ≡ size.width → c.height ≡ size.height → AreReferences c slice references.now →
-        IsInterPredicted c slice place.column place.row motion.now result (planes_of planes.old) (planes_of planes.new) }
+    ensures built { (c : Coded) (slice : ℕ) → c.width ≡ size.width → c.height ≡ size.height →
+        AreReferences c slice references.now →
+        IsInterPredicted c slice place.column place.row motion.now result (planes_of planes.old)
+        (planes_of planes.new) }
 {
     match picture_of(references, motion[0]) {
         Some(picture) => {
@@ -366,8 +376,10 @@ pub(crate) fn predict_inter<const PAD: usize>(
     requires row { place.row < size.height }
     requires one { has_one_motion ≡ true → AreOfOneMotion motion.now }
     ensures size { AreSameSize (planes_of planes.old) (planes_of planes.new) }
-    ensures built { (c : Coded) (slice : ℕ) → c.width ≡ size.width → c.height ≡ size.height → AreReferences c slice references.now →
-        IsInterPredicted c slice place.column place.row motion.now result (planes_of planes.old) (planes_of planes.new) }
+    ensures built { (c : Coded) (slice : ℕ) → c.width ≡ size.width → c.height ≡ size.height →
+        AreReferences c slice references.now →
+        IsInterPredicted c slice place.column place.row motion.now result (planes_of planes.old)
+        (planes_of planes.new) }
 {
     match macroblock_shape(motion, has_one_motion) {
         Shape::Whole => predict_whole(references, size, place, motion, planes),

@@ -50,7 +50,9 @@ fn build_luma16x16<const PAD: usize>(
     ensures size { IsSameSize plane.old plane.new }
     ensures samples { AreInside (16 * place.column) (16 * place.row) plane.old.width sides →
         plane.new ≡ with_block plane.old (16 * place.column) (16 * place.row) 16 16
-        (λ x y. sum_of (unwrap_or (intra16x16 sides (seen_from plane.old (16 * place.column) (16 * place.row)) mode x y) 0)
+        (λ x y. sum_of
+        (unwrap_or (intra16x16 sides (seen_from plane.old (16 * place.column) (16 * place.row))
+        mode x y) 0)
         (luma_residual_16x16 qp (residual_of dc.now levels.now) x y)) }
 {
     predict_luma16x16(plane, place, sides, mode);
@@ -76,7 +78,9 @@ fn build_component<const PAD: usize>(
     ensures size { IsSameSize plane.old plane.new }
     ensures samples { AreInside (8 * place.column) (8 * place.row) plane.old.width sides →
         plane.new ≡ with_block plane.old (8 * place.column) (8 * place.row) 8 8
-        (λ x y. sum_of (unwrap_or (intra_chroma sides (seen_from plane.old (8 * place.column) (8 * place.row)) mode x y) 0)
+        (λ x y. sum_of
+        (unwrap_or (intra_chroma sides (seen_from plane.old (8 * place.column) (8 * place.row))
+        mode x y) 0)
         (chroma_residual qp dc.now ac.now x y)) }
 {
     predict_component(plane, place, sides, mode);
@@ -87,7 +91,8 @@ fn build_component<const PAD: usize>(
 fn has_sides_nxn(readable: ReadableNeighbours, modes: &[NearMode; 16], chroma: ModeChroma) -> bool
     requires { All IsMode modes.now }
     ensures { result ≡ (
-        list_all (λ k. can_predict4x4 (readable_sides readable k) (mode4x4_of (mode_number (slice_index_or modes.now k absent)))) (range_with_len 0 16)
+        list_all (λ k. can_predict4x4 (readable_sides readable k)
+        (mode4x4_of (mode_number (slice_index_or modes.now k absent)))) (range_with_len 0 16)
         && can_predict_chroma (readable_sides readable 0) chroma) }
 {
     let luma = has_sides4x4(readable, modes);
@@ -121,7 +126,8 @@ pub(crate) fn build_i_nxn<const PAD: usize>(
     requires chroma { qp.chroma ≤ 39 }
     ensures size { AreSameSize (planes_of planes.old) (planes_of planes.new) }
     ensures built { (p : Place) (coded : List (Option ℕ)) →
-        IsAt place.column place.row (i_nxn coded chroma_mode (residual_of [] levels.now)) qp.luma qp.chroma p →
+        IsAt place.column place.row (i_nxn coded chroma_mode (residual_of [] levels.now)) qp.luma
+        qp.chroma p →
         MayRead place.column place.row planes.old.luma.width readable p → p.modes ≡ modes.now →
         ArePlanesBuilt p result (planes_of planes.old) (planes_of planes.new) }
 {
@@ -171,8 +177,11 @@ pub(crate) fn build_i_16x16<const PAD: usize>(
     requires luma { qp.luma ≤ 51 }
     requires chroma { qp.chroma ≤ 39 }
     ensures size { AreSameSize (planes_of planes.old) (planes_of planes.new) }
-    ensures built { (p : Place) → IsAt place.column place.row (i_16x16 mode chroma_mode (residual_of dc.now levels.now)) qp.luma qp.chroma p →
-        MayRead place.column place.row planes.old.luma.width readable p → ArePlanesBuilt p result (planes_of planes.old) (planes_of planes.new) }
+    ensures built { (p : Place) →
+        IsAt place.column place.row (i_16x16 mode chroma_mode (residual_of dc.now levels.now))
+        qp.luma qp.chroma p →
+        MayRead place.column place.row planes.old.luma.width readable p →
+        ArePlanesBuilt p result (planes_of planes.old) (planes_of planes.new) }
 {
     let sides = readable.sides(0);
     let luma_mode = mode16x16(mode);

@@ -25,7 +25,9 @@ pub(crate) fn predict_luma16x16<const PAD: usize>(
     ensures size { IsSameSize plane.old plane.new }
     ensures samples { AreInside (16 * place.column) (16 * place.row) plane.old.width sides →
         plane.new ≡ with_block plane.old (16 * place.column) (16 * place.row) 16 16
-        (λ x y. unwrap_or (intra16x16 sides (seen_from plane.old (16 * place.column) (16 * place.row)) mode x y) 0) }
+        (λ x y. unwrap_or
+        (intra16x16 sides (seen_from plane.old (16 * place.column) (16 * place.row)) mode x y)
+        0) }
 {
     let left = first_column(plane, 16, place.column);
     let top = first_row(plane, 16, place.row);

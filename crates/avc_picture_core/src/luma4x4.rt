@@ -28,7 +28,9 @@ use avc_types::{BlockLevels, Levels};
 /// Each block has the sides that its mode needs.
 pub(crate) fn has_sides4x4(readable: ReadableNeighbours, modes: &[NearMode; 16]) -> bool
     requires { All IsMode modes.now }
-    ensures { result ≡ list_all (λ k. can_predict4x4 (readable_sides readable k) (mode4x4_of (mode_number (slice_index_or modes.now k absent))))
+    ensures { result
+        ≡ list_all (λ k. can_predict4x4 (readable_sides readable k)
+        (mode4x4_of (mode_number (slice_index_or modes.now k absent))))
         (range_with_len 0 16) }
 {
     if readable.has_corner_neighbours() {
@@ -55,7 +57,8 @@ fn predict_block<const PAD: usize>(
     requires mode { can_predict4x4 sides mode ≡ true }
     ensures size { (plane.new.width ≡ plane.old.width) × (plane.new.height ≡ plane.old.height) }
     ensures samples { AreInside left top plane.old.width sides →
-        plane.new ≡ with_block plane.old left top 4 4 (λ x y. unwrap_or (intra4x4 sides (seen_from plane.old left top) mode x y) 0) }
+        plane.new ≡ with_block plane.old left top 4 4
+        (λ x y. unwrap_or (intra4x4 sides (seen_from plane.old left top) mode x y) 0) }
 {
     let at = plane.padded_place(left, top);
     lay4x4(plane.padded_rows_mut(), at, sides, mode);
@@ -79,7 +82,8 @@ fn build_block<const PAD: usize>(
     ensures size { (plane.new.width ≡ plane.old.width) × (plane.new.height ≡ plane.old.height) }
     ensures block { AreInside left top plane.old.width sides →
         plane.new ≡ with_block plane.old left top 4 4
-        (λ x y. sum_of (unwrap_or (intra4x4 sides (seen_from plane.old left top) mode x y) 0) (residual4x4 qp levels.now x y)) }
+        (λ x y. sum_of (unwrap_or (intra4x4 sides (seen_from plane.old left top) mode x y) 0)
+        (residual4x4 qp levels.now x y)) }
 {
     predict_block(plane, left, top, sides, mode);
     add_block4x4(plane, left, top, levels, qp);
@@ -103,9 +107,13 @@ fn build_numbered<const PAD: usize>(
     requires quantiser { qp ≤ 51 }
     requires levels { IsResidual (residual_of [] levels.now) }
     requires modes { All IsMode modes.now }
-    requires sides { (j : ℕ) → j < 16 → can_predict4x4 (readable_sides readable j) (mode4x4_of (mode_number (slice_index_or modes.now j absent))) ≡ true }
+    requires sides { (j : ℕ) → j < 16 →
+        can_predict4x4 (readable_sides readable j)
+        (mode4x4_of (mode_number (slice_index_or modes.now j absent))) ≡ true }
     ensures size { (plane.new.width ≡ plane.old.width) × (plane.new.height ≡ plane.old.height) }
-    ensures block { (p : Place) → IsNxnAt place.column place.row plane.old.width readable modes.now qp (residual_of [] levels.now) p →
+    ensures block { (p : Place) →
+        IsNxnAt place.column place.row plane.old.width readable modes.now qp
+        (residual_of [] levels.now) p →
         plane.new ≡ with_block4x4 p k plane.old }
 {
     let left = first_column(plane, 16, place.column) + left_of_block(k);
@@ -129,9 +137,13 @@ pub(crate) fn build_luma4x4<const PAD: usize>(
     requires quantiser { qp ≤ 51 }
     requires levels { IsResidual (residual_of [] levels.now) }
     requires modes { All IsMode modes.now }
-    requires sides { (k : ℕ) → k < 16 → can_predict4x4 (readable_sides readable k) (mode4x4_of (mode_number (slice_index_or modes.now k absent))) ≡ true }
+    requires sides { (k : ℕ) → k < 16 →
+        can_predict4x4 (readable_sides readable k)
+        (mode4x4_of (mode_number (slice_index_or modes.now k absent))) ≡ true }
     ensures size { (plane.new.width ≡ plane.old.width) × (plane.new.height ≡ plane.old.height) }
-    ensures blocks { (p : Place) → IsNxnAt place.column place.row plane.old.width readable modes.now qp (residual_of [] levels.now) p →
+    ensures blocks { (p : Place) →
+        IsNxnAt place.column place.row plane.old.width readable modes.now qp
+        (residual_of [] levels.now) p →
         plane.new ≡ with_blocks4x4 p 16 plane.old }
 {
     for quarter in 0..4 {

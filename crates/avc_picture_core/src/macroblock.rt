@@ -32,7 +32,8 @@ use avc_types::{BlockLevels, Fault, PMbType, Syntax};
 fn set_component<const PAD: usize>(plane: &mut Plane<PAD>, place: MbPlace, samples: &[u8; 64])
     requires columns { 8 * place.column + 8 ≤ plane.old.width }
     requires rows { 8 * place.row + 8 ≤ plane.old.height }
-    ensures { plane.new ≡ with_block plane.old (8 * place.column) (8 * place.row) 8 8 (λ x y. slice_index samples.now (8 * y + x)) }
+    ensures { plane.new ≡ with_block plane.old (8 * place.column) (8 * place.row) 8 8
+        (λ x y. slice_index samples.now (8 * y + x)) }
 {
     let left = first_column(plane, 8, place.column);
     let top = first_row(plane, 8, place.row);
@@ -48,9 +49,12 @@ fn set_samples<const PAD: usize>(
     cr: &[u8; 64],
 )
     requires room { CoverMacroblock place.column place.row (planes_of planes.old) }
-    ensures luma { planes.new.luma ≡ with_block planes.old.luma (16 * place.column) (16 * place.row) 16 16 (λ x y. slice_index luma.now (16 * y + x)) }
-    ensures cb { planes.new.cb ≡ with_block planes.old.cb (8 * place.column) (8 * place.row) 8 8 (λ x y. slice_index cb.now (8 * y + x)) }
-    ensures cr { planes.new.cr ≡ with_block planes.old.cr (8 * place.column) (8 * place.row) 8 8 (λ x y. slice_index cr.now (8 * y + x)) }
+    ensures luma { planes.new.luma ≡ with_block planes.old.luma (16 * place.column) (16 * place.row)
+        16 16 (λ x y. slice_index luma.now (16 * y + x)) }
+    ensures cb { planes.new.cb ≡ with_block planes.old.cb (8 * place.column) (8 * place.row) 8 8
+        (λ x y. slice_index cb.now (8 * y + x)) }
+    ensures cr { planes.new.cr ≡ with_block planes.old.cr (8 * place.column) (8 * place.row) 8 8
+        (λ x y. slice_index cr.now (8 * y + x)) }
 {
     let left = first_column(&planes.luma, 16, place.column);
     let top = first_row(&planes.luma, 16, place.row);
@@ -69,7 +73,8 @@ fn build_i_pcm<const PAD: usize>(
 ) -> Result<(), Fault>
     requires room { CoverMacroblock place.column place.row (planes_of planes.old) }
     ensures size { AreSameSize (planes_of planes.old) (planes_of planes.new) }
-    ensures built { (p : Place) (qp qp_of_chroma : ℕ) → IsAt place.column place.row (i_pcm luma.now cb.now cr.now) qp qp_of_chroma p →
+    ensures built { (p : Place) (qp qp_of_chroma : ℕ) →
+        IsAt place.column place.row (i_pcm luma.now cb.now cr.now) qp qp_of_chroma p →
         ArePlanesBuilt p result (planes_of planes.old) (planes_of planes.new) }
 {
     set_samples(planes, place, luma, cb, cr);
@@ -88,11 +93,14 @@ fn add_residual<const PAD: usize>(
     requires chroma { qp.chroma ≤ 39 }
     requires levels { IsResidual (residual_of [] levels.now) }
     ensures luma { planes.new.luma
-        ≡ with_residual planes.old.luma (16 * place.column) (16 * place.row) 16 16 (luma_residual qp.luma (residual_of [] levels.now)) }
+        ≡ with_residual planes.old.luma (16 * place.column) (16 * place.row) 16 16
+        (luma_residual qp.luma (residual_of [] levels.now)) }
     ensures cb { planes.new.cb
-        ≡ with_residual planes.old.cb (8 * place.column) (8 * place.row) 8 8 (chroma_residual qp.chroma levels.now.cb_dc levels.now.cb_ac) }
+        ≡ with_residual planes.old.cb (8 * place.column) (8 * place.row) 8 8
+        (chroma_residual qp.chroma levels.now.cb_dc levels.now.cb_ac) }
     ensures cr { planes.new.cr
-        ≡ with_residual planes.old.cr (8 * place.column) (8 * place.row) 8 8 (chroma_residual qp.chroma levels.now.cr_dc levels.now.cr_ac) }
+        ≡ with_residual planes.old.cr (8 * place.column) (8 * place.row) 8 8
+        (chroma_residual qp.chroma levels.now.cr_dc levels.now.cr_ac) }
 {
     add_luma_residual(&mut planes.luma, place, levels, qp.luma);
     add_chroma_residual(
@@ -125,9 +133,11 @@ pub(crate) fn build_p_skip<const PAD: usize>(
     requires usable { AreUsable size.width size.height references.now }
     requires one { AreOfOneMotion motion.now }
     ensures size { AreSameSize (planes_of planes.old) (planes_of planes.new) }
-    ensures built { (p : Place) (qp qp_of_chroma : ℕ) → IsAt place.column place.row p_skip qp qp_of_chroma p →
+    ensures built { (p : Place) (qp qp_of_chroma : ℕ) →
+        IsAt place.column place.row p_skip qp qp_of_chroma p →
         p.coded.width ≡ size.width → p.coded.height ≡ size.height →
-        p.motion ≡ motion.now → AreReferences p.coded p.slice references.now → ArePlanesBuilt p result (planes_of planes.old) (planes_of planes.new) }
+        p.motion ≡ motion.now → AreReferences p.coded p.slice references.now →
+        ArePlanesBuilt p result (planes_of planes.old) (planes_of planes.new) }
 {
     predict_inter(references, size, place, motion, true, planes)?;
     planes.luma.holds_bytes();
@@ -157,9 +167,11 @@ fn build_p_inter<const PAD: usize>(
     requires one { is_one_partition_by mb_type.now ≡ true → AreOfOneMotion motion.now }
     ensures size { AreSameSize (planes_of planes.old) (planes_of planes.new) }
     ensures built { (p : Place) (ref_idx : List ℕ) (mvd : List Mvd) →
-        IsAt place.column place.row (p_inter mb_type.now ref_idx mvd (residual_of [] levels.now)) qp.luma qp.chroma p →
+        IsAt place.column place.row (p_inter mb_type.now ref_idx mvd (residual_of [] levels.now))
+        qp.luma qp.chroma p →
         p.coded.width ≡ size.width → p.coded.height ≡ size.height →
-        p.motion ≡ motion.now → AreReferences p.coded p.slice references.now → ArePlanesBuilt p result (planes_of planes.old) (planes_of planes.new) }
+        p.motion ≡ motion.now → AreReferences p.coded p.slice references.now →
+        ArePlanesBuilt p result (planes_of planes.old) (planes_of planes.new) }
 {
     predict_inter(
         references,
@@ -195,7 +207,8 @@ pub(crate) fn build_macroblock<const PAD: usize>(
     requires one { has_one_motion (syntax_of syntax.now) ≡ true → AreOfOneMotion info.now.motion }
     ensures size { AreSameSize (planes_of planes.old) (planes_of planes.new) }
     ensures built { (p : Place) →
-        IsPlaceIn place.column place.row size.width size.height (syntax_of syntax.now) qp.luma qp.chroma info.now readable references.now p →
+        IsPlaceIn place.column place.row size.width size.height (syntax_of syntax.now) qp.luma
+        qp.chroma info.now readable references.now p →
         ArePlanesBuilt p result (planes_of planes.old) (planes_of planes.new) }
 {
     match syntax {

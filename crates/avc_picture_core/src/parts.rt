@@ -60,7 +60,9 @@ fn set_weighted<const W: usize, const H: usize, const PAD: usize>(
     requires rows { (1 ≤ H) × (H ≤ 16) × (y + H ≤ plane.old.height) }
     requires weight { IsWeight by }
     requires long { length block.now ≡ W * H }
-    ensures { plane.new ≡ with_block plane.old x y W H (λ i j. weighted_by (Some by) (slice_index block.now (W * j + i))) }
+    ensures { plane.new
+        ≡ with_block plane.old x y W H
+        (λ i j. weighted_by (Some by) (slice_index block.now (W * j + i))) }
 {
     let samples = weighted(block, by);
     plane.set_block(x, y, W, H, samples.as_slice());
@@ -85,7 +87,9 @@ fn set_luma<const W: usize, const H: usize, const PAD: usize>(
     requires plane_columns { 16 * place.column + 16 ≤ plane.old.width }
     requires plane_rows { 16 * place.row + 16 ≤ plane.old.height }
     requires weight { IfSome by IsWeight }
-    ensures { plane.new ≡ with_block plane.old (16 * place.column + corner.x) (16 * place.row + corner.y) W H (λ x y. weighted_by by
+    ensures { plane.new
+        ≡ with_block plane.old (16 * place.column + corner.x) (16 * place.row + corner.y) W H
+        (λ x y. weighted_by by
         (inter_luma reference.now.width reference.now.height (sample reference.now) mv
         (16 * place.column + (corner.x + x)) (16 * place.row + (corner.y + y)))) }
 {
@@ -124,7 +128,9 @@ fn set_chroma<const W: usize, const H: usize, const PAD: usize>(
     requires plane_columns { 8 * place.column + 8 ≤ plane.old.width }
     requires plane_rows { 8 * place.row + 8 ≤ plane.old.height }
     requires weight { IfSome by IsWeight }
-    ensures { plane.new ≡ with_block plane.old (8 * place.column + corner.x) (8 * place.row + corner.y) W H (λ x y. weighted_by by
+    ensures { plane.new
+        ≡ with_block plane.old (8 * place.column + corner.x) (8 * place.row + corner.y) W H
+        (λ x y. weighted_by by
         (inter_chroma reference.now.width reference.now.height (sample reference.now) mv
         (8 * place.column + (corner.x + x)) (8 * place.row + (corner.y + y)))) }
 {
@@ -170,7 +176,8 @@ fn copy_part<const W: usize, const H: usize, const CW: usize, const CH: usize, c
     requires usable { IsUsableAt place.column place.row picture.now }
     requires copied { IsCopied picture.now mv }
     ensures { planes_of planes.new ≡ with_part place.column place.row corner.x corner.y W H
-        (λ k x y. predicted_from picture.now mv k (size_of k * place.column + x) (size_of k * place.row + y)) (planes_of planes.old) }
+        (λ k x y. predicted_from picture.now mv k (size_of k * place.column + x)
+        (size_of k * place.row + y)) (planes_of planes.old) }
 {
     let reference = picture.planes;
     let width = reference.luma.width();
@@ -209,7 +216,8 @@ fn set_plain_part<
     requires usable { IsUsableAt place.column place.row picture.now }
     requires plain { picture.now.weights ≡ None }
     ensures { planes_of planes.new ≡ with_part place.column place.row corner.x corner.y W H
-        (λ k x y. predicted_from picture.now mv k (size_of k * place.column + x) (size_of k * place.row + y)) (planes_of planes.old) }
+        (λ k x y. predicted_from picture.now mv k (size_of k * place.column + x)
+        (size_of k * place.row + y)) (planes_of planes.old) }
 {
     let reference = picture.planes;
     let width = reference.luma.width();
@@ -253,7 +261,8 @@ fn set_weighted_part<
     requires macroblock { CoverMacroblock place.column place.row (planes_of planes.old) }
     requires usable { IsUsableAt place.column place.row picture.now }
     ensures { planes_of planes.new ≡ with_part place.column place.row corner.x corner.y W H
-        (λ k x y. predicted_from picture.now mv k (size_of k * place.column + x) (size_of k * place.row + y)) (planes_of planes.old) }
+        (λ k x y. predicted_from picture.now mv k (size_of k * place.column + x)
+        (size_of k * place.row + y)) (planes_of planes.old) }
 {
     let reference = picture.planes;
     let half = Corner {
@@ -306,7 +315,8 @@ pub(crate) fn set_part<
     requires macroblock { CoverMacroblock place.column place.row (planes_of planes.old) }
     requires usable { IsUsableAt place.column place.row picture.now }
     ensures { planes_of planes.new ≡ with_part place.column place.row corner.x corner.y W H
-        (λ k x y. predicted_from picture.now mv k (size_of k * place.column + x) (size_of k * place.row + y)) (planes_of planes.old) }
+        (λ k x y. predicted_from picture.now mv k (size_of k * place.column + x)
+        (size_of k * place.row + y)) (planes_of planes.old) }
 {
     if picture.weights.is_none() {
         set_plain_part::<W, H, CW, CH, PAD>(picture, mv, place, corner, planes);
@@ -325,7 +335,8 @@ pub(crate) fn set_macroblock<const PAD: usize>(
     requires macroblock { CoverMacroblock place.column place.row (planes_of planes.old) }
     requires usable { IsUsableAt place.column place.row picture.now }
     ensures { planes_of planes.new ≡ with_part place.column place.row 0 0 16 16
-        (λ k x y. predicted_from picture.now mv k (size_of k * place.column + x) (size_of k * place.row + y)) (planes_of planes.old) }
+        (λ k x y. predicted_from picture.now mv k (size_of k * place.column + x)
+        (size_of k * place.row + y)) (planes_of planes.old) }
 {
     let corner = Corner { x: 0, y: 0 };
     if is_copied(picture, mv) {

@@ -76,7 +76,8 @@ fn add_levels_to_row<const PAD: usize>(
     requires columns { left + 16 ≤ plane.old.width }
     requires rows { top + 4 ≤ plane.old.height }
     requires small { AllBelow 4 (2 ^ 25) values }
-    ensures { plane.new ≡ with_residual plane.old left top 16 4 (λ x y. slice_index_or values (x / 4) (pos 0)) }
+    ensures { plane.new
+        ≡ with_residual plane.old left top 16 4 (λ x y. slice_index_or values (x / 4) (pos 0)) }
 {
     let samples = plane.rectangle::<16, 4, 64>(left, top);
     let sums = add_to_row(&samples, values);
@@ -93,7 +94,9 @@ fn add_levels_to_square<const PAD: usize>(
     requires columns { left + 8 ≤ plane.old.width }
     requires rows { top + 8 ≤ plane.old.height }
     requires small { AllBelow 4 (2 ^ 25) values }
-    ensures { plane.new ≡ with_residual plane.old left top 8 8 (λ x y. slice_index_or values (2 * (y / 4) + x / 4) (pos 0)) }
+    ensures { plane.new
+        ≡ with_residual plane.old left top 8 8
+        (λ x y. slice_index_or values (2 * (y / 4) + x / 4) (pos 0)) }
 {
     let samples = plane.rectangle::<8, 8, 64>(left, top);
     let sums = add_to_square(&samples, values);
@@ -106,7 +109,8 @@ fn add_levels_to_square<const PAD: usize>(
 fn residuals_of_dc<const N: usize>(values: &[i32; N], first: usize) -> [i32; 4]
     requires within { first + 4 ≤ N }
     requires small { AllBelow N (2 ^ 27) values.now }
-    ensures values { (k : ℕ) → k < 4 → slice_index_or result k (pos 0) ≡ (slice_index_or values.now (first + k) (pos 0) +ℤ pos 32 >>ℤ 6) }
+    ensures values { (k : ℕ) → k < 4 → slice_index_or result k (pos 0)
+        ≡ (slice_index_or values.now (first + k) (pos 0) +ℤ pos 32 >>ℤ 6) }
     ensures small { AllBelow 4 (2 ^ 25) result }
 {
     [
@@ -174,7 +178,8 @@ fn add_block4x4_with_dc<const PAD: usize>(
     requires quantiser { qp ≤ 51 }
     requires dc { IsBelow (2 ^ 27) dc }
     requires levels { AreSmall levels.now }
-    ensures { plane.new ≡ with_residual plane.old left top 4 4 (residual4x4_with_dc qp dc levels.now) }
+    ensures { plane.new
+        ≡ with_residual plane.old left top 4 4 (residual4x4_with_dc qp dc levels.now) }
 {
     if levels.total_coeff() != 0 {
         let values = residual4x4_with_dc(dc, levels.as_array(), qp);
@@ -202,7 +207,8 @@ fn add_numbered<const PAD: usize>(
     requires quantiser { qp ≤ 51 }
     requires levels { All AreSmall levels.now }
     ensures size { (plane.new.width ≡ plane.old.width) × (plane.new.height ≡ plane.old.height) }
-    ensures block { plane.new ≡ with_residual plane.old (16 * place.column + block_x k) (16 * place.row + block_y k) 4 4
+    ensures block { plane.new
+        ≡ with_residual plane.old (16 * place.column + block_x k) (16 * place.row + block_y k) 4 4
         (residual4x4 qp (slice_index_or levels.now k [])) }
 {
     let left = first_column(plane, 16, place.column) + left_of_block(k);
@@ -221,7 +227,8 @@ pub(crate) fn add_luma_residual<const PAD: usize>(
     requires rows { 16 * place.row + 16 ≤ plane.old.height }
     requires quantiser { qp ≤ 51 }
     requires levels { IsResidual (residual_of [] levels.now) }
-    ensures { plane.new ≡ with_residual plane.old (16 * place.column) (16 * place.row) 16 16 (luma_residual qp (residual_of [] levels.now)) }
+    ensures { plane.new ≡ with_residual plane.old (16 * place.column) (16 * place.row) 16 16
+        (luma_residual qp (residual_of [] levels.now)) }
 {
     plane.holds_bytes();
     for quarter in 0..4 {
@@ -274,7 +281,8 @@ pub(crate) fn add_luma_residual_16x16<const PAD: usize>(
     requires rows { 16 * place.row + 16 ≤ plane.old.height }
     requires quantiser { qp ≤ 51 }
     requires levels { IsResidual (residual_of dc.now levels.now) }
-    ensures { plane.new ≡ with_residual plane.old (16 * place.column) (16 * place.row) 16 16 (luma_residual_16x16 qp (residual_of dc.now levels.now)) }
+    ensures { plane.new ≡ with_residual plane.old (16 * place.column) (16 * place.row) 16 16
+        (luma_residual_16x16 qp (residual_of dc.now levels.now)) }
 {
     plane.holds_bytes();
     let values = luma_dc(dc.as_array(), qp);
@@ -306,7 +314,8 @@ fn add_chroma_blocks4x4<const PAD: usize>(
     requires quantiser { qp ≤ 39 }
     requires dc { AreSmall dc.now }
     requires ac { All AreSmall ac.now }
-    ensures { plane.new ≡ with_residual plane.old (8 * place.column) (8 * place.row) 8 8 (chroma_residual qp dc.now ac.now) }
+    ensures { plane.new ≡ with_residual plane.old (8 * place.column) (8 * place.row) 8 8
+        (chroma_residual qp dc.now ac.now) }
 {
     plane.holds_bytes();
     let values = chroma_dc(dc.as_array(), qp);
@@ -338,7 +347,8 @@ pub(crate) fn add_chroma_residual<const PAD: usize>(
     requires quantiser { qp ≤ 39 }
     requires dc { AreSmall dc.now }
     requires ac { All AreSmall ac.now }
-    ensures { plane.new ≡ with_residual plane.old (8 * place.column) (8 * place.row) 8 8 (chroma_residual qp dc.now ac.now) }
+    ensures { plane.new ≡ with_residual plane.old (8 * place.column) (8 * place.row) 8 8
+        (chroma_residual qp dc.now ac.now) }
 {
     if has_chroma_levels(dc, ac) {
         add_chroma_blocks4x4(plane, place, dc, ac, qp);

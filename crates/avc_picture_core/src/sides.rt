@@ -29,7 +29,8 @@ pub struct ReadableNeighbours {
 
 /// Whether the samples of a neighbour may be read.
 fn is_readable(neighbour: Option<&NeighbourInfo>, constrained_intra_pred: bool) -> bool
-    ensures { result ≡ holds_of (λ f. not constrained_intra_pred || is_intra_info f) (option_copied neighbour.entry) }
+    ensures { result ≡ holds_of (λ f. not constrained_intra_pred
+        || is_intra_info f) (option_copied neighbour.entry) }
 {
     match neighbour {
         None => false,
@@ -59,14 +60,17 @@ impl ReadableNeighbours {
     /// the sides that any mode needs.
     #[tactic(auto, using(crate::proofs::InterTiles::surrounded))]
     pub(crate) fn has_corner_neighbours(self) -> bool
-        ensures { result ≡ true → (mode : Mode4x4) (k : ℕ) → k < 16 → can_predict4x4 (readable_sides self k) mode ≡ true }
+        ensures { result ≡ true → (mode : Mode4x4) (k : ℕ) → k < 16 →
+            can_predict4x4 (readable_sides self k) mode ≡ true }
     {
         self.a & self.b & self.d
     }
 
     /// The corner of a block that stands so in its macroblock.
     fn corner(self, leftmost: bool, topmost: bool) -> bool
-        ensures { result ≡ (if topmost then (if leftmost then self.d else self.b) else (if leftmost then self.a else true)) }
+        ensures { result
+            ≡ (if topmost then (if leftmost then self.d else self.b)
+            else (if leftmost then self.a else true)) }
     {
         if topmost {
             if leftmost { self.d } else { self.b }

@@ -25,7 +25,8 @@ fn line_of<const PAD: usize>(from: &PaddedPlane<PAD>, left: usize, y: usize, wid
     requires columns { left + width ≤ from.now.width }
     requires row { y < from.now.height }
     ensures long { length result.now ≡ width }
-    ensures samples { (x : ℕ) → x < width → slice_index result.now x ≡ sample from.now (left + x) y }
+    ensures samples { (x : ℕ) → x < width → slice_index result.now x
+        ≡ sample from.now (left + x) y }
 {
     let stride = from.stride();
     let _lines = from.height();
@@ -66,7 +67,8 @@ pub fn copy_run<const PAD: usize>(
 )
     requires from { CoverRun place.column place.row count (padded_planes_of from.now) }
     requires planes { CoverRun place.column place.row count (planes_of planes.old) }
-    ensures { planes_of planes.new ≡ with_run_of (padded_planes_of from.now) place.column place.row count (planes_of planes.old) }
+    ensures { planes_of planes.new ≡ with_run_of (padded_planes_of from.now) place.column place.row
+        count (planes_of planes.old) }
 {
     let _columns = from.luma.width();
     let _lines = from.luma.height();
@@ -93,10 +95,14 @@ pub fn build_in_place<const PAD: usize>(
     requires references { AreUsable canvas.now.width canvas.now.height sources.now.references.now }
     requires skipped { mb.now.syntax ≡ p_skip }
     requires still { info.now.motion ≡ still_blocks }
-    requires samples { AreInPlace sources.now.references.now place.column place.row 1 (planes_of planes.now) }
-    ensures { (p : Place) → IsPlaceOn (with_planes canvas.now (planes_of planes.now)) (address_of canvas.now.width place) mb.now info.now
+    requires samples { AreInPlace sources.now.references.now place.column place.row 1
+        (planes_of planes.now) }
+    ensures { (p : Place) →
+        IsPlaceOn (with_planes canvas.now (planes_of planes.now))
+        (address_of canvas.now.width place) mb.now info.now
         (info_of sources.now.neighbours) sources.now.references.now p →
-        IsBuilt p (Ok tt) (with_planes canvas.now (planes_of planes.now)) (with_planes canvas.now (planes_of planes.now)) }
+        IsBuilt p (Ok tt) (with_planes canvas.now (planes_of planes.now))
+        (with_planes canvas.now (planes_of planes.now)) }
 {
     planes.luma.holds_bytes();
     planes.cb.holds_bytes();

@@ -1,5 +1,6 @@
 -- Pieces of a stream decode as the stream does.
-use Rattle.std.specs.Prelude.{◌≡◌, ℕ, ◌+◌, ◌-◌, ◌^◌, ◌<◌, Bool, true, false, not, List, [], ◌∷◌, ◌++◌, length, drop, sum_by, Option, Some, Result, Ok, Err, IsTrue}
+use Rattle.std.specs.Prelude.{◌≡◌, ℕ, ◌+◌, ◌-◌, ◌^◌, ◌<◌, Bool, true, false, not, List, [], ◌∷◌}
+use Rattle.std.specs.Prelude.{◌++◌, length, drop, sum_by, Option, Some, Result, Ok, Err, IsTrue}
 use Rattle.std.specs.List.{flat_map, list_all}
 use Rattle.avc_types.specs.declared.fault.Fault.{Fault}
 use Rattle.avc_types.specs.declared.references.Marking.{Marking}
@@ -38,4 +39,5 @@ PiecesDecodeAlike =
     length bytes + sum_by length (pieces bytes) < 2 ^ 64 - 1 →
     IsTrue (list_all is_picture (events output max bytes true)) →
     IsTrue (list_all (λ f. not f) (drop 1 (drop_flags [] (units max bytes true)))) →
-    unnumbered (events output max bytes true) ≡ unnumbered (flat_map (λ piece. events output max piece true) (pieces bytes))
+    unnumbered (events output max bytes true)
+    ≡ unnumbered (flat_map (λ piece. events output max piece true) (pieces bytes))

@@ -1,5 +1,6 @@
 -- The planes and frames that the code keeps, as those of pictures and of a history.
-use Rattle.std.specs.Prelude.{◌≡◌, ℕ, ◌*◌, ◌≤◌, true, false, List, [], ◌∷◌, length, All, is_some, IfSome}
+use Rattle.std.specs.Prelude.{◌≡◌, ℕ, ◌*◌, ◌≤◌, true, false, List, [], ◌∷◌, length, All, is_some}
+use Rattle.std.specs.Prelude.{IfSome}
 use Rattle.std.proofs.Common.{arith}
 use Rattle.avc_types.specs.References.{reference_of}
 use Rattle.avc_types.specs.declared.marked_frame.MarkedFrame.{MarkedFrame}

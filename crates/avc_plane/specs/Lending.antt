@@ -7,7 +7,9 @@ use Rattle.avc_plane.specs.contracts.plane.Plane.{the_row}
 
 -- p with the samples that its padded rows then have, and beyond their end its own
 abbrev pub with_rows : (pad : ℕ) → Plane → List ℕ → Plane
-with_rows pad p rows = plane_of p.width p.height (λ x y. slice_index_or rows (stored_place pad p.width x y) (sample p x y))
+with_rows pad p rows =
+    plane_of p.width p.height
+    (λ x y. slice_index_or rows (stored_place pad p.width x y) (sample p x y))
 
 -- p ends with the samples that the rows behind r have last
 abbrev pub lends_rows : RattleType → (pad : ℕ) → MutBor Plane → MutBor (List ℕ) → Fml

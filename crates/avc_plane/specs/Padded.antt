@@ -1,5 +1,6 @@
 -- A plane as it lies in memory, with padding around it, as the map of its own samples.
-use Rattle.std.specs.Prelude.{ℕ, ◌+◌, ◌-◌, ◌*◌, ◌/◌, ◌%◌, ◌<◌, ◌≤◌, ◌≡◌, ◌==◌, ◌^◌, if◌then◌else◌, pos, ◌-ℤ◌, min, List, length, slice_index}
+use Rattle.std.specs.Prelude.{ℕ, ◌+◌, ◌-◌, ◌*◌, ◌/◌, ◌%◌, ◌<◌, ◌≤◌, ◌≡◌, ◌==◌, ◌^◌, if◌then◌else◌}
+use Rattle.std.specs.Prelude.{pos, ◌-ℤ◌, min, List, length, slice_index}
 use Rattle.avc_plane.specs.Plane.{Plane, plane_of, sample, clamped}
 
 -- a multiple of 64, and the next where it is one of 1,024
@@ -22,7 +23,8 @@ stored_place pad width x y = place_in pad (stride_of pad width) x y
 
 -- the plane of this size inside the padded rows
 abbrev pub inner_plane : (pad stride width height : ℕ) → List ℕ → Plane
-inner_plane pad stride width height stored = plane_of width height (λ x y. slice_index stored (place_in pad stride x y))
+inner_plane pad stride width height stored =
+    plane_of width height (λ x y. slice_index stored (place_in pad stride x y))
 
 -- the padded rows of a plane, all of them, none too long for an address
 pub record IsStored (pad stride width height : ℕ) (stored : List ℕ) : Type 0 where
@@ -36,14 +38,16 @@ pub record IsStored (pad stride width height : ℕ) (stored : List ℕ) : Type 0
 -- padded rows that have the samples of p
 pub record HaveSamples (pad : ℕ) (p : Plane) (rows : List ℕ) : Type 0 where
   pub long : length rows ≡ (p.height + 2 * pad) * stride_of pad p.width
-  pub at : (x y : ℕ) → x < p.width → y < p.height → slice_index rows (stored_place pad p.width x y) ≡ sample p x y
+  pub at : (x y : ℕ) → x < p.width → y < p.height → slice_index rows (stored_place pad p.width x y)
+      ≡ sample p x y
 
 -- samples from the one in column x and row y of p on, whose rows are `stride` apart: each of p that
 -- is not left of it or above it stands at its distance in columns and rows
 pub record HaveRowsFrom (p : Plane) (x y : ℕ) (samples : List ℕ) (stride : ℕ) : Type 0 where
   pub apart : p.width ≤ stride
   pub inside : (i j : ℕ) → x + i < p.width → y + j < p.height → j * stride + i < length samples
-  pub at : (i j : ℕ) → x + i < p.width → y + j < p.height → slice_index samples (j * stride + i) ≡ sample p (x + i) (y + j)
+  pub at : (i j : ℕ) → x + i < p.width → y + j < p.height → slice_index samples (j * stride + i)
+      ≡ sample p (x + i) (y + j)
 
 -- the coordinate inside a size that is nearest to place x of the padded size
 abbrev pub nearest : (pad size x : ℕ) → ℕ
@@ -54,7 +58,8 @@ nearest pad size x = min (x - pad) (size - 1)
 pub record IsSurrounded (pad : ℕ) (p : Plane) (rows : List ℕ) : Type 0 where
   pub long : length rows ≡ (p.height + 2 * pad) * stride_of pad p.width
   pub near : (x y : ℕ) → x < stride_of pad p.width → y < p.height + 2 * pad →
-      slice_index rows (y * stride_of pad p.width + x) ≡ clamped p.width p.height (sample p) (pos x -ℤ pos pad) (pos y -ℤ pos pad)
+      slice_index rows (y * stride_of pad p.width + x)
+      ≡ clamped p.width p.height (sample p) (pos x -ℤ pos pad) (pos y -ℤ pos pad)
 
 -- the padded rows of a plane that has samples, with its nearest samples around it
 pub record IsPadded (pad stride width height : ℕ) (stored : List ℕ) : Type 0 where

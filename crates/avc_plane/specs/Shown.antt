@@ -1,4 +1,5 @@
--- A picture of closed planes, its components, and what is shown of them (ITU-T H.264 clauses 6.2 and 7.4.2.1.1).
+-- A picture of closed planes, its components, and what is shown of them (ITU-T H.264 clauses 6.2
+-- and 7.4.2.1.1).
 use Rattle.std.specs.Prelude.{◌≡◌, ℕ, ◌+◌, ◌-◌, ◌*◌, ◌/◌, ◌<◌, ◌≤◌, List, length, slice_index}
 use Rattle.avc_types.specs.declared.picture.Crop.{Crop}
 use Rattle.avc_types.specs.declared.picture.Picture.{Picture}
@@ -45,7 +46,11 @@ rows_of p c = scaled c p.height
 -- apart: each one that is shown stands at its column and row.
 pub record IsLent (p : Picture) (c : Component) (lent : List ℕ) (stride : ℕ) : Type 0 where
   pub apart : scaled c (p.width - ((p.crop).left + (p.crop).right)) ≤ stride
-  pub inside : (x y : ℕ) → x < scaled c (p.width - ((p.crop).left + (p.crop).right)) → y < scaled c (p.height - ((p.crop).top + (p.crop).bottom))
+  pub inside : (x y : ℕ) → x < scaled c (p.width - ((p.crop).left + (p.crop).right)) →
+      y < scaled c (p.height - ((p.crop).top + (p.crop).bottom))
       → y * stride + x < length lent
-  pub at : (x y : ℕ) → x < scaled c (p.width - ((p.crop).left + (p.crop).right)) → y < scaled c (p.height - ((p.crop).top + (p.crop).bottom))
-      → slice_index lent (y * stride + x) ≡ slice_index (samples_of p c) ((scaled c (p.crop).top + y) * columns_of p c + (scaled c (p.crop).left + x))
+  pub at : (x y : ℕ) → x < scaled c (p.width - ((p.crop).left + (p.crop).right)) →
+      y < scaled c (p.height - ((p.crop).top + (p.crop).bottom))
+      → slice_index lent (y * stride + x)
+      ≡ slice_index (samples_of p c) ((scaled c (p.crop).top + y) * columns_of p c
+      + (scaled c (p.crop).left + x))

@@ -1,5 +1,6 @@
 -- Planes that are left over of pictures that are over, in which later pictures are decoded.
-use Rattle.std.specs.Prelude.{◌≡◌, ℕ, ◌+◌, ◌*◌, ◌==◌, nat_lt, if◌then◌else◌, Bool, ◌&&◌, List, [], ◌∷◌, ◌++◌, length, Option, Some, None, IsSomeAnd, ◌⊎◌}
+use Rattle.std.specs.Prelude.{◌≡◌, ℕ, ◌+◌, ◌*◌, ◌==◌, nat_lt, if◌then◌else◌, Bool, ◌&&◌, List, []}
+use Rattle.std.specs.Prelude.{◌∷◌, ◌++◌, length, Option, Some, None, IsSomeAnd, ◌⊎◌}
 use Rattle.std.specs.List.{sum_by}
 use Rattle.avc_plane.specs.Plane.{Plane}
 use Rattle.avc_plane.specs.Planes.{Planes, empty_planes}
@@ -21,7 +22,9 @@ most_closed = 17
 
 -- with closed planes more, where there is room for them
 abbrev pub with_closed : Planes → Spare → Spare
-with_closed p s = if nat_lt (length s.closed) most_closed then record s { closed = s.closed ++ Some p ∷ [] } else s
+with_closed p s =
+    if nat_lt (length s.closed) most_closed then record s { closed = s.closed ++ Some p ∷ [] }
+    else s
 
 -- with these open ones
 abbrev pub with_open : Planes → Spare → Spare
@@ -34,7 +37,8 @@ has_size width height p = p.width == width && p.height == height
 -- planes of a picture of this size in macroblocks, as a test
 abbrev pub is_sized : (width height : ℕ) → Planes → Bool
 is_sized width height s =
-    has_size (16 * width) (16 * height) s.luma && has_size (8 * width) (8 * height) s.cb && has_size (8 * width) (8 * height) s.cr
+    has_size (16 * width) (16 * height) s.luma && has_size (8 * width) (8 * height) s.cb
+    && has_size (8 * width) (8 * height) s.cr
 
 -- open planes of this size in macroblocks are left over
 abbrev pub HasOpen : (width height : ℕ) → Spare → Type 0
@@ -51,7 +55,8 @@ count_sized width height places = sum_by (λ place. one_if_sized width height pl
 
 -- how many planes of this size are left over, closed and open ones
 abbrev pub left_over : (width height : ℕ) → Spare → ℕ
-left_over width height s = one_if_sized width height s.open_planes + count_sized width height s.closed
+left_over width height s =
+    one_if_sized width height s.open_planes + count_sized width height s.closed
 
 -- Planes of this size were had: one of those that are left over is used again, or all of them stay
 -- and the planes are new.

@@ -8,10 +8,13 @@ IsRoom width height start stride long = (y : ℕ) → y < height → start + y *
 -- only places of the rectangle have changed
 abbrev pub IsSameOutside : (width height start stride : ℕ) → (old new : List ℕ) → Type 0
 IsSameOutside width height start stride old new =
-    (j : ℕ) → ((x y : ℕ) → x < width → y < height → j ≢ start + y * stride + x) → slice_index new j ≡ slice_index old j
+    (j : ℕ) → ((x y : ℕ) → x < width → y < height → j ≢ start + y * stride + x) →
+    slice_index new j ≡ slice_index old j
 
 -- the rectangle has the samples f, and nothing else has changed
-pub record IsStridedSet (width height start stride : ℕ) (f : ℕ → ℕ → ℕ) (old new : List ℕ) : Type 0 where
+pub record IsStridedSet (width height start stride : ℕ) (f : ℕ → ℕ →
+    ℕ) (old new : List ℕ) : Type 0 where
   pub long : length new ≡ length old
-  pub inside : (y : ℕ) → y < height → (x : ℕ) → x < width → slice_index new (start + y * stride + x) ≡ f x y
+  pub inside : (y : ℕ) → y < height → (x : ℕ) → x < width → slice_index new (start + y * stride + x)
+      ≡ f x y
   pub outside : IsSameOutside width height start stride old new

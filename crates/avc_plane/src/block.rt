@@ -52,7 +52,8 @@ impl<'a, const W: usize, const H: usize, const PAD: usize> BlockMut<'a, W, H, PA
         requires row { y < H }
         ensures same_reference { self.new.plane.ghost_name ≡ self.old.plane.ghost_name }
         ensures place { (self.new.left ≡ self.old.left) × (self.new.top ≡ self.old.top) }
-        ensures samples { self.new.plane.now ≡ with_sample self.old.plane.now (self.old.left + x) (self.old.top + y) value }
+        ensures samples { self.new.plane.now
+            ≡ with_sample self.old.plane.now (self.old.left + x) (self.old.top + y) value }
     {
         let column = self.left + x;
         let row = self.top + y;
@@ -64,7 +65,9 @@ impl<'a, const W: usize, const H: usize, const PAD: usize> BlockMut<'a, W, H, PA
         requires { y < H }
         ensures same_reference { self.new.plane.ghost_name ≡ self.old.plane.ghost_name }
         ensures place { (self.new.left ≡ self.old.left) × (self.new.top ≡ self.old.top) }
-        ensures samples { self.new.plane.now ≡ with_block self.old.plane.now self.old.left (self.old.top + y) W 1 (λ x _. slice_index samples.now x) }
+        ensures samples { self.new.plane.now
+            ≡ with_block self.old.plane.now self.old.left (self.old.top + y) W 1
+            (λ x _. slice_index samples.now x) }
     {
         let left = self.left;
         let row = self.top + y;

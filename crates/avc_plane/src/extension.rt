@@ -9,7 +9,8 @@ fn repeat(stored: &mut [u8], first: usize, count: usize, sample: u8)
     requires { first + count ≤ length stored.old }
     ensures before { (k : ℕ) → k < first → slice_index stored.new k ≡ slice_index stored.old k }
     ensures here { (k : ℕ) → first ≤ k → k < first + count → slice_index stored.new k ≡ sample }
-    ensures after { (k : ℕ) → first + count ≤ k → slice_index stored.new k ≡ slice_index stored.old k }
+    ensures after { (k : ℕ) → first + count ≤ k → slice_index stored.new k
+        ≡ slice_index stored.old k }
 {
     stored[first..first + count].fill(sample);
 }
@@ -22,7 +23,8 @@ fn repeat_from_ends(stored: &mut [u8], first: usize, count: usize, part: usize, 
     requires enough { count ≤ 2 * part }
     ensures before { (k : ℕ) → k < first → slice_index stored.new k ≡ slice_index stored.old k }
     ensures here { (k : ℕ) → first ≤ k → k < first + count → slice_index stored.new k ≡ sample }
-    ensures after { (k : ℕ) → first + count ≤ k → slice_index stored.new k ≡ slice_index stored.old k }
+    ensures after { (k : ℕ) → first + count ≤ k → slice_index stored.new k
+        ≡ slice_index stored.old k }
 {
     repeat(stored, first, part, sample);
     repeat(stored, first + (count - part), part, sample);
@@ -36,7 +38,8 @@ fn repeat_many(stored: &mut [u8], first: usize, count: usize, pad: usize, sample
     requires many { pad ≤ count }
     ensures before { (k : ℕ) → k < first → slice_index stored.new k ≡ slice_index stored.old k }
     ensures here { (k : ℕ) → first ≤ k → k < first + count → slice_index stored.new k ≡ sample }
-    ensures after { (k : ℕ) → first + count ≤ k → slice_index stored.new k ≡ slice_index stored.old k }
+    ensures after { (k : ℕ) → first + count ≤ k → slice_index stored.new k
+        ≡ slice_index stored.old k }
 {
     if count <= 2 * pad {
         repeat_from_ends(stored, first, count, pad, sample);
@@ -57,8 +60,10 @@ fn extend_row(stored: &mut [u8], first: usize, width: usize, pad: usize, stride:
     requires wide { width + 2 * pad ≤ stride }
     requires room { first + stride ≤ length stored.old }
     ensures before { (k : ℕ) → k < first → slice_index stored.new k ≡ slice_index stored.old k }
-    ensures here { (x : ℕ) → x < stride → slice_index stored.new (first + x) ≡ slice_index stored.old (first + (nearest pad width x + pad)) }
-    ensures after { (k : ℕ) → first + stride ≤ k → slice_index stored.new k ≡ slice_index stored.old k }
+    ensures here { (x : ℕ) → x < stride → slice_index stored.new (first + x)
+        ≡ slice_index stored.old (first + (nearest pad width x + pad)) }
+    ensures after { (k : ℕ) → first + stride ≤ k → slice_index stored.new k
+        ≡ slice_index stored.old k }
 {
     let left = stored[first + pad];
     let right = stored[first + pad + (width - 1)];
@@ -72,7 +77,8 @@ fn copy_before(stored: &mut [u8], from: usize, to: usize, count: usize)
     requires apart { to + count ≤ from }
     requires source { from + count ≤ length stored.old }
     ensures before { (k : ℕ) → k < to → slice_index stored.new k ≡ slice_index stored.old k }
-    ensures here { (x : ℕ) → x < count → slice_index stored.new (to + x) ≡ slice_index stored.old (from + x) }
+    ensures here { (x : ℕ) → x < count → slice_index stored.new (to + x)
+        ≡ slice_index stored.old (from + x) }
     ensures after { (k : ℕ) → to + count ≤ k → slice_index stored.new k ≡ slice_index stored.old k }
 {
     let (start, end) = stored.split_at_mut(from);
@@ -84,7 +90,8 @@ fn copy_behind(stored: &mut [u8], from: usize, to: usize, count: usize)
     requires apart { from + count ≤ to }
     requires target { to + count ≤ length stored.old }
     ensures before { (k : ℕ) → k < to → slice_index stored.new k ≡ slice_index stored.old k }
-    ensures here { (x : ℕ) → x < count → slice_index stored.new (to + x) ≡ slice_index stored.old (from + x) }
+    ensures here { (x : ℕ) → x < count → slice_index stored.new (to + x)
+        ≡ slice_index stored.old (from + x) }
     ensures after { (k : ℕ) → to + count ≤ k → slice_index stored.new k ≡ slice_index stored.old k }
 {
     let (start, end) = stored.split_at_mut(to);
@@ -98,7 +105,8 @@ fn extend_sides(stored: &mut [u8], width: usize, height: usize, pad: usize, stri
     requires wide { width + 2 * pad ≤ stride }
     requires all { length stored.old ≡ (height + 2 * pad) * stride }
     ensures { (x y : ℕ) → x < stride → y < height →
-        slice_index stored.new ((y + pad) * stride + x) ≡ slice_index stored.old ((y + pad) * stride + (nearest pad width x + pad)) }
+        slice_index stored.new ((y + pad) * stride + x)
+        ≡ slice_index stored.old ((y + pad) * stride + (nearest pad width x + pad)) }
 {
     for y in 0..height {
         extend_row(stored, (y + pad) * stride, width, pad, stride);
@@ -111,7 +119,8 @@ fn extend_ends(stored: &mut [u8], height: usize, pad: usize, stride: usize)
     requires apart { 0 < stride }
     requires all { length stored.old ≡ (height + 2 * pad) * stride }
     ensures { (x y : ℕ) → x < stride → y < height + 2 * pad →
-        slice_index stored.new (y * stride + x) ≡ slice_index stored.old ((nearest pad height y + pad) * stride + x) }
+        slice_index stored.new (y * stride + x)
+        ≡ slice_index stored.old ((nearest pad height y + pad) * stride + x) }
 {
     for y in 0..pad {
         copy_before(stored, pad * stride, y * stride, stride);
@@ -134,7 +143,8 @@ pub fn extend(stored: &mut [u8], width: usize, height: usize, pad: usize, stride
     requires all { length stored.old ≡ (height + 2 * pad) * stride }
     ensures { (x y : ℕ) → x < stride → y < height + 2 * pad →
         slice_index stored.new (y * stride + x)
-        ≡ slice_index stored.old ((nearest pad height y + pad) * stride + (nearest pad width x + pad)) }
+        ≡ slice_index stored.old
+        ((nearest pad height y + pad) * stride + (nearest pad width x + pad)) }
 {
     extend_sides(stored, width, height, pad, stride);
     extend_ends(stored, height, pad, stride);

@@ -99,7 +99,9 @@ impl<const PAD: usize> PaddedPlane<PAD> {
     /// The samples of row `y` without the padding, from the left.
     pub fn row(&self, y: usize) -> &[u8]
         requires { y < self.now.height }
-        ensures { result.now ≡ slice_range self.now.samples (y * self.now.width) (y * self.now.width + self.now.width) }
+        ensures { result.now
+            ≡ slice_range self.now.samples (y * self.now.width)
+            (y * self.now.width + self.now.width) }
     {
         let stride = self.stride;
         let start = (y + PAD) * stride + PAD;

@@ -42,7 +42,8 @@ pub trait PictureRows {
         requires whole { IsWhole (picture self.now) }
         requires row { y < rows_of (picture self.now) component }
         ensures { result.now ≡ slice_range (samples_of (picture self.now) component)
-            (y * columns_of (picture self.now) component) (y * columns_of (picture self.now) component + columns_of (picture self.now) component) };
+            (y * columns_of (picture self.now) component)
+            (y * columns_of (picture self.now) component + columns_of (picture self.now) component) };
 }
 
 // Whether so many samples can be left out of a picture of this size.

@@ -144,7 +144,9 @@ impl<const PAD: usize> Plane<PAD> {
         requires columns { left + width ≤ self.old.width }
         requires rows { top + height ≤ self.old.height }
         requires all { length samples.now ≡ width * height }
-        ensures { self.new ≡ with_block self.old left top width height (λ x y. slice_index samples.now (width * y + x)) }
+        ensures { self.new
+            ≡ with_block self.old left top width height
+            (λ x y. slice_index samples.now (width * y + x)) }
     {
         let _ = &self.stored;
         for row in 0..height {
@@ -174,7 +176,8 @@ impl<const PAD: usize> Plane<PAD> {
     pub(crate) fn set_line(&mut self, left: usize, y: usize, samples: &[u8])
         requires columns { left + length samples.now ≤ self.old.width }
         requires row { y < self.old.height }
-        ensures { self.new ≡ with_block self.old left y (length samples.now) 1 (λ x _. slice_index samples.now x) }
+        ensures { self.new
+            ≡ with_block self.old left y (length samples.now) 1 (λ x _. slice_index samples.now x) }
     {
         let stride = self.stride;
         let start = (y + PAD) * stride + (left + PAD);
@@ -184,7 +187,9 @@ impl<const PAD: usize> Plane<PAD> {
     /// The samples of row `y`, from the left.
     pub fn row(&self, y: usize) -> &[u8]
         requires { y < self.now.height }
-        ensures { result.now ≡ slice_range self.now.samples (y * self.now.width) (y * self.now.width + self.now.width) }
+        ensures { result.now
+            ≡ slice_range self.now.samples (y * self.now.width)
+            (y * self.now.width + self.now.width) }
     {
         let stride = self.stride;
         let start = (y + PAD) * stride + PAD;

@@ -1,5 +1,5 @@
-//! Closed planes with several holders: they change no more, so that who stores them, who predicts from them and who shows them hold
-//! the same ones.
+//! Closed planes with several holders: they change no more, so that who stores them, who predicts
+//! from them and who shows them hold the same ones.
 
 ghost use Rattle.std.specs.Prelude.{◌≡◌, IfErr, IfOk};
 ghost use Rattle.avc_plane.specs.Planes.{AreSubsampled, HaveAllSamples};

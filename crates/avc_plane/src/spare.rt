@@ -42,7 +42,10 @@ impl<const PAD: usize> Model for SparePlanes<PAD> {
 
     ghost Value = { Spare };
 
-    ghost view = { λ s. record { closed = s.closed.items; open_planes = option_map planes_of s.open_planes } };
+    ghost view = { λ s. record {
+      closed = s.closed.items;
+      open_planes = option_map planes_of s.open_planes;
+    } };
 
     ghost invariant = { λ s. length s.closed.items ≤ most_closed };
 }
@@ -90,8 +93,10 @@ impl<const PAD: usize> SparePlanes<PAD> {
         requires narrow { 16 * width + 2 * PAD < 2 ^ 31 }
         requires low { 16 * height + 2 * PAD < 2 ^ 31 }
         ensures sized { IfSome result (λ planes. AreSized width height (planes_of planes)) }
-        ensures open_ones { HasOpen width height self.old → IsSomeAnd result (λ planes. Some (planes_of planes) ≡ self.old.open_planes) }
-        ensures count { left_over width height self.old ≡ left_over width height self.new + (if is_some result then 1 else 0) }
+        ensures open_ones { HasOpen width height self.old →
+            IsSomeAnd result (λ planes. Some (planes_of planes) ≡ self.old.open_planes) }
+        ensures count { left_over width height self.old
+            ≡ left_over width height self.new + (if is_some result then 1 else 0) }
     {
         match take_open(&mut self.open_planes, width, height) {
             Some(planes) => Some(planes),
@@ -109,8 +114,10 @@ fn take_open<const PAD: usize>(
     requires narrow { 16 * width + 2 * PAD < 2 ^ 31 }
     requires low { 16 * height + 2 * PAD < 2 ^ 31 }
     ensures sized { IfSome result (λ planes. AreSized width height (planes_of planes)) }
-    ensures same { IfSome result (λ planes. Some (planes_of planes) ≡ option_map planes_of open_planes.old) }
-    ensures found { one_if_sized width height (option_map planes_of open_planes.old) ≡ (if is_some result then 1 else 0) }
+    ensures same { IfSome result (λ planes. Some (planes_of planes)
+        ≡ option_map planes_of open_planes.old) }
+    ensures found { one_if_sized width height (option_map planes_of open_planes.old)
+        ≡ (if is_some result then 1 else 0) }
     ensures none { open_planes.new ≡ None }
 {
     match open_planes.take() {
@@ -122,7 +129,8 @@ fn take_open<const PAD: usize>(
 /// Takes the planes in this place, if there are such. The last place comes to where it was.
 fn take_place<const PAD: usize>(closed: &mut Places<PAD>, place: usize) -> Option<SharedPlanes<PAD>>
     ensures count { (width height : ℕ) →
-        count_sized width height closed.old.items ≡ count_sized width height closed.new.items + one_if_sized width height result }
+        count_sized width height closed.old.items ≡ count_sized width height closed.new.items
+        + one_if_sized width height result }
     ensures few { length closed.new.items ≤ length closed.old.items }
     ensures room { OnSome result (length closed.new.items + 1 ≡ length closed.old.items) }
 {
@@ -140,7 +148,8 @@ fn take_closed<const PAD: usize>(
     requires low { 16 * height + 2 * PAD < 2 ^ 31 }
     requires few { length closed.old.items ≤ most_closed }
     ensures sized { IfSome result (λ planes. AreSized width height (planes_of planes)) }
-    ensures count { count_sized width height closed.old.items ≡ count_sized width height closed.new.items + (if is_some result then 1 else 0) }
+    ensures count { count_sized width height closed.old.items
+        ≡ count_sized width height closed.new.items + (if is_some result then 1 else 0) }
     ensures few { length closed.new.items ≤ most_closed }
 {
     'places: for place in (0..closed.len()).rev() {
@@ -164,7 +173,8 @@ fn sole_of_size<const PAD: usize>(
 ) -> Result<Option<Planes<PAD>>, SharedPlanes<PAD>>
     requires narrow { 16 * width + 2 * PAD < 2 ^ 31 }
     requires low { 16 * height + 2 * PAD < 2 ^ 31 }
-    ensures sized { IfOk result (λ found. IfSome found (λ planes. AreSized width height (planes_of planes))) }
+    ensures sized { IfOk result
+        (λ found. IfSome found (λ planes. AreSized width height (planes_of planes))) }
     ensures found { IfOk result (λ found. is_some found ≡ is_sized width height shared.entry) }
     ensures held { IfErr result (λ held. held ≡ shared.entry) }
 {
@@ -198,9 +208,12 @@ impl<const PAD: usize> Planes<PAD> {
         requires narrow { 16 * width + 2 * PAD < 2 ^ 31 }
         requires low { 16 * height + 2 * PAD < 2 ^ 31 }
         ensures sized { IfOk result (λ planes. AreSized width height (planes_of planes)) }
-        ensures open_ones { HasOpen width height spare.old → IsOkAnd result (λ planes. Some (planes_of planes) ≡ spare.old.open_planes) }
-        ensures had { IfOk result (λ planes. AreHad width height spare.old spare.new (planes_of planes)) }
-        ensures stay { OnErr result (left_over width height spare.new ≡ left_over width height spare.old) }
+        ensures open_ones { HasOpen width height spare.old →
+            IsOkAnd result (λ planes. Some (planes_of planes) ≡ spare.old.open_planes) }
+        ensures had { IfOk result
+            (λ planes. AreHad width height spare.old spare.new (planes_of planes)) }
+        ensures stay { OnErr result (left_over width height spare.new
+            ≡ left_over width height spare.old) }
     {
         match spare.take(width, height) {
             Some(planes) => Ok(planes),

@@ -1,5 +1,7 @@
--- What earlier pictures and missing frame numbers leave to the next picture (8.2.1): all that its order counts ask of them.
-use Rattle.std.specs.Prelude.{◌≡◌, ℕ, zero, suc, ◌+◌, ◌*◌, ◌/◌, ◌%◌, ◌^◌, min, ℤ, pos, neg_ℤ, ◌≤ℤ◌, true, false, nat_lt, if◌then◌else◌, List, [], ◌∷◌, Result, Ok, Err}
+-- What earlier pictures and missing frame numbers leave to the next picture (8.2.1): all that its
+-- order counts ask of them.
+use Rattle.std.specs.Prelude.{◌≡◌, ℕ, zero, suc, ◌+◌, ◌*◌, ◌/◌, ◌%◌, ◌^◌, min, ℤ, pos, neg_ℤ, ◌≤ℤ◌}
+use Rattle.std.specs.Prelude.{true, false, nat_lt, if◌then◌else◌, List, [], ◌∷◌, Result, Ok, Err}
 use Rattle.std.specs.Result.{is_ok}
 use Rattle.avc_types.specs.declared.fault.Fault.{Fault}
 use Rattle.avc_types.specs.declared.fault.Fault.TheVariants.{PocRange}
@@ -8,7 +10,9 @@ use Rattle.avc_params.specs.Limits.{max_frame_num}
 use Rattle.avc_slice.specs.declared.header.Header.{Header}
 use Rattle.avc_slice.specs.Header.{is_idr, is_reference, has_operation_5}
 use Rattle.avc_poc.specs.declared.most_significant.Previous.{Previous}
-use Rattle.avc_poc.specs.OrderCounts.{Counts, Past, missing, past_number, previous_of, no_previous, frame_num_offset, resets_order_counts, previous_for, previous_from, counts_from, counts_by, number_in_range}
+use Rattle.avc_poc.specs.OrderCounts.{Counts, Past, missing, past_number, previous_of, no_previous}
+use Rattle.avc_poc.specs.OrderCounts.{frame_num_offset, resets_order_counts, previous_for}
+use Rattle.avc_poc.specs.OrderCounts.{previous_from, counts_from, counts_by, number_in_range}
 
 -- What is kept between pictures.
 pub record OrderCountState : Type 0 where
@@ -36,7 +40,8 @@ order_count_state (newest ∷ older) = record {
 
 -- FrameNumOffset: greater by MaxFrameNum where frame_num has begun anew (8.2.1.2)
 abbrev pub next_offset : (offset before frame_num max : ℕ) → ℕ
-next_offset offset before frame_num max = if nat_lt frame_num before then saturated (offset + max) else offset
+next_offset offset before frame_num max =
+    if nat_lt frame_num before then saturated (offset + max) else offset
 
 -- TopFieldOrderCnt and BottomFieldOrderCnt
 abbrev pub pair : Counts → ℤ × ℤ
@@ -54,15 +59,24 @@ count_pair (Err f) = Err f
 -- before any lowering
 abbrev pub raw_counts : Sps → Header → Previous → (number : ℕ) → Result (ℤ × ℤ) Fault
 raw_counts sps h previous number =
-    if number_in_range sps.order_count number then Ok (pair (counts_by sps.order_count sps h previous number)) else Err PocRange
+    if number_in_range sps.order_count number
+    then Ok (pair (counts_by sps.order_count sps h previous number)) else Err PocRange
 
 -- prevPicOrderCntMsb and prevPicOrderCntLsb after a picture, from those before it
 abbrev pub previous_after : Sps → Header → Previous → Previous
-previous_after sps h before = elim (is_reference h) [ false ↦ before | true ↦ previous_from sps h (previous_for h before) ]
+previous_after sps h before =
+    elim (is_reference h) [
+      | false ↦ before
+      | true ↦ previous_from sps h (previous_for h before)
+    ]
 
 -- FrameNumOffset of a picture
 abbrev pub picture_offset : Sps → Header → OrderCountState → ℕ
-picture_offset sps h s = elim (is_idr h) [ true ↦ 0 | false ↦ next_offset s.offset s.frame_num h.frame_num (max_frame_num sps) ]
+picture_offset sps h s =
+    elim (is_idr h) [
+      | true ↦ 0
+      | false ↦ next_offset s.offset s.frame_num h.frame_num (max_frame_num sps)
+    ]
 
 -- what a picture with this header leaves
 abbrev pub after_picture : Sps → Header → OrderCountState → OrderCountState
@@ -74,7 +88,8 @@ after_picture sps h s = record {
 
 -- the counts of a picture with this header, or PocRange (8.2.1)
 abbrev pub counts_after : Sps → Header → OrderCountState → Result Counts Fault
-counts_after sps h s = counts_from sps h (previous_for h s.previous) (picture_offset sps h s + h.frame_num)
+counts_after sps h s =
+    counts_from sps h (previous_for h s.previous) (picture_offset sps h s + h.frame_num)
 
 -- no further from 0 than 2 to the power of this number of bits
 pub record IsNear (bits : ℕ) (z : ℤ) : Type 0 where
@@ -95,7 +110,8 @@ IsCounted sps h previous = (number : ℕ) × is_ok (counts_from sps h previous n
 -- the older entries, and n missing numbers from `first` on, modulo MaxFrameNum
 abbrev pub with_missing_from : Sps → (first n : ℕ) → (older : List Past) → List Past
 with_missing_from sps first zero older = older
-with_missing_from sps first (suc n) older = with_missing_from sps (first + 1) n (missing sps (first % max_frame_num sps) ∷ older)
+with_missing_from sps first (suc n) older =
+    with_missing_from sps (first + 1) n (missing sps (first % max_frame_num sps) ∷ older)
 
 -- What one missing number and n more leave, where the first is below MaxFrameNum: FrameNumOffset is
 -- greater by MaxFrameNum each time that they have come round (8.2.1.2, 8.2.1.3). Nothing else

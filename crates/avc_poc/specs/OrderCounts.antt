@@ -1,6 +1,8 @@
--- Picture order counts (8.2.1), from the history: the closed pictures and the missing frame numbers of a coded video sequence, in
--- decoding order. A history is written with its newest entry first.
-use Rattle.std.specs.Prelude.{ℕ, zero, suc, ◌+◌, ◌-◌, ◌*◌, ◌/◌, ◌%◌, ◌^◌, ℤ, pos, neg_ℤ, ◌+ℤ◌, ◌-ℤ◌, ◌*ℤ◌, int_lt, int_le, Bool, true, false, ◌&&◌, nat_lt, if◌then◌else◌, List, [], ◌∷◌, length, take, Result, Ok, Err}
+-- Picture order counts (8.2.1), from the history: the closed pictures and the missing frame numbers
+-- of a coded video sequence, in decoding order. A history is written with its newest entry first.
+use Rattle.std.specs.Prelude.{ℕ, zero, suc, ◌+◌, ◌-◌, ◌*◌, ◌/◌, ◌%◌, ◌^◌, ℤ, pos, neg_ℤ, ◌+ℤ◌, ◌-ℤ◌}
+use Rattle.std.specs.Prelude.{◌*ℤ◌, int_lt, int_le, Bool, true, false, ◌&&◌, nat_lt, if◌then◌else◌}
+use Rattle.std.specs.Prelude.{List, [], ◌∷◌, length, take, Result, Ok, Err}
 use Rattle.std.specs.Int.{int_min}
 use Rattle.avc_types.specs.declared.fault.Fault.{Fault}
 use Rattle.avc_types.specs.declared.fault.Fault.TheVariants as faults
@@ -56,8 +58,10 @@ delta_bottom _ = pos 0
 -- PicOrderCntMsb (8.2.1.1)
 abbrev pub msb_of : (max : ℤ) → Previous → (lsb : ℤ) → ℤ
 msb_of max previous lsb =
-    if int_lt lsb previous.lsb && int_le max (pos 2 *ℤ (previous.lsb -ℤ lsb)) then previous.msb +ℤ max
-    else (if int_lt previous.lsb lsb && int_lt max (pos 2 *ℤ (lsb -ℤ previous.lsb)) then previous.msb -ℤ max
+    if int_lt lsb previous.lsb && int_le max (pos 2 *ℤ (previous.lsb -ℤ lsb))
+    then previous.msb +ℤ max
+    else (if int_lt previous.lsb lsb && int_lt max (pos 2 *ℤ (lsb -ℤ previous.lsb))
+    then previous.msb -ℤ max
     else previous.msb)
 
 -- TopFieldOrderCnt and BottomFieldOrderCnt of a frame (8.2.1.1)
@@ -70,8 +74,14 @@ counts_0 sps h previous =
 -- pictures after it (8.2.1.1)
 abbrev pub previous_from : Sps → Header → Previous → Previous
 previous_from sps h previous =
-    if has_operation_5 h then record { msb = pos 0; lsb = (lowered_by_operation_5 (counts_0 sps h previous)).top }
-    else record { msb = msb_of (max_lsb sps.order_count) previous (lsb_of h.order); lsb = lsb_of h.order }
+    if has_operation_5 h then record {
+      msb = pos 0;
+      lsb = (lowered_by_operation_5 (counts_0 sps h previous)).top;
+    }
+    else record {
+      msb = msb_of (max_lsb sps.order_count) previous (lsb_of h.order);
+      lsb = lsb_of h.order;
+    }
 
 -- Those of the last reference picture of the history, non-existing frames excepted (8.2.1.1).
 abbrev pub previous_of : List Past → Previous
@@ -81,7 +91,10 @@ previous_of (picture sps h ∷ older) =
     elim (is_reference h) [
       | false ↦ previous_of older
       | true ↦
-          elim (is_idr h) [ true ↦ previous_from sps h no_previous | false ↦ previous_from sps h (previous_of older) ]
+          elim (is_idr h) [
+            | true ↦ previous_from sps h no_previous
+            | false ↦ previous_from sps h (previous_of older)
+          ]
     ]
 
 -- ---- types 1 and 2 (8.2.1.2, 8.2.1.3)
@@ -112,14 +125,18 @@ resets_order_counts (missing sps frame_num) = false
 abbrev offset_after : (offset : ℕ) → (older newer : Past) → ℕ
 offset_after offset older newer =
     if resets_order_counts older then 0
-    else (if nat_lt (past_number newer) (past_number older) then offset + max_frame_num (past_sps newer) else offset)
+    else (if nat_lt (past_number newer) (past_number older)
+    then offset + max_frame_num (past_sps newer) else offset)
 
 -- FrameNumOffset of the newest entry: 0 of an IDR picture (8.2.1.2, 8.2.1.3)
 abbrev pub frame_num_offset : List Past → ℕ
 frame_num_offset [] = 0
 frame_num_offset (newest ∷ []) = 0
 frame_num_offset (newest ∷ older ∷ others) =
-    elim (past_is_idr newest) [ true ↦ 0 | false ↦ offset_after (frame_num_offset (older ∷ others)) older newest ]
+    elim (past_is_idr newest) [
+      | true ↦ 0
+      | false ↦ offset_after (frame_num_offset (older ∷ others)) older newest
+    ]
 
 -- the sum of a list; of a whole cycle ExpectedDeltaPerPicOrderCntCycle (7.4.2.1.1)
 abbrev pub sum_ℤ : List ℤ → ℤ
@@ -150,7 +167,8 @@ delta_1 (Type1 a b) = b
 delta_1 _ = pos 0
 
 -- TopFieldOrderCnt and BottomFieldOrderCnt of a frame at type 1 (8.2.1.2)
-abbrev pub counts_1 : (non_ref top_to_bottom : ℤ) → (cycle : List ℤ) → Header → (number : ℕ) → Counts
+abbrev pub counts_1 : (non_ref top_to_bottom : ℤ) → (cycle : List ℤ) → Header → (number : ℕ) →
+    Counts
 counts_1 non_ref top_to_bottom cycle h number =
     let expected_delta = expected_order_count (abs_frame_num number cycle (is_reference h)) cycle in
     let top = (expected_delta +ℤ (if is_reference h then pos 0 else non_ref)) +ℤ delta_0 h.order in
@@ -159,7 +177,8 @@ counts_1 non_ref top_to_bottom cycle h number =
 -- TopFieldOrderCnt and BottomFieldOrderCnt of a frame at type 2: tempPicOrderCnt (8.2.1.3)
 abbrev pub counts_2 : Header → (number : ℕ) → Counts
 counts_2 h number =
-    let count = if is_idr h then pos 0 else (if is_reference h then pos (2 * number) else pos (2 * number) -ℤ pos 1) in
+    let count = if is_idr h then pos 0
+    else (if is_reference h then pos (2 * number) else pos (2 * number) -ℤ pos 1) in
     record { top = count; bottom = count }
 
 -- ---- all types (8.2.1)
@@ -173,7 +192,8 @@ previous_for h previous = elim (is_idr h) [ true ↦ no_previous | false ↦ pre
 -- leaves, and from FrameNumOffset + frame_num (8.2.1).
 abbrev pub counts_by : OrderCount → Sps → Header → Previous → (number : ℕ) → Counts
 counts_by (orders.Type0 log2_minus4) sps h previous number = counts_0 sps h previous
-counts_by (orders.Type1 always_zero non_ref top_to_bottom cycle) sps h previous number = counts_1 non_ref top_to_bottom cycle h number
+counts_by (orders.Type1 always_zero non_ref top_to_bottom cycle) sps h previous number =
+    counts_1 non_ref top_to_bottom cycle h number
 counts_by orders.Type2 sps h previous number = counts_2 h number
 
 -- from -2^31 to 2^31 - 1 (8.2.1)
@@ -196,14 +216,18 @@ final_counts h c = if has_operation_5 h then lowered_by_operation_5 c else c
 -- both, before and after lowering, are in the range that 8.2.1 gives; else PocRange (this decoder's
 -- rule)
 abbrev pub in_range : Header → Counts → Result Counts Fault
-in_range h c = if both_in_32_bits c && both_in_32_bits (final_counts h c) then Ok (final_counts h c) else Err faults.PocRange
+in_range h c =
+    if both_in_32_bits c && both_in_32_bits (final_counts h c) then Ok (final_counts h c)
+    else Err faults.PocRange
 
 -- the counts from what stands before the picture (8.2.1), or PocRange (this decoder's rule)
 abbrev pub counts_from : Sps → Header → Previous → (number : ℕ) → Result Counts Fault
 counts_from sps h previous number =
-    if number_in_range sps.order_count number then in_range h (counts_by sps.order_count sps h previous number) else Err faults.PocRange
+    if number_in_range sps.order_count number
+    then in_range h (counts_by sps.order_count sps h previous number) else Err faults.PocRange
 
 -- The counts of the picture with this header after the older entries (8.2.1), or PocRange.
 abbrev pub order_counts : Sps → Header → (older : List Past) → Result Counts Fault
 order_counts sps h older =
-    counts_from sps h (previous_for h (previous_of older)) (frame_num_offset (picture sps h ∷ older) + h.frame_num)
+    counts_from sps h (previous_for h (previous_of older)) (frame_num_offset (picture sps h ∷ older)
+    + h.frame_num)

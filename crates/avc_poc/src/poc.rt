@@ -36,7 +36,11 @@ impl Model for Poc {
 
     ghost Value = { OrderCountState };
 
-    ghost view = { λ p. record { previous = p.previous; offset = p.offset; frame_num = p.frame_num } };
+    ghost view = { λ p. record {
+      previous = p.previous;
+      offset = p.offset;
+      frame_num = p.frame_num;
+    } };
 
     ghost invariant = { λ p. IsPrevious p.previous × (p.offset ≤ 2 ^ 31) };
 }
@@ -140,7 +144,8 @@ impl Poc {
     /// nothing has changed.
     pub fn next(&mut self, header: &Header, sps: &Sps) -> Result<(i32, i32), Fault>
         requires { IsSps sps.now }
-        ensures counts { (older : List Past) → self.old ≡ order_count_state older → result ≡ count_pair (order_counts sps.now header.now older) }
+        ensures counts { (older : List Past) → self.old ≡ order_count_state older →
+            result ≡ count_pair (order_counts sps.now header.now older) }
         ensures after { OnOk result ((older : List Past) → self.old ≡ order_count_state older →
             self.new ≡ order_count_state (picture sps.now header.now ∷ older)) }
         ensures unchanged { OnErr result (self.new ≡ self.old) }
@@ -154,7 +159,8 @@ impl Poc {
     /// (8.2.5.2).
     pub fn missing(&mut self, frame_num: u32, sps: &Sps)
         requires { IsSps sps.now }
-        ensures { (older : List Past) → self.old ≡ order_count_state older → self.new ≡ order_count_state (missing sps.now frame_num ∷ older) }
+        ensures { (older : List Past) → self.old ≡ order_count_state older →
+            self.new ≡ order_count_state (missing sps.now frame_num ∷ older) }
     {
         self.offset = next_offset(self.offset, self.frame_num, frame_num, sps.max_frame_num());
         self.frame_num = frame_num;

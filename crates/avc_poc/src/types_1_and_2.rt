@@ -42,7 +42,9 @@ pub(crate) fn counts_1(
 ) -> (i128, i128)
     requires length { length cycle.now ≤ 255 }
     requires number { number < 2 ^ 31 }
-    ensures { result ≡ pair (counts_1 offset_for_non_ref_pic offset_for_top_to_bottom_field cycle.now header.now number) }
+    ensures { result
+        ≡ pair (counts_1 offset_for_non_ref_pic offset_for_top_to_bottom_field cycle.now header.now
+        number) }
 {
     let reference = header.is_reference();
     let expected_delta = expected_order_count(abs_frame_num(number, cycle, reference), cycle);

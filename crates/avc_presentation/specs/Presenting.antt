@@ -1,5 +1,6 @@
 -- How pictures are shown, as their sequence parameter set says (7.4.2.1.1, E.2.1).
-use Rattle.std.specs.Prelude.{◌≡◌, ℕ, ◌*◌, Bool, true, false, ◌==◌, ◌||◌, if◌then◌else◌, Option, Some, None}
+use Rattle.std.specs.Prelude.{◌≡◌, ℕ, ◌*◌, Bool, true, false, ◌==◌, ◌||◌, if◌then◌else◌, Option}
+use Rattle.std.specs.Prelude.{Some, None}
 use Rattle.std.specs.Option.{option_map}
 use Rattle.avc_params.specs.VideoUsability.{in_vui, size_of_aspect}
 use Rattle.avc_params.specs.declared.sps.Sps.{Sps}
@@ -11,7 +12,8 @@ use Rattle.avc_params.specs.declared.vui.VideoSignal.{VideoSignal}
 use Rattle.avc_tools.specs.Lines.{shown_height, shown_width}
 use Rattle.avc_presentation.specs.Ratios.{IsLowest}
 use Rattle.avc_presentation.specs.declared.presentation.ChromaSite.{ChromaSite}
-use Rattle.avc_presentation.specs.declared.presentation.ChromaSite.TheVariants.{Left, Centre, TopLeft}
+use Rattle.avc_presentation.specs.declared.presentation.ChromaSite.TheVariants.{Left, Centre}
+use Rattle.avc_presentation.specs.declared.presentation.ChromaSite.TheVariants.{TopLeft}
 use Rattle.avc_presentation.specs.declared.presentation.Presentation.{Presentation}
 use Rattle.avc_presentation.specs.declared.ratio.Ratio.{Ratio}
 
@@ -30,7 +32,10 @@ default_rate = ratio 25 1
 abbrev pub IsRateOf : Option Timing → Ratio → Type 0
 IsRateOf None r = r ≡ default_rate
 IsRateOf (Some t) r =
-    elim (t.num_units_in_tick == 0 || t.time_scale == 0) [ true ↦ r ≡ default_rate | false ↦ IsLowest t.time_scale (2 * t.num_units_in_tick) r ]
+    elim (t.num_units_in_tick == 0 || t.time_scale == 0) [
+      | true ↦ r ≡ default_rate
+      | false ↦ IsLowest t.time_scale (2 * t.num_units_in_tick) r
+    ]
 
 -- ---- the shape of a sample
 
@@ -40,7 +45,8 @@ no_ratio = ratio 0 0
 
 -- as it is given: a 0 says nothing (E.2.1)
 abbrev pub ratio_of_size : SampleSize → Ratio
-ratio_of_size s = if s.sar_width == 0 || s.sar_height == 0 then no_ratio else ratio s.sar_width s.sar_height
+ratio_of_size s =
+    if s.sar_width == 0 || s.sar_height == 0 then no_ratio else ratio s.sar_width s.sar_height
 
 -- where it is given
 abbrev pub sample_aspect : Option SampleAspect → Ratio
@@ -79,11 +85,20 @@ pub record IsPresented (s : Sps) (p : Presentation) : Type 0 where
   pub rate : IsRateOf (in_vui (λ v. v.timing) s) p.frame_rate
   pub aspect : p.sample_aspect ≡ sample_aspect (in_vui (λ v. v.aspect) s)
   pub range : p.full_range ≡ full_range (in_vui (λ v. v.video_signal) s)
-  pub site : p.chroma_site ≡ chroma_site (in_vui (λ v. v.chroma_location) s) (full_range (in_vui (λ v. v.video_signal) s))
+  pub site : p.chroma_site
+      ≡ chroma_site (in_vui (λ v. v.chroma_location) s)
+      (full_range (in_vui (λ v. v.video_signal) s))
 
 -- of no set: no picture has this size
 abbrev pub no_presentation : Presentation
-no_presentation = record { width = 0; height = 0; frame_rate = default_rate; sample_aspect = no_ratio; chroma_site = Left; full_range = None }
+no_presentation = record {
+  width = 0;
+  height = 0;
+  frame_rate = default_rate;
+  sample_aspect = no_ratio;
+  chroma_site = Left;
+  full_range = None;
+}
 
 -- said by this set, if there is one
 abbrev pub Says : Option Sps → Presentation → Type 0

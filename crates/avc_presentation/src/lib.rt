@@ -1,4 +1,5 @@
-//! How a sequence is shown (7.4.2.1.1, E.2.1): size, frame rate, shape of samples, range and place of chroma.
+//! How a sequence is shown (7.4.2.1.1, E.2.1): size, frame rate, shape of samples, range and place
+//! of chroma.
 #![tactic(auto)]
 
 mod presentation;

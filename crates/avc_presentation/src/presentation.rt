@@ -1,7 +1,9 @@
-//! How a sequence is shown: size, shape of samples, frame rate, range and place of chroma (7.4.2.1.1, E.2.1).
+//! How a sequence is shown: size, shape of samples, frame rate, range and place of chroma
+//! (7.4.2.1.1, E.2.1).
 
 ghost use Rattle.std.specs.Prelude.{◌≡◌};
-ghost use Rattle.avc_presentation.specs.Presenting.{chroma_site, default_rate, default_site, full_range};
+ghost use Rattle.avc_presentation.specs.Presenting.{chroma_site, default_rate, default_site};
+ghost use Rattle.avc_presentation.specs.Presenting.{full_range};
 ghost use Rattle.avc_presentation.specs.Presenting.{no_presentation, no_ratio, ratio_of_size};
 ghost use Rattle.avc_presentation.specs.Presenting.{sample_aspect, site_of_type};
 ghost use Rattle.avc_presentation.specs.Presenting.{IsPresented, IsRateOf};

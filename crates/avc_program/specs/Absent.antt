@@ -16,7 +16,8 @@ is_for_benches _ = false
 
 -- the line that tells that a program has not these
 abbrev pub absent_line : List ℕ
-absent_line = codes "avcdec: the commands `compare` and `macroblocks` are not in this program" ++ 10 ∷ []
+absent_line =
+    codes "avcdec: the commands `compare` and `macroblocks` are not in this program" ++ 10 ∷ []
 
 -- That is told, and the exit status is that of wrong words.
 pub record TellsAbsent (before now : Option (List ℕ)) (ending : Ending) : Type 0 where
@@ -24,7 +25,8 @@ pub record TellsAbsent (before now : Option (List ℕ)) (ending : Ending) : Type
   pub told : Tells before now absent_line ending.told
 
 -- Nothing is read and written, and that is told.
-pub record EndsAbsent (unread left held holds before now : Option (List ℕ)) (ending : Ending) : Type 0 where
+pub record EndsAbsent (unread left held holds before now : Option (List ℕ))
+    (ending : Ending) : Type 0 where
   pub reads : left ≡ unread
   pub writes : holds ≡ held
   pub tells : TellsAbsent before now ending

@@ -26,7 +26,9 @@ pub trait Commands {
         writer: &mut W,
         console: &mut Console<'_, E, V>,
     ) -> Ending
-        ensures { ends request.now.task request.now.other (is_some request.now.numbered) console.old.names console.old.is_explained
-            (R.remaining reader.old) (R.remaining reader.new) (W.contents writer.old) (W.contents writer.new)
+        ensures { ends request.now.task request.now.other (is_some request.now.numbered)
+            console.old.names console.old.is_explained
+            (R.remaining reader.old) (R.remaining reader.new) (W.contents writer.old)
+            (W.contents writer.new)
             (E.contents console.old.errors) (E.contents console.new.errors) result };
 }

@@ -1,4 +1,5 @@
-//! What a program does around its commands: words are read, the input opened, the output written, and the end told.
+//! What a program does around its commands: words are read, the input opened, the output written,
+//! and the end told.
 #![tactic(auto)]
 
 mod absent;

@@ -77,16 +77,20 @@ impl<'a> Observer<'a> {
 
 impl Watch for Observer<'_> {
     fn note_bytes(&mut self, piece: &[u8])
-        ensures places { self.new.places.failed ≡ false → FollowsOn (places_with_bytes piece.now) self.old.places.places self.new.places.places }
-        ensures losses { self.new.losses.failed ≡ false → GoesOn (with_bytes piece.now) self.old.losses.losses self.new.losses.losses }
+        ensures places { self.new.places.failed ≡ false →
+            FollowsOn (places_with_bytes piece.now) self.old.places.places self.new.places.places }
+        ensures losses { self.new.losses.failed ≡ false →
+            GoesOn (with_bytes piece.now) self.old.losses.losses self.new.losses.losses }
     {
         self.places.note_bytes(piece);
         self.losses.note_bytes(piece);
     }
 
     fn note_end(&mut self)
-        ensures places { self.new.places.failed ≡ false → FollowsOn places_with_end self.old.places.places self.new.places.places }
-        ensures losses { self.new.losses.failed ≡ false → GoesOn with_end self.old.losses.losses self.new.losses.losses }
+        ensures places { self.new.places.failed ≡ false →
+            FollowsOn places_with_end self.old.places.places self.new.places.places }
+        ensures losses { self.new.losses.failed ≡ false →
+            GoesOn with_end self.old.losses.losses self.new.losses.losses }
     {
         self.places.note_end();
         self.losses.note_end();
@@ -105,7 +109,8 @@ impl Watch for Observer<'_> {
     }
 
     fn look(&mut self, piece: &[u8], counts: Counts)
-        ensures { IsReadOn piece.now counts (option_map (λ m. m.state) self.old.progress.meter) (option_map (λ m. m.state) self.new.progress.meter) }
+        ensures { IsReadOn piece.now counts (option_map (λ m. m.state) self.old.progress.meter)
+            (option_map (λ m. m.state) self.new.progress.meter) }
     {
         self.places.note_units();
         self.losses.note_units();
@@ -113,7 +118,8 @@ impl Watch for Observer<'_> {
     }
 
     fn end(&mut self, counts: Counts, run: Result<(), RunFault>)
-        ensures progress { IsLast counts (option_map (λ m. m.state) self.old.progress.meter) (option_map (λ m. m.state) self.new.progress.meter) }
+        ensures progress { IsLast counts (option_map (λ m. m.state) self.old.progress.meter)
+            (option_map (λ m. m.state) self.new.progress.meter) }
         ensures outcome { self.new.outcome ≡ outcome_after counts run self.old.outcome }
     {
         self.places.note_units();

@@ -26,7 +26,8 @@ use std::io::Stdin;
 
 /// Does what was asked for, and answers the exit status.
 pub(crate) fn carry_out<C: Commands>(rt: &HostRuntime, commands: &C, request: &Request<'_>) -> u8
-    ensures { C.IS_WHOLE ≡ false → is_for_benches request.now.task ≡ true → result ≡ answer_status (Ok Misuse) }
+    ensures { C.IS_WHOLE ≡ false → is_for_benches request.now.task ≡ true →
+        result ≡ answer_status (Ok Misuse) }
 {
     if !C::IS_WHOLE && is_for_benches(&request.task) {
         return tell_absent(&mut rt.stderr()).status;
@@ -55,7 +56,8 @@ fn names_of<'a>(request: &Request<'a>) -> Names<'a> {
     }
 }
 
-// Does what was asked for with this input. It is of one type whatever it is, so that the commands are compiled once.
+// Does what was asked for with this input. It is of one type whatever it is, so that the commands
+// are compiled once.
 fn carry_out_on<C: Commands>(
     rt: &HostRuntime,
     commands: &C,

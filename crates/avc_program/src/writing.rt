@@ -57,7 +57,8 @@ pub(crate) fn write_out_from<C: Commands, R: Read, E: Write, V: Watch>(
     }
 }
 
-// What is read, or what is read from a piece on. It is of one type, so that the commands are compiled once.
+// What is read, or what is read from a piece on. It is of one type, so that the commands are
+// compiled once.
 fn source_of<'a, R>(
     rt: &HostRuntime,
     from: Option<u32>,
@@ -86,8 +87,8 @@ fn ended_from<R>(reader: &FromPiece<'_, R>, from: Option<u32>, written: Written)
     }
 }
 
-// Where the output goes: to a file for each picture, to one file, or to the standard output. It is of one type, so that the
-// commands are compiled once.
+// Where the output goes: to a file for each picture, to one file, or to the standard output. It is
+// of one type, so that the commands are compiled once.
 type Destination<'a> = Either<PictureFiles<'a>, Either<OutputFile<'a>, Printer<'a, HostRuntime>>>;
 
 fn destination_of<'a>(

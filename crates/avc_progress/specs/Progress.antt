@@ -1,5 +1,6 @@
 -- The line that says how far decoding is.
-use Rattle.std.specs.Prelude.{◌≡◌, ℕ, ◌+◌, ◌*◌, ◌/◌, ◌%◌, ◌-◌, min, nat_le, Bool, ◌==◌, ◌||◌, if◌then◌else◌, List, [], ◌∷◌, ◌++◌, length, Option, Some, None, codes}
+use Rattle.std.specs.Prelude.{◌≡◌, ℕ, ◌+◌, ◌*◌, ◌/◌, ◌%◌, ◌-◌, min, nat_le, Bool, ◌==◌, ◌||◌}
+use Rattle.std.specs.Prelude.{if◌then◌else◌, List, [], ◌∷◌, ◌++◌, length, Option, Some, None, codes}
 use Rattle.std.specs.Fmt.{decimal}
 use Rattle.avc_annexb.specs.Units.{saturated}
 use Rattle.avc_console.specs.declared.reporter.Counts.{Counts}
@@ -49,7 +50,8 @@ left_text read rest millis =
 abbrev pub place_by : (read size millis : ℕ) → List ℕ
 place_by read size millis =
     if read == 0 || size == 0 then []
-    else codes ", " ++ decimal (100 * min read size / size) ++ codes "%" ++ left_text read (size - min read size) millis
+    else codes ", " ++ decimal (100 * min read size / size) ++ codes "%"
+    ++ left_text read (size - min read size) millis
 
 -- where the size is known
 abbrev pub place_if_known : (read millis : ℕ) → (size : Option ℕ) → List ℕ
@@ -63,7 +65,8 @@ place_text p millis = place_if_known p.read millis p.size
 -- rest of the line (EL of ECMA-48)
 abbrev pub progress_line : Counts → Place → (millis : ℕ) → (rate : Option ℕ) → List ℕ
 progress_line c p millis rate =
-    13 ∷ (counts_text c ++ speed_text c.pictures millis ++ times_text c.pictures millis rate ++ place_text p millis ++ 27 ∷ codes "[K")
+    13 ∷ (counts_text c ++ speed_text c.pictures millis ++ times_text c.pictures millis rate
+    ++ place_text p millis ++ 27 ∷ codes "[K")
 
 -- ---- how far decoding is, and when that is told
 
@@ -102,7 +105,8 @@ abbrev pub IsReadOn : (piece : List ℕ) → Counts → (old new : Option Progre
 IsReadOn piece counts None new = new ≡ None
 IsReadOn piece counts (Some s) None = ⊥
 IsReadOn piece counts (Some s) (Some t) =
-    (t.counts ≡ counts) × (t.place ≡ place_after s.place piece) × Looks s.rate.searched piece s.rate t.rate
+    (t.counts ≡ counts) × (t.place ≡ place_after s.place piece) ×
+    Looks s.rate.searched piece s.rate t.rate
 
 -- The same at the end of the run.
 abbrev pub IsLast : Counts → (old new : Option ProgressState) → Type 0

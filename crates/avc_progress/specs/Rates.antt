@@ -1,5 +1,6 @@
 -- The search for a stream's frame rate.
-use Rattle.std.specs.Prelude.{◌≡◌, ◌⊎◌, ℕ, ◌<◌, Bool, true, false, ◌||◌, if◌then◌else◌, List, [], ◌++◌, length, Option, Some, None, is_some, nat_le}
+use Rattle.std.specs.Prelude.{◌≡◌, ◌⊎◌, ℕ, ◌<◌, Bool, true, false, ◌||◌, if◌then◌else◌, List, []}
+use Rattle.std.specs.Prelude.{◌++◌, length, Option, Some, None, is_some, nat_le}
 use Rattle.avc_tools.specs.Streams.{StreamSoFar}
 use Rattle.avc_sequence.specs.Rates.{frame_rate}
 use Rattle.avc_sequence.specs.Finding.{first_sequence as sequence_in}
@@ -32,7 +33,8 @@ first_sequence bytes = sequence_in bytes false
 -- The search after these bytes: it is over once there is a slice, and after so many bytes.
 abbrev pub looked : (bytes : List ℕ) → Search
 looked bytes = record {
-  searched = if is_some (first_sequence bytes) || nat_le most (length bytes) then None else Some bytes;
+  searched = if is_some (first_sequence bytes) || nat_le most (length bytes) then None
+      else Some bytes;
   found = rate_of (first_sequence bytes);
   failed = false;
 }

@@ -4,7 +4,8 @@ ghost use Rattle.std.specs.Prelude.{◌≡◌, ◌<◌, ◌++◌, false, None, I
 ghost use Rattle.std.specs.Option.{option_map};
 ghost use Rattle.avc_progress.specs.Progress.{clock_text, counts_text, left_text, place_by};
 ghost use Rattle.avc_progress.specs.Progress.{place_text, progress_line, speed_text};
-ghost use Rattle.avc_progress.specs.Progress.{place_after, tenths_text, times_by, times_text, IsLast};
+ghost use Rattle.avc_progress.specs.Progress.{place_after, tenths_text, times_by, times_text};
+ghost use Rattle.avc_progress.specs.Progress.{IsLast};
 ghost use Rattle.avc_progress.specs.Progress.{IsFirst, IsReadOn};
 ghost use Rattle.avc_progress.specs.Rates.{Looks};
 
@@ -53,7 +54,8 @@ impl Progress<'_> {
 
     /// After each read: the bytes that it gave, and what the stream has come to.
     pub fn look(&mut self, piece: &[u8], counts: Counts)
-        ensures { IsReadOn piece.now counts (option_map (λ m. m.state) self.old.meter) (option_map (λ m. m.state) self.new.meter) }
+        ensures { IsReadOn piece.now counts (option_map (λ m. m.state) self.old.meter)
+            (option_map (λ m. m.state) self.new.meter) }
     {
         match &mut self.meter {
             Some(meter) => meter.look(piece, counts),
@@ -63,7 +65,8 @@ impl Progress<'_> {
 
     /// At the end of the run: what the stream has come to.
     pub fn end(&mut self, counts: Counts)
-        ensures { IsLast counts (option_map (λ m. m.state) self.old.meter) (option_map (λ m. m.state) self.new.meter) }
+        ensures { IsLast counts (option_map (λ m. m.state) self.old.meter)
+            (option_map (λ m. m.state) self.new.meter) }
     {
         match &mut self.meter {
             Some(meter) => meter.end(counts),
@@ -99,7 +102,8 @@ impl Meter<'_> {
     fn look(&mut self, piece: &[u8], counts: Counts)
         ensures counts { self.new.state.counts ≡ counts }
         ensures place { self.new.state.place ≡ place_after self.old.state.place piece.now }
-        ensures rate { Looks self.old.state.rate.searched piece.now self.old.state.rate self.new.state.rate }
+        ensures rate { Looks self.old.state.rate.searched piece.now self.old.state.rate
+            self.new.state.rate }
     {
         self.state.note_read(piece, counts);
         self.tell_if_due();
@@ -167,7 +171,8 @@ fn add_counts(line: &mut String, counts: Counts) -> Result<(), AllocError>
 }
 
 fn add_speed(line: &mut String, pictures: u64, millis: u64) -> Result<(), AllocError>
-    ensures { OnOk result (string_bytes line.new ≡ string_bytes line.old ++ speed_text pictures millis) }
+    ensures { OnOk result (string_bytes line.new ≡ string_bytes line.old
+        ++ speed_text pictures millis) }
 {
     if millis == 0 {
         return Ok(());
@@ -184,7 +189,8 @@ fn add_times(
     millis: u64,
     rate: Option<u64>,
 ) -> Result<(), AllocError>
-    ensures { OnOk result (string_bytes line.new ≡ string_bytes line.old ++ times_text pictures millis rate) }
+    ensures { OnOk result (string_bytes line.new ≡ string_bytes line.old
+        ++ times_text pictures millis rate) }
 {
     match rate {
         Some(rate) => add_times_of(line, pictures, u128::from(millis) * u128::from(rate)),
@@ -215,7 +221,8 @@ fn add_tenths(line: &mut String, tenths: u128) -> Result<(), AllocError>
 }
 
 fn add_place(line: &mut String, place: Place, millis: u64) -> Result<(), AllocError>
-    ensures { OnOk result (string_bytes line.new ≡ string_bytes line.old ++ place_text place millis) }
+    ensures { OnOk result (string_bytes line.new ≡ string_bytes line.old
+        ++ place_text place millis) }
 {
     match place.size {
         Some(size) => add_place_of(line, place.read, size, millis),
@@ -225,7 +232,8 @@ fn add_place(line: &mut String, place: Place, millis: u64) -> Result<(), AllocEr
 
 // Where so many bytes of a file were read in that time.
 fn add_place_of(line: &mut String, read: u64, size: u64, millis: u64) -> Result<(), AllocError>
-    ensures { OnOk result (string_bytes line.new ≡ string_bytes line.old ++ place_by read size millis) }
+    ensures { OnOk result (string_bytes line.new ≡ string_bytes line.old
+        ++ place_by read size millis) }
 {
     if read == 0 || size == 0 {
         return Ok(());
@@ -238,7 +246,8 @@ fn add_place_of(line: &mut String, read: u64, size: u64, millis: u64) -> Result<
 // Where so many bytes are left.
 fn add_left(line: &mut String, read: u64, rest: u64, millis: u64) -> Result<(), AllocError>
     requires { 0 < read }
-    ensures { OnOk result (string_bytes line.new ≡ string_bytes line.old ++ left_text read rest millis) }
+    ensures { OnOk result (string_bytes line.new ≡ string_bytes line.old
+        ++ left_text read rest millis) }
 {
     if rest == 0 {
         return Ok(());

@@ -4,7 +4,8 @@ ghost use Rattle.std.specs.Prelude.{◌≡◌, ◌++◌, ◌∷◌, [], OnOk};
 ghost use Rattle.std.specs.Duration.{as_nanos};
 ghost use Rattle.std.specs.Io.KnownBytes.{Appends};
 ghost use Rattle.avc_annexb.specs.Units.{saturated};
-ghost use Rattle.avc_progress.specs.Progress.{first_place, is_line_due, line_at, millis_in, no_counts};
+ghost use Rattle.avc_progress.specs.Progress.{first_place, is_line_due, line_at, millis_in};
+ghost use Rattle.avc_progress.specs.Progress.{no_counts};
 ghost use Rattle.avc_progress.specs.Progress.{place_after};
 ghost use Rattle.avc_progress.specs.Rates.{new_search, Looks};
 
@@ -82,7 +83,9 @@ impl ProgressState {
         errors: &mut E,
     ) -> Result<(), RunFault>
         ensures told_at { self.new ≡ record self.old { told_at = elapsed } }
-        ensures line { OnOk result (Appends (E.contents errors.old) (E.contents errors.new) (line_at self.old (as_nanos elapsed))) }
+        ensures line { OnOk result
+            (Appends (E.contents errors.old) (E.contents errors.new)
+            (line_at self.old (as_nanos elapsed))) }
     {
         self.told_at = elapsed;
         let rate = self.rate.found();
@@ -98,7 +101,9 @@ impl ProgressState {
         errors: &mut E,
     ) -> Result<(), RunFault>
         ensures told_at { self.new ≡ record self.old { told_at = elapsed } }
-        ensures line { OnOk result (Appends (E.contents errors.old) (E.contents errors.new) (line_at self.old (as_nanos elapsed) ++ 10 ∷ [])) }
+        ensures line { OnOk result
+            (Appends (E.contents errors.old) (E.contents errors.new)
+            (line_at self.old (as_nanos elapsed) ++ 10 ∷ [])) }
     {
         self.tell(alloc, elapsed, errors)?;
         write_text("\n", errors)?;

@@ -28,7 +28,11 @@ impl Model for RateSearch {
 
     ghost Value = { Search };
 
-    ghost view = { λ r. record { searched = bytes_of r.finder; found = r.found; failed = r.failed } };
+    ghost view = { λ r. record {
+      searched = bytes_of r.finder;
+      found = r.found;
+      failed = r.failed;
+    } };
 
     ghost invariant = { λ r. IsSearching r.finder r.seen };
 }

@@ -1,5 +1,6 @@
 -- What a maker stands for.
-use Rattle.std.specs.Prelude.{◌≡◌, ℕ, ◌<◌, Bool, true, false, List, [], ◌++◌, replicate, Result, Ok, Err}
+use Rattle.std.specs.Prelude.{◌≡◌, ℕ, ◌<◌, Bool, true, false, List, [], ◌++◌, replicate, Result, Ok}
+use Rattle.std.specs.Prelude.{Err}
 use Rattle.avc_types.specs.declared.memory.OutOfMemory.{OutOfMemory}
 use Rattle.avc_bits.specs.Bits.{byte_bits}
 

@@ -10,7 +10,8 @@ IsRbsp bits bytes = (padding : ℕ) × IsFilled bytes (bits ++ true ∷ []) padd
 
 -- Those bits are the ones before its stop bit.
 abbrev pub RbspsAreRead : Type 0
-RbspsAreRead = (bits : List Bool) (bytes : List ℕ) → IsRbsp bits bytes → bits_before_stop bytes ≡ bits
+RbspsAreRead =
+    (bits : List Bool) (bytes : List ℕ) → IsRbsp bits bytes → bits_before_stop bytes ≡ bits
 
 -- A unit: its header byte, and the body of an RBSP that has these bits, the stop bit and 0 bits to
 -- the end of its last byte (7.3.1, 7.3.2.11).

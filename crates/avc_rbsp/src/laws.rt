@@ -14,7 +14,8 @@ ghost use Rattle.avc_rbsp.specs.Words.{ReadsBack, se_word, te_word, ue_word};
 pub fn words_are_codewords()
     ensures ue { (v : ℕ) → v < 4294967295 → IsUe (ue_word v) v }
     ensures se { (v : ℤ) → neg_ℤ (pos 2147483648) <ℤ v → v <ℤ pos 2147483648 → IsSe (se_word v) v }
-    ensures te { (range v : ℕ) → 1 ≤ range → v ≤ range → v < 4294967295 → IsTe range (te_word range v) v }
+    ensures te { (range v : ℕ) → 1 ≤ range → v ≤ range → v < 4294967295 →
+        IsTe range (te_word range v) v }
 {}
 
 /// Reading gives the value of a word, and leaves what follows it.
@@ -22,8 +23,10 @@ pub fn words_are_read()
     ensures u { (rest : List Bool) (n v : ℕ) → v < 2 ^ n → ReadsBack rest (u n) (bits_of n v) v }
     ensures flag { (rest : List Bool) (b : Bool) → ReadsBack rest flag (b ∷ []) b }
     ensures ue { (rest : List Bool) (v : ℕ) → v < 4294967295 → ReadsBack rest ue (ue_word v) v }
-    ensures se { (rest : List Bool) (v : ℤ) → neg_ℤ (pos 2147483648) <ℤ v → v <ℤ pos 2147483648 → ReadsBack rest se (se_word v) v }
-    ensures te { (rest : List Bool) (range v : ℕ) → v ≤ range → v < 4294967295 → ReadsBack rest (te range) (te_word range v) v }
+    ensures se { (rest : List Bool) (v : ℤ) → neg_ℤ (pos 2147483648) <ℤ v → v <ℤ pos 2147483648 →
+        ReadsBack rest se (se_word v) v }
+    ensures te { (rest : List Bool) (range v : ℕ) → v ≤ range → v < 4294967295 →
+        ReadsBack rest (te range) (te_word range v) v }
 {}
 
 /// What is escaped is read as it was, and no start code stands inside.

@@ -136,7 +136,8 @@ impl BitMaker {
 // a bit more, and how many bits of the last byte are then still to come
 fn add_bit(bytes: &mut SmallVec<u8, 32>, free: u8, bit: bool) -> Result<u8, OutOfMemory>
     requires { free < 8 }
-    ensures { IfOk result (λ left. (bits : List Bool) → IsFilled bytes.old.items bits free → IsFilled bytes.new.items (bits ++ bit ∷ []) left) }
+    ensures { IfOk result (λ left. (bits : List Bool) → IsFilled bytes.old.items bits free →
+        IsFilled bytes.new.items (bits ++ bit ∷ []) left) }
 {
     if free == 0 {
         bytes.push(with_bit(0, 7, bit))?;
@@ -154,7 +155,8 @@ fn add_bit(bytes: &mut SmallVec<u8, 32>, free: u8, bit: bool) -> Result<u8, OutO
 // a byte whose last bits are 0, with the first of these
 fn with_bit(byte: u8, place: u8, bit: bool) -> u8
     requires { place < 8 }
-    ensures { (front : List Bool) → bits_of 8 byte ≡ front ++ false ∷ replicate place false → bits_of 8 result ≡ front ++ bit ∷ replicate place false }
+    ensures { (front : List Bool) → bits_of 8 byte ≡ front ++ false ∷ replicate place false →
+        bits_of 8 result ≡ front ++ bit ∷ replicate place false }
 {
     if bit { byte | 1 << place } else { byte }
 }

@@ -27,8 +27,8 @@ form_in a width = selected_form a.selection width a.form
 abbrev pub addresses : ℕ
 addresses = 2 ^ 32
 
--- that of all macroblocks by 0, those of single pictures by odd numbers, those of single macroblocks
--- by the even ones
+-- that of all macroblocks by 0, those of single pictures by odd numbers, those of single
+-- macroblocks by the even ones
 abbrev pub text_number : Selection → ℕ
 text_number Whole = 0
 text_number (OfPicture number) = suc (2 * number)
@@ -41,4 +41,5 @@ macroblock_of_text n = record { unit = n / addresses; address = n % addresses }
 -- what the text of this number is of
 abbrev pub selection_of_text : (text_number : ℕ) → Selection
 selection_of_text zero = Whole
-selection_of_text (suc n) = if n % 2 == 0 then OfPicture (n / 2) else Near (macroblock_of_text (n / 2))
+selection_of_text (suc n) =
+    if n % 2 == 0 then OfPicture (n / 2) else Near (macroblock_of_text (n / 2))

@@ -1,4 +1,5 @@
--- What follows for a macroblock from its neighbours: its prediction modes (8.3.1.1) and its motion (8.4.1).
+-- What follows for a macroblock from its neighbours: its prediction modes (8.3.1.1) and its motion
+-- (8.4.1).
 use Rattle.std.specs.Prelude.{pos, Bool, if◌then◌else◌, List, [], ◌∷◌, ◌++◌, length, map}
 use Rattle.std.specs.List.{list_all}
 use Rattle.avc_types.specs.Macroblock.{Mb}
@@ -26,7 +27,8 @@ abbrev pub had : List Motion → List Motion
 had motion = if list_all is_in_range motion then motion else no_motion
 
 -- of a macroblock behind those before it, of which this is known
-abbrev pub derived_of : (constrained_intra_pred : Bool) → SliceStart → (before : List PicMb) → (known : List Derived) → Mb → Derived
+abbrev pub derived_of : (constrained_intra_pred : Bool) → SliceStart → (before : List PicMb) →
+    (known : List Derived) → Mb → Derived
 derived_of constrained_intra_pred s before known mb =
     let picture = coded_up_to constrained_intra_pred s (before ++ placed s mb ∷ []) in
     record {
@@ -35,7 +37,8 @@ derived_of constrained_intra_pred s before known mb =
     }
 
 -- of these macroblocks, one after another
-abbrev pub all_derived : (constrained_intra_pred : Bool) → SliceStart → (before : List PicMb) → (known : List Derived) → List Mb → List Derived
+abbrev pub all_derived : (constrained_intra_pred : Bool) → SliceStart → (before : List PicMb) →
+    (known : List Derived) → List Mb → List Derived
 all_derived constrained_intra_pred s before known [] = []
 all_derived constrained_intra_pred s before known (mb ∷ mbs) =
     let d = derived_of constrained_intra_pred s before known mb in

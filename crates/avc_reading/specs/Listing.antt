@@ -1,5 +1,6 @@
 -- What units bring to whoever reads macroblocks, and the lines that tell it.
-use Rattle.std.specs.Prelude.{ℕ, ◌+◌, ◌==◌, nat_lt, Bool, true, false, ◌&&◌, ◌||◌, List, [], ◌∷◌, ◌++◌, length, Option, Some, None, Result, Ok, Err, if◌then◌else◌}
+use Rattle.std.specs.Prelude.{ℕ, ◌+◌, ◌==◌, nat_lt, Bool, true, false, ◌&&◌, ◌||◌, List, [], ◌∷◌}
+use Rattle.std.specs.Prelude.{◌++◌, length, Option, Some, None, Result, Ok, Err, if◌then◌else◌}
 use Rattle.avc_types.specs.declared.fault.Fault.{Fault}
 use Rattle.avc_types.specs.declared.fault.Fault.TheVariants as faults
 use Rattle.avc_types.specs.Macroblock.{Mb}
@@ -9,7 +10,8 @@ use Rattle.avc_params.specs.Tables.{Sets, sets_after}
 use Rattle.avc_params.specs.declared.set_unit.SetUnit.{SetUnit}
 use Rattle.avc_slice.specs.declared.slice.Slice.{Slice}
 use Rattle.avc_mbsyntax.specs.SliceData.{SliceMbs}
-use Rattle.avc_units.specs.Grouping.{Kind, slice, partition, sps, pps, boundary, other, kind, set_units, slice_in}
+use Rattle.avc_units.specs.Grouping.{Kind, slice, partition, sps, pps, boundary, other, kind}
+use Rattle.avc_units.specs.Grouping.{set_units, slice_in}
 use Rattle.avc_tools.specs.Streams.{StreamSoFar}
 use Rattle.avc_selection.specs.Forms.{Form}
 use Rattle.avc_selection.specs.Pictures.{OpenPicture, picture_of}
@@ -29,8 +31,8 @@ pub data Brought : Type 0 where
   nothing : Brought
   -- it should bring a slice, and is refused
   refused : Fault → Brought
-  -- the macroblocks of a slice of this picture and the fault that came then, and what follows for the
-  -- macroblocks from their neighbours
+  -- the macroblocks of a slice of this picture and the fault that came then, and what follows for
+  -- the macroblocks from their neighbours
   macroblocks : OpenPicture → SliceMbs → List Derived → Brought
 
 -- a slice that was read under these sets, among which are those that it names
@@ -61,7 +63,10 @@ brought_by sets open_picture u other = nothing
 -- forbidden_zero_bit is 1 is refused (this decoder's rule).
 abbrev pub brought : Sets → Option OpenPicture → Unit → Brought
 brought sets open_picture u =
-    elim (forbidden_zero_bit u.header) [ true ↦ refused faults.ForbiddenBit | false ↦ brought_by sets open_picture u (kind u) ]
+    elim (forbidden_zero_bit u.header) [
+      | true ↦ refused faults.ForbiddenBit
+      | false ↦ brought_by sets open_picture u (kind u)
+    ]
 
 -- the open picture behind it
 abbrev pub picture_after : Option OpenPicture → Brought → Option OpenPicture
@@ -75,7 +80,8 @@ picture_after open_picture (macroblocks p ms derived) = Some (with_macroblocks p
 abbrev pub mb_lines : Form → MacroblockPlace → List Mb → List Derived → List ℕ
 mb_lines form place [] derived = []
 mb_lines form place (mb ∷ mbs) [] = []
-mb_lines form place (mb ∷ mbs) (d ∷ derived) = form.of_macroblock place mb d ++ mb_lines form (behind place 1) mbs derived
+mb_lines form place (mb ∷ mbs) (d ∷ derived) =
+    form.of_macroblock place mb d ++ mb_lines form (behind place 1) mbs derived
 
 -- the line of a fault, if there is one
 abbrev pub line_of_fault : Form → MacroblockPlace → Option Fault → List ℕ
@@ -84,7 +90,8 @@ line_of_fault form place (Some f) = form.of_fault place f
 
 -- a slice's macroblocks, from this place on, and the fault that came then
 abbrev pub slice_lines : Form → MacroblockPlace → SliceMbs → List Derived → List ℕ
-slice_lines form place ms derived = mb_lines form place ms.mbs derived ++ line_of_fault form (behind place (length ms.mbs)) ms.fault
+slice_lines form place ms derived =
+    mb_lines form place ms.mbs derived ++ line_of_fault form (behind place (length ms.mbs)) ms.fault
 
 -- where the first macroblock of this unit's slice stands in its picture
 abbrev pub first_place : (unit : ℕ) → OpenPicture → MacroblockPlace
@@ -105,21 +112,24 @@ abbrev pub unit_lines : Asked → (unit : ℕ) → Brought → List ℕ
 unit_lines a unit nothing = []
 unit_lines a unit (refused f) = refusal_lines a unit f
 unit_lines a unit (macroblocks p ms derived) =
-    if is_listed a.selection p.number p.unit then slice_lines (form_in a p.width) (first_place unit p) ms derived else []
+    if is_listed a.selection p.number p.unit
+    then slice_lines (form_in a p.width) (first_place unit p) ms derived else []
 
 -- ---- the lines of a stream
 
 -- the open picture behind these units, where these parameter sets came before
 abbrev pub picture_behind : List SetUnit → Option OpenPicture → List Unit → Option OpenPicture
 picture_behind sets p [] = p
-picture_behind sets p (u ∷ us) = picture_behind (sets ++ set_units (u ∷ [])) (picture_after p (brought (sets_after sets) p u)) us
+picture_behind sets p (u ∷ us) =
+    picture_behind (sets ++ set_units (u ∷ [])) (picture_after p (brought (sets_after sets) p u)) us
 
 -- the lines of these units, likewise
 abbrev pub lines_under : Asked → List SetUnit → Option OpenPicture → List Unit → List ℕ
 lines_under a sets p [] = []
 lines_under a sets p (u ∷ us) =
     unit_lines a u.index (brought (sets_after sets) p u)
-    ++ lines_under a (sets ++ set_units (u ∷ [])) (picture_after p (brought (sets_after sets) p u)) us
+    ++ lines_under a (sets ++ set_units (u ∷ [])) (picture_after p (brought (sets_after sets) p u))
+    us
 
 -- those of the units whose end has been seen
 abbrev pub lines_so_far : Asked → List ℕ → (ended : Bool) → List ℕ
@@ -139,7 +149,8 @@ pictures_begun (Some p) = p.number + 1
 
 -- a picture of this number has begun
 abbrev pub has_begun : (number : ℕ) → List ℕ → (ended : Bool) → Bool
-has_begun number bytes ended = nat_lt number (pictures_begun (picture_behind [] None (units (length bytes) bytes ended)))
+has_begun number bytes ended =
+    nat_lt number (pictures_begun (picture_behind [] None (units (length bytes) bytes ended)))
 
 -- The picture has come as far as the macroblock that is asked for, if one is.
 abbrev pub is_met : Selection → OpenPicture → Bool
@@ -151,14 +162,16 @@ is_met (Near m) p = m.unit == p.unit && nat_lt m.address (length p.mbs)
 abbrev pub is_met_by : Selection → Brought → Bool
 is_met_by selection nothing = false
 is_met_by selection (refused f) = false
-is_met_by selection (macroblocks p ms derived) = is_met selection (with_macroblocks p ms.mbs derived)
+is_met_by selection (macroblocks p ms derived) =
+    is_met selection (with_macroblocks p ms.mbs derived)
 
 -- with one of these units, where these parameter sets came before
 abbrev pub is_met_under : Selection → List SetUnit → Option OpenPicture → List Unit → Bool
 is_met_under selection sets p [] = false
 is_met_under selection sets p (u ∷ us) =
     is_met_by selection (brought (sets_after sets) p u)
-    || is_met_under selection (sets ++ set_units (u ∷ [])) (picture_after p (brought (sets_after sets) p u)) us
+    || is_met_under selection (sets ++ set_units (u ∷ []))
+    (picture_after p (brought (sets_after sets) p u)) us
 
 -- with one of those whose end has been seen
 abbrev pub has_met : Selection → List ℕ → (ended : Bool) → Bool

@@ -23,15 +23,18 @@ HasRems (p_inter mb_type ref_idx mvd r) = Unit {0}
 -- neighbours (8.3.1.1).
 abbrev pub AreModes : Around → (constrained_intra_pred : Bool) → MbSyntax → List NearMode → Type 0
 AreModes n constrained_intra_pred syntax modes =
-    (c : Coded) (known : List (List NearMode)) (a : ℕ) → c.constrained_intra_pred ≡ constrained_intra_pred
+    (c : Coded) (known : List (List NearMode)) (a : ℕ) → c.constrained_intra_pred
+    ≡ constrained_intra_pred
     → ModesAreAround n c.mbs c.width known a → modes ≡ modes_of c known a syntax
 
 -- This is its motion there (8.4.1), or none.
 abbrev pub IsMotionHad : Around → MbSyntax → List Motion → Type 0
 IsMotionHad n syntax motion =
-    (c : Coded) (known : List (List Motion)) (a : ℕ) → MotionIsAround n c.mbs c.width known a → motion ≡ had (motion_of c known a syntax)
+    (c : Coded) (known : List (List Motion)) (a : ℕ) → MotionIsAround n c.mbs c.width known a →
+    motion ≡ had (motion_of c known a syntax)
 
 -- Both.
-pub record IsDerived (n : Around) (constrained_intra_pred : Bool) (syntax : MbSyntax) (d : Derived) : Type 0 where
+pub record IsDerived (n : Around) (constrained_intra_pred : Bool) (syntax : MbSyntax)
+    (d : Derived) : Type 0 where
   pub motion_is : IsMotionHad n syntax d.motion
   pub modes_are : HasRems syntax → AreModes n constrained_intra_pred syntax d.modes

@@ -1,5 +1,6 @@
 -- The macroblocks of pictures, as their slices are read one after another without being decoded.
-use Rattle.std.specs.Prelude.{ℕ, ◌+◌, nat_lt, nat_abs, if◌then◌else◌, List, [], ◌∷◌, ◌++◌, length, map, Option, option_and_then}
+use Rattle.std.specs.Prelude.{ℕ, ◌+◌, nat_lt, nat_abs, if◌then◌else◌, List, [], ◌∷◌, ◌++◌, length}
+use Rattle.std.specs.Prelude.{map, Option, option_and_then}
 use Rattle.std.specs.Option.{option_map}
 use Rattle.avc_types.specs.declared.fault.Fault.TheVariants as faults
 use Rattle.avc_types.specs.Macroblock.{Mb}
@@ -18,7 +19,8 @@ use Rattle.avc_reading.specs.Derived.{all_derived}
 -- the sets that a slice header names (7.4.1.2.1)
 abbrev pub sets_named : Sets → Header → Option (Pps × Sps)
 sets_named sets h =
-    option_and_then (λ pps. option_map (λ sps. (pps, sps)) (sets.sps pps.seq_parameter_set_id)) (sets.pps h.pic_parameter_set_id)
+    option_and_then (λ pps. option_map (λ sps. (pps, sps)) (sets.sps pps.seq_parameter_set_id))
+    (sets.pps h.pic_parameter_set_id)
 
 -- what the data of a slice with this header is read under (7.3.4, 7.4.3)
 abbrev pub start_of : OpenPicture → Pps → Header → SliceStart
@@ -49,7 +51,9 @@ macroblocks_of p pps s = where_next (length p.mbs) (s.header).first_mb_in_slice 
 
 -- what follows for them from their neighbours
 abbrev pub derived_in : OpenPicture → Pps → Slice → List Derived
-derived_in p pps s = all_derived pps.constrained_intra_pred_flag (start_of p pps s.header) p.mbs p.known (macroblocks_of p pps s).mbs
+derived_in p pps s =
+    all_derived pps.constrained_intra_pred_flag (start_of p pps s.header) p.mbs p.known
+    (macroblocks_of p pps s).mbs
 
 -- one slice more, where it has macroblocks
 abbrev pub one_more : (slices : ℕ) → List Mb → ℕ

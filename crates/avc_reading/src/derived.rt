@@ -47,7 +47,8 @@ fn modes_of(
     neighbours: &Neighbours<'_>,
     constrained_intra_pred: bool,
 ) -> [NearMode; 16]
-    ensures { HasRems (syntax_of syntax.now) → AreModes (info_of neighbours.now) constrained_intra_pred (syntax_of syntax.now) result }
+    ensures { HasRems (syntax_of syntax.now) →
+        AreModes (info_of neighbours.now) constrained_intra_pred (syntax_of syntax.now) result }
 {
     match syntax {
         Syntax::PSkip | Syntax::PInter { .. } => [NearMode::Inter; 16],
@@ -61,7 +62,8 @@ fn nxn_modes(
     neighbours: &Neighbours<'_>,
     constrained_intra_pred: bool,
 ) -> [NearMode; 16]
-    ensures { All IsRem coded.now → AreNxnModes (info_of neighbours.now) constrained_intra_pred coded.now result }
+    ensures { All IsRem coded.now →
+        AreNxnModes (info_of neighbours.now) constrained_intra_pred coded.now result }
 {
     if are_rems(coded) {
         intra4x4_modes(neighbours, constrained_intra_pred, coded)

@@ -1,4 +1,5 @@
-//! What later macroblocks ask of one: total_coeff of its blocks (9.2.1), its prediction modes and its motion.
+//! What later macroblocks ask of one: total_coeff of its blocks (9.2.1), its prediction modes and
+//! its motion.
 
 ghost use Rattle.std.specs.Prelude.{◌≡◌, map};
 ghost use Rattle.std.specs.Option.{option_copied, option_map};

@@ -26,12 +26,12 @@ pub struct MacroblockPosition {
     /// The place of its slice's unit among the stream's units, from 0.
     pub unit: u64,
 
-    /// How many bits of the unit's RBSP, from the first behind the NAL unit header, have the slice up
-    /// to the macroblock; of a skipped one, up to where its mb_skip_run begins.
+    /// How many bits of the unit's RBSP, from the first behind the NAL unit header, have the slice
+    /// up to the macroblock; of a skipped one, up to where its mb_skip_run begins.
     pub kept_bits: u128,
 
-    /// Of a skipped macroblock, which one of its mb_skip_run it is, from 1: an mb_skip_run of so many
-    /// then ends the slice behind it.
+    /// Of a skipped macroblock, which one of its mb_skip_run it is, from 1: an mb_skip_run of so
+    /// many then ends the slice behind it.
     pub run: Option<u32>,
 }
 
@@ -117,8 +117,8 @@ impl SearchedSlice<'_> {
         })
     }
 
-    // The least number of bits of its RBSP behind which it can be cut so that so many macroblocks can
-    // be read still, at least one; all of its bytes have them.
+    // The least number of bits of its RBSP behind which it can be cut so that so many macroblocks
+    // can be read still, at least one; all of its bytes have them.
     fn least_bits(&self, alloc: Global, count: u32) -> Result<u128, OutOfMemory> {
         let rbsp = self.slice.rbsp.as_slice();
         let mut few = self.slice.header.position;
@@ -191,8 +191,8 @@ fn row_behind_others(alloc: Global, width: u32, count: u32, number: u32) -> Resu
     Ok(row)
 }
 
-// An RBSP cut behind so many of its bits: these, the stop bit, and zeros to the end of the byte; all
-// of it where it has no more.
+// An RBSP cut behind so many of its bits: these, the stop bit, and zeros to the end of the byte;
+// all of it where it has no more.
 fn cut_rbsp(alloc: Global, rbsp: &[u8], bits: u128) -> Result<Vec<u8>, OutOfMemory> {
     let mut cut = Vec::new(alloc);
     if bits >= 8 * rbsp.len() as u128 {

@@ -1,6 +1,7 @@
 //! The macroblocks of a slice, read one after another (7.3.4).
 
-ghost use Rattle.std.specs.Prelude.{◌≡◌, ◌+◌, ◌-◌, ◌≤◌, ◌<◌, ◌^◌, pos, ◌≤ℤ◌, nat_abs, length, List, Some, None};
+ghost use Rattle.std.specs.Prelude.{◌≡◌, ◌+◌, ◌-◌, ◌≤◌, ◌<◌, ◌^◌, pos, ◌≤ℤ◌, nat_abs, length, List};
+ghost use Rattle.std.specs.Prelude.{Some, None};
 ghost use Rattle.std.specs.Prelude.{IfOk, OnOk, MatchResult};
 ghost use Rattle.std.specs.Prelude.{string_bytes};
 ghost use Rattle.avc_types.specs.Pictures.{PicMb};
@@ -50,7 +51,8 @@ fn slice_data<'a>(pps: &Pps, slice: &'a Slice, remaining: u32) -> SliceData<'a>
     requires low { pos 0 ≤ℤ slice_qp pps.now slice.now.header.slice_qp_delta }
     requires high { slice_qp pps.now slice.now.header.slice_qp_delta ≤ℤ pos 51 }
     requires active { slice.now.header.num_ref_idx_active ≤ 16 }
-    ensures { (p : OpenPicture) → p.size ≡ length p.mbs + remaining → IsDataIn p pps.now slice.now result }
+    ensures { (p : OpenPicture) → p.size ≡ length p.mbs + remaining →
+        IsDataIn p pps.now slice.now result }
 {
     SliceData::new(
         BitReader::at(slice.rbsp.as_slice(), slice.header.position),
@@ -69,7 +71,8 @@ pub(crate) fn next_macroblock(
     number: u32,
     mb: &mut Mb,
 ) -> Result<bool, Fault>
-    ensures { (s : SliceStart) (before : List PicMb) (known : List Derived) → IsBehind s before known number row.now → Follows s before unread.old
+    ensures { (s : SliceStart) (before : List PicMb) (known : List Derived) →
+        IsBehind s before known number row.now → Follows s before unread.old
         → IsHandedOut s before (handed_out result mb.new) unread.old unread.new }
 {
     if unread.next_skipped(mb) {
@@ -80,9 +83,11 @@ pub(crate) fn next_macroblock(
     unread.next(total_coeffs_in(around.a), total_coeffs_in(around.b), mb)
 }
 
-/// What follows for a macroblock of slice `number` that was read, from its neighbours in the picture.
+/// What follows for a macroblock of slice `number` that was read, from its neighbours in the
+/// picture.
 fn derived_next(mb: &Mb, row: &Row, number: u32, constrained_intra_pred: bool) -> Derived
-    ensures { (s : SliceStart) (before : List PicMb) (known : List Derived) → IsBehind s before known number row.now → HasRems mb.now.syntax
+    ensures { (s : SliceStart) (before : List PicMb) (known : List Derived) →
+        IsBehind s before known number row.now → HasRems mb.now.syntax
         → result ≡ derived_of constrained_intra_pred s before known mb.now }
 {
     blocks_are_found();
@@ -103,10 +108,14 @@ fn add_macroblocks<F: MacroblockForm>(
 ) -> Result<u32, OutOfMemory>
     requires { place.address < 2 ^ 32 }
     ensures few { IfOk result (λ count. count ≤ remaining) }
-    ensures read { IfOk result (λ count. (s : SliceStart) (before : List PicMb) (known : List Derived) → s.size ≡ length before + remaining
+    ensures read { IfOk result
+        (λ count. (s : SliceStart) (before : List PicMb) (known : List Derived) →
+        s.size ≡ length before + remaining
         → IsBehind s before known place.slice row.old → Follows s before unread.entry
-        → AreRead (form_in (asked_in F.form telling.now.selection) row.old.width) place constrained_intra_pred s before known
-        (rest_of s before unread.entry) count row.new (string_bytes text.old) (string_bytes text.new)) }
+        → AreRead (form_in (asked_in F.form telling.now.selection) row.old.width) place
+        constrained_intra_pred s before known
+        (rest_of s before unread.entry) count row.new (string_bytes text.old)
+        (string_bytes text.new)) }
 {
     let mut unread = unread;
     let mut mb = Mb {
@@ -176,7 +185,8 @@ fn add_slice<F: MacroblockForm>(
     requires high { slice_qp pps.now slice.now.header.slice_qp_delta ≤ℤ pos 51 }
     requires active { slice.now.header.num_ref_idx_active ≤ 16 }
     ensures told { OnOk result ((p : OpenPicture) → IsPicture p picture.old
-        → IsSliceTold (form_in (asked_in F.form telling.now.selection) p.width) p pps.now slice.now picture.new
+        → IsSliceTold (form_in (asked_in F.form telling.now.selection) p.width) p pps.now slice.now
+        picture.new
         (string_bytes text.old) (string_bytes text.new)) }
     ensures choice { OnOk result (picture.new.choice ≡ picture.old.choice) }
     ensures unit { OnOk result (picture.new.unit ≡ picture.old.unit) }
@@ -220,7 +230,8 @@ pub(crate) fn add_slice_if_listed<F: MacroblockForm>(
     requires high { slice_qp pps.now slice.now.header.slice_qp_delta ≤ℤ pos 51 }
     requires active { slice.now.header.num_ref_idx_active ≤ 16 }
     ensures { OnOk result ((p : OpenPicture) → IsFollowed telling.now.selection p picture.old
-        → IsSliceListed (asked_in F.form telling.now.selection) p pps.now slice.now picture.new (string_bytes text.old) (string_bytes text.new)) }
+        → IsSliceListed (asked_in F.form telling.now.selection) p pps.now slice.now picture.new
+        (string_bytes text.old) (string_bytes text.new)) }
 {
     if picture.choice.is_listed() {
         return add_slice(telling, text, picture, pps, slice);

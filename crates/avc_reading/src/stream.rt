@@ -21,9 +21,9 @@ use std::marker::Model;
 const MAX_UNIT: usize = usize::MAX;
 
 /// A line of a form for each macroblock of a stream (Annex B) that comes in pieces, or for some of
-/// them, those of a slice once its unit has ended. It keeps the unit that is not over, the parameter
-/// sets in force, and of the open picture what the next macroblocks ask for. A contract sees which
-/// macroblocks are told, and what came of the stream.
+/// them, those of a slice once its unit has ended. It keeps the unit that is not over, the
+/// parameter sets in force, and of the open picture what the next macroblocks ask for. A contract
+/// sees which macroblocks are told, and what came of the stream.
 #[derive(Drop)]
 pub struct MacroblockLines<F> {
     telling: Telling<F>,
@@ -47,7 +47,8 @@ impl<F> Model for MacroblockLines<F> {
       stream = record { bytes = l.splitter.bytes; ended = l.splitter.ended; failed = l.failed };
     } };
 
-    ghost invariant = { λ l. l.failed ≡ false → AreListed l.telling.selection max_unit l.splitter l.table l.kept (is_some l.found) };
+    ghost invariant = { λ l. l.failed ≡ false →
+        AreListed l.telling.selection max_unit l.splitter l.table l.kept (is_some l.found) };
 }
 
 impl<F> MacroblockLines<F> {
@@ -94,7 +95,8 @@ impl<F> MacroblockLines<F> {
     pub fn position(&self) -> Option<MacroblockPosition>
         ensures range { self.now.stream.failed ≡ false → IsInRange self.now.selection }
         ensures met { self.now.stream.failed ≡ false → length self.now.stream.bytes < 2 ^ 64
-            → is_some result ≡ has_met self.now.selection self.now.stream.bytes self.now.stream.ended }
+            → is_some result
+            ≡ has_met self.now.selection self.now.stream.bytes self.now.stream.ended }
     {
         self.found
     }
@@ -162,9 +164,12 @@ fn lines_of_units_left<F: MacroblockForm>(
     found: &mut Option<MacroblockPosition>,
 ) -> Result<String, OutOfMemory>
     requires { splitter.old.failed ≡ false }
-    ensures text { IfOk result (λ text. AreToldFrom (asked_in F.form telling.now.selection) table.old kept.old kept.new
-        (units_left max_unit splitter.old) (is_some found.old) (is_some found.new) [] (string_bytes text)) }
-    ensures sets { OnOk result (table.new ≡ table.old ++ set_units (units_left max_unit splitter.old)) }
+    ensures text { IfOk result
+        (λ text. AreToldFrom (asked_in F.form telling.now.selection) table.old kept.old kept.new
+        (units_left max_unit splitter.old) (is_some found.old) (is_some found.new) []
+        (string_bytes text)) }
+    ensures sets { OnOk result (table.new ≡ table.old
+        ++ set_units (units_left max_unit splitter.old)) }
     ensures taken { OnOk result (splitter.new ≡ after_units_left max_unit splitter.old) }
 {
     let mut text = String::new(telling.alloc);

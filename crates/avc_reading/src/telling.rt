@@ -58,7 +58,8 @@ impl<F: MacroblockForm> Telling<F> {
         derived: &Derived,
     ) -> Result<(), OutOfMemory>
         ensures { OnOk result (string_bytes text.new ≡ string_bytes text.old
-            ++ (form_in (asked_in F.form self.now.selection) width).of_macroblock place mb.now derived.now) }
+            ++ (form_in (asked_in F.form self.now.selection) width).of_macroblock place mb.now
+            derived.now) }
     {
         match self.selection {
             Selection::Whole | Selection::OfPicture(_) => {
@@ -76,8 +77,8 @@ impl<F: MacroblockForm> Telling<F> {
         }
     }
 
-    /// Adds the line of a fault in a slice, at the place where its next macroblock would stand, where
-    /// it is told.
+    /// Adds the line of a fault in a slice, at the place where its next macroblock would stand,
+    /// where it is told.
     pub(crate) fn add_fault(
         &self,
         text: &mut String,
@@ -85,7 +86,8 @@ impl<F: MacroblockForm> Telling<F> {
         place: MacroblockPlace,
         fault: Fault,
     ) -> Result<(), OutOfMemory>
-        ensures { OnOk result (string_bytes text.new ≡ string_bytes text.old ++ (form_in (asked_in F.form self.now.selection) width).of_fault place fault) }
+        ensures { OnOk result (string_bytes text.new ≡ string_bytes text.old
+            ++ (form_in (asked_in F.form self.now.selection) width).of_fault place fault) }
     {
         match self.selection {
             Selection::Whole | Selection::OfPicture(_) => {
@@ -102,7 +104,8 @@ impl<F: MacroblockForm> Telling<F> {
         unit: u64,
         fault: Fault,
     ) -> Result<(), OutOfMemory>
-        ensures { OnOk result (string_bytes text.new ≡ string_bytes text.old ++ refusal_lines (asked_in F.form self.now.selection) unit fault) }
+        ensures { OnOk result (string_bytes text.new ≡ string_bytes text.old
+            ++ refusal_lines (asked_in F.form self.now.selection) unit fault) }
     {
         match self.selection {
             Selection::Whole => self.form.add_refusal(self.alloc, text, unit, fault),

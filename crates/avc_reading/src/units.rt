@@ -35,7 +35,8 @@ struct NamedSets<'a> {
 /// Those of a slice that was read under them.
 fn sets_of<'a>(table: &'a ParamTable, slice: &Slice) -> NamedSets<'a>
     requires { IsReadUnder (sets_after table.now) slice.now.rbsp slice.now.header }
-    ensures named { sets_named (sets_after table.now) slice.now.header ≡ Some (result.pps.now, result.sps.now) }
+    ensures named { sets_named (sets_after table.now) slice.now.header
+        ≡ Some (result.pps.now, result.sps.now) }
     ensures within { IsHeader result.sps.now result.pps.now slice.now.rbsp slice.now.header }
     ensures sps { IsSps result.sps.now }
     ensures pps { IsPps result.pps.now }
@@ -60,8 +61,10 @@ fn add_read_slice<F: MacroblockForm>(
 ) -> Result<(), OutOfMemory>
     requires { IsReadUnder (sets_after table.now) slice.now.rbsp slice.now.header }
     ensures { OnOk result ((p : Option OpenPicture) → IsOpen telling.now.selection p kept.old
-        → IsTold (asked_in F.form telling.now.selection) slice.now.unit p (brought_under (sets_after table.now) p slice.now)
-        kept.new (is_some found.old) (is_some found.new) (string_bytes text.old) (string_bytes text.new)) }
+        → IsTold (asked_in F.form telling.now.selection) slice.now.unit p
+        (brought_under (sets_after table.now) p slice.now)
+        kept.new (is_some found.old) (is_some found.new) (string_bytes text.old)
+        (string_bytes text.new)) }
 {
     let sets = sets_of(table, slice);
     let mut picture = picture_of(
@@ -91,8 +94,10 @@ fn add_slice_unit<F: MacroblockForm>(
     idr: bool,
 ) -> Result<(), OutOfMemory>
     ensures { OnOk result ((p : Option OpenPicture) → IsOpen telling.now.selection p kept.old
-        → IsTold (asked_in F.form telling.now.selection) unit.now.index p (brought_by (sets_after table.now) p unit.now (slice_kind idr))
-        kept.new (is_some found.old) (is_some found.new) (string_bytes text.old) (string_bytes text.new)) }
+        → IsTold (asked_in F.form telling.now.selection) unit.now.index p
+        (brought_by (sets_after table.now) p unit.now (slice_kind idr))
+        kept.new (is_some found.old) (is_some found.new) (string_bytes text.old)
+        (string_bytes text.new)) }
 {
     match rbsp_of(telling.alloc, unit)? {
         Some(rbsp) => match read_header(unit.header, rbsp.as_slice(), table) {
@@ -147,8 +152,10 @@ pub(crate) fn add_unit<F: MacroblockForm>(
     unit: &Unit,
 ) -> Result<(), OutOfMemory>
     ensures told { OnOk result ((p : Option OpenPicture) → IsOpen telling.now.selection p kept.old
-        → IsTold (asked_in F.form telling.now.selection) unit.now.index p (brought (sets_after table.old) p unit.now)
-        kept.new (is_some found.old) (is_some found.new) (string_bytes text.old) (string_bytes text.new)) }
+        → IsTold (asked_in F.form telling.now.selection) unit.now.index p
+        (brought (sets_after table.old) p unit.now)
+        kept.new (is_some found.old) (is_some found.new) (string_bytes text.old)
+        (string_bytes text.new)) }
     ensures sets { OnOk result (table.new ≡ table.old ++ set_units (unit.now ∷ [])) }
 {
     if unit.header >= 128 {

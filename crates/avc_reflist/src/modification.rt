@@ -17,7 +17,9 @@ fn add_unnamed(list: &mut ArrayVec<usize, 16>, names: usize, count: usize, place
     requires count { count ≤ 16 }
     requires few { length list.old.items ≤ count }
     requires names { names ≤ length list.old.items }
-    ensures { list.new.items ≡ take count (list.old.items ++ filter (is_not_in_list (take names list.old.items)) (place ∷ [])) }
+    ensures { list.new.items
+        ≡ take count (list.old.items
+        ++ filter (is_not_in_list (take names list.old.items)) (place ∷ [])) }
 {
     if !list[..names].contains(&place) {
         add(list, count, place);
@@ -32,7 +34,8 @@ fn with_initial_list(
 ) -> ArrayVec<usize, 16>
     requires count { count ≤ 16 }
     requires few { length named.items ≤ count }
-    ensures { result.items ≡ take count (named.items ++ filter (is_not_in_list named.items) others.now) }
+    ensures { result.items
+        ≡ take count (named.items ++ filter (is_not_in_list named.items) others.now) }
 {
     let mut list = named;
     let names = list.len();
@@ -56,7 +59,8 @@ pub fn reference_list(
     requires count { count ≤ 16 }
     requires max_frame_num { 0 < current.max_frame_num }
     ensures within { IfOk result (AreEntriesIn frames.now) }
-    ensures list { NamesFrames frames.now each_entry (reference_list current count modifications.now) result }
+    ensures list { NamesFrames frames.now each_entry
+        (reference_list current count modifications.now) result }
 {
     let named = modification_places(frames, current, count, modifications)?;
     let others = initial_list(frames, current);

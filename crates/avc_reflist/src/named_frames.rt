@@ -34,7 +34,8 @@ fn modification_place(
     modification: Modification,
 ) -> Option<usize>
     ensures within { IfSome result (IsPlaceIn frames.now) }
-    ensures named { NamesFrames frames.now option_map (modification_frame current number modification) result }
+    ensures named { NamesFrames frames.now option_map
+        (modification_frame current number modification) result }
 {
     match modification {
         Modification::LongTerm(index) => long_term_place(frames, index),
@@ -50,7 +51,8 @@ fn existing_modification_place(
     modification: Modification,
 ) -> Result<usize, Fault>
     ensures within { IfOk result (IsPlaceIn frames.now) }
-    ensures named { NamesFrames frames.now result_map (existing_modification_frame current number modification) result }
+    ensures named { NamesFrames frames.now result_map
+        (existing_modification_frame current number modification) result }
 {
     match modification_place(frames, current, number, modification) {
         Some(place) if frames[place].existing => Ok(place),
@@ -80,7 +82,9 @@ pub fn modification_places(
     requires max_frame_num { 0 < current.max_frame_num }
     ensures few { IfOk result (λ list. length list.items ≤ count) }
     ensures within { IfOk result (λ list. All (IsPlaceIn frames.now) list.items) }
-    ensures named { NamesFrames frames.now each_frame (first_modification_frames current count modifications.now) (result_map (λ list. list.items) result) }
+    ensures named { NamesFrames frames.now each_frame
+        (first_modification_frames current count modifications.now)
+        (result_map (λ list. list.items) result) }
 {
     let mut list = ArrayVec::new();
     let mut number = current.frame_num;

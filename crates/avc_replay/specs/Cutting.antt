@@ -15,5 +15,6 @@ abbrev pub first_bits : (body : List ℕ) → (kept : ℕ) → (run : Option ℕ
 first_bits body kept run = take kept (bits_before_stop (rbsp body)) ++ run_bits run
 
 -- The unit with this header byte whose RBSP has these bits before its stop bit.
-abbrev pub IsCutUnit : (header : ℕ) → (body : List ℕ) → (kept : ℕ) → (run : Option ℕ) → (unit : List ℕ) → Type 0
+abbrev pub IsCutUnit : (header : ℕ) → (body : List ℕ) → (kept : ℕ) → (run : Option ℕ) →
+    (unit : List ℕ) → Type 0
 IsCutUnit header body kept run unit = IsUnit header (first_bits body kept run) unit

@@ -1,5 +1,6 @@
 -- A stream that ends behind a macroblock, and a decoder that has it.
-use Rattle.std.specs.Prelude.{◌≡◌, ℕ, ◌≤◌, Bool, true, false, List, [], ◌∷◌, ◌++◌, length, flat_map, take, slice_get, Option, Some, None}
+use Rattle.std.specs.Prelude.{◌≡◌, ℕ, ◌≤◌, Bool, true, false, List, [], ◌∷◌, ◌++◌, length, flat_map}
+use Rattle.std.specs.Prelude.{take, slice_get, Option, Some, None}
 use Rattle.std.specs.Io.KnownBytes.{Consumes, IsAtEnd}
 use Rattle.avc_annexb.specs.SplitterState.{SplitterState}
 use Rattle.avc_annexb.specs.Units.{units}
@@ -71,14 +72,16 @@ pub record IsCutAt (at : MacroblockPosition) (us : List Unit) (m : Machine) : Ty
   pub fed : IsFed (flat_map written (take place us) ++ start_code ++ cut ++ prefix) m
 
 -- The same of a stream of which these bytes were read.
-pub record IsCutFrom (at : MacroblockPosition) (unread left : Option (List ℕ)) (m : Machine) : Type 0 where
+pub record IsCutFrom (at : MacroblockPosition) (unread left : Option (List ℕ))
+    (m : Machine) : Type 0 where
   pub bytes : List ℕ
   pub all : Bool
   pub read : HasRead unread left bytes all
   pub cut : IsCutAt at (units max_unit bytes all) m
 
 -- What is told of a macroblock by the open picture of a stream that ends behind it.
-pub record IsExplainedBy (at : MacroblockPosition) (address : ℕ) (pairs : List SamplePair) (unread left : Option (List ℕ)) (e : Explained) : Type 0 where
+pub record IsExplainedBy (at : MacroblockPosition) (address : ℕ) (pairs : List SamplePair)
+    (unread left : Option (List ℕ)) (e : Explained) : Type 0 where
   pub machine : Machine
   pub picture : OpenPicture
   pub decoding : Decoding 16
@@ -91,7 +94,8 @@ pub record IsExplainedBy (at : MacroblockPosition) (address : ℕ) (pairs : List
 -- ---- steps of it: these words are the crate's own
 
 -- More of a stream was read, or its end.
-pub record ReadsOn (old_left new_left : Option (List ℕ)) (old : SplitterState) (ended : Bool) (new : SplitterState) : Type 0 where
+pub record ReadsOn (old_left new_left : Option (List ℕ)) (old : SplitterState) (ended : Bool)
+    (new : SplitterState) : Type 0 where
   pub more : List ℕ
   pub consumed : Consumes old_left new_left more
   pub is : new ≡ record old { bytes = old.bytes ++ more; ended = ended }
@@ -106,7 +110,8 @@ pub record CutsUnit (at : MacroblockPosition) (unit : Unit) (old new : Machine) 
   pub fed : IsFedMore old (start_code ++ cut ++ prefix) new
 
 -- A stream is read, and its units that were taken were fed.
-pub record IsReplaying (unread left : Option (List ℕ)) (ended : Bool) (s : SplitterState) (m : Machine) : Type 0 where
+pub record IsReplaying (unread left : Option (List ℕ)) (ended : Bool) (s : SplitterState)
+    (m : Machine) : Type 0 where
   pub read : HasRead unread left s.bytes s.ended
   pub ended_is : s.ended ≡ ended
   pub fed : IsFedTaken s m

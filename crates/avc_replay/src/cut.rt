@@ -24,7 +24,8 @@ pub fn cut_unit(
 ) -> Result<Vec<u8>, OutOfMemory>
     requires { IfSome run (λ n. n < 2 ^ 32 - 1) }
     ensures is { IfOk result (λ unit. IsCutUnit header body.now kept_bits run unit.items) }
-    ensures read { IfOk result (λ unit. bits_before_stop (rbsp (drop 1 unit.items)) ≡ first_bits body.now kept_bits run) }
+    ensures read { IfOk result (λ unit. bits_before_stop (rbsp (drop 1 unit.items))
+        ≡ first_bits body.now kept_bits run) }
 {
     escapes_are_removed();
     rbsps_are_read();

@@ -13,10 +13,10 @@ use std::alloc::Global;
 use std::io::{Read, Write};
 
 /// Writes the lines of a macroblock and of its neighbours, and what is told of it: how its samples
-/// differ, at which stage, where it is predicted from, and how its edges are filtered. These are its
-/// samples as they are shown, with the other's, and it is of the picture whose first slice comes with
-/// this unit. Both readers read the stream from its beginning. Answers whether it was told: it is not
-/// where there are no samples, or the macroblock does not come.
+/// differ, at which stage, where it is predicted from, and how its edges are filtered. These are
+/// its samples as they are shown, with the other's, and it is of the picture whose first slice
+/// comes with this unit. Both readers read the stream from its beginning. Answers whether it was
+/// told: it is not where there are no samples, or the macroblock does not come.
 pub fn tell_macroblock<L: Read, R: Read, W: Write>(
     alloc: Global,
     unit: u64,
@@ -25,8 +25,10 @@ pub fn tell_macroblock<L: Read, R: Read, W: Write>(
     stream: &mut R,
     writer: &mut W,
 ) -> Result<bool, RunFault>
-    ensures { IfOk result (λ told. told ≡ true → TellsMacroblock unit pairs.now (L.remaining lines.old) (L.remaining lines.new)
-        (R.remaining stream.old) (R.remaining stream.new) (W.contents writer.old) (W.contents writer.new)) }
+    ensures { IfOk result (λ told. told ≡ true →
+        TellsMacroblock unit pairs.now (L.remaining lines.old) (L.remaining lines.new)
+        (R.remaining stream.old) (R.remaining stream.new) (W.contents writer.old)
+        (W.contents writer.new)) }
 {
     let [first, ..] = pairs else {
         return Ok(false);

@@ -1,9 +1,11 @@
 //! Decoding a stream again up to a macroblock.
 
-ghost use Rattle.std.specs.Prelude.{◌≡◌, ◌<◌, ◌≤◌, ◌^◌, ◌-◌, ◌++◌, true, false, length, IfOk, IfSome, OnOk, Some};
+ghost use Rattle.std.specs.Prelude.{◌≡◌, ◌<◌, ◌≤◌, ◌^◌, ◌-◌, ◌++◌, true, false, length, IfOk};
+ghost use Rattle.std.specs.Prelude.{IfSome, OnOk, Some};
 ghost use Rattle.std.specs.Io.KnownBytes.{Consumes, IsAtEnd};
 ghost use Rattle.avc_console.specs.Reading.{max_unit};
-ghost use Rattle.avc_replay.specs.Replaying.{IsCutFrom, IsExplainedBy, IsFedMore, ReadsOn, CutsUnit};
+ghost use Rattle.avc_replay.specs.Replaying.{IsCutFrom, IsExplainedBy, IsFedMore, ReadsOn};
+ghost use Rattle.avc_replay.specs.Replaying.{CutsUnit};
 
 use crate::cut::cut_unit;
 use crate::feeding::{START_CODE, feed, feed_before};
@@ -20,9 +22,9 @@ use std::alloc::Global;
 use std::io::Read;
 
 /// What is told of the macroblock with this address, which stands there in a stream: the stream is
-/// decoded again up to it, so that its samples are those before deblocking. These are its samples as
-/// they are shown, with the other's. Answers None where the macroblock does not come, or the open
-/// picture has not all that is told.
+/// decoded again up to it, so that its samples are those before deblocking. These are its samples
+/// as they are shown, with the other's. Answers None where the macroblock does not come, or the
+/// open picture has not all that is told.
 pub fn explain_macroblock<R: Read>(
     alloc: Global,
     at: MacroblockPosition,
@@ -32,7 +34,10 @@ pub fn explain_macroblock<R: Read>(
 ) -> Result<Option<Explained>, RunFault>
     requires run { IfSome at.run (λ n. n < 2 ^ 32 - 1) }
     requires small { address < 2 ^ 32 }
-    ensures { IfOk result (λ explained. IfSome explained (λ e. IsExplainedBy at address pairs.now (R.remaining reader.old) (R.remaining reader.new) e)) }
+    ensures { IfOk result
+        (λ explained.
+        IfSome explained (λ e. IsExplainedBy at address pairs.now (R.remaining reader.old)
+        (R.remaining reader.new) e)) }
 {
     let Some(decoder) = decode_up_to(alloc, at, reader)? else {
         return Ok(None);
@@ -50,7 +55,9 @@ fn decode_up_to<R: Read>(
     reader: &mut R,
 ) -> Result<Option<Decoder<MAX_UNIT, SharedPicture>>, RunFault>
     requires { IfSome at.run (λ n. n < 2 ^ 32 - 1) }
-    ensures { IfOk result (λ decoder. IfSome decoder (λ d. IsCutFrom at (R.remaining reader.old) (R.remaining reader.new) d)) }
+    ensures { IfOk result
+        (λ decoder. IfSome decoder
+        (λ d. IsCutFrom at (R.remaining reader.old) (R.remaining reader.new) d)) }
 {
     units_stay();
     let mut decoder = Decoder::<MAX_UNIT, SharedPicture>::sharing(alloc, Output::Full);
@@ -81,7 +88,8 @@ fn read_on<R: Read>(
     requires going { splitter.old.failed ≡ false }
     requires open_end { splitter.old.ended ≡ false }
     requires room { 0 < length piece.old }
-    ensures read { IfOk result (λ ended. ReadsOn (R.remaining reader.old) (R.remaining reader.new) splitter.old ended splitter.new) }
+    ensures read { IfOk result (λ ended. ReadsOn (R.remaining reader.old) (R.remaining reader.new)
+        splitter.old ended splitter.new) }
     ensures length { length piece.new ≡ length piece.old }
 {
     let len = read_once(reader, piece)?;
@@ -93,8 +101,8 @@ fn read_on<R: Read>(
     Ok(false)
 }
 
-// Feeds a unit that is cut behind a macroblock, and the start of another. Answers false where the unit
-// is too long.
+// Feeds a unit that is cut behind a macroblock, and the start of another. Answers false where the
+// unit is too long.
 fn feed_cut(
     alloc: Global,
     decoder: &mut Decoder<MAX_UNIT, SharedPicture>,

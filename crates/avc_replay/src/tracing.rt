@@ -26,7 +26,9 @@ pub fn explain(
 ) -> Result<Option<Explained>, OutOfMemory>
     requires fault { HasNoFault picture.now }
     requires small { address < 2 ^ 32 }
-    ensures { IfOk result (λ explained. IfSome explained (λ e. IsExplained address pairs.now picture.now frames.now e)) }
+    ensures { IfOk result
+        (λ explained.
+        IfSome explained (λ e. IsExplained address pairs.now picture.now frames.now e)) }
 {
     if picture.read() as usize != address + 1 {
         return Ok(None);
@@ -139,7 +141,8 @@ fn trace(
     pairs: &[SamplePair],
 ) -> Result<Option<Vec<TracedSample>>, OutOfMemory>
     requires { HasNoFault picture.now }
-    ensures { IfOk result (λ samples. IfSome samples (λ s. AreTraced picture.now pairs.now s.items)) }
+    ensures { IfOk result
+        (λ samples. IfSome samples (λ s. AreTraced picture.now pairs.now s.items)) }
 {
     let mut samples = Vec::with_capacity(alloc, pairs.len())?;
     'pairs: for pair in pairs {

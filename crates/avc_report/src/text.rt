@@ -22,7 +22,8 @@ pub fn add_difference(
     difference: &Difference,
 ) -> Result<(), OutOfMemory>
     requires { length difference.now.marks.items ≡ macroblocks shape }
-    ensures { OnOk result (string_bytes text.new ≡ string_bytes text.old ++ difference_text number shape difference.now) }
+    ensures { OnOk result (string_bytes text.new ≡ string_bytes text.old
+        ++ difference_text number shape difference.now) }
 {
     let columns = macroblock_columns(shape);
     let rows = macroblock_rows(shape);
@@ -38,7 +39,8 @@ fn add_counts(
     difference: &Difference,
     all_macroblocks: usize,
 ) -> Result<(), OutOfMemory>
-    ensures { OnOk result (string_bytes text.new ≡ string_bytes text.old ++ counts_line number difference.now all_macroblocks) }
+    ensures { OnOk result (string_bytes text.new ≡ string_bytes text.old
+        ++ counts_line number difference.now all_macroblocks) }
 {
     let samples = difference.samples;
     let all_samples = difference.all_samples;
@@ -52,7 +54,8 @@ fn add_counts(
 }
 
 fn add_first(text: &mut String, difference: &Difference) -> Result<(), OutOfMemory>
-    ensures { OnOk result (string_bytes text.new ≡ string_bytes text.old ++ first_line difference.now) }
+    ensures { OnOk result (string_bytes text.new ≡ string_bytes text.old
+        ++ first_line difference.now) }
 {
     let ours = difference.ours;
     let theirs = difference.theirs;
@@ -65,7 +68,8 @@ fn add_first(text: &mut String, difference: &Difference) -> Result<(), OutOfMemo
 }
 
 fn add_macroblock(text: &mut String, place: Place) -> Result<(), OutOfMemory>
-    ensures { OnOk result (string_bytes text.new ≡ string_bytes text.old ++ macroblock_words place) }
+    ensures { OnOk result (string_bytes text.new ≡ string_bytes text.old
+        ++ macroblock_words place) }
 {
     let address = place.address;
     let column = place.macroblock_column;
@@ -107,7 +111,8 @@ fn add_map(
     marks: &[Mark],
 ) -> Result<(), OutOfMemory>
     requires { length marks.now ≡ rows * columns }
-    ensures { OnOk result (string_bytes text.new ≡ string_bytes text.old ++ map_lines columns rows marks.now) }
+    ensures { OnOk result (string_bytes text.new ≡ string_bytes text.old
+        ++ map_lines columns rows marks.now) }
 {
     'rows: for row in 0..rows {
         add_row(text, &marks[row * columns..row * columns + columns])?;
@@ -149,7 +154,8 @@ pub fn add_psnr(text: &mut String, number: u64, psnr: Psnr) -> Result<(), OutOfM
 }
 
 fn add_ratio(text: &mut String, name: &str, ratio: Option<u32>) -> Result<(), OutOfMemory>
-    ensures { OnOk result (string_bytes text.new ≡ string_bytes text.old ++ (name.now ++ decibels ratio)) }
+    ensures { OnOk result (string_bytes text.new ≡ string_bytes text.old
+        ++ (name.now ++ decibels ratio)) }
 {
     text.push_str(name)?;
     match ratio {
@@ -163,7 +169,8 @@ fn add_ratio(text: &mut String, name: &str, ratio: Option<u32>) -> Result<(), Ou
 
 // Hundredths of a decibel, with two decimals.
 fn add_decibels(text: &mut String, hundredths: u32) -> Result<(), OutOfMemory>
-    ensures { OnOk result (string_bytes text.new ≡ string_bytes text.old ++ decibels (Some hundredths)) }
+    ensures { OnOk result (string_bytes text.new ≡ string_bytes text.old
+        ++ decibels (Some hundredths)) }
 {
     let whole = hundredths / 100;
     let tenths = hundredths / 10 % 10;

@@ -1,9 +1,12 @@
 -- What the words of the command line name.
-use Rattle.std.specs.Prelude.{◌≡◌, ◌⊎◌, ℕ, ◌^◌, ◌-◌, Bool, ◌==◌, ◌&&◌, true, false, if◌then◌else◌, List, Option, Some, None, codes}
+use Rattle.std.specs.Prelude.{◌≡◌, ◌⊎◌, ℕ, ◌^◌, ◌-◌, Bool, ◌==◌, ◌&&◌, true, false, if◌then◌else◌}
+use Rattle.std.specs.Prelude.{List, Option, Some, None, codes}
 use Rattle.avc_dpb.specs.declared.output.Output.{Output}
 use Rattle.avc_dpb.specs.declared.output.Output.TheVariants.{Early, Full}
 use Rattle.avc_request.specs.declared.words.Command.{Command}
-use Rattle.avc_request.specs.declared.words.Command.TheVariants.{Compare, Cut, Decode, Headers, Info, Macroblocks, Picture, Pieces, Units}
+use Rattle.avc_request.specs.declared.words.Command.TheVariants.{Compare, Cut, Decode, Headers}
+use Rattle.avc_request.specs.declared.words.Command.TheVariants.{Info, Macroblocks, Picture, Pieces}
+use Rattle.avc_request.specs.declared.words.Command.TheVariants.{Units}
 use Rattle.avc_request.specs.declared.file_kind.FileKind.{FileKind}
 use Rattle.avc_request.specs.declared.file_kind.FileKind.TheVariants as kinds
 use Rattle.avc_request.specs.declared.request.Form.{Form}
@@ -38,8 +41,8 @@ abbrev pub mode_of : (early : Bool) → Output
 mode_of true = Early
 mode_of false = Full
 
--- The output of a command is written: a container by none, a picture as PNG by those that show pictures,
--- and by that of one picture no other.
+-- The output of a command is written: a container by none, a picture as PNG by those that show
+-- pictures, and by that of one picture no other.
 abbrev pub IsWritten : Command → FileKind → Type 0
 IsWritten command kinds.Container = ⊥
 IsWritten command kinds.Png = (command ≡ Decode) ⊎ (command ≡ Picture)
@@ -65,7 +68,8 @@ IsForm word forms.Y4m = word ≡ codes "y4m"
 IsForm word forms.FrameMd5 = word ≡ codes "framemd5"
 IsForm word forms.Png = word ≡ codes "png"
 IsForm word forms.I420 =
-    (word ≡ codes "null" → ⊥) × (word ≡ codes "md5" → ⊥) × (word ≡ codes "y4m" → ⊥) × (word ≡ codes "framemd5" → ⊥) × (word ≡ codes "png" → ⊥)
+    (word ≡ codes "null" → ⊥) × (word ≡ codes "md5" → ⊥) × (word ≡ codes "y4m" → ⊥) ×
+    (word ≡ codes "framemd5" → ⊥) × (word ≡ codes "png" → ⊥)
 IsForm word (forms.Verify digest) = ⊥
 
 -- the form that a file of this kind asks for
@@ -89,7 +93,8 @@ task_of_all showing (forms.Verify digest) = tasks.Show showing
 -- greatest number
 abbrev pub task_showing : Showing → Task
 task_showing showing =
-    if showing.skip == 0 && showing.limit == 2 ^ 64 - 1 then task_of_all showing showing.form else tasks.Show showing
+    if showing.skip == 0 && showing.limit == 2 ^ 64 - 1 then task_of_all showing showing.form
+    else tasks.Show showing
 
 -- what is written in this form is no text
 abbrev pub is_raw_form : Form → Bool

@@ -7,7 +7,8 @@ use Rattle.avc_request.specs.declared.file_kind.FileKind.TheVariants.{Container,
 -- what the names of containers and pictures end in, as no command writes
 abbrev pub container_extensions : List (List ℕ)
 container_extensions =
-    codes "mp4" ∷ codes "m4v" ∷ codes "mov" ∷ codes "mkv" ∷ codes "webm" ∷ codes "ts" ∷ codes "flv" ∷ codes "avi" ∷ codes "ivf"
+    codes "mp4" ∷ codes "m4v" ∷ codes "mov" ∷ codes "mkv" ∷ codes "webm" ∷ codes "ts" ∷ codes "flv"
+    ∷ codes "avi" ∷ codes "ivf"
     ∷ codes "jpg" ∷ codes "jpeg" ∷ []
 
 -- The extension, in small letters, is that of such a file.
@@ -16,4 +17,5 @@ IsKind extension Y4m = extension ≡ codes "y4m"
 IsKind extension Png = extension ≡ codes "png"
 IsKind extension Container = Contains container_extensions extension
 IsKind extension Other =
-    (extension ≡ codes "y4m" → ⊥) × (extension ≡ codes "png" → ⊥) × (Contains container_extensions extension → ⊥)
+    (extension ≡ codes "y4m" → ⊥) × (extension ≡ codes "png" → ⊥) ×
+    (Contains container_extensions extension → ⊥)

@@ -41,7 +41,9 @@ fn fetch_held_row<const PAD: usize>(
     requires target { to + columns ≤ length patch.old }
     ensures before { (k : ℕ) → k < to → slice_index patch.new k ≡ slice_index patch.old k }
     ensures here { (i : ℕ) → i < columns →
-        slice_index patch.new (to + i) ≡ sample plane.now (nat_abs (clip3 (pos 0) (pos plane.now.width -ℤ pos 1) (left +ℤ pos i))) row }
+        slice_index patch.new (to + i)
+        ≡ sample plane.now (nat_abs (clip3 (pos 0) (pos plane.now.width -ℤ pos 1) (left +ℤ pos i)))
+        row }
 {
     let width = plane.width();
     for i in 0..columns {
@@ -63,7 +65,8 @@ pub fn fetch_held<const PAD: usize>(
     requires narrow { columns < 2 ^ 16 }
     requires low { count < 2 ^ 16 }
     requires target { count * columns ≤ length patch.old }
-    ensures { IsPatch (clamped plane.now.width plane.now.height (sample plane.now)) left top columns count patch.new }
+    ensures { IsPatch (clamped plane.now.width plane.now.height (sample plane.now)) left top columns
+        count patch.new }
 {
     let height = plane.height();
     for j in 0..count {
@@ -98,7 +101,8 @@ pub fn find_within<const PAD: usize>(
     requires narrow { columns < 2 ^ 16 }
     requires low { count < 2 ^ 16 }
     ensures { IfSome result (λ at. (rows : List ℕ) → IsSurrounded PAD plane.now rows →
-        IsThere (clamped plane.now.width plane.now.height (sample plane.now)) left top columns count at.first at.stride rows) }
+        IsThere (clamped plane.now.width plane.now.height (sample plane.now)) left top columns count
+        at.first at.stride rows) }
 {
     let stride = plane.stride();
     let lines = plane.height() + 2 * PAD;

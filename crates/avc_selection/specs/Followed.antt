@@ -1,5 +1,6 @@
 -- What is kept of a picture whose slices come, and which of those to come are listed.
-use Rattle.std.specs.Prelude.{◌≡◌, ℕ, ◌-◌, ◌<◌, ◌≤◌, ◌==◌, nat_lt, Bool, true, false, if◌then◌else◌, List, length, map, Option, Some, None}
+use Rattle.std.specs.Prelude.{◌≡◌, ℕ, ◌-◌, ◌<◌, ◌≤◌, ◌==◌, nat_lt, Bool, true, false, if◌then◌else◌}
+use Rattle.std.specs.Prelude.{List, length, map, Option, Some, None}
 use Rattle.avc_types.specs.Pictures.{PicMb}
 use Rattle.avc_slice.specs.Begins.{picture_fields}
 use Rattle.avc_neigh.specs.TotalCoeffs.{total_coeffs_of}
@@ -13,8 +14,10 @@ use Rattle.avc_selection.specs.declared.picture.Picture.{Picture}
 use Rattle.avc_selection.specs.declared.selection.Selection.{Selection}
 use Rattle.avc_selection.specs.declared.selection.Selection.TheVariants.{Whole, OfPicture, Near}
 
--- The info says of each macroblock its slice and total_coeff of its blocks, and what follows for it.
-pub record Tells (mbs : List PicMb) (known : List Derived) (info : List NeighbourInfo) : Type 0 where
+-- The info says of each macroblock its slice and total_coeff of its blocks, and what follows for
+-- it.
+pub record Tells (mbs : List PicMb) (known : List Derived)
+    (info : List NeighbourInfo) : Type 0 where
   pub slices : map (λ m. m.slice) mbs ≡ map (λ f. f.slice) info
   pub total_coeffs : map (λ m. total_coeffs_of m.mb.syntax) mbs ≡ map (λ f. f.total_coeffs) info
   pub modes : map (λ d. d.modes) known ≡ map (λ f. f.modes) info
@@ -32,8 +35,8 @@ pub record IsPicture (p : OpenPicture) (c : Picture) : Type 0 where
   pub within : length p.mbs ≤ p.size
   pub tells : Tells p.mbs p.known c.row.info
 
--- from the picture on of which the first slice comes with a unit, where that is asked for of which it
--- comes with another
+-- from the picture on of which the first slice comes with a unit, where that is asked for of which
+-- it comes with another
 abbrev pub choice_of_unit : (asked unit : ℕ) → Choice
 choice_of_unit asked unit = if asked == unit then Each else Past
 
@@ -70,7 +73,8 @@ has_come Past = true
 -- from the picture of this number on, whose first slice comes with this unit
 abbrev pub choice_at : Selection → (number unit : ℕ) → Choice
 choice_at Whole number unit = Each
-choice_at (OfPicture asked) number unit = if nat_lt asked number then Past else Later (asked - number)
+choice_at (OfPicture asked) number unit =
+    if nat_lt asked number then Past else Later (asked - number)
 choice_at (Near m) number unit = choice_of_unit m.unit unit
 
 -- What is kept of an open picture: of one that is not listed the macroblocks are not read.

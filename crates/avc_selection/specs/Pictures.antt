@@ -40,4 +40,5 @@ new_picture number unit sps h = record {
 -- the picture of a slice of this unit with this header: a new one where it begins one (7.4.1.2.4)
 abbrev pub picture_of : Option OpenPicture → (unit : ℕ) → Sps → Header → OpenPicture
 picture_of None unit sps h = new_picture 0 unit sps h
-picture_of (Some p) unit sps h = if begins p.last h then new_picture (p.number + 1) unit sps h else record p { last = h }
+picture_of (Some p) unit sps h =
+    if begins p.last h then new_picture (p.number + 1) unit sps h else record p { last = h }

@@ -4,7 +4,9 @@ use Rattle.std.specs.Fmt.{signed_decimal}
 use Rattle.std.specs.List.{flat_map}
 use Rattle.avc_types.specs.declared.vector.Mv.{Mv}
 use Rattle.avc_neigh.specs.declared.neighbour_info.Motion.{Motion}
-use Rattle.avc_neigh.specs.declared.neighbour_info.Motion.TheVariants.{Absent as absent, Intra as intra, Inter as inter}
+use Rattle.avc_neigh.specs.declared.neighbour_info.Motion.TheVariants.{Absent as absent}
+use Rattle.avc_neigh.specs.declared.neighbour_info.Motion.TheVariants.{Intra as intra}
+use Rattle.avc_neigh.specs.declared.neighbour_info.Motion.TheVariants.{Inter as inter}
 
 -- a vector: its horizontal and its vertical component
 abbrev pub and_vector : Mv → List ℕ

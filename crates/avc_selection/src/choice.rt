@@ -41,8 +41,8 @@ impl Choice {
         }
     }
 
-    // Where the picture is asked for whose first slice comes with one unit, from that on of which it
-    // comes with another.
+    // Where the picture is asked for whose first slice comes with one unit, from that on of which
+    // it comes with another.
     fn of_unit(asked: u64, unit: u64) -> Choice
         ensures { result ≡ choice_of_unit asked unit }
     {

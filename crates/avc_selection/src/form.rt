@@ -22,7 +22,8 @@ pub trait MacroblockForm {
         mb: &Mb,
         derived: &Derived,
     ) -> Result<(), OutOfMemory>
-        ensures { OnOk result (string_bytes text.new ≡ string_bytes text.old ++ form.of_macroblock place mb.now derived.now) };
+        ensures { OnOk result (string_bytes text.new ≡ string_bytes text.old
+            ++ form.of_macroblock place mb.now derived.now) };
 
     /// Adds the line of a fault in a slice, at the place where its next macroblock would stand.
     fn add_fault(
@@ -32,7 +33,8 @@ pub trait MacroblockForm {
         place: MacroblockPlace,
         fault: Fault,
     ) -> Result<(), OutOfMemory>
-        ensures { OnOk result (string_bytes text.new ≡ string_bytes text.old ++ form.of_fault place fault) };
+        ensures { OnOk result (string_bytes text.new ≡ string_bytes text.old
+            ++ form.of_fault place fault) };
 
     /// Adds the line of a unit that should bring a slice, and is refused.
     fn add_refusal(
@@ -42,5 +44,6 @@ pub trait MacroblockForm {
         unit: u64,
         fault: Fault,
     ) -> Result<(), OutOfMemory>
-        ensures { OnOk result (string_bytes text.new ≡ string_bytes text.old ++ form.of_refusal unit fault) };
+        ensures { OnOk result (string_bytes text.new ≡ string_bytes text.old
+            ++ form.of_refusal unit fault) };
 }

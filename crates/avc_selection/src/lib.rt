@@ -1,4 +1,5 @@
-//! Which macroblocks of a stream are told, what is kept of the picture that they are of, and what a form tells of one.
+//! Which macroblocks of a stream are told, what is kept of the picture that they are of, and what a
+//! form tells of one.
 #![tactic(auto)]
 
 mod choice;

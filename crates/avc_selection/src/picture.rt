@@ -48,7 +48,8 @@ fn new_picture(
     header: &Header,
 ) -> Result<Picture, OutOfMemory>
     requires { IsSps sps.now }
-    ensures read { IfOk result (λ c. (number : ℕ) → IsPicture (new_picture number unit sps.now header.now) c) }
+    ensures read { IfOk result (λ c. (number : ℕ) →
+        IsPicture (new_picture number unit sps.now header.now) c) }
     ensures unit { IfOk result (λ c. c.unit ≡ unit) }
     ensures choice { IfOk result (λ c. c.choice ≡ choice) }
 {
@@ -63,7 +64,8 @@ fn new_picture(
     })
 }
 
-/// The picture of a slice of this unit with this header: a new one, where it begins one (7.4.1.2.4).
+/// The picture of a slice of this unit with this header: a new one, where it begins one
+/// (7.4.1.2.4).
 pub fn picture_of(
     alloc: Global,
     selection: Selection,
@@ -73,7 +75,8 @@ pub fn picture_of(
     header: &Header,
 ) -> Result<Picture, OutOfMemory>
     requires { IsSps sps.now }
-    ensures { IfOk result (λ c. (p : Option OpenPicture) → IsOpen selection p kept → IsFollowed selection (picture_of p unit sps.now header.now) c) }
+    ensures { IfOk result (λ c. (p : Option OpenPicture) → IsOpen selection p kept →
+        IsFollowed selection (picture_of p unit sps.now header.now) c) }
 {
     match kept {
         Some(picture) => {

@@ -8,7 +8,8 @@ use avc_types::{Mv, OutOfMemory};
 
 /// Adds mv_l0 of each part.
 pub fn add_vectors(text: &mut String, vectors: &[Motion]) -> Result<(), OutOfMemory>
-    ensures { OnOk result (string_bytes text.new ≡ string_bytes text.old ++ vectors_text vectors.now) }
+    ensures { OnOk result (string_bytes text.new ≡ string_bytes text.old
+        ++ vectors_text vectors.now) }
 {
     text.push_str(" mv")?;
     for motion in vectors {

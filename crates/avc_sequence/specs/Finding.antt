@@ -1,4 +1,5 @@
--- What the sequence parameter set of a stream's first slice says, looked for while the stream comes.
+-- What the sequence parameter set of a stream's first slice says, looked for while the stream
+-- comes.
 use Rattle.std.specs.Prelude.{◌≡◌, ℕ, Bool, List, [], ◌∷◌, ◌++◌, Option, Some, None}
 use Rattle.std.specs.Option.{option_map}
 use Rattle.avc_annexb.specs.SplitterState.{SplitterState}
@@ -26,9 +27,12 @@ said_with sets (Slice header) said = first_of said (option_map said_by (sps_unde
 said_with sets _ said = said
 
 -- with these units, where these parameter sets came before
-abbrev pub said_after : List SetUnit → List Unit → (said : Option SequenceFacts) → Option SequenceFacts
+abbrev pub said_after : List SetUnit → List Unit → (said : Option SequenceFacts) →
+    Option SequenceFacts
 said_after sets [] said = said
-said_after sets (u ∷ us) said = said_after (sets ++ set_units (u ∷ [])) us (said_with (sets_after sets) (brought (sets_after sets) u) said)
+said_after sets (u ∷ us) said =
+    said_after (sets ++ set_units (u ∷ [])) us
+    (said_with (sets_after sets) (brought (sets_after sets) u) said)
 
 -- what the set of the first slice says whose end has been seen, where no unit is longer than memory
 abbrev pub first_sequence : List ℕ → (ended : Bool) → Option SequenceFacts
@@ -38,7 +42,8 @@ first_sequence bytes ended = said_after [] (units max_unit bytes ended) None
 
 -- All units whose end has been seen were taken, and these are the sets that they brought, and what
 -- is said.
-pub record AreTaken (max : ℕ) (s : SplitterState) (sets : List SetUnit) (said : Option SequenceFacts) : Type 0 where
+pub record AreTaken (max : ℕ) (s : SplitterState) (sets : List SetUnit)
+    (said : Option SequenceFacts) : Type 0 where
   pub drained : IsDrained max s
   pub sets_are : sets ≡ set_units (units max s.bytes s.ended)
   pub said_is : said ≡ said_after [] (units max s.bytes s.ended) None

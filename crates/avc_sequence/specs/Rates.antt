@@ -1,5 +1,6 @@
 -- What follows from a stream's clock: its frame rate, its bit rate and how long it lasts.
-use Rattle.std.specs.Prelude.{ℕ, zero, suc, ◌*◌, ◌/◌, ◌%◌, Bool, ◌==◌, ◌&&◌, ◌||◌, if◌then◌else◌, Option, Some, None, option_and_then}
+use Rattle.std.specs.Prelude.{ℕ, zero, suc, ◌*◌, ◌/◌, ◌%◌, Bool, ◌==◌, ◌&&◌, ◌||◌, if◌then◌else◌}
+use Rattle.std.specs.Prelude.{Option, Some, None, option_and_then}
 use Rattle.avc_annexb.specs.Units.{saturated}
 use Rattle.avc_presentation.specs.Presenting.{ratio}
 use Rattle.avc_presentation.specs.declared.ratio.Ratio.{Ratio}
@@ -25,11 +26,13 @@ lowest a b = ratio (a / greatest_divisor b a b) (b / greatest_divisor b a b)
 
 -- frames in a second, in lowest terms: a frame takes two ticks
 abbrev pub rate_by : Timing → Option Ratio
-rate_by t = if t.num_units_in_tick == 0 then None else Some (lowest t.time_scale (2 * t.num_units_in_tick))
+rate_by t = if t.num_units_in_tick == 0 then None
+    else Some (lowest t.time_scale (2 * t.num_units_in_tick))
 
 -- frames in a thousand seconds, rounded down: a frame takes two ticks (E.2.1)
 abbrev pub rate_of : Timing → Option ℕ
-rate_of t = if t.num_units_in_tick == 0 then None else Some (1000 * t.time_scale / (2 * t.num_units_in_tick))
+rate_of t = if t.num_units_in_tick == 0 then None
+    else Some (1000 * t.time_scale / (2 * t.num_units_in_tick))
 
 -- one of its two numbers is 0, so there is no frame rate that anything could go by
 abbrev pub stands_still : Timing → Bool
@@ -41,12 +44,14 @@ units_for t pictures = 2 * t.num_units_in_tick * pictures
 
 -- thousandths of a second that so many pictures take, rounded down
 abbrev pub duration_by : (pictures : ℕ) → Timing → Option ℕ
-duration_by pictures t = if stands_still t then None else Some (saturated (1000 * units_for t pictures / t.time_scale))
+duration_by pictures t =
+    if stands_still t then None else Some (saturated (1000 * units_for t pictures / t.time_scale))
 
 -- bits in a second, rounded down, where so many pictures take so many bytes
 abbrev pub bit_rate_by : (bytes pictures : ℕ) → Timing → Option ℕ
 bit_rate_by bytes pictures t =
-    if stands_still t || pictures == 0 then None else Some (saturated (8 * bytes * t.time_scale / units_for t pictures))
+    if stands_still t || pictures == 0 then None
+    else Some (saturated (8 * bytes * t.time_scale / units_for t pictures))
 
 -- ---- where there is a clock
 

@@ -37,7 +37,8 @@ ratio_given r = if r.denominator == 0 then None else Some r
 
 -- chroma_sample_loc_type_top_field, where it is given (E.2.1)
 abbrev pub chroma_place : Sps → Option ℕ
-chroma_place s = option_map (λ l. l.chroma_sample_loc_type_top_field) (in_vui (λ v. v.chroma_location) s)
+chroma_place s =
+    option_map (λ l. l.chroma_sample_loc_type_top_field) (in_vui (λ v. v.chroma_location) s)
 
 -- what a sequence parameter set says
 abbrev pub said_by : Sps → SequenceFacts

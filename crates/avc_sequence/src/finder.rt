@@ -39,7 +39,11 @@ impl Model for SequenceFinder {
 
     ghost Value = { StreamSoFar };
 
-    ghost view = { λ s. record { bytes = s.splitter.bytes; ended = s.splitter.ended; failed = s.failed } };
+    ghost view = { λ s. record {
+      bytes = s.splitter.bytes;
+      ended = s.splitter.ended;
+      failed = s.failed;
+    } };
 
     ghost invariant = { λ s. s.failed ≡ false → AreTaken max_unit s.splitter s.reader s.said };
 }
@@ -78,7 +82,8 @@ impl SequenceFinder {
     /// What the sequence parameter set of the first slice says, once the end of that slice has
     /// come.
     pub fn sequence(&self) -> &Option<SequenceFacts>
-        ensures { self.now.failed ≡ false → result.now ≡ first_sequence self.now.bytes self.now.ended }
+        ensures { self.now.failed ≡ false →
+            result.now ≡ first_sequence self.now.bytes self.now.ended }
     {
         &self.said
     }
@@ -91,8 +96,10 @@ fn note_units_left(
     said: &mut Option<SequenceFacts>,
 ) -> Result<(), OutOfMemory>
     requires { splitter.old.failed ≡ false }
-    ensures sets { OnOk result (reader.new ≡ reader.old ++ set_units (units_left max_unit splitter.old)) }
-    ensures said { OnOk result (said.new ≡ said_after reader.old (units_left max_unit splitter.old) said.old) }
+    ensures sets { OnOk result (reader.new ≡ reader.old
+        ++ set_units (units_left max_unit splitter.old)) }
+    ensures said { OnOk result (said.new
+        ≡ said_after reader.old (units_left max_unit splitter.old) said.old) }
     ensures taken { OnOk result (splitter.new ≡ after_units_left max_unit splitter.old) }
 {
     while let Some(unit) = splitter.next_unit() {
@@ -107,7 +114,9 @@ fn note_unit(
     said: &mut Option<SequenceFacts>,
     unit: &Unit,
 ) -> Result<(), OutOfMemory>
-    ensures said { OnOk result (said.new ≡ said_with (sets_after reader.old) (brought (sets_after reader.old) unit.now) said.old) }
+    ensures said { OnOk result (said.new
+        ≡ said_with (sets_after reader.old) (brought (sets_after reader.old) unit.now)
+        said.old) }
     ensures sets { OnOk result (reader.new ≡ reader.old ++ set_units (unit.now ∷ [])) }
 {
     match reader.read(unit)? {
@@ -121,7 +130,8 @@ fn note_unit(
 
 // Takes the slice header that was read last.
 fn note_slice(reader: &HeaderReader, said: &mut Option<SequenceFacts>, header: &Header)
-    ensures { said.new ≡ first_of said.old (option_map said_by (sps_under (sets_after reader.now) header.now)) }
+    ensures { said.new
+        ≡ first_of said.old (option_map said_by (sps_under (sets_after reader.now) header.now)) }
 {
     if said.is_none() {
         *said = said_under(reader, header);

@@ -1,4 +1,5 @@
-//! What a stream's sequence parameter set says, what follows from its clock, and the search for that of the first slice.
+//! What a stream's sequence parameter set says, what follows from its clock, and the search for
+//! that of the first slice.
 #![tactic(auto)]
 
 mod finder;

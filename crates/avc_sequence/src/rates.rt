@@ -2,7 +2,8 @@
 
 ghost use Rattle.std.specs.Prelude.{◌≡◌, ◌<◌};
 ghost use Rattle.avc_annexb.specs.Units.{saturated};
-ghost use Rattle.avc_sequence.specs.Rates.{bit_rate, bit_rate_by, duration, duration_by, frame_rate};
+ghost use Rattle.avc_sequence.specs.Rates.{bit_rate, bit_rate_by, duration, duration_by};
+ghost use Rattle.avc_sequence.specs.Rates.{frame_rate};
 ghost use Rattle.avc_sequence.specs.Rates.{lowest, rate_by, rate_of, rate_ratio, stands_still};
 
 use avc_params::Timing;

@@ -1,5 +1,6 @@
 -- The exit status where there had to be pictures.
-use Rattle.std.specs.Prelude.{ℕ, ◌-◌, min, Bool, true, false, ◌==◌, nat_le, ◌&&◌, if◌then◌else◌, List, [], ◌∷◌, ◌++◌, codes, Option, Some, None}
+use Rattle.std.specs.Prelude.{ℕ, ◌-◌, min, Bool, true, false, ◌==◌, nat_le, ◌&&◌, if◌then◌else◌}
+use Rattle.std.specs.Prelude.{List, [], ◌∷◌, ◌++◌, codes, Option, Some, None}
 use Rattle.std.specs.Fmt.{decimal}
 use Rattle.avc_request.specs.declared.request.Form.{Form}
 use Rattle.avc_request.specs.declared.request.Form.TheVariants as forms
@@ -8,7 +9,8 @@ use Rattle.avc_request.specs.declared.request.Task.TheVariants as tasks
 
 -- where there had to be pictures, none are as a refusal
 abbrev pub status_wanting : (is_wanted : Bool) → (pictures status : ℕ) → ℕ
-status_wanting is_wanted pictures status = if is_wanted && (pictures == 0 && status == 0) then 1 else status
+status_wanting is_wanted pictures status =
+    if is_wanted && (pictures == 0 && status == 0) then 1 else status
 
 -- the pictures are compared
 abbrev pub is_verifying : Form → Bool
@@ -43,11 +45,14 @@ shown_by (tasks.Compare how) pictures = pictures
 -- after a run of so many pictures that ended with this status
 abbrev pub ended_status : (is_strict : Bool) → Task → (pictures status : ℕ) → ℕ
 ended_status is_strict task pictures status =
-    status_wanting (has_to_show task) (shown_by task pictures) (status_wanting is_strict pictures status)
+    status_wanting (has_to_show task) (shown_by task pictures)
+    (status_wanting is_strict pictures status)
 
--- the number of a picture that was to be drawn and isn't there, by a run of so many pictures without a fault
+-- the number of a picture that was to be drawn and isn't there, by a run of so many pictures
+-- without a fault
 abbrev pub absent_picture : Task → (pictures status : ℕ) → Option ℕ
-absent_picture (tasks.Draw number) pictures status = if nat_le pictures number && nat_le status 1 then Some number else None
+absent_picture (tasks.Draw number) pictures status =
+    if nat_le pictures number && nat_le status 1 then Some number else None
 absent_picture (tasks.Show showing) pictures status = None
 absent_picture (tasks.Decode mode) pictures status = None
 absent_picture (tasks.Check mode) pictures status = None

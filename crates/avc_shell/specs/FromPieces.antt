@@ -1,5 +1,6 @@
 -- What is given of a stream from one of its cut points on.
-use Rattle.std.specs.Prelude.{◌≡◌, ℕ, ◌^◌, ◌<◌, ◌≤◌, nat_lt, Bool, true, false, not, ◌&&◌, List, ◌++◌, length, Option}
+use Rattle.std.specs.Prelude.{◌≡◌, ℕ, ◌^◌, ◌<◌, ◌≤◌, nat_lt, Bool, true, false, not, ◌&&◌, List}
+use Rattle.std.specs.Prelude.{◌++◌, length, Option}
 use Rattle.std.specs.Io.KnownBytes.{Consumes, IsAtEnd}
 use Rattle.avc_tools.specs.PieceSoFar.{PieceSoFar}
 use Rattle.avc_tools.specs.Streams.{StreamSoFar}
@@ -14,7 +15,8 @@ tail_so_far p = tail_text p.number (p.stream).bytes (p.stream).ended
 pub record GivesOn (old new : PieceSoFar) (waited waits given : List ℕ) : Type 0 where
   pub number : new.number ≡ old.number
   pub no_fewer : length (old.stream).bytes ≤ length (new.stream).bytes
-  pub on : (front : List ℕ) → length (new.stream).bytes < 2 ^ 64 → tail_so_far old ≡ front ++ waited → tail_so_far new ≡ (front ++ given) ++ waits
+  pub on : (front : List ℕ) → length (new.stream).bytes < 2 ^ 64 → tail_so_far old ≡ front
+      ++ waited → tail_so_far new ≡ (front ++ given) ++ waits
 
 -- Reading went on: what came of the stream is what was read of it, and it has ended only where no
 -- more is left.
@@ -24,7 +26,8 @@ pub record ReadsOn (unread left : Option (List ℕ)) (old new : StreamSoFar) : T
   pub bytes : new.bytes ≡ old.bytes ++ more
   pub ends : old.ended ≡ false → new.ended ≡ true → IsAtEnd left
 
--- The stream was read to its end, and has no such cut point. After want of memory that is not known.
+-- The stream was read to its end, and has no such cut point. After want of memory that is not
+-- known.
 abbrev pub is_missing : PieceSoFar → Bool
 is_missing p = (p.stream).ended && not (nat_lt 0 (length (tail_so_far p))) && not (p.stream).failed
 
@@ -35,4 +38,5 @@ is_missing p = (p.stream).ended && not (nat_lt 0 (length (tail_so_far p))) && no
 pub record KeepsTail (p : PieceSoFar) (has_begun has_ended is_out_of_memory : Bool) : Type 0 where
   pub failed : is_out_of_memory ≡ (p.stream).failed
   pub ended : is_out_of_memory ≡ false → has_ended ≡ (p.stream).ended
-  pub begun : is_out_of_memory ≡ false → length (p.stream).bytes < 2 ^ 64 → has_begun ≡ nat_lt 0 (length (tail_so_far p))
+  pub begun : is_out_of_memory ≡ false → length (p.stream).bytes < 2 ^ 64 →
+      has_begun ≡ nat_lt 0 (length (tail_so_far p))

@@ -1,5 +1,6 @@
 -- The line that says where a refused unit stands, and which value is refused.
-use Rattle.std.specs.Prelude.{ℕ, ◌==◌, Bool, if◌then◌else◌, List, [], ◌∷◌, ◌++◌, Option, Some, None, codes}
+use Rattle.std.specs.Prelude.{ℕ, ◌==◌, Bool, if◌then◌else◌, List, [], ◌∷◌, ◌++◌, Option, Some, None}
+use Rattle.std.specs.Prelude.{codes}
 use Rattle.std.specs.Fmt.{decimal}
 use Rattle.avc_types.specs.declared.fault.Fault.{Fault}
 use Rattle.avc_types.specs.declared.fault.Fault.TheVariants as faults
@@ -24,7 +25,8 @@ name_text n =
 
 -- profile_idc with its name, and which are taken (A.2)
 abbrev pub named_text : (profile_idc : ℕ) → (name : List ℕ) → List ℕ
-named_text profile_idc name = codes ": profile_idc " ++ decimal profile_idc ++ name ++ codes "; 66, 77 and 88 are taken"
+named_text profile_idc name =
+    codes ": profile_idc " ++ decimal profile_idc ++ name ++ codes "; 66, 77 and 88 are taken"
 
 -- where it is known
 abbrev pub profile_text : Option ℕ → List ℕ
@@ -44,7 +46,8 @@ value_text _ place = []
 
 -- the place of a unit among the stream's units, and that of its first byte
 abbrev pub start_text : (unit first_byte : ℕ) → List ℕ
-start_text unit first_byte = decimal unit ++ codes " begins at byte " ++ decimal first_byte ++ codes ", "
+start_text unit first_byte =
+    decimal unit ++ codes " begins at byte " ++ decimal first_byte ++ codes ", "
 
 -- a slice is in a coded picture, and what is none stands before one
 abbrev pub side_text : (is_in_picture : Bool) → List ℕ
@@ -56,7 +59,8 @@ picture_text picture = codes " coded picture " ++ decimal picture
 -- of a unit that has this fault and stands here
 abbrev pub place_line : Fault → UnitPlace → List ℕ
 place_line fault place =
-    codes "unit " ++ start_text place.unit place.first_byte ++ side_text place.is_in_picture ++ picture_text place.picture
+    codes "unit " ++ start_text place.unit place.first_byte ++ side_text place.is_in_picture
+    ++ picture_text place.picture
     ++ value_text fault place ++ 10 ∷ []
 
 -- nothing, where it is not known where it stands

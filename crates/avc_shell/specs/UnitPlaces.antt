@@ -1,6 +1,8 @@
 -- Where the units stand that refusals name, followed beside decoding.
-use Rattle.std.specs.Prelude.{◌≡◌, ℕ, ◌+◌, ◌-◌, ◌==◌, nat_le, Bool, false, not, ◌&&◌, ◌||◌, if◌then◌else◌, List, Option, Some, None, slice_get}
-use Rattle.avc_annexb.specs.SplitterState.{SplitterState, after_feed, after_finish, after_next_unit, new_splitter}
+use Rattle.std.specs.Prelude.{◌≡◌, ℕ, ◌+◌, ◌-◌, ◌==◌, nat_le, Bool, false, not, ◌&&◌, ◌||◌}
+use Rattle.std.specs.Prelude.{if◌then◌else◌, List, Option, Some, None, slice_get}
+use Rattle.avc_annexb.specs.SplitterState.{SplitterState, after_feed, after_finish, after_next_unit}
+use Rattle.avc_annexb.specs.SplitterState.{new_splitter}
 use Rattle.avc_annexb.specs.Units.{forbidden_zero_bit, nal_unit_type, saturated}
 use Rattle.avc_annexb.specs.declared.unit.Unit.{Unit}
 use Rattle.avc_tools.specs.Pieces.{is_slice}
@@ -20,18 +22,20 @@ abbrev pub begins_with_zero : Option ℕ → Bool
 begins_with_zero None = false
 begins_with_zero (Some byte) = nat_le 128 byte
 
--- A coded picture begins with a slice whose first_mb_in_slice, the first element of its header, is 0
--- (7.3.3, 7.4.3).
+-- A coded picture begins with a slice whose first_mb_in_slice, the first element of its header, is
+-- 0 (7.3.3, 7.4.3).
 abbrev pub begins_picture : Unit → Bool
 begins_picture u =
-    has_header (nal_unit_type u.header) && (not (forbidden_zero_bit u.header) && begins_with_zero (byte_at u.body 0))
+    has_header (nal_unit_type u.header)
+    && (not (forbidden_zero_bit u.header) && begins_with_zero (byte_at u.body 0))
 
 -- how many have begun with this unit, by how many had before
 abbrev pub begun_with : (begun : ℕ) → Unit → ℕ
 begun_with begun u = if begins_picture u then saturated (begun + 1) else begun
 
--- The byte of a sequence parameter set (type 7) that has so many before it. profile_idc has none, and
--- level_idc two (7.3.2.1.1); emulation prevention stands before level_idc only where profile_idc is 0.
+-- The byte of a sequence parameter set (type 7) that has so many before it. profile_idc has none,
+-- and level_idc two (7.3.2.1.1); emulation prevention stands before level_idc only where
+-- profile_idc is 0.
 abbrev pub byte_of_set : Unit → (place : ℕ) → Option ℕ
 byte_of_set u place = if nal_unit_type u.header == 7 then byte_at u.body place else None
 
@@ -54,8 +58,8 @@ place_of begun u = record {
 abbrev pub is_of_picture : Unit → Bool
 is_of_picture u = is_slice u && not (forbidden_zero_bit u.header)
 
--- A stream that is followed: its units, of which some were taken, how many coded pictures have begun
--- with these, and where the last of them stands, and the last slice of a picture.
+-- A stream that is followed: its units, of which some were taken, how many coded pictures have
+-- begun with these, and where the last of them stands, and the last slice of a picture.
 pub record Places : Type 0 where
   pub units : SplitterState
   pub begun : ℕ

@@ -35,7 +35,10 @@ impl<'a, R> FromPiece<'a, R> {
         number: u32,
         reader: &'a mut R,
     ) -> Result<FromPiece<'a, R>, OutOfMemory>
-        ensures tail { IfOk result (λ from. from.tail ≡ record { number = number; stream = new_stream }) }
+        ensures tail { IfOk result (λ from. from.tail ≡ record {
+          number = number;
+          stream = new_stream;
+        }) }
         ensures waiting { IfOk result (λ from. drop from.given from.ready.items ≡ []) }
     {
         Ok(FromPiece {
@@ -68,8 +71,10 @@ impl<R: Read> FromPiece<'_, R> {
     // Reads on, once all that has come was given.
     fn read_on(&mut self) -> io::Result<()>
         requires { self.old.has_ended ≡ false }
-        ensures given { OnOk result (GivesOn self.old.tail self.new.tail [] (drop self.new.given self.new.ready.items) []) }
-        ensures read { OnOk result (ReadsOn (R.remaining self.old.reader.now) (R.remaining self.new.reader.now)
+        ensures given { OnOk result
+            (GivesOn self.old.tail self.new.tail [] (drop self.new.given self.new.ready.items) []) }
+        ensures read { OnOk result
+            (ReadsOn (R.remaining self.old.reader.now) (R.remaining self.new.reader.now)
             self.old.tail.stream self.new.tail.stream) }
         ensures open_end { OnOk result (self.old.tail.stream.ended ≡ false) }
     {
@@ -104,9 +109,11 @@ impl<R: Read> Read for FromPiece<'_, R> {
     fn read(&mut self, buf: &mut [u8]) -> io::Result<usize>
         ensures bound { ReadsAtMost result buf.new }
         ensures bytes { ReadConsumes None None result buf.new }
-        ensures given { IfOk result (λ len. GivesOn self.old.tail self.new.tail (drop self.old.given self.old.ready.items)
+        ensures given { IfOk result
+            (λ len. GivesOn self.old.tail self.new.tail (drop self.old.given self.old.ready.items)
             (drop self.new.given self.new.ready.items) (take len buf.new)) }
-        ensures read { OnOk result (ReadsOn (R.remaining self.old.reader.now) (R.remaining self.new.reader.now)
+        ensures read { OnOk result
+            (ReadsOn (R.remaining self.old.reader.now) (R.remaining self.new.reader.now)
             self.old.tail.stream self.new.tail.stream) }
     {
         'reads: for _read in 0..READS {

@@ -51,8 +51,10 @@ impl<R: Read> Read for Input<R> {
 
     fn read(&mut self, buf: &mut [u8]) -> io::Result<usize>
         ensures bound { ReadsAtMost result buf.new }
-        ensures bytes { ReadConsumes (R.remaining self.old.reader) (R.remaining self.new.reader) result buf.new }
-        ensures first { IfOk result (λ len. self.new.beginning ≡ first_with self.old.beginning (take len buf.new)) }
+        ensures bytes { ReadConsumes (R.remaining self.old.reader) (R.remaining self.new.reader)
+            result buf.new }
+        ensures first { IfOk result (λ len. self.new.beginning
+            ≡ first_with self.old.beginning (take len buf.new)) }
         ensures kept { OnOk result (self.new.fault ≡ self.old.fault) }
         ensures fault { IfErr result (λ error. self.new.fault ≡ Some (error_kind error)) }
     {

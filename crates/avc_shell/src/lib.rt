@@ -1,4 +1,5 @@
-//! What the program has around its commands: files and pipes, what is told beside them, and how that changes its exit status.
+//! What the program has around its commands: files and pipes, what is told beside them, and how
+//! that changes its exit status.
 #![tactic(auto)]
 
 mod ending;

@@ -47,7 +47,8 @@ impl LossLines<'_> {
 
     /// The next bytes of the stream.
     pub fn note_bytes(&mut self, piece: &[u8])
-        ensures { self.new.failed ≡ false → GoesOn (with_bytes piece.now) self.old.losses self.new.losses }
+        ensures { self.new.failed ≡ false →
+            GoesOn (with_bytes piece.now) self.old.losses self.new.losses }
     {
         if let Some(losses) = &mut self.losses {
             if self.failed.keep(losses.feed(piece)).is_err() {
@@ -70,9 +71,11 @@ impl LossLines<'_> {
     /// A refusal, behind which a line is told where decoding waits. A unit whose forbidden_zero_bit
     /// is 1, and a parameter set, is refused alone.
     pub fn note_refusal(&mut self, unit: u64, fault: Fault)
-        ensures waits { self.new.failed ≡ false → (fault ≡ refusals.ForbiddenBit → ⊥) → is_at self.new.last_slice unit ≡ true
+        ensures waits { self.new.failed ≡ false → (fault ≡ refusals.ForbiddenBit → ⊥) →
+            is_at self.new.last_slice unit ≡ true
             → IfSome self.new.losses (λ f. f.waits ≡ true) }
-        ensures goes_on { self.new.failed ≡ false → is_some self.new.losses ≡ is_some self.old.losses }
+        ensures goes_on { self.new.failed ≡ false → is_some self.new.losses
+            ≡ is_some self.old.losses }
     {
         if let Fault::ForbiddenBit = fault {
             return;
@@ -156,9 +159,12 @@ fn take_next(
     losses: &mut Losses<MAX_UNIT>,
     last_slice: &mut Option<u64>,
 ) -> Result<Option<u64>, OutOfMemory>
-    ensures place { IfOk result (λ place. place ≡ place_of (seen (next_unit_of max_unit losses.old.units))) }
-    ensures last { OnOk result (last_slice.new ≡ slice_behind last_slice.old (seen (next_unit_of max_unit losses.old.units))) }
-    ensures losses { OnOk result (losses.new ≡ behind losses.old (next_unit_of max_unit losses.old.units)) }
+    ensures place { IfOk result (λ place. place
+        ≡ place_of (seen (next_unit_of max_unit losses.old.units))) }
+    ensures last { OnOk result (last_slice.new
+        ≡ slice_behind last_slice.old (seen (next_unit_of max_unit losses.old.units))) }
+    ensures losses { OnOk result (losses.new
+        ≡ behind losses.old (next_unit_of max_unit losses.old.units)) }
 {
     let unit = losses.next_unit()?;
     *last_slice = slice_behind(*last_slice, unit);

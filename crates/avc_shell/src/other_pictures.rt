@@ -1,4 +1,5 @@
-//! The pictures of another decoder: samples one behind another, or those of YUV4MPEG2, whose lines are left out.
+//! The pictures of another decoder: samples one behind another, or those of YUV4MPEG2, whose lines
+//! are left out.
 
 ghost use Rattle.std.specs.Prelude.{◌≡◌, ◌+◌, ◌-◌, ◌<◌, ◌≤◌, drop, length, take, false, true, IfOk};
 ghost use Rattle.std.specs.Io.{ReadsAtMost};
@@ -138,7 +139,8 @@ impl<R: Read> OtherPictures<R> {
 
     // Reads the line of the next picture. Without one all pictures were read.
     fn begin_picture(&mut self) -> io::Result<bool>
-        ensures { IfOk result (λ is. is ≡ true → self.new.place ≡ places.Picture self.old.picture_len) }
+        ensures { IfOk result (λ is. is ≡ true →
+            self.new.place ≡ places.Picture self.old.picture_len) }
     {
         self.line.clear();
         let is_whole = self.read_line(LINE)?;
@@ -155,8 +157,10 @@ impl<R: Read> OtherPictures<R> {
     // Samples alone: first those that were read when it was seen what they are.
     fn read_samples(&mut self, given: usize, buf: &mut [u8]) -> io::Result<usize>
         ensures bound { ReadsAtMost result buf.new }
-        ensures first { given < length self.old.line.items → IfOk result (λ len. take len buf.new ≡ take len (drop given self.old.line.items)) }
-        ensures given { given < length self.old.line.items → IfOk result (λ len. self.new.place ≡ places.Samples (given + len)) }
+        ensures first { given < length self.old.line.items →
+            IfOk result (λ len. take len buf.new ≡ take len (drop given self.old.line.items)) }
+        ensures given { given < length self.old.line.items →
+            IfOk result (λ len. self.new.place ≡ places.Samples (given + len)) }
     {
         if given >= self.line.len() {
             return self.reader.read(buf);

@@ -98,7 +98,8 @@ impl<'a> PictureFiles<'a> {
 
     // Makes the file of the next picture.
     fn begin(&mut self) -> io::Result<File>
-        ensures { OnOk result (self.new.number ≡ next_number (is_some self.old.file) self.old.number) }
+        ensures { OnOk result (self.new.number
+            ≡ next_number (is_some self.old.file) self.old.number) }
     {
         let number = if self.file.is_some() {
             self.number.saturating_add(1)
@@ -182,7 +183,8 @@ impl<W: Write> Write for Output<'_, W> {
 
     fn write(&mut self, buf: &[u8]) -> io::Result<usize>
         ensures bound { WritesAtMost result buf.now }
-        ensures bytes { WriteAppends (W.contents self.old.writer) (W.contents self.new.writer) result buf.now }
+        ensures bytes { WriteAppends (W.contents self.old.writer) (W.contents self.new.writer)
+            result buf.now }
         ensures kept { OnOk result (self.new.fault ≡ self.old.fault) }
         ensures fault { IfErr result (λ error. self.new.fault ≡ Some (error_kind error)) }
     {

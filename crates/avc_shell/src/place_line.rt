@@ -47,7 +47,8 @@ fn add_place(line: &mut String, place: UnitPlace) -> Result<(), AllocError>
 
 // The unit, and where its first byte stands.
 fn add_start(line: &mut String, unit: u64, first_byte: u64) -> Result<(), AllocError>
-    ensures { OnOk result (string_bytes line.new ≡ string_bytes line.old ++ start_text unit first_byte) }
+    ensures { OnOk result (string_bytes line.new ≡ string_bytes line.old
+        ++ start_text unit first_byte) }
 {
     write!(line, "{unit} begins at byte {first_byte}, ")?;
     Ok(())
@@ -70,7 +71,8 @@ fn side_text(is_in_picture: bool) -> &'static str
 
 // The value that is refused, where it is a profile or a level.
 fn add_value(line: &mut String, place: UnitPlace, fault: Fault) -> Result<(), AllocError>
-    ensures { OnOk result (string_bytes line.new ≡ string_bytes line.old ++ value_text fault place) }
+    ensures { OnOk result (string_bytes line.new ≡ string_bytes line.old
+        ++ value_text fault place) }
 {
     match fault {
         Fault::Profile => add_profile(line, place.profile_idc),
@@ -80,7 +82,8 @@ fn add_value(line: &mut String, place: UnitPlace, fault: Fault) -> Result<(), Al
 }
 
 fn add_profile(line: &mut String, profile_idc: Option<u8>) -> Result<(), AllocError>
-    ensures { OnOk result (string_bytes line.new ≡ string_bytes line.old ++ profile_text profile_idc) }
+    ensures { OnOk result (string_bytes line.new ≡ string_bytes line.old
+        ++ profile_text profile_idc) }
 {
     match profile_idc {
         Some(profile_idc) => add_named(line, profile_idc, name_text(profile_idc)),
@@ -90,7 +93,8 @@ fn add_profile(line: &mut String, profile_idc: Option<u8>) -> Result<(), AllocEr
 
 // The profile of this number and name, and which are taken.
 fn add_named(line: &mut String, profile_idc: u8, name: &str) -> Result<(), AllocError>
-    ensures { OnOk result (string_bytes line.new ≡ string_bytes line.old ++ named_text profile_idc name.now) }
+    ensures { OnOk result (string_bytes line.new ≡ string_bytes line.old
+        ++ named_text profile_idc name.now) }
 {
     write!(line, ": profile_idc {profile_idc}")?;
     line.push_str(name)?;

@@ -1,7 +1,8 @@
 //! Where refused units stand, told as decoding goes on.
 
 ghost use Rattle.std.specs.Prelude.{◌≡◌, false, if◌then◌else◌, is_some, None, Some};
-ghost use Rattle.avc_shell.specs.UnitPlaces.{new_places, places_with_bytes, places_with_end, FollowsOn};
+ghost use Rattle.avc_shell.specs.UnitPlaces.{new_places, places_with_bytes, places_with_end};
+ghost use Rattle.avc_shell.specs.UnitPlaces.{FollowsOn};
 
 use crate::place_line::place_text;
 use crate::told::tell;
@@ -38,7 +39,8 @@ impl RefusalPlaces<'_> {
 
     /// The next bytes of the stream.
     pub fn note_bytes(&mut self, piece: &[u8])
-        ensures { self.new.failed ≡ false → FollowsOn (places_with_bytes piece.now) self.old.places self.new.places }
+        ensures { self.new.failed ≡ false →
+            FollowsOn (places_with_bytes piece.now) self.old.places self.new.places }
     {
         if let Some(places) = &mut self.places {
             if self.failed.keep(places.feed(piece)).is_err() {
@@ -49,7 +51,8 @@ impl RefusalPlaces<'_> {
 
     /// The end of the stream.
     pub fn note_end(&mut self)
-        ensures { self.new.failed ≡ false → FollowsOn places_with_end self.old.places self.new.places }
+        ensures { self.new.failed ≡ false →
+            FollowsOn places_with_end self.old.places self.new.places }
     {
         if let Some(places) = &mut self.places {
             if self.failed.keep(places.finish()).is_err() {

@@ -29,7 +29,12 @@ impl Model for UnitPlaces {
 
     ghost Value = { Places };
 
-    ghost view = { λ p. record { units = p.splitter; begun = p.begun; last = p.last; last_slice = p.last_slice } };
+    ghost view = { λ p. record {
+      units = p.splitter;
+      begun = p.begun;
+      last = p.last;
+      last_slice = p.last_slice;
+    } };
 }
 
 impl UnitPlaces {
@@ -47,7 +52,8 @@ impl UnitPlaces {
 
     /// Takes the next bytes of the stream.
     pub fn feed(&mut self, piece: &[u8]) -> Result<(), OutOfMemory>
-        ensures { OnOk result (self.new ≡ record self.old { units = after_feed self.old.units piece.now }) }
+        ensures { OnOk result (self.new
+            ≡ record self.old { units = after_feed self.old.units piece.now }) }
     {
         self.splitter.feed(piece)
     }

@@ -17,9 +17,11 @@ use Rattle.avc_slice.specs.declared.weights.PredWeightTable.{PredWeightTable}
 
 -- What this part of the syntax reads from the bits ahead stands in its place, and the reader goes
 -- on after it.
-abbrev pub Fills : {V : Type 0} → Result (Unit {0}) Fault → V → Read V → BitReader → BitReader → Type 0
+abbrev pub Fills : {V : Type 0} → Result (Unit {0}) Fault → V → Read V → BitReader → BitReader →
+    Type 0
 Fills result place read old new = MatchResult result
-    (λ _. (read (reader_bits old) ≡ Ok (place, reader_bits new)) × (reader_bytes new ≡ reader_bytes old))
+    (λ _. (read (reader_bits old) ≡ Ok (place, reader_bits new)) ×
+    (reader_bytes new ≡ reader_bytes old))
     (λ fault. read (reader_bits old) ≡ Err fault)
 
 -- the operations of a picture that is no IDR picture (7.3.3.3)
@@ -36,9 +38,11 @@ list_of c modifications table = record {
 }
 
 -- The part of P slices was read, with its large parts put into their places.
-abbrev pub FillsList : Result ActiveCount Fault → Option (List Modification) → Option PredWeightTable → Read ListPart → BitReader → BitReader → Type 0
+abbrev pub FillsList : Result ActiveCount Fault → Option (List Modification) →
+    Option PredWeightTable → Read ListPart → BitReader → BitReader → Type 0
 FillsList result modifications table read old new = MatchResult result
-    (λ c. (read (reader_bits old) ≡ Ok (list_of c modifications table, reader_bits new)) × (reader_bytes new ≡ reader_bytes old))
+    (λ c. (read (reader_bits old) ≡ Ok (list_of c modifications table, reader_bits new)) ×
+    (reader_bytes new ≡ reader_bytes old))
     (λ fault. read (reader_bits old) ≡ Err fault)
 
 -- what stands in a place, or the fault for which it was not read

@@ -15,4 +15,5 @@ pub record KeepsIdrRules (h : Header) : Type 0 where
 -- Each header that can be read keeps to these rules.
 abbrev pub HeadersKeepIdrRules : Type 0
 HeadersKeepIdrRules =
-    (header : ℕ) (sets : Sets) (rbsp : List ℕ) (h : Header) → header_in_rbsp header sets rbsp ≡ Ok h → KeepsIdrRules h
+    (header : ℕ) (sets : Sets) (rbsp : List ℕ) (h : Header) → header_in_rbsp header sets rbsp
+    ≡ Ok h → KeepsIdrRules h

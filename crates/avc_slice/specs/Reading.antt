@@ -1,6 +1,8 @@
--- Slice headers from their bits (7.3.3, 7.3.3.1, 7.3.3.3; 7.3.3.2 is in WeightsReading): the elements in their order, each
--- check where its element stands.
-use Rattle.std.specs.Prelude.{ℕ, zero, suc, ◌+◌, ◌-◌, ◌/◌, ◌%◌, ℤ, pos, negsuc, int_le, Bool, true, false, not, ◌==◌, ◌&&◌, ◌||◌, nat_lt, List, [], ◌∷◌, Option, Some, None, slice_index_or, if◌then◌else◌, Result, Ok, Err}
+-- Slice headers from their bits (7.3.3, 7.3.3.1, 7.3.3.3; 7.3.3.2 is in WeightsReading): the
+-- elements in their order, each check where its element stands.
+use Rattle.std.specs.Prelude.{ℕ, zero, suc, ◌+◌, ◌-◌, ◌/◌, ◌%◌, ℤ, pos, negsuc, int_le, Bool, true}
+use Rattle.std.specs.Prelude.{false, not, ◌==◌, ◌&&◌, ◌||◌, nat_lt, List, [], ◌∷◌, Option, Some}
+use Rattle.std.specs.Prelude.{None, slice_index_or, if◌then◌else◌, Result, Ok, Err}
 use Rattle.avc_types.specs.declared.fault.Fault.{Fault}
 use Rattle.avc_types.specs.declared.fault.Fault.TheVariants as faults
 use Rattle.avc_types.specs.declared.references.Marking.{Marking}
@@ -8,7 +10,11 @@ use Rattle.avc_types.specs.declared.references.Marking.TheVariants.{Idr, Sliding
 use Rattle.avc_types.specs.declared.references.Modification.{Modification}
 use Rattle.avc_types.specs.declared.references.Modification.TheVariants.{Subtract, Add, LongTerm}
 use Rattle.avc_types.specs.declared.references.Operation.{Operation}
-use Rattle.avc_types.specs.declared.references.Operation.TheVariants.{UnmarkShortTerm, UnmarkLongTerm, AssignLongTerm, MaxLongTermFrameIdx, UnmarkAll, CurrentToLongTerm}
+use Rattle.avc_types.specs.declared.references.Operation.TheVariants.{UnmarkShortTerm}
+use Rattle.avc_types.specs.declared.references.Operation.TheVariants.{UnmarkLongTerm}
+use Rattle.avc_types.specs.declared.references.Operation.TheVariants.{AssignLongTerm}
+use Rattle.avc_types.specs.declared.references.Operation.TheVariants.{MaxLongTermFrameIdx}
+use Rattle.avc_types.specs.declared.references.Operation.TheVariants.{UnmarkAll, CurrentToLongTerm}
 use Rattle.avc_bits.specs.Bits.{Bits, Read, start, ◌>>=◌, ◌>>◌, give, refuse, check, where_set}
 use Rattle.avc_bits.specs.Codes.{u, flag, ue, ue_to, se, se_within}
 use Rattle.avc_params.specs.declared.pps.Pps.{Pps}
@@ -66,7 +72,8 @@ active_override pps = do
   num_ref_idx_active_override_flag ← flag
   elim num_ref_idx_active_override_flag [
     | true ↦ overridden_count
-    | false ↦ (check (nat_lt pps.num_ref_idx_l0_default_active_minus1 16) faults.OutOfRange >> give None)
+    | false ↦ (check (nat_lt pps.num_ref_idx_l0_default_active_minus1 16) faults.OutOfRange >> give
+        None)
   ]
 
 -- ---- lists that a code ends (7.3.3.1, 7.3.3.3)
@@ -78,7 +85,8 @@ unless_ended false others = others
 
 -- Each item behind its code, until the code is `stop`: so many items may stand, and one more is the
 -- fault (7.3.3.1, 7.3.3.3).
-abbrev pub up_to : {A : Type 0} → (code : Read ℕ) → (stop : ℕ) → (item : ℕ → Read A) → Fault → (room : ℕ) → Read (List A)
+abbrev pub up_to : {A : Type 0} → (code : Read ℕ) → (stop : ℕ) → (item : ℕ → Read A) → Fault →
+    (room : ℕ) → Read (List A)
 up_to code stop item fault zero = do
   last ← code
   check (last == stop) fault
@@ -101,11 +109,13 @@ modification most (suc (suc _)) = ue >>= λ n. give (LongTerm n)
 
 -- The entries up to idc 3, of which so many may stand (7.3.3.1, 7.4.3.1).
 abbrev pub modifications : (max_frame_num room : ℕ) → Read (List Modification)
-modifications max_frame_num room = up_to (ue_to 3) 3 (modification (max_frame_num - 1)) faults.BadRefList room
+modifications max_frame_num room =
+    up_to (ue_to 3) 3 (modification (max_frame_num - 1)) faults.BadRefList room
 
 -- ref_pic_list_modification_flag_l0, and the entries where it is 1 (7.3.3.1)
 abbrev pub modification_list : (max_frame_num room : ℕ) → Read (Option (List Modification))
-modification_list max_frame_num room = flag >>= λ present. where_set present (modifications max_frame_num room)
+modification_list max_frame_num room =
+    flag >>= λ present. where_set present (modifications max_frame_num room)
 
 -- ---- marking (7.3.3.3)
 
@@ -154,17 +164,28 @@ abbrev pub offset_pair : FilteredEdges → Read Deblocking
 offset_pair filtered = do
   alpha ← se_within (negsuc 5) (pos 6)
   beta ← se_within (negsuc 5) (pos 6)
-  give (record { disable_deblocking_filter_idc = filtered; slice_alpha_c0_offset_div2 = alpha; slice_beta_offset_div2 = beta })
+  give (record {
+    disable_deblocking_filter_idc = filtered;
+    slice_alpha_c0_offset_div2 = alpha;
+    slice_beta_offset_div2 = beta;
+  })
 
 -- disable_deblocking_filter_idc 1, where the two offsets are not coded (7.3.3)
 abbrev pub no_edges : Deblocking
-no_edges = record { disable_deblocking_filter_idc = edges.NoEdges; slice_alpha_c0_offset_div2 = pos 0; slice_beta_offset_div2 = pos 0 }
+no_edges = record {
+  disable_deblocking_filter_idc = edges.NoEdges;
+  slice_alpha_c0_offset_div2 = pos 0;
+  slice_beta_offset_div2 = pos 0;
+}
 
 -- disable_deblocking_filter_idc, 0 to 2, and the offsets where it is not 1 (7.3.3, 7.4.3)
 abbrev pub deblocking : Read Deblocking
 deblocking = do
   idc ← ue_to 2
-  elim (idc == 1) [ true ↦ give no_edges | false ↦ offset_pair (if idc == 0 then edges.All else edges.WithinSlice) ]
+  elim (idc == 1) [
+    | true ↦ give no_edges
+    | false ↦ offset_pair (if idc == 0 then edges.All else edges.WithinSlice)
+  ]
 
 -- ---- the header, in parts (7.3.3)
 
@@ -176,7 +197,8 @@ found None f = refuse f
 -- the slice_type with this number, where it is one of an I or P slice (Table 7-6)
 abbrev pub slice_type_of : ℕ → Option SliceType
 slice_type_of n = slice_index_or
-    (Some slice_types.P ∷ None ∷ Some slice_types.I ∷ None ∷ None ∷ Some slice_types.AllP ∷ None ∷ Some slice_types.AllI ∷ []) n None
+    (Some slice_types.P ∷ None ∷ Some slice_types.I ∷ None ∷ None ∷ Some slice_types.AllP ∷ None ∷
+    Some slice_types.AllI ∷ []) n None
 
 -- up to the picture parameter set's id (7.3.3); a slice of an IDR picture is an I slice of a
 -- reference picture (7.4.1, 7.4.3)
@@ -187,7 +209,11 @@ front nal_ref_idc idr = do
   slice_type ← found (slice_type_of number) faults.SliceType
   check (not (idr && (nal_ref_idc == 0 || is_p_type slice_type))) faults.BadIdr
   pic_parameter_set_id ← ue_to 255
-  give (record { first_mb_in_slice = first_mb_in_slice; slice_type = slice_type; pic_parameter_set_id = pic_parameter_set_id })
+  give (record {
+    first_mb_in_slice = first_mb_in_slice;
+    slice_type = slice_type;
+    pic_parameter_set_id = pic_parameter_set_id;
+  })
 
 -- idr_pic_id, 0 to 65535, in units of type 5 alone (7.3.3, 7.4.3)
 abbrev pub idr_pic_id : (idr : Bool) → Read (Option ℕ)
@@ -213,7 +239,12 @@ numbers idr pps sps = do
   of_idr ← idr_pic_id idr
   order ← coded_order sps.order_count pps.bottom_field_pic_order_in_frame_present_flag
   redundant ← redundant_pic_cnt pps.redundant_pic_cnt_present_flag
-  give (record { frame_num = frame_num; idr_pic_id = of_idr; order = order; redundant_pic_cnt = redundant })
+  give (record {
+    frame_num = frame_num;
+    idr_pic_id = of_idr;
+    order = order;
+    redundant_pic_cnt = redundant;
+  })
 
 -- RefPicList0's length in a P slice: the overriding count or the default one (7.4.3)
 abbrev pub num_ref_idx_active : Pps → Option ℕ → ℕ
@@ -226,13 +257,23 @@ p_list pps sps = do
   override ← active_override pps
   given ← modification_list (max_frame_num sps) (num_ref_idx_active pps override)
   weights ← where_set pps.weighted_pred_flag (pred_weight_table (num_ref_idx_active pps override))
-  give (record { active_override = override; num_ref_idx_active = num_ref_idx_active pps override; modifications = given; pred_weight_table = weights })
+  give (record {
+    active_override = override;
+    num_ref_idx_active = num_ref_idx_active pps override;
+    modifications = given;
+    pred_weight_table = weights;
+  })
 
 -- what RefPicList0 is made by, and by what its predictions are weighted; an I slice has neither
 -- (7.3.3)
 abbrev pub list_part : (p : Bool) → Pps → Sps → Read ListPart
 list_part true pps sps = p_list pps sps
-list_part false pps sps = give (record { active_override = None; num_ref_idx_active = 0; modifications = None; pred_weight_table = None })
+list_part false pps sps = give (record {
+  active_override = None;
+  num_ref_idx_active = 0;
+  modifications = None;
+  pred_weight_table = None;
+})
 
 -- SliceQPY is 0 to 51 at 8 bits (7.4.3)
 abbrev pub is_qp : ℤ → Bool

@@ -10,8 +10,16 @@ use Rattle.avc_slice.specs.declared.weights.PredWeightTable.{PredWeightTable}
 
 -- where it is not coded, two to the power of the denominator, and no offset (7.4.3.2)
 abbrev pub weight_of : (log2_denom : ℕ) → Option CodedWeight → Weight
-weight_of log2_denom None = record { log2_denom = log2_denom; weight = pos (2 ^ log2_denom); offset = pos 0 }
-weight_of log2_denom (Some c) = record { log2_denom = log2_denom; weight = c.weight; offset = c.offset }
+weight_of log2_denom None = record {
+  log2_denom = log2_denom;
+  weight = pos (2 ^ log2_denom);
+  offset = pos 0;
+}
+weight_of log2_denom (Some c) = record {
+  log2_denom = log2_denom;
+  weight = c.weight;
+  offset = c.offset;
+}
 
 -- the weights of one reference index (7.4.3.2)
 abbrev pub weights_of : PredWeightTable → EntryWeights → Weights

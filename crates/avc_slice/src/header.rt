@@ -173,7 +173,8 @@ impl Header {
     /// By what predictions from a reference index are weighted (8.4.2.3), where the slice has
     /// explicit weights.
     pub fn weights(&self, reference_index: usize) -> Option<Weights>
-        requires { IfSome self.now.pred_weight_table (IsPredWeightTable self.now.num_ref_idx_active) }
+        requires { IfSome self.now.pred_weight_table
+            (IsPredWeightTable self.now.num_ref_idx_active) }
         ensures { result ≡ slice_get (weights self.now) reference_index }
     {
         match &self.pred_weight_table {

@@ -35,7 +35,8 @@ pub(crate) fn read_up_to<T: Coded + Default + Drop, const MAX: usize>(
     room: u32,
 ) -> Result<UpTo<T, MAX>, Fault>
     requires { room ≤ MAX }
-    ensures { Reads result (up_to (ue_to ending.top) ending.stop (T.item most) ending.fault room) reader.old reader.new }
+    ensures { Reads result (up_to (ue_to ending.top) ending.stop (T.item most) ending.fault room)
+        reader.old reader.new }
 {
     let mut items = UpTo::new();
     for _ in 0..room {

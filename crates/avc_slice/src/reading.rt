@@ -115,8 +115,10 @@ fn read_numbers(reader: &mut BitReader, idr: bool, pps: &Pps, sps: &Sps) -> Resu
 /// most 16.
 fn read_active_override(reader: &mut BitReader, pps: &Pps) -> Result<Option<u32>, Fault>
     ensures read { Reads result (active_override pps.now) reader.old reader.new }
-    ensures count { IfOk result (λ active_override. num_ref_idx_active pps.now active_override ≤ 16) }
-    ensures small { IfOk result (λ active_override. IfSome active_override (λ count_minus1. count_minus1 ≤ 15)) }
+    ensures count { IfOk result (λ active_override. num_ref_idx_active pps.now active_override
+        ≤ 16) }
+    ensures small { IfOk result
+        (λ active_override. IfSome active_override (λ count_minus1. count_minus1 ≤ 15)) }
 {
     let num_ref_idx_active_override_flag = reader.flag()?;
     if num_ref_idx_active_override_flag {
@@ -138,7 +140,8 @@ fn put_modifications(
 ) -> Result<(), Fault>
     requires numbers { 1 ≤ max_frame_num }
     requires room { num_ref_idx_active ≤ 16 }
-    ensures { Fills result place.new (where_set true (modifications max_frame_num num_ref_idx_active)) reader.old reader.new }
+    ensures { Fills result place.new
+        (where_set true (modifications max_frame_num num_ref_idx_active)) reader.old reader.new }
 {
     *place = Some(read_modifications(reader, max_frame_num, num_ref_idx_active)?);
     Ok(())
@@ -162,7 +165,8 @@ fn put_modification_list(
 ) -> Result<(), Fault>
     requires numbers { 1 ≤ max_frame_num }
     requires room { num_ref_idx_active ≤ 16 }
-    ensures { Fills result place.new (modification_list max_frame_num num_ref_idx_active) reader.old reader.new }
+    ensures { Fills result place.new (modification_list max_frame_num num_ref_idx_active) reader.old
+        reader.new }
 {
     let ref_pic_list_modification_flag_l0 = reader.flag()?;
     if ref_pic_list_modification_flag_l0 {
@@ -192,7 +196,8 @@ fn put_pred_weight_table(
     place: &mut Option<PredWeightTable>,
 ) -> Result<(), Fault>
     requires { num_ref_idx_active ≤ 16 }
-    ensures { Fills result place.new (where_set true (pred_weight_table num_ref_idx_active)) reader.old reader.new }
+    ensures { Fills result place.new (where_set true (pred_weight_table num_ref_idx_active))
+        reader.old reader.new }
 {
     *place = Some(read_pred_weight_table(reader, num_ref_idx_active)?);
     Ok(())
@@ -206,7 +211,8 @@ fn put_optional_weights(
     place: &mut Option<PredWeightTable>,
 ) -> Result<(), Fault>
     requires room { num_ref_idx_active ≤ 16 }
-    ensures { Fills result place.new (where_set present (pred_weight_table num_ref_idx_active)) reader.old reader.new }
+    ensures { Fills result place.new (where_set present (pred_weight_table num_ref_idx_active))
+        reader.old reader.new }
 {
     if present {
         put_pred_weight_table(reader, num_ref_idx_active, place)
@@ -225,7 +231,8 @@ fn put_p_list(
     table: &mut Option<PredWeightTable>,
 ) -> Result<ActiveCount, Fault>
     requires { IsSps sps.now }
-    ensures { FillsList result modifications.new table.new (p_list pps.now sps.now) reader.old reader.new }
+    ensures { FillsList result modifications.new table.new (p_list pps.now sps.now) reader.old
+        reader.new }
 {
     let active_override = read_active_override(reader, pps)?;
     let num_ref_idx_active = num_ref_idx_active_of(pps, active_override);
@@ -252,7 +259,8 @@ fn put_list_part(
     table: &mut Option<PredWeightTable>,
 ) -> Result<ActiveCount, Fault>
     requires { IsSps sps.now }
-    ensures { FillsList result modifications.new table.new (list_part p pps.now sps.now) reader.old reader.new }
+    ensures { FillsList result modifications.new table.new (list_part p pps.now sps.now) reader.old
+        reader.new }
 {
     if p {
         put_p_list(reader, pps, sps, modifications, table)
@@ -318,7 +326,8 @@ fn put_reference_marking(
     idr: bool,
     place: &mut Option<Marking>,
 ) -> Result<(), Fault>
-    ensures { Fills result place.new (where_set (not (nal_ref_idc == 0)) (marking idr)) reader.old reader.new }
+    ensures { Fills result place.new (where_set (not (nal_ref_idc == 0)) (marking idr)) reader.old
+        reader.new }
 {
     if nal_ref_idc == 0 {
         clear(place);
@@ -340,7 +349,8 @@ fn put_back(
 ) -> Result<(), Fault>
     requires sps { IsSps sps.now }
     requires pps { IsPps pps.now }
-    ensures { Fills result place.new (back nal_ref_idc idr front pps.now sps.now) reader.old reader.new }
+    ensures { Fills result place.new (back nal_ref_idc idr front pps.now sps.now) reader.old
+        reader.new }
 {
     if front.first_mb_in_slice >= sps.size_in_mbs() {
         return Err(Fault::OutOfRange);
@@ -410,7 +420,8 @@ pub fn put_header(
     table: &ParamTable,
     place: &mut Header,
 ) -> Result<(), Fault>
-    ensures header { filled result place.new ≡ header_in_rbsp header (sets_after table.now) rbsp.now }
+    ensures header { filled result place.new
+        ≡ header_in_rbsp header (sets_after table.now) rbsp.now }
     ensures kept { IfOk result (λ _. IsReadUnder (sets_after table.now) rbsp.now place.new) }
     ensures idr { IfOk result (λ _. is_idr place.new ≡ (header % 32 == 5)) }
 {

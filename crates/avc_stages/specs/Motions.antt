@@ -9,4 +9,8 @@ use Rattle.avc_stages.specs.declared.motion.Motion.TheVariants.{Intra, Inter}
 abbrev pub motion_of : MbInfo → (order_counts : List ℤ) → Motion
 motion_of info order_counts =
     if info.is_intra then Intra
-    else Inter (record { order_counts = order_counts; vectors = info.vectors; has_luma_levels = not (info.coefficients == 0) })
+    else Inter (record {
+      order_counts = order_counts;
+      vectors = info.vectors;
+      has_luma_levels = not (info.coefficients == 0);
+    })

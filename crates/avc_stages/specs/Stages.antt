@@ -2,7 +2,8 @@
 use Rattle.std.specs.Prelude.{◌==◌, nat_lt, Bool, ◌&&◌, not, if◌then◌else◌, List, length, count_by}
 use Rattle.avc_stages.specs.declared.stage.Counts.{Counts}
 use Rattle.avc_stages.specs.declared.stage.Stage.{Stage}
-use Rattle.avc_stages.specs.declared.stage.Stage.TheVariants.{Unfiltered, BeforeDeblocking, Deblocking}
+use Rattle.avc_stages.specs.declared.stage.Stage.TheVariants.{Unfiltered, BeforeDeblocking}
+use Rattle.avc_stages.specs.declared.stage.Stage.TheVariants.{Deblocking}
 use Rattle.avc_stages.specs.declared.traced.TracedSample.{TracedSample}
 
 -- the other's sample is not ours
@@ -26,8 +27,10 @@ counts_of samples = record {
   unchanged = count_by is_unchanged samples;
 }
 
--- The stage: where all of the other's samples are ours before deblocking, its filter changed none of
--- them (8.7). Where one that differs is left as it is by our filter, the difference begins before that,
--- unless the other filters more (8.3 to 8.5). Else all that differ are changed by our filter.
+-- The stage: where all of the other's samples are ours before deblocking, its filter changed none
+-- of them (8.7). Where one that differs is left as it is by our filter, the difference begins
+-- before that, unless the other filters more (8.3 to 8.5). Else all that differ are changed by our
+-- filter.
 abbrev pub stage_of : Counts → Stage
-stage_of c = if c.unfiltered == c.shown then Unfiltered else (if nat_lt 0 c.unchanged then BeforeDeblocking else Deblocking)
+stage_of c = if c.unfiltered == c.shown then Unfiltered
+    else (if nat_lt 0 c.unchanged then BeforeDeblocking else Deblocking)

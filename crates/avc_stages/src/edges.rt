@@ -19,7 +19,8 @@ pub struct Edge {
     pub strengths: [u8; 4],
 }
 
-/// The edges of a macroblock, from its left and from its upper one on, four luma samples apart (8.7).
+/// The edges of a macroblock, from its left and from its upper one on, four luma samples apart
+/// (8.7).
 #[derive(Clone, Copy)]
 pub struct MacroblockEdges {
     pub vertical: [Edge; 4],
@@ -39,7 +40,9 @@ pub fn edges_of(left: Option<&MbInfo>, above: Option<&MbInfo>, info: &MbInfo) ->
 
 // Its vertical or its horizontal edges; the first is to `outer`.
 fn edges_along(is_vertical: bool, outer: Option<&MbInfo>, info: &MbInfo) -> [Edge; 4]
-    ensures { (n : ℕ) → n < 4 → IsEdge is_vertical n (option_copied outer.entry) info.now (slice_index_or result n no_edge) }
+    ensures { (n : ℕ) → n < 4 →
+        IsEdge is_vertical n (option_copied outer.entry) info.now
+        (slice_index_or result n no_edge) }
 {
     [
         outer_edge(is_vertical, outer, info),

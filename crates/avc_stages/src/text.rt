@@ -4,7 +4,8 @@ ghost use Rattle.std.specs.Prelude.{◌≡◌, ◌++◌, ◌<◌, pos, slice_ind
 ghost use Rattle.std.specs.Fmt.{signed_decimal};
 ghost use Rattle.avc_stages.specs.Text.{counts_line, direction, edge_line, edge_words};
 ghost use Rattle.avc_stages.specs.Text.{explained_text, lines_along, motion_lines, quarter_line};
-ghost use Rattle.avc_stages.specs.Text.{quarter_words, stage_line, stage_words, stages_before, vector_words};
+ghost use Rattle.avc_stages.specs.Text.{quarter_words, stage_line, stage_words, stages_before};
+ghost use Rattle.avc_stages.specs.Text.{vector_words};
 
 use crate::edges::{Edge, MacroblockEdges};
 use crate::motion::{InterMotion, Motion};
@@ -26,7 +27,8 @@ pub struct Explained {
 
 /// Adds what is told of a macroblock that differs.
 pub fn add_explained(text: &mut String, explained: &Explained) -> Result<(), OutOfMemory>
-    ensures { OnOk result (string_bytes text.new ≡ string_bytes text.old ++ explained_text explained.now) }
+    ensures { OnOk result (string_bytes text.new ≡ string_bytes text.old
+        ++ explained_text explained.now) }
 {
     let Explained {
         address,
@@ -43,7 +45,8 @@ pub fn add_explained(text: &mut String, explained: &Explained) -> Result<(), Out
 }
 
 fn add_counts(text: &mut String, address: usize, counts: Counts) -> Result<(), OutOfMemory>
-    ensures { OnOk result (string_bytes text.new ≡ string_bytes text.old ++ counts_line address counts) }
+    ensures { OnOk result (string_bytes text.new ≡ string_bytes text.old
+        ++ counts_line address counts) }
 {
     let Counts {
         shown,
@@ -67,7 +70,8 @@ fn add_counts(text: &mut String, address: usize, counts: Counts) -> Result<(), O
 }
 
 fn add_stage(text: &mut String, motion: &Motion, stage: Stage) -> Result<(), OutOfMemory>
-    ensures { OnOk result (string_bytes text.new ≡ string_bytes text.old ++ stage_line motion.now stage) }
+    ensures { OnOk result (string_bytes text.new ≡ string_bytes text.old
+        ++ stage_line motion.now stage) }
 {
     text.push_str("stage: ")?;
     add_stage_words(text, motion, stage)?;
@@ -76,7 +80,8 @@ fn add_stage(text: &mut String, motion: &Motion, stage: Stage) -> Result<(), Out
 }
 
 fn add_stage_words(text: &mut String, motion: &Motion, stage: Stage) -> Result<(), OutOfMemory>
-    ensures { OnOk result (string_bytes text.new ≡ string_bytes text.old ++ stage_words motion.now stage) }
+    ensures { OnOk result (string_bytes text.new ≡ string_bytes text.old
+        ++ stage_words motion.now stage) }
 {
     match stage {
         Stage::Unfiltered => text.push_str(
@@ -110,7 +115,8 @@ fn stages_before(motion: &Motion) -> &'static str
 }
 
 fn add_motion(text: &mut String, motion: &Motion) -> Result<(), OutOfMemory>
-    ensures { OnOk result (string_bytes text.new ≡ string_bytes text.old ++ motion_lines motion.now) }
+    ensures { OnOk result (string_bytes text.new ≡ string_bytes text.old
+        ++ motion_lines motion.now) }
 {
     match motion {
         Motion::Intra => Ok(()),
@@ -126,7 +132,8 @@ fn add_motion(text: &mut String, motion: &Motion) -> Result<(), OutOfMemory>
 
 fn add_quarter(text: &mut String, motion: &InterMotion, quarter: usize) -> Result<(), OutOfMemory>
     requires { quarter < 4 }
-    ensures { OnOk result (string_bytes text.new ≡ string_bytes text.old ++ quarter_line motion.now quarter) }
+    ensures { OnOk result (string_bytes text.new ≡ string_bytes text.old
+        ++ quarter_line motion.now quarter) }
 {
     add_order_count(text, quarter, order_count_of(motion, quarter))?;
     add_vector(text, motion.vectors[4 * quarter])?;
@@ -145,7 +152,8 @@ fn order_count_of(motion: &InterMotion, quarter: usize) -> i32
 }
 
 fn add_order_count(text: &mut String, quarter: usize, order_count: i32) -> Result<(), OutOfMemory>
-    ensures { OnOk result (string_bytes text.new ≡ string_bytes text.old ++ quarter_words quarter order_count) }
+    ensures { OnOk result (string_bytes text.new ≡ string_bytes text.old
+        ++ quarter_words quarter order_count) }
 {
     write!(text, "quarter {quarter}: PicOrderCnt ")?;
     add_signed(text, order_count)?;
@@ -169,7 +177,8 @@ fn add_vector(text: &mut String, vector: Mv) -> Result<(), OutOfMemory>
 }
 
 fn add_edges(text: &mut String, is_vertical: bool, edges: &[Edge; 4]) -> Result<(), OutOfMemory>
-    ensures { OnOk result (string_bytes text.new ≡ string_bytes text.old ++ lines_along is_vertical edges.now) }
+    ensures { OnOk result (string_bytes text.new ≡ string_bytes text.old
+        ++ lines_along is_vertical edges.now) }
 {
     add_edge(text, is_vertical, 0, edges[0])?;
     add_edge(text, is_vertical, 1, edges[1])?;
@@ -179,7 +188,8 @@ fn add_edges(text: &mut String, is_vertical: bool, edges: &[Edge; 4]) -> Result<
 }
 
 fn add_edge(text: &mut String, is_vertical: bool, n: usize, edge: Edge) -> Result<(), OutOfMemory>
-    ensures { OnOk result (string_bytes text.new ≡ string_bytes text.old ++ edge_line is_vertical n edge) }
+    ensures { OnOk result (string_bytes text.new ≡ string_bytes text.old
+        ++ edge_line is_vertical n edge) }
 {
     text.push_str(direction(is_vertical))?;
     write!(text, " edge {n}: ")?;

@@ -116,7 +116,8 @@ fn takes_words(rt: HostRuntime) -> Result<(), Fail> {
     Ok(())
 }
 
-// Words that choose pictures or their form: the mode, how many are left out, how many are decoded, and the form.
+// Words that choose pictures or their form: the mode, how many are left out, how many are decoded,
+// and the form.
 const CHOSEN: &[(&str, Output, u64, u64, Form)] = &[
     (
         "avcdec decode --skip 1 --limit 2 --early",
@@ -281,7 +282,8 @@ fn takes_standard_output(rt: HostRuntime) -> Result<(), Fail> {
     Ok(())
 }
 
-// Words of a comparison: how far samples may lie apart, whether it is told how near pictures are, and the files, the other's first.
+// Words of a comparison: how far samples may lie apart, whether it is told how near pictures are,
+// and the files, the other's first.
 const COMPARED: &[(&str, u8, bool, Option<&str>, Option<&str>)] = &[
     (
         "avcdec compare a.yuv in.264",
@@ -319,7 +321,8 @@ fn takes_comparisons(rt: HostRuntime) -> Result<(), Fail> {
     Ok(())
 }
 
-// Words on how decoding is done: when a line tells how far it is, and whether it is quiet, strict and explained.
+// Words on how decoding is done: when a line tells how far it is, and whether it is quiet, strict
+// and explained.
 const IN_A_MANNER: &[(&str, Telling, bool, bool, bool)] = &[
     (
         "avcdec decode --progress",

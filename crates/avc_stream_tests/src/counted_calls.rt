@@ -1,5 +1,5 @@
-// How often a run reads and writes, and what it tells of a call that failed. No clause says this, since the history of a reader or a writer
-// has its bytes alone.
+// How often a run reads and writes, and what it tells of a call that failed. No clause says this,
+// since the history of a reader or a writer has its bytes alone.
 use crate::limited_writer::Refusal;
 use crate::worked_streams::ONE_HELD;
 use avc_formats::{HeadedFormat, I420, Selected};
@@ -141,7 +141,8 @@ fn a_read_that_fails_is_the_last(rt: HostRuntime) -> Result<(), Fail> {
     Ok(())
 }
 
-// How a run in a headed format ends, how many bytes the standard error took, and how often the writer was called.
+// How a run in a headed format ends, how many bytes the standard error took, and how often the
+// writer was called.
 fn framed(alloc: Global, reader: &mut CountingReader<'_>) -> (u8, bool, usize, usize) {
     let mut writer = writer_failing(None, Refusal::Error);
     let mut console = console_of(writer_failing(None, Refusal::Error));
@@ -267,7 +268,8 @@ fn forbidden(alloc: Global, units: u32) -> Result<Vec<u8>, AllocError> {
     Ok(bytes)
 }
 
-// How a run ends, and how often the standard error was called and how many bytes it took, where one of these calls may fail.
+// How a run ends, and how often the standard error was called and how many bytes it took, where one
+// of these calls may fail.
 fn refused(alloc: Global, bytes: &[u8], failing: Option<usize>) -> (u8, bool, usize, usize) {
     let mut reader = reader_of(bytes, 65_536, None);
     let mut writer = writer_failing(None, Refusal::Error);
@@ -298,9 +300,9 @@ fn refusals_are_told_as_long_as_they_are_taken(rt: HostRuntime) -> Result<(), Fa
     Ok(())
 }
 
-// The lines of 16,384 units of one byte are 281,025 bytes. Those that one read brings go out together,
-// at most 65,536 bytes at once, and the last one at the end of the stream. No line goes out behind a
-// write that failed.
+// The lines of 16,384 units of one byte are 281,025 bytes. Those that one read brings go out
+// together, at most 65,536 bytes at once, and the last one at the end of the stream. No line goes
+// out behind a write that failed.
 #[test]
 fn listed_lines_go_out_together(rt: HostRuntime) -> Result<(), Fail> {
     let alloc = rt.alloc();
@@ -322,7 +324,8 @@ fn listed_lines_go_out_together(rt: HostRuntime) -> Result<(), Fail> {
     Ok(())
 }
 
-// How a run ends that is to write so many pictures, how often it reads pieces of this size, and how many bytes it writes.
+// How a run ends that is to write so many pictures, how often it reads pieces of this size, and how
+// many bytes it writes.
 fn limited(alloc: Global, piece: usize, limit: u64) -> (u8, usize, usize) {
     let format = Selected {
         format: I420,

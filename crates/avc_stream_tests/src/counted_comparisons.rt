@@ -1,5 +1,5 @@
-// How often a comparison reads and writes, and what it tells of a call that failed. No clause says this, since the history of a reader or a
-// writer has its bytes alone.
+// How often a comparison reads and writes, and what it tells of a call that failed. No clause says
+// this, since the history of a reader or a writer has its bytes alone.
 use crate::counted_calls::{CountingReader, CountingWriter, console_of, reader_of, writer_failing};
 use crate::limited_writer::Refusal;
 use crate::worked_streams::ONE_HELD;
@@ -16,7 +16,8 @@ const READ_FAULT: usize = 19;
 
 const WRITE_FAULT: usize = 20;
 
-// How it ends, with how many bytes the standard error took, and how often it read the stream, read the other and wrote.
+// How it ends, with how many bytes the standard error took, and how often it read the stream, read
+// the other and wrote.
 type Compared = ((u8, bool, usize), (usize, usize, usize));
 
 fn compared(
@@ -104,7 +105,8 @@ fn compared_with_differing(
     compared_as(alloc, has_psnr, &mut reader, &mut other, &mut writer)
 }
 
-// Behind the first picture that differs the second is read of both; then the stream ends. What differs is told by one write.
+// Behind the first picture that differs the second is read of both; then the stream ends. What
+// differs is told by one write.
 #[test]
 fn a_comparison_reads_on_behind_a_difference(rt: HostRuntime) -> Result<(), Fail> {
     assert_eq!(rt;
@@ -126,7 +128,8 @@ fn a_read_behind_a_difference_that_fails_is_the_last(rt: HostRuntime) -> Result<
     Ok(())
 }
 
-// With lines on how near they are the second of these can't be written, and nothing is told behind it.
+// With lines on how near they are the second of these can't be written, and nothing is told behind
+// it.
 #[test]
 fn a_write_behind_a_difference_that_fails_is_the_last(rt: HostRuntime) -> Result<(), Fail> {
     assert_eq!(rt;
@@ -155,8 +158,8 @@ fn compared_in_pairs(alloc: Global, has_psnr: bool, stream: &[u8], pictures: &[u
     compared_as(alloc, has_psnr, &mut reader, &mut other, &mut writer)
 }
 
-// Of twenty pictures the first differs: it and 16 behind it are read, or all where a line is told on each. Each read gives two pictures, of
-// which the second goes out with the read behind it.
+// Of twenty pictures the first differs: it and 16 behind it are read, or all where a line is told
+// on each. Each read gives two pictures, of which the second goes out with the read behind it.
 #[test]
 fn a_comparison_reads_seventeen_pictures(rt: HostRuntime) -> Result<(), Fail> {
     let alloc = rt.alloc();

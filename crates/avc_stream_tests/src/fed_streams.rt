@@ -4,7 +4,8 @@ use avc_decoder::{DecodeError, Decoder, Event, Output};
 use avc_types::Picture;
 use std::alloc::{AllocError, Global};
 
-/// Events that were taken: pictures, those of 384 samples of one value among them, and all that are not such pictures.
+/// Events that were taken: pictures, those of 384 samples of one value among them, and all that are
+/// not such pictures.
 #[derive(Clone, Copy)]
 pub(crate) struct Taken {
     pub pictures: usize,

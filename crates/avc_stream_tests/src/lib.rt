@@ -1,4 +1,5 @@
-//! Tests of whole streams: of the decoder's calls, of what is written and told of a stream, and of the program's words.
+//! Tests of whole streams: of the decoder's calls, of what is written and told of a stream, and of
+//! the program's words.
 #![tactic(auto)]
 
 #[cfg(test)]

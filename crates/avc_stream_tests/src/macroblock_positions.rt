@@ -1,4 +1,5 @@
-//! Where macroblocks stand in slices, and which are told with them. The bits of the slices are worked by hand.
+//! Where macroblocks stand in slices, and which are told with them. The bits of the slices are
+//! worked by hand.
 
 use avc_macroblocks::run_macroblocks_at;
 use avc_reading::MacroblockPosition;

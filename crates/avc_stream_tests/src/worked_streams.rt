@@ -1,5 +1,6 @@
-//! Streams of a few bytes whose events can be worked out by hand, with memory that is there: a call that always wanted some would
-//! keep its contract. Each is decoded to its samples, its refusals and its count of macroblocks.
+//! Streams of a few bytes whose events can be worked out by hand, with memory that is there: a call
+//! that always wanted some would keep its contract. Each is decoded to its samples, its refusals
+//! and its count of macroblocks.
 
 use crate::fed_streams::{decode_stream, is_flat, joined, seen_again, unseen};
 use crate::limited_writer::{LimitedWriter, Refusal};
@@ -48,8 +49,9 @@ const TWO_SLICES: &[u8] = &[
     1, 0x65, 0x88, 0x84, 0x93, 0xC0, 0, 0, 1, 0x65, 0x42, 0x21, 0x24, 0xC5, 0x00, 0x02, 0x58,
 ];
 
-// How many of the events before the end of these bytes, which are fed in such pieces, are flat pictures of this value and how many are
-// others, the same behind it, and how many macroblocks are counted.
+// How many of the events before the end of these bytes, which are fed in such pieces, are flat
+// pictures of this value and how many are others, the same behind it, and how many macroblocks are
+// counted.
 fn events_of(
     alloc: Global,
     output: Output,
@@ -303,8 +305,8 @@ fn rising(alloc: Global) -> Result<Vec<u8>, AllocError> {
     Ok(bytes)
 }
 
-// The ends of three runs: reading fails behind all bytes; nothing fails; and of the first stream the
-// writer takes 100 bytes and then answers 0.
+// The ends of three runs: reading fails behind all bytes; nothing fails; and of the first stream
+// the writer takes 100 bytes and then answers 0.
 fn ends_of_runs(
     alloc: Global,
     bytes: &[u8],

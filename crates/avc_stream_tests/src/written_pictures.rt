@@ -6,7 +6,8 @@ use avc_yuv::{WriteFault, write_i420};
 use std::alloc::{AllocError, Global};
 use std::test::Fail;
 
-// A square with this side and so many luma samples, of which so many columns and rows are not shown.
+// A square with this side and so many luma samples, of which so many columns and rows are not
+// shown.
 fn grey(
     alloc: Global,
     side: u32,

@@ -1,4 +1,5 @@
-//! Tests of the crates up to pictures: of what no contract says, as that memory is found, and of worked rows.
+//! Tests of the crates up to pictures: of what no contract says, as that memory is found, and of
+//! worked rows.
 #![tactic(auto)]
 
 #[cfg(test)]

@@ -88,7 +88,8 @@ fn levels<const MAXN: usize>(
     requires least { negsuc 25 ≤ℤ mb_qp_delta }
     requires most { mb_qp_delta ≤ℤ pos 25 }
     requires luma { AreBlocks MAXN (is_coded luma_pattern) (range_with_len 0 16) luma }
-    ensures residual { (with_dc : Bool) (dc : List ℤ) → MAXN ≡ luma_max with_dc → IsLumaDc with_dc dc → IsResidual with_dc (residual_of dc result) }
+    ensures residual { (with_dc : Bool) (dc : List ℤ) → MAXN ≡ luma_max with_dc →
+        IsLumaDc with_dc dc → IsResidual with_dc (residual_of dc result) }
     ensures pattern { result.luma_pattern ≡ luma_pattern }
     ensures delta { result.mb_qp_delta ≡ mb_qp_delta }
 {
@@ -155,7 +156,8 @@ fn levels_15(luma_coded: bool, chroma_pattern: u8, mb_qp_delta: i8) -> BlockLeve
     requires chroma_pattern { chroma_pattern ≤ 2 }
     requires least { negsuc 25 ≤ℤ mb_qp_delta }
     requires most { mb_qp_delta ≤ℤ pos 25 }
-    ensures residual { (dc : List ℤ) → IsBlock 16 true dc → IsResidual true (residual_of dc result) }
+    ensures residual { (dc : List ℤ) → IsBlock 16 true dc →
+        IsResidual true (residual_of dc result) }
     ensures pattern { result.luma_pattern ≡ elim luma_coded [ true ↦ 15 | false ↦ 0 ] }
 {
     if luma_coded {
@@ -180,7 +182,8 @@ fn p_inter(mb_type: PMbType, ref_idx: [u8; 4], mb_qp_delta: i8) -> Syntax
     requires most { mb_qp_delta ≤ℤ pos 25 }
     requires quarters { HasQuarters mb_type }
     requires parts { length (parts_of mb_type) ≤ 16 }
-    requires ref_idx { IsRefIdx 2 (partitions mb_type) (has_ref_idx 2 mb_type) (take (partitions mb_type) ref_idx) }
+    requires ref_idx { IsRefIdx 2 (partitions mb_type) (has_ref_idx 2 mb_type)
+        (take (partitions mb_type) ref_idx) }
     ensures { Stands true 2 (syntax_of result) }
 {
     Syntax::PInter {
@@ -214,7 +217,8 @@ fn qp_of(previous: u8, syntax: &Syntax) -> u8
 
 /// A macroblock more, after one with this QP_Y: its own.
 pub(crate) fn add(list: &mut Vec<Mb>, qp: u8, syntax: Syntax) -> Result<u8, OutOfMemory>
-    ensures goes_on { IfOk result (λ after. (p : Bool) (n first : ℕ) → Stands p n (syntax_of syntax) →
+    ensures goes_on { IfOk result (λ after. (p : Bool) (n first : ℕ) →
+        Stands p n (syntax_of syntax) →
         GoesOn p n first qp after list.old.items list.new.items) }
     ensures one { IfOk result (λ _. length list.new.items ≡ length list.old.items + 1) }
 {
@@ -225,7 +229,8 @@ pub(crate) fn add(list: &mut Vec<Mb>, qp: u8, syntax: Syntax) -> Result<u8, OutO
 
 /// Macroblocks of the 26 types of I slices, after one with this QP_Y: that of the last.
 pub(crate) fn add_i_types(list: &mut Vec<Mb>, qp: u8) -> Result<u8, OutOfMemory>
-    ensures goes_on { IfOk result (λ after. (p : Bool) (n first : ℕ) → GoesOn p n first qp after list.old.items list.new.items) }
+    ensures goes_on { IfOk result (λ after. (p : Bool) (n first : ℕ) →
+        GoesOn p n first qp after list.old.items list.new.items) }
     ensures more { IfOk result (λ _. length list.new.items ≡ length list.old.items + 26) }
 {
     let mut now = add(list, qp, i_nxn(-26))?;
@@ -240,7 +245,8 @@ pub(crate) fn add_i_types(list: &mut Vec<Mb>, qp: u8) -> Result<u8, OutOfMemory>
 /// Macroblocks of the five types of inter macroblocks, a skipped one before each, after one with
 /// this QP_Y: that of the last.
 pub(crate) fn add_p_types(list: &mut Vec<Mb>, qp: u8) -> Result<u8, OutOfMemory>
-    ensures goes_on { IfOk result (λ after. (first : ℕ) → GoesOn true 2 first qp after list.old.items list.new.items) }
+    ensures goes_on { IfOk result (λ after. (first : ℕ) →
+        GoesOn true 2 first qp after list.old.items list.new.items) }
     ensures more { IfOk result (λ _. length list.new.items ≡ length list.old.items + 10) }
 {
     let subs = [
@@ -259,7 +265,8 @@ pub(crate) fn add_p_types(list: &mut Vec<Mb>, qp: u8) -> Result<u8, OutOfMemory>
 // a skipped macroblock and one that is not
 fn add_inter(list: &mut Vec<Mb>, qp: u8, syntax: Syntax) -> Result<u8, OutOfMemory>
     requires { Stands true 2 (syntax_of syntax) }
-    ensures goes_on { IfOk result (λ after. (first : ℕ) → GoesOn true 2 first qp after list.old.items list.new.items) }
+    ensures goes_on { IfOk result (λ after. (first : ℕ) →
+        GoesOn true 2 first qp after list.old.items list.new.items) }
     ensures more { IfOk result (λ _. length list.new.items ≡ length list.old.items + 2) }
 {
     let before = add_skipped(list, qp)?;
@@ -268,7 +275,8 @@ fn add_inter(list: &mut Vec<Mb>, qp: u8, syntax: Syntax) -> Result<u8, OutOfMemo
 
 /// A skipped macroblock, after one with this QP_Y: its own.
 pub(crate) fn add_skipped(list: &mut Vec<Mb>, qp: u8) -> Result<u8, OutOfMemory>
-    ensures goes_on { IfOk result (λ after. (first : ℕ) → GoesOn true 2 first qp after list.old.items list.new.items) }
+    ensures goes_on { IfOk result (λ after. (first : ℕ) →
+        GoesOn true 2 first qp after list.old.items list.new.items) }
     ensures more { IfOk result (λ _. length list.new.items ≡ length list.old.items + 1) }
 {
     add(list, qp, Syntax::PSkip)

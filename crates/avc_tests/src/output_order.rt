@@ -20,7 +20,8 @@ enum Arriving {
     /// A frame that stands for a missing frame number.
     Missing(usize),
 
-    /// A reference picture, one of four for which there is room; one picture may stay needed for output.
+    /// A reference picture, one of four for which there is room; one picture may stay needed for
+    /// output.
     OneOfFour(i32),
 }
 
@@ -180,7 +181,8 @@ fn gives(
     Ok(given.as_slice() == numbers && dpb.frames().len() == stored)
 }
 
-// By name: what happens to a buffer with this output, the numbers that go out, and how many frames are stored then.
+// By name: what happens to a buffer with this output, the numbers that go out, and how many frames
+// are stored then.
 const ROWS: &[(&str, Output, &[Step], &[u32], usize)] = &[
     // Room for two frames, none of which is a reference: order counts 0, 4, 2, 2.
     (
@@ -196,8 +198,8 @@ const ROWS: &[(&str, Output, &[Step], &[u32], usize)] = &[
         &[END, END, 0, END, 2, END, 3, 1, END],
         0,
     ),
-    // Room for one frame: the reference picture goes out and stays, and a picture that is none finds
-    // no room until it is unmarked.
+    // Room for one frame: the reference picture goes out and stays, and a picture that is none
+    // finds no room until it is unmarked.
     (
         "references stay",
         Output::Full,
@@ -264,8 +266,8 @@ const ROWS: &[(&str, Output, &[Step], &[u32], usize)] = &[
         &[END, END, END, 0, 2, 1, END],
         0,
     ),
-    // With early output the second of two that are needed for output goes out later. The frames stay
-    // for reference.
+    // With early output the second of two that are needed for output goes out later. The frames
+    // stay for reference.
     (
         "no more than may stay needed",
         Output::Early,
@@ -324,8 +326,8 @@ fn shown_by_a_new_buffer(alloc: Global) -> Result<Vec<SharedPicture>, OutOfMemor
     shown(alloc, &mut dpb)
 }
 
-// The width and the cropping below, the unit that is told of the picture before and after it is copied, and how many samples of luma and of
-// Cr it has.
+// The width and the cropping below, the unit that is told of the picture before and after it is
+// copied, and how many samples of luma and of Cr it has.
 type Shown = ((u32, u32), (u64, u64), (usize, usize));
 
 fn copied(alloc: Global, shared: &SharedPicture) -> Result<Shown, OutOfMemory> {

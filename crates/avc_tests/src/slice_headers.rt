@@ -14,8 +14,8 @@ const SPS: [u8; 5] = [0x42, 0xC0, 0x0A, 0xDA, 0x71];
 // no deblocking fields in slices
 const PPS: [u8; 3] = [0xCE, 0x38, 0x80];
 
-// The fields of a header that the tests ask for: the slice's type, frame_num, how many entries of RefPicList0 are active, slice_qp_delta, and
-// where the slice's data begins.
+// The fields of a header that the tests ask for: the slice's type, frame_num, how many entries of
+// RefPicList0 are active, slice_qp_delta, and where the slice's data begins.
 type Fields = (SliceType, u32, u32, i32, u128);
 
 fn read(rbsp: &[u8], table: &ParamTable) -> Result<Fields, Fault> {
@@ -31,7 +31,8 @@ fn read(rbsp: &[u8], table: &ParamTable) -> Result<Fields, Fault> {
     }
 }
 
-// Whether both sets are taken, and three headers: without the sequence parameter set, and two under both sets.
+// Whether both sets are taken, and three headers: without the sequence parameter set, and two under
+// both sets.
 type Read = ((bool, bool), [Result<Fields, Fault>; 3]);
 
 // A P slice without the sequence parameter set and with it, and two modifications of one entry.

@@ -1,4 +1,5 @@
-//! A worked row of the deblocking filter: two edges of a step, of which the second filters what the first left (8.7).
+//! A worked row of the deblocking filter: two edges of a step, of which the second filters what the
+//! first left (8.7).
 
 ghost use Rattle.std.specs.Prelude.{◌≡◌, ◌<◌, true};
 

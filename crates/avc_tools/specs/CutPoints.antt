@@ -1,5 +1,6 @@
 -- Where the pieces of a stream begin, and how many pictures each has: a line for each.
-use Rattle.std.specs.Prelude.{◌≡◌, ℕ, ◌+◌, Bool, true, false, List, [], ◌∷◌, ◌++◌, length, if◌then◌else◌, Option, Some, None, codes}
+use Rattle.std.specs.Prelude.{◌≡◌, ℕ, ◌+◌, Bool, true, false, List, [], ◌∷◌, ◌++◌, length}
+use Rattle.std.specs.Prelude.{if◌then◌else◌, Option, Some, None, codes}
 use Rattle.std.specs.Fmt.{decimal}
 use Rattle.std.specs.Option.{option_map}
 use Rattle.avc_annexb.specs.SplitterState.{SplitterState}
@@ -102,7 +103,8 @@ line_of_piece form (Some p) = form p
 -- the lines of the pieces that are over by these units
 abbrev pub cut_point_lines : (form : PieceFacts → List ℕ) → CountedPieces → List Unit → List ℕ
 cut_point_lines form c [] = []
-cut_point_lines form c (u ∷ us) = line_of_piece form (piece_over c u) ++ cut_point_lines form (counted c u) us
+cut_point_lines form c (u ∷ us) =
+    line_of_piece form (piece_over c u) ++ cut_point_lines form (counted c u) us
 
 -- that of the last piece, which is over at the end of the stream
 abbrev pub last_line : (form : PieceFacts → List ℕ) → CountedPieces → (ended : Bool) → List ℕ
@@ -115,10 +117,12 @@ all_cut_point_lines form us ended =
 
 -- those of the units whose end has been seen, whatever their length
 abbrev pub cut_point_lines_so_far : (form : PieceFacts → List ℕ) → List ℕ → (ended : Bool) → List ℕ
-cut_point_lines_so_far form bytes ended = all_cut_point_lines form (units (length bytes) bytes ended) ended
+cut_point_lines_so_far form bytes ended =
+    all_cut_point_lines form (units (length bytes) bytes ended) ended
 
 -- All units whose end has been seen were taken, and their pieces are counted.
-pub record AreCounted (max : ℕ) (s : SplitterState) (ended : Bool) (c : CountedPieces) : Type 0 where
+pub record AreCounted (max : ℕ) (s : SplitterState) (ended : Bool)
+    (c : CountedPieces) : Type 0 where
   pub drained : IsDrained max s
   pub end_is : ended ≡ s.ended
   pub counts_are : c ≡ counted_all none_counted (units max s.bytes s.ended)

@@ -1,5 +1,6 @@
 -- What the functions that cut a stream say to one another.
-use Rattle.std.specs.Prelude.{◌≡◌, ℕ, ◌<◌, Bool, true, false, List, [], ◌∷◌, ◌++◌, length, take, drop, Option, Some, None, is_some}
+use Rattle.std.specs.Prelude.{◌≡◌, ℕ, ◌<◌, Bool, true, false, List, [], ◌∷◌, ◌++◌, length, take}
+use Rattle.std.specs.Prelude.{drop, Option, Some, None, is_some}
 use Rattle.std.specs.List.{flat_map}
 use Rattle.avc_annexb.specs.declared.unit.Unit.{Unit}
 use Rattle.avc_params.specs.Stored.{stored}
@@ -23,9 +24,12 @@ replaced true false unit old = None
 replaced false accepted unit old = old
 
 -- Units kept by id, before and after this one that brings this set, or none.
-pub record AreReplaced {A : Type 0} (has_id : ℕ → SetUnit → Bool) (record_of : Option SetUnit → Option A) (set : Option SetUnit) (unit : List ℕ) (old new : List (Option (List ℕ))) : Type 0 where
+pub record AreReplaced {A : Type 0} (has_id : ℕ → SetUnit → Bool) (record_of : Option SetUnit →
+    Option A) (set : Option SetUnit) (unit : List ℕ) (old new : List
+    (Option (List ℕ))) : Type 0 where
   pub long : length new ≡ length old
-  pub each : (id : ℕ) → id < length old → stored new id ≡ replaced (satisfies (has_id id) set) (is_some (record_of set)) unit (stored old id)
+  pub each : (id : ℕ) → id < length old → stored new id
+      ≡ replaced (satisfies (has_id id) set) (is_some (record_of set)) unit (stored old id)
 
 -- the unit whose sequence parameter set is in force under an id, and whose picture parameter set is
 -- (7.4.1.2.1)
@@ -37,7 +41,8 @@ abbrev pub pps_unit : List Unit → ℕ → List Unit
 pps_unit before id = deciding_unit (is_some (pps_in_force (set_units before) id)) (is_pps id) before
 
 -- These are kept by id, each written.
-pub record AreKept (count : ℕ) (by_id : ℕ → List Unit) (kept : List (Option (List ℕ))) : Type 0 where
+pub record AreKept (count : ℕ) (by_id : ℕ →
+    List Unit) (kept : List (Option (List ℕ))) : Type 0 where
   pub long : length kept ≡ count
   pub each : (id : ℕ) → id < count → kept_bytes (stored kept id) ≡ flat_map written (by_id id)
 
@@ -58,7 +63,11 @@ piece_at units place = piece_in (take place units) (drop place units)
 -- the same as a list, which is empty where that is no cut point
 abbrev pub pieces_in : (before : List Unit) → (here : List Unit) → List (List ℕ)
 pieces_in before [] = []
-pieces_in before (u ∷ after) = elim (is_start u) [ true ↦ flat_map written (piece before u after) ∷ [] | false ↦ [] ]
+pieces_in before (u ∷ after) =
+    elim (is_start u) [
+      | true ↦ flat_map written (piece before u after) ∷ []
+      | false ↦ []
+    ]
 
 -- that piece, if a cut point stands there
 abbrev pub pieces_at : List Unit → (place : ℕ) → List (List ℕ)

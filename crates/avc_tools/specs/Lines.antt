@@ -1,5 +1,6 @@
 -- The texts of a stream's units and headers, one line each.
-use Rattle.std.specs.Prelude.{ℕ, ◌+◌, ◌-◌, ◌*◌, ℤ, pos, nat_abs, Bool, true, List, [], ◌∷◌, ◌++◌, length, Option, Some, None, Result, Ok, Err, if◌then◌else◌, codes}
+use Rattle.std.specs.Prelude.{ℕ, ◌+◌, ◌-◌, ◌*◌, ℤ, pos, nat_abs, Bool, true, List, [], ◌∷◌, ◌++◌}
+use Rattle.std.specs.Prelude.{length, Option, Some, None, Result, Ok, Err, if◌then◌else◌, codes}
 use Rattle.std.specs.List.{flat_map}
 use Rattle.std.specs.Fmt.{decimal}
 use Rattle.avc_types.specs.declared.fault.Fault.{Fault}
@@ -76,11 +77,15 @@ cropped (Some c) offsets size = size - 2 * offsets c
 
 -- of what is shown
 abbrev pub shown_width : Sps → ℕ
-shown_width s = cropped s.frame_cropping (λ c. c.frame_crop_left_offset + c.frame_crop_right_offset) (16 * width_in_mbs s)
+shown_width s =
+    cropped s.frame_cropping (λ c. c.frame_crop_left_offset + c.frame_crop_right_offset)
+    (16 * width_in_mbs s)
 
 -- the height after cropping
 abbrev pub shown_height : Sps → ℕ
-shown_height s = cropped s.frame_cropping (λ c. c.frame_crop_top_offset + c.frame_crop_bottom_offset) (16 * height_in_mbs s)
+shown_height s =
+    cropped s.frame_cropping (λ c. c.frame_crop_top_offset + c.frame_crop_bottom_offset)
+    (16 * height_in_mbs s)
 
 -- pic_order_cnt_type
 abbrev pub order_type : OrderCount → ℕ
@@ -116,7 +121,9 @@ qp_number qp = nat_abs qp
 
 -- its id, and that of its sequence parameter set
 abbrev pub pps_identity : Pps → List ℕ
-pps_identity p = codes " pps" ++ and_number p.pic_parameter_set_id ++ codes " sps" ++ and_number p.seq_parameter_set_id
+pps_identity p =
+    codes " pps" ++ and_number p.pic_parameter_set_id ++ codes " sps"
+    ++ and_number p.seq_parameter_set_id
 
 -- the initial quantiser, and the default number of reference indices
 abbrev pub pps_fields : Pps → List ℕ
@@ -126,7 +133,8 @@ pps_fields p =
 
 -- deblocking_filter_control_present_flag
 abbrev pub pps_control : Pps → List ℕ
-pps_control p = codes " control" ++ and_number (flag_number p.deblocking_filter_control_present_flag)
+pps_control p =
+    codes " control" ++ and_number (flag_number p.deblocking_filter_control_present_flag)
 
 -- constrained_intra_pred_flag
 abbrev pub pps_constrained : Pps → List ℕ
@@ -155,7 +163,8 @@ slice_place h = codes " slice" ++ and_number h.first_mb_in_slice ++ codes " type
 
 -- the id of its picture parameter set, and frame_num
 abbrev pub slice_picture : Header → List ℕ
-slice_picture h = codes " pps" ++ and_number h.pic_parameter_set_id ++ codes " frame" ++ and_number h.frame_num
+slice_picture h =
+    codes " pps" ++ and_number h.pic_parameter_set_id ++ codes " frame" ++ and_number h.frame_num
 
 -- SliceQP_Y, and whether it is of an IDR picture
 abbrev pub slice_fields : Sets → Header → List ℕ
@@ -200,7 +209,8 @@ header_line sets u = line_of u.index (text_of sets (brought sets u))
 -- the lines of these units, after those before them, in a form of such lines
 abbrev pub header_lines_from : (form : Sets → Unit → List ℕ) → (before after : List Unit) → List ℕ
 header_lines_from form before [] = []
-header_lines_from form before (u ∷ after) = form (tables before) u ++ header_lines_from form (before ++ u ∷ []) after
+header_lines_from form before (u ∷ after) =
+    form (tables before) u ++ header_lines_from form (before ++ u ∷ []) after
 
 -- a line for each parameter set and each slice whose unit's end has been seen
 abbrev pub header_lines_so_far : (form : Sets → Unit → List ℕ) → List ℕ → (ended : Bool) → List ℕ

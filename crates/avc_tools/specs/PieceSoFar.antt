@@ -1,5 +1,6 @@
 -- A piece of a stream while the stream comes.
-use Rattle.std.specs.Prelude.{◌≡◌, ℕ, ◌+◌, Bool, true, false, ◌||◌, List, [], ◌∷◌, ◌++◌, length, if◌then◌else◌, Option, Some, None, is_some}
+use Rattle.std.specs.Prelude.{◌≡◌, ℕ, ◌+◌, Bool, true, false, ◌||◌, List, [], ◌∷◌, ◌++◌, length}
+use Rattle.std.specs.Prelude.{if◌then◌else◌, Option, Some, None, is_some}
 use Rattle.std.specs.List.{filter, flat_map, list_any, slice_get}
 use Rattle.avc_annexb.specs.Units.{units}
 use Rattle.avc_annexb.specs.Written.{written}
@@ -12,19 +13,25 @@ use Rattle.avc_tools.specs.Streams.{StreamSoFar}
 -- The units after a cut point that its piece has, whatever may follow them: all of its rest once
 -- the next cut point has come or the stream has ended, and before that those up to the last slice.
 abbrev pub rest_so_far : (after : List Unit) → (ended : Bool) → List Unit
-rest_so_far after ended = if ended || list_any is_start after then rest_of_piece after else through_slices after
+rest_so_far after ended =
+    if ended || list_any is_start after then rest_of_piece after else through_slices after
 
 -- the piece of a cut point so far
-abbrev pub piece_so_far : (before : List Unit) → (cut_point : Unit) → (after : List Unit) → (ended : Bool) → List Unit
+abbrev pub piece_so_far : (before : List Unit) → (cut_point : Unit) → (after : List Unit) →
+    (ended : Bool) → List Unit
 piece_so_far before cut_point after ended =
-    sets_in_force before ++ filter leads (after_slices before) ++ cut_point ∷ rest_so_far after ended
+    sets_in_force before ++ filter leads (after_slices before)
+    ++ cut_point ∷ rest_so_far after ended
 
 -- the pieces that begin in these units, after those before them
 abbrev pub pieces_so_far_from : (before after : List Unit) → (ended : Bool) → List (List ℕ)
 pieces_so_far_from before [] ended = []
 pieces_so_far_from before (u ∷ after) ended =
     let others = pieces_so_far_from (before ++ u ∷ []) after ended in
-    elim (is_start u) [ true ↦ flat_map written (piece_so_far before u after ended) ∷ others | false ↦ others ]
+    elim (is_start u) [
+      | true ↦ flat_map written (piece_so_far before u after ended) ∷ others
+      | false ↦ others
+    ]
 
 -- One for each cut point that has come.
 abbrev pub pieces_so_far : List ℕ → (ended : Bool) → List (List ℕ)

@@ -11,7 +11,8 @@ use Rattle.avc_tools.specs.Streams.{IsDrained}
 -- the lines of these units, where these parameter sets came before
 abbrev pub header_lines_under : (form : Sets → Unit → List ℕ) → List SetUnit → List Unit → List ℕ
 header_lines_under form sets [] = []
-header_lines_under form sets (u ∷ us) = form (sets_after sets) u ++ header_lines_under form (sets ++ set_units (u ∷ [])) us
+header_lines_under form sets (u ∷ us) =
+    form (sets_after sets) u ++ header_lines_under form (sets ++ set_units (u ∷ [])) us
 
 -- All units whose end has been seen were taken, and these are the sets that they brought.
 pub record AreShown (max : ℕ) (s : SplitterState) (sets : List SetUnit) : Type 0 where

@@ -1,5 +1,6 @@
 -- Cutting out one piece unit by unit: these words are the crate's own.
-use Rattle.std.specs.Prelude.{◌≡◌, ℕ, zero, suc, Bool, true, false, not, List, [], ◌∷◌, ◌++◌, if◌then◌else◌, Option, Some, None}
+use Rattle.std.specs.Prelude.{◌≡◌, ℕ, zero, suc, Bool, true, false, not, List, [], ◌∷◌, ◌++◌}
+use Rattle.std.specs.Prelude.{if◌then◌else◌, Option, Some, None}
 use Rattle.std.specs.List.{filter, flat_map}
 use Rattle.avc_annexb.specs.SplitterState.{SplitterState}
 use Rattle.avc_annexb.specs.Units.{units}
@@ -31,8 +32,10 @@ begun (suc left) before u = waiting left (before ++ u ∷ [])
 
 -- after the next unit
 abbrev pub next : Stage → Unit → Stage
-next (waiting left before) u = if is_start u then begun left before u else waiting left (before ++ u ∷ [])
-next (writing before cut_point after) u = if is_start u then over before cut_point after else writing before cut_point (after ++ u ∷ [])
+next (waiting left before) u =
+    if is_start u then begun left before u else waiting left (before ++ u ∷ [])
+next (writing before cut_point after) u =
+    if is_start u then over before cut_point after else writing before cut_point (after ++ u ∷ [])
 next (over before cut_point after) u = over before cut_point after
 
 -- after these units
@@ -50,13 +53,17 @@ staying after = filter (λ u. not (is_left_out u)) (after_slices after)
 
 -- the piece with this rest, written
 abbrev pub made : (before : List Unit) → (cut_point : Unit) → (rest : List Unit) → List ℕ
-made before cut_point rest = flat_map written (sets_in_force before ++ filter leads (after_slices before) ++ cut_point ∷ rest)
+made before cut_point rest =
+    flat_map written (sets_in_force before ++ filter leads (after_slices before)
+    ++ cut_point ∷ rest)
 
 -- the piece, if it has begun
 abbrev pub piece_of : Stage → (ended : Bool) → Option (List ℕ)
 piece_of (waiting left before) ended = None
-piece_of (writing before cut_point after) ended = Some (made before cut_point (if ended then after else through_slices after))
-piece_of (over before cut_point after) ended = Some (made before cut_point (through_slices after ++ staying after))
+piece_of (writing before cut_point after) ended =
+    Some (made before cut_point (if ended then after else through_slices after))
+piece_of (over before cut_point after) ended =
+    Some (made before cut_point (through_slices after ++ staying after))
 
 -- what is written of it
 abbrev pub text_of : Stage → (ended : Bool) → List ℕ

@@ -1,5 +1,6 @@
 -- What tools keep of a stream that comes in pieces.
-use Rattle.std.specs.Prelude.{◌≡◌, ℕ, ◌+◌, ◌-◌, ◌^◌, ◌<◌, Bool, true, false, if◌then◌else◌, List, [], ◌++◌, length, drop}
+use Rattle.std.specs.Prelude.{◌≡◌, ℕ, ◌+◌, ◌-◌, ◌^◌, ◌<◌, Bool, true, false, if◌then◌else◌, List}
+use Rattle.std.specs.Prelude.{[], ◌++◌, length, drop}
 use Rattle.avc_annexb.specs.Units.{units}
 use Rattle.avc_annexb.specs.SplitterState.{SplitterState}
 use Rattle.avc_annexb.specs.declared.unit.Unit.{Unit}
@@ -24,8 +25,10 @@ after_end s = record s { ended = true }
 
 -- What was written before, and then these bytes, is what is written of the stream once more of it
 -- has come.
-abbrev pub Adds : (text : List ℕ → (ended : Bool) → List ℕ) (old new : StreamSoFar) (added : List ℕ) → Type 0
-Adds text old new added = length new.bytes < 2 ^ 64 → text new.bytes new.ended ≡ text old.bytes old.ended ++ added
+abbrev pub Adds : (text : List ℕ → (ended : Bool) → List ℕ) (old new : StreamSoFar)
+    (added : List ℕ) → Type 0
+Adds text old new added =
+    length new.bytes < 2 ^ 64 → text new.bytes new.ended ≡ text old.bytes old.ended ++ added
 
 -- What is written of a stream's first bytes stays the first of what is written, whatever follows
 -- them.

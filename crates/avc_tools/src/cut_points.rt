@@ -38,7 +38,11 @@ impl<F> Model for CutPointLines<F> {
 
     ghost Value = { StreamSoFar };
 
-    ghost view = { λ l. record { bytes = l.splitter.bytes; ended = l.splitter.ended; failed = l.failed } };
+    ghost view = { λ l. record {
+      bytes = l.splitter.bytes;
+      ended = l.splitter.ended;
+      failed = l.failed;
+    } };
 
     ghost invariant = { λ l. l.failed ≡ false → AreCounted max_unit l.splitter l.ended l.counts };
 }
@@ -116,9 +120,11 @@ fn lines_fed<F: ListingForm>(
     piece: &[u8],
 ) -> Result<Vec<u8>, OutOfMemory>
     requires { AreCounted max_unit splitter.old ended counts.old }
-    ensures taken { OnOk result (splitter.new ≡ after_units_left max_unit (after_feed splitter.old piece.now)) }
+    ensures taken { OnOk result (splitter.new
+        ≡ after_units_left max_unit (after_feed splitter.old piece.now)) }
     ensures counted { OnOk result (AreCounted max_unit splitter.new ended counts.new) }
-    ensures added { IfOk result (λ added. length splitter.new.bytes < 2 ^ 64 → cut_point_lines_so_far F.of_piece splitter.new.bytes splitter.new.ended
+    ensures added { IfOk result (λ added. length splitter.new.bytes < 2 ^ 64 →
+        cut_point_lines_so_far F.of_piece splitter.new.bytes splitter.new.ended
         ≡ cut_point_lines_so_far F.of_piece splitter.old.bytes splitter.old.ended ++ added.items) }
 {
     units_stay();
@@ -139,9 +145,11 @@ fn lines_at_end<F: ListingForm>(
     ended: bool,
 ) -> Result<Vec<u8>, OutOfMemory>
     requires { AreCounted max_unit splitter.old ended counts.old }
-    ensures taken { OnOk result (splitter.new ≡ after_units_left max_unit (after_finish splitter.old)) }
+    ensures taken { OnOk result (splitter.new
+        ≡ after_units_left max_unit (after_finish splitter.old)) }
     ensures counted { OnOk result (AreCounted max_unit splitter.new true counts.new) }
-    ensures added { IfOk result (λ added. length splitter.new.bytes < 2 ^ 64 → cut_point_lines_so_far F.of_piece splitter.new.bytes splitter.new.ended
+    ensures added { IfOk result (λ added. length splitter.new.bytes < 2 ^ 64 →
+        cut_point_lines_so_far F.of_piece splitter.new.bytes splitter.new.ended
         ≡ cut_point_lines_so_far F.of_piece splitter.old.bytes splitter.old.ended ++ added.items) }
 {
     units_stay();
@@ -162,8 +170,10 @@ fn lines_of_units_left<F: ListingForm>(
     counts: &mut PieceCounts,
 ) -> Result<String, OutOfMemory>
     requires { splitter.old.failed ≡ false }
-    ensures text { IfOk result (λ text. string_bytes text ≡ cut_point_lines F.of_piece counts.old (units_left max_unit splitter.old)) }
-    ensures counts { OnOk result (counts.new ≡ counted_all counts.old (units_left max_unit splitter.old)) }
+    ensures text { IfOk result (λ text. string_bytes text
+        ≡ cut_point_lines F.of_piece counts.old (units_left max_unit splitter.old)) }
+    ensures counts { OnOk result (counts.new
+        ≡ counted_all counts.old (units_left max_unit splitter.old)) }
     ensures taken { OnOk result (splitter.new ≡ after_units_left max_unit splitter.old) }
 {
     let mut text = String::new(alloc);
@@ -181,7 +191,8 @@ fn add_unit<F: ListingForm>(
     counts: &mut PieceCounts,
     unit: &Unit,
 ) -> Result<(), OutOfMemory>
-    ensures text { OnOk result (string_bytes text.new ≡ string_bytes text.old ++ line_of_piece F.of_piece (piece_over counts.old unit.now)) }
+    ensures text { OnOk result (string_bytes text.new ≡ string_bytes text.old
+        ++ line_of_piece F.of_piece (piece_over counts.old unit.now)) }
     ensures counts { OnOk result (counts.new ≡ counted counts.old unit.now) }
 {
     let over = counts.count(alloc, unit)?;
@@ -196,7 +207,8 @@ fn add_line<F: ListingForm>(
     text: &mut String,
     piece: Option<PieceFacts>,
 ) -> Result<(), OutOfMemory>
-    ensures { OnOk result (string_bytes text.new ≡ string_bytes text.old ++ line_of_piece F.of_piece piece) }
+    ensures { OnOk result (string_bytes text.new ≡ string_bytes text.old
+        ++ line_of_piece F.of_piece piece) }
 {
     if let Some(facts) = piece {
         form.add_piece(alloc, text, facts)?;

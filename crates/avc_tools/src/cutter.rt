@@ -69,7 +69,8 @@ impl Cutter {
         unit: &Unit,
         piece: &mut Vec<u8>,
     ) -> Result<(), OutOfMemory>
-        ensures { OnOk result ((s : Stage) → StandsAt s self.old → IsCutOn s (next s unit.now) self.new piece.old.items piece.new.items) }
+        ensures { OnOk result ((s : Stage) → StandsAt s self.old →
+            IsCutOn s (next s unit.now) self.new piece.old.items piece.new.items) }
     {
         match self.phase {
             CutPhase::Waiting => self.wait_on(alloc, unit, piece),
@@ -86,7 +87,8 @@ impl Cutter {
         piece: &mut Vec<u8>,
     ) -> Result<(), OutOfMemory>
         requires { self.old.phase ≡ phases.Waiting }
-        ensures { OnOk result ((s : Stage) → StandsAt s self.old → IsCutOn s (next s unit.now) self.new piece.old.items piece.new.items) }
+        ensures { OnOk result ((s : Stage) → StandsAt s self.old →
+            IsCutOn s (next s unit.now) self.new piece.old.items piece.new.items) }
     {
         if is_start(alloc, unit)? {
             if self.left == 0 {
@@ -105,9 +107,14 @@ impl Cutter {
     fn pass_over(&mut self, alloc: Global, unit: &Unit) -> Result<(), OutOfMemory>
         ensures phase { self.new.phase ≡ self.old.phase }
         ensures left { self.new.left ≡ self.old.left }
-        ensures sps { OnOk result (AreReplaced is_sps sps_record (set_unit unit.now) (written unit.now) self.old.sets.sps.items self.new.sets.sps.items) }
-        ensures pps { OnOk result (AreReplaced is_pps pps_record (set_unit unit.now) (written unit.now) self.old.sets.pps.items self.new.sets.pps.items) }
-        ensures held { OnOk result ((before : List Piece) → self.old.held.items ≡ leading before → self.new.held.items ≡ leading (before ++ unit.now ∷ [])) }
+        ensures sps { OnOk result
+            (AreReplaced is_sps sps_record (set_unit unit.now) (written unit.now)
+            self.old.sets.sps.items self.new.sets.sps.items) }
+        ensures pps { OnOk result
+            (AreReplaced is_pps pps_record (set_unit unit.now) (written unit.now)
+            self.old.sets.pps.items self.new.sets.pps.items) }
+        ensures held { OnOk result ((before : List Piece) → self.old.held.items ≡ leading before →
+            self.new.held.items ≡ leading (before ++ unit.now ∷ [])) }
     {
         self.sets.take_in(alloc, unit)?;
         hold_leading(&mut self.held, unit)?;
@@ -140,7 +147,8 @@ impl Cutter {
         piece: &mut Vec<u8>,
     ) -> Result<(), OutOfMemory>
         requires { self.old.phase ≡ phases.Writing }
-        ensures { OnOk result ((s : Stage) → StandsAt s self.old → IsCutOn s (next s unit.now) self.new piece.old.items piece.new.items) }
+        ensures { OnOk result ((s : Stage) → StandsAt s self.old →
+            IsCutOn s (next s unit.now) self.new piece.old.items piece.new.items) }
     {
         if is_start(alloc, unit)? {
             piece.extend_from_slice(&self.staying)?;
@@ -161,7 +169,8 @@ impl Cutter {
 
     /// At the end of the stream, adds what was held.
     pub(crate) fn write_held(&self, piece: &mut Vec<u8>) -> Result<(), OutOfMemory>
-        ensures { OnOk result ((s : Stage) → StandsAt s self.now → IsCutOff s piece.old.items piece.new.items) }
+        ensures { OnOk result ((s : Stage) → StandsAt s self.now →
+            IsCutOff s piece.old.items piece.new.items) }
     {
         match self.phase {
             CutPhase::Waiting | CutPhase::Over => Ok(()),
@@ -175,7 +184,8 @@ impl Cutter {
 
 // What leads the next picture, once this unit has come.
 fn hold_leading(held: &mut Vec<u8>, unit: &Unit) -> Result<(), OutOfMemory>
-    ensures { OnOk result ((before : List Piece) → held.old.items ≡ leading before → held.new.items ≡ leading (before ++ unit.now ∷ [])) }
+    ensures { OnOk result ((before : List Piece) → held.old.items ≡ leading before →
+        held.new.items ≡ leading (before ++ unit.now ∷ [])) }
 {
     if is_slice(unit) {
         held.clear();

@@ -78,7 +78,11 @@ impl<F> Model for HeaderLines<F> {
 
     ghost Value = { StreamSoFar };
 
-    ghost view = { λ l. record { bytes = l.splitter.bytes; ended = l.splitter.ended; failed = l.failed } };
+    ghost view = { λ l. record {
+      bytes = l.splitter.bytes;
+      ended = l.splitter.ended;
+      failed = l.failed;
+    } };
 
     ghost invariant = { λ l. l.failed ≡ false → AreShown max_unit l.splitter l.reader };
 }
@@ -146,9 +150,11 @@ fn lines_fed<F: ListingForm>(
     piece: &[u8],
 ) -> Result<Vec<u8>, OutOfMemory>
     requires { AreShown max_unit splitter.old reader.old }
-    ensures taken { OnOk result (splitter.new ≡ after_units_left max_unit (after_feed splitter.old piece.now)) }
+    ensures taken { OnOk result (splitter.new
+        ≡ after_units_left max_unit (after_feed splitter.old piece.now)) }
     ensures shown { OnOk result (AreShown max_unit splitter.new reader.new) }
-    ensures added { IfOk result (λ added. length splitter.new.bytes < 2 ^ 64 → header_lines_so_far F.of_header splitter.new.bytes splitter.new.ended
+    ensures added { IfOk result (λ added. length splitter.new.bytes < 2 ^ 64 →
+        header_lines_so_far F.of_header splitter.new.bytes splitter.new.ended
         ≡ header_lines_so_far F.of_header splitter.old.bytes splitter.old.ended ++ added.items) }
 {
     units_stay();
@@ -165,9 +171,11 @@ fn lines_at_end<F: ListingForm>(
     reader: &mut HeaderReader,
 ) -> Result<Vec<u8>, OutOfMemory>
     requires { AreShown max_unit splitter.old reader.old }
-    ensures taken { OnOk result (splitter.new ≡ after_units_left max_unit (after_finish splitter.old)) }
+    ensures taken { OnOk result (splitter.new
+        ≡ after_units_left max_unit (after_finish splitter.old)) }
     ensures shown { OnOk result (AreShown max_unit splitter.new reader.new) }
-    ensures added { IfOk result (λ added. length splitter.new.bytes < 2 ^ 64 → header_lines_so_far F.of_header splitter.new.bytes splitter.new.ended
+    ensures added { IfOk result (λ added. length splitter.new.bytes < 2 ^ 64 →
+        header_lines_so_far F.of_header splitter.new.bytes splitter.new.ended
         ≡ header_lines_so_far F.of_header splitter.old.bytes splitter.old.ended ++ added.items) }
 {
     units_stay();
@@ -184,8 +192,10 @@ fn lines_of_headers_left<F: ListingForm>(
     reader: &mut HeaderReader,
 ) -> Result<String, OutOfMemory>
     requires { splitter.old.failed ≡ false }
-    ensures text { IfOk result (λ text. string_bytes text ≡ header_lines_under F.of_header reader.old (units_left max_unit splitter.old)) }
-    ensures sets { OnOk result (reader.new ≡ reader.old ++ set_units (units_left max_unit splitter.old)) }
+    ensures text { IfOk result (λ text. string_bytes text
+        ≡ header_lines_under F.of_header reader.old (units_left max_unit splitter.old)) }
+    ensures sets { OnOk result (reader.new ≡ reader.old
+        ++ set_units (units_left max_unit splitter.old)) }
     ensures taken { OnOk result (splitter.new ≡ after_units_left max_unit splitter.old) }
 {
     let mut text = String::new(alloc);
@@ -201,7 +211,8 @@ pub(crate) fn add_header_line(
     reader: &mut HeaderReader,
     unit: &Unit,
 ) -> Result<(), OutOfMemory>
-    ensures text { OnOk result (string_bytes text.new ≡ string_bytes text.old ++ header_line (sets_after reader.old) unit.now) }
+    ensures text { OnOk result (string_bytes text.new ≡ string_bytes text.old
+        ++ header_line (sets_after reader.old) unit.now) }
     ensures sets { OnOk result (reader.new ≡ reader.old ++ set_units (unit.now ∷ [])) }
 {
     let brought = reader.read(unit)?;
@@ -215,7 +226,8 @@ fn add_brought(
     index: u64,
     brought: &Brought,
 ) -> Result<(), OutOfMemory>
-    ensures { OnOk result (string_bytes text.new ≡ string_bytes text.old ++ line_of index (text_of (sets_after reader.now) brought.now)) }
+    ensures { OnOk result (string_bytes text.new ≡ string_bytes text.old
+        ++ line_of index (text_of (sets_after reader.now) brought.now)) }
 {
     match brought {
         Brought::Nothing => Ok(()),
@@ -226,7 +238,8 @@ fn add_brought(
 }
 
 fn add_set(text: &mut String, index: u64, set: &ParameterSet) -> Result<(), OutOfMemory>
-    ensures { OnOk result (string_bytes text.new ≡ string_bytes text.old ++ line_of index (Some (set_text set.now))) }
+    ensures { OnOk result (string_bytes text.new ≡ string_bytes text.old
+        ++ line_of index (Some (set_text set.now))) }
 {
     match set {
         ParameterSet::OfSequence(Ok(sps)) => add_sps_line(text, index, sps),
@@ -237,7 +250,8 @@ fn add_set(text: &mut String, index: u64, set: &ParameterSet) -> Result<(), OutO
 }
 
 fn add_refusal(text: &mut String, index: u64, fault: Fault) -> Result<(), OutOfMemory>
-    ensures { OnOk result (string_bytes text.new ≡ string_bytes text.old ++ line_of index (Some (refused_text fault))) }
+    ensures { OnOk result (string_bytes text.new ≡ string_bytes text.old
+        ++ line_of index (Some (refused_text fault))) }
 {
     let number = fault.number();
     let name = fault.name();
@@ -260,7 +274,8 @@ fn end_line(text: &mut String) -> Result<(), OutOfMemory>
 }
 
 fn add_sps_line(text: &mut String, index: u64, sps: &Sps) -> Result<(), OutOfMemory>
-    ensures { OnOk result (string_bytes text.new ≡ string_bytes text.old ++ line_of index (Some (sps_text sps.now))) }
+    ensures { OnOk result (string_bytes text.new ≡ string_bytes text.old
+        ++ line_of index (Some (sps_text sps.now))) }
 {
     begin_line(text, index)?;
     add_sps_identity(text, sps)?;
@@ -340,7 +355,8 @@ pub fn order_type(order: &OrderCount) -> u8
 }
 
 fn add_pps_line(text: &mut String, index: u64, pps: &Pps) -> Result<(), OutOfMemory>
-    ensures { OnOk result (string_bytes text.new ≡ string_bytes text.old ++ line_of index (Some (pps_text pps.now))) }
+    ensures { OnOk result (string_bytes text.new ≡ string_bytes text.old
+        ++ line_of index (Some (pps_text pps.now))) }
 {
     begin_line(text, index)?;
     add_pps_identity(text, pps)?;
@@ -398,7 +414,8 @@ fn add_slice_line(
     reader: &HeaderReader,
     header: &Header,
 ) -> Result<(), OutOfMemory>
-    ensures { OnOk result (string_bytes text.new ≡ string_bytes text.old ++ line_of index (Some (slice_text (sets_after reader.now) header.now))) }
+    ensures { OnOk result (string_bytes text.new ≡ string_bytes text.old
+        ++ line_of index (Some (slice_text (sets_after reader.now) header.now))) }
 {
     begin_line(text, index)?;
     add_slice_place(text, header)?;
@@ -409,7 +426,8 @@ fn add_slice_line(
 }
 
 fn add_slice_place(text: &mut String, header: &Header) -> Result<(), OutOfMemory>
-    ensures { OnOk result (string_bytes text.new ≡ string_bytes text.old ++ slice_place header.now) }
+    ensures { OnOk result (string_bytes text.new ≡ string_bytes text.old
+        ++ slice_place header.now) }
 {
     let first = header.first_mb_in_slice.get();
     let slice_type = type_name(header);
@@ -418,7 +436,8 @@ fn add_slice_place(text: &mut String, header: &Header) -> Result<(), OutOfMemory
 }
 
 fn add_slice_picture(text: &mut String, header: &Header) -> Result<(), OutOfMemory>
-    ensures { OnOk result (string_bytes text.new ≡ string_bytes text.old ++ slice_picture header.now) }
+    ensures { OnOk result (string_bytes text.new ≡ string_bytes text.old
+        ++ slice_picture header.now) }
 {
     let pps = header.pic_parameter_set_id;
     let frame = header.frame_num;
@@ -431,7 +450,8 @@ fn add_slice_fields(
     reader: &HeaderReader,
     header: &Header,
 ) -> Result<(), OutOfMemory>
-    ensures { OnOk result (string_bytes text.new ≡ string_bytes text.old ++ slice_fields (sets_after reader.now) header.now) }
+    ensures { OnOk result (string_bytes text.new ≡ string_bytes text.old
+        ++ slice_fields (sets_after reader.now) header.now) }
 {
     let qp = slice_qp_under(reader.pps(header.pic_parameter_set_id), header);
     let idr = flag_number(header.is_idr());

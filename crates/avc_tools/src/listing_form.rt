@@ -48,7 +48,8 @@ pub trait ListingForm {
         reader: &mut HeaderReader,
         unit: &Unit,
     ) -> Result<(), OutOfMemory>
-        ensures text { OnOk result (string_bytes text.new ≡ string_bytes text.old ++ of_header (sets_after reader.old) unit.now) }
+        ensures text { OnOk result (string_bytes text.new ≡ string_bytes text.old
+            ++ of_header (sets_after reader.old) unit.now) }
         ensures sets { OnOk result (reader.new ≡ reader.old ++ set_units (unit.now ∷ [])) };
 
     /// Adds the line of a piece.

@@ -59,7 +59,8 @@ impl<const MAX: usize> Losses<MAX> {
 
     /// Takes the next bytes of the stream.
     pub fn feed(&mut self, piece: &[u8]) -> Result<(), OutOfMemory>
-        ensures { OnOk result (self.new ≡ record self.old { units = after_feed self.old.units piece.now }) }
+        ensures { OnOk result (self.new
+            ≡ record self.old { units = after_feed self.old.units piece.now }) }
     {
         self.splitter.feed(piece)
     }

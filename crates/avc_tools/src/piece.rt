@@ -40,7 +40,8 @@ pub(crate) fn piece_at(
 // The units after a cut point that its piece has.
 fn write_rest(piece: &mut Vec<u8>, after: &[Unit], starts: &[bool]) -> Result<(), OutOfMemory>
     requires { starts.now ≡ map is_start after.now }
-    ensures { OnOk result (piece.new.items ≡ piece.old.items ++ flat_map written (rest_of_piece after.now)) }
+    ensures { OnOk result (piece.new.items ≡ piece.old.items
+        ++ flat_map written (rest_of_piece after.now)) }
 {
     let end = count_before_start(starts);
     if end >= after.len() {
@@ -64,7 +65,8 @@ fn write_units(piece: &mut Vec<u8>, units: &[Unit]) -> Result<(), OutOfMemory>
 }
 
 fn write_leads(piece: &mut Vec<u8>, units: &[Unit]) -> Result<(), OutOfMemory>
-    ensures { OnOk result (piece.new.items ≡ piece.old.items ++ flat_map written (filter leads units.now)) }
+    ensures { OnOk result (piece.new.items ≡ piece.old.items
+        ++ flat_map written (filter leads units.now)) }
 {
     for unit in units {
         write_if(piece, unit, leads(unit))?;
@@ -73,7 +75,8 @@ fn write_leads(piece: &mut Vec<u8>, units: &[Unit]) -> Result<(), OutOfMemory>
 }
 
 fn write_not_left_out(piece: &mut Vec<u8>, units: &[Unit]) -> Result<(), OutOfMemory>
-    ensures { OnOk result (piece.new.items ≡ piece.old.items ++ flat_map written (filter (λ u. not (is_left_out u)) units.now)) }
+    ensures { OnOk result (piece.new.items ≡ piece.old.items
+        ++ flat_map written (filter (λ u. not (is_left_out u)) units.now)) }
 {
     for unit in units {
         write_if(piece, unit, !is_left_out(unit))?;

@@ -31,7 +31,12 @@ impl Model for PieceCounts {
 
     ghost Value = { CountedPieces };
 
-    ghost view = { λ c. record { sets = c.reader; last = c.last; number = c.number; piece = c.piece } };
+    ghost view = { λ c. record {
+      sets = c.reader;
+      last = c.last;
+      number = c.number;
+      piece = c.piece;
+    } };
 }
 
 impl PieceCounts {

@@ -67,7 +67,8 @@ impl PieceText {
     /// Whether there is such a piece in what came of the stream.
     pub fn has_begun(&self) -> bool
         ensures { self.now.stream.failed ≡ false → length self.now.stream.bytes < 2 ^ 64
-            → result ≡ is_some (numbered_piece self.now.number self.now.stream.bytes self.now.stream.ended) }
+            → result ≡ is_some
+            (numbered_piece self.now.number self.now.stream.bytes self.now.stream.ended) }
     {
         match self.cutter.phase {
             CutPhase::Waiting => false,
@@ -129,11 +130,16 @@ fn cut_on(
 ) -> Result<Vec<u8>, OutOfMemory>
     requires drained { IsDrained max_unit splitter.old }
     requires ended { ended ≡ splitter.old.ended }
-    ensures taken { OnOk result (splitter.new ≡ after_units_left max_unit (after_feed splitter.old piece.now)) }
-    ensures cutting { OnOk result ((number : ℕ) → IsCutting max_unit number splitter.old ended cutter.old
+    ensures taken { OnOk result (splitter.new
+        ≡ after_units_left max_unit (after_feed splitter.old piece.now)) }
+    ensures cutting { OnOk result ((number : ℕ) →
+        IsCutting max_unit number splitter.old ended cutter.old
         → IsCutting max_unit number splitter.new ended cutter.new) }
-    ensures added { IfOk result (λ added. (number : ℕ) → IsCutting max_unit number splitter.old ended cutter.old → length splitter.new.bytes < 2 ^ 64
-        → piece_text number splitter.new.bytes splitter.new.ended ≡ piece_text number splitter.old.bytes splitter.old.ended ++ added.items) }
+    ensures added { IfOk result (λ added. (number : ℕ) →
+        IsCutting max_unit number splitter.old ended cutter.old →
+        length splitter.new.bytes < 2 ^ 64
+        → piece_text number splitter.new.bytes splitter.new.ended
+        ≡ piece_text number splitter.old.bytes splitter.old.ended ++ added.items) }
 {
     units_stay();
     if ended {
@@ -153,11 +159,16 @@ fn cut_off(
 ) -> Result<Vec<u8>, OutOfMemory>
     requires drained { IsDrained max_unit splitter.old }
     requires ended { ended ≡ splitter.old.ended }
-    ensures taken { OnOk result (splitter.new ≡ after_units_left max_unit (after_finish splitter.old)) }
-    ensures cutting { OnOk result ((number : ℕ) → IsCutting max_unit number splitter.old ended cutter.old
+    ensures taken { OnOk result (splitter.new
+        ≡ after_units_left max_unit (after_finish splitter.old)) }
+    ensures cutting { OnOk result ((number : ℕ) →
+        IsCutting max_unit number splitter.old ended cutter.old
         → IsCutting max_unit number splitter.new true cutter.new) }
-    ensures added { IfOk result (λ added. (number : ℕ) → IsCutting max_unit number splitter.old ended cutter.old → length splitter.new.bytes < 2 ^ 64
-        → piece_text number splitter.new.bytes splitter.new.ended ≡ piece_text number splitter.old.bytes splitter.old.ended ++ added.items) }
+    ensures added { IfOk result (λ added. (number : ℕ) →
+        IsCutting max_unit number splitter.old ended cutter.old →
+        length splitter.new.bytes < 2 ^ 64
+        → piece_text number splitter.new.bytes splitter.new.ended
+        ≡ piece_text number splitter.old.bytes splitter.old.ended ++ added.items) }
 {
     units_stay();
     if ended {

@@ -42,8 +42,12 @@ impl SetsInForce {
 
     /// Takes the next unit.
     pub(crate) fn take_in(&mut self, alloc: Global, unit: &Unit) -> Result<(), OutOfMemory>
-        ensures sps { OnOk result (AreReplaced is_sps sps_record (set_unit unit.now) (written unit.now) self.old.sps.items self.new.sps.items) }
-        ensures pps { OnOk result (AreReplaced is_pps pps_record (set_unit unit.now) (written unit.now) self.old.pps.items self.new.pps.items) }
+        ensures sps { OnOk result
+            (AreReplaced is_sps sps_record (set_unit unit.now) (written unit.now) self.old.sps.items
+            self.new.sps.items) }
+        ensures pps { OnOk result
+            (AreReplaced is_pps pps_record (set_unit unit.now) (written unit.now) self.old.pps.items
+            self.new.pps.items) }
     {
         match read_set(alloc, unit)? {
             Some(set) => self.take_set(alloc, unit, &set),
@@ -59,8 +63,12 @@ impl SetsInForce {
         set: &ParameterSet,
     ) -> Result<(), OutOfMemory>
         requires { option_map parameter_set (set_unit unit.now) ≡ Some set.now }
-        ensures sps { OnOk result (AreReplaced is_sps sps_record (set_unit unit.now) (written unit.now) self.old.sps.items self.new.sps.items) }
-        ensures pps { OnOk result (AreReplaced is_pps pps_record (set_unit unit.now) (written unit.now) self.old.pps.items self.new.pps.items) }
+        ensures sps { OnOk result
+            (AreReplaced is_sps sps_record (set_unit unit.now) (written unit.now) self.old.sps.items
+            self.new.sps.items) }
+        ensures pps { OnOk result
+            (AreReplaced is_pps pps_record (set_unit unit.now) (written unit.now) self.old.pps.items
+            self.new.pps.items) }
     {
         let written = written_unit(alloc, unit)?;
         match set {
@@ -90,7 +98,8 @@ fn no_units(alloc: Global, count: usize) -> Result<Vec<Option<Bytes>>, OutOfMemo
 // is none: then it erases the one before.
 fn put(units: &mut Vec<Option<Bytes>>, id: Option<u8>, unit: Option<Bytes>)
     ensures long { length units.new.items ≡ length units.old.items }
-    ensures units { (k : ℕ) → k < length units.old.items → stored units.new.items k ≡ (if is_id k id then unit else stored units.old.items k) }
+    ensures units { (k : ℕ) → k < length units.old.items → stored units.new.items k
+        ≡ (if is_id k id then unit else stored units.old.items k) }
 {
     if let Some(id) = id {
         let id = usize::from(id);

@@ -25,7 +25,9 @@ pub trait StreamText {
     fn feed(&mut self, piece: &[u8]) -> Result<Vec<u8>, OutOfMemory>
         ensures so_far { OnOk result (so_far self.new ≡ after_piece (so_far self.old) piece.now) }
         ensures number { OnOk result (number self.new ≡ number self.old) }
-        ensures added { IfOk result (λ added. Adds (text (number self.old)) (so_far self.old) (so_far self.new) added.items) }
+        ensures added { IfOk result
+            (λ added. Adds (text (number self.old)) (so_far self.old) (so_far self.new)
+            added.items) }
         ensures going { OnOk result ((so_far self.old).failed ≡ false) }
         ensures err { OnErr result ((so_far self.new).failed ≡ true) };
 
@@ -34,7 +36,9 @@ pub trait StreamText {
     fn finish(&mut self) -> Result<Vec<u8>, OutOfMemory>
         ensures so_far { OnOk result (so_far self.new ≡ after_end (so_far self.old)) }
         ensures number { OnOk result (number self.new ≡ number self.old) }
-        ensures added { IfOk result (λ added. Adds (text (number self.old)) (so_far self.old) (so_far self.new) added.items) }
+        ensures added { IfOk result
+            (λ added. Adds (text (number self.old)) (so_far self.old) (so_far self.new)
+            added.items) }
         ensures going { OnOk result ((so_far self.old).failed ≡ false) }
         ensures err { OnErr result ((so_far self.new).failed ≡ true) };
 

@@ -101,10 +101,14 @@ fn tail_on(
     piece: &[u8],
 ) -> Result<Vec<u8>, OutOfMemory>
     requires { IsDrained max_unit splitter.old }
-    ensures taken { OnOk result (splitter.new ≡ after_units_left max_unit (after_feed splitter.old piece.now)) }
-    ensures tail { OnOk result ((number : ℕ) → IsInTail max_unit number splitter.old cutter.old → IsInTail max_unit number splitter.new cutter.new) }
-    ensures added { IfOk result (λ added. (number : ℕ) → IsInTail max_unit number splitter.old cutter.old → length splitter.new.bytes < 2 ^ 64
-        → tail_text number splitter.new.bytes splitter.new.ended ≡ tail_text number splitter.old.bytes splitter.old.ended ++ added.items) }
+    ensures taken { OnOk result (splitter.new
+        ≡ after_units_left max_unit (after_feed splitter.old piece.now)) }
+    ensures tail { OnOk result ((number : ℕ) → IsInTail max_unit number splitter.old cutter.old →
+        IsInTail max_unit number splitter.new cutter.new) }
+    ensures added { IfOk result (λ added. (number : ℕ) →
+        IsInTail max_unit number splitter.old cutter.old → length splitter.new.bytes < 2 ^ 64
+        → tail_text number splitter.new.bytes splitter.new.ended
+        ≡ tail_text number splitter.old.bytes splitter.old.ended ++ added.items) }
 {
     units_stay();
     splitter.feed(piece)?;
@@ -119,10 +123,14 @@ fn tail_off(
     cutter: &mut Cutter,
 ) -> Result<Vec<u8>, OutOfMemory>
     requires { IsDrained max_unit splitter.old }
-    ensures taken { OnOk result (splitter.new ≡ after_units_left max_unit (after_finish splitter.old)) }
-    ensures tail { OnOk result ((number : ℕ) → IsInTail max_unit number splitter.old cutter.old → IsInTail max_unit number splitter.new cutter.new) }
-    ensures added { IfOk result (λ added. (number : ℕ) → IsInTail max_unit number splitter.old cutter.old → length splitter.new.bytes < 2 ^ 64
-        → tail_text number splitter.new.bytes splitter.new.ended ≡ tail_text number splitter.old.bytes splitter.old.ended ++ added.items) }
+    ensures taken { OnOk result (splitter.new
+        ≡ after_units_left max_unit (after_finish splitter.old)) }
+    ensures tail { OnOk result ((number : ℕ) → IsInTail max_unit number splitter.old cutter.old →
+        IsInTail max_unit number splitter.new cutter.new) }
+    ensures added { IfOk result (λ added. (number : ℕ) →
+        IsInTail max_unit number splitter.old cutter.old → length splitter.new.bytes < 2 ^ 64
+        → tail_text number splitter.new.bytes splitter.new.ended
+        ≡ tail_text number splitter.old.bytes splitter.old.ended ++ added.items) }
 {
     units_stay();
     splitter.finish()?;
@@ -137,7 +145,9 @@ fn tail_units_left(
     cutter: &mut Cutter,
 ) -> Result<Vec<u8>, OutOfMemory>
     requires { splitter.old.failed ≡ false }
-    ensures tail { IfOk result (λ added. IsTailFrom cutter.old cutter.new [] added.items (units_left max_unit splitter.old)) }
+    ensures tail { IfOk result
+        (λ added. IsTailFrom cutter.old cutter.new [] added.items
+        (units_left max_unit splitter.old)) }
     ensures taken { OnOk result (splitter.new ≡ after_units_left max_unit splitter.old) }
 {
     let mut tail = Vec::new(alloc);
@@ -154,7 +164,8 @@ fn add_unit(
     unit: &Unit,
     tail: &mut Vec<u8>,
 ) -> Result<(), OutOfMemory>
-    ensures { OnOk result (IsTailFrom cutter.old cutter.new tail.old.items tail.new.items (unit.now ∷ [])) }
+    ensures { OnOk result
+        (IsTailFrom cutter.old cutter.new tail.old.items tail.new.items (unit.now ∷ [])) }
 {
     match cutter.phase {
         CutPhase::Waiting => cutter.take_in(alloc, unit, tail),

@@ -62,7 +62,11 @@ impl<F> Model for UnitLines<F> {
 
     ghost Value = { StreamSoFar };
 
-    ghost view = { λ l. record { bytes = l.splitter.bytes; ended = l.splitter.ended; failed = l.failed } };
+    ghost view = { λ l. record {
+      bytes = l.splitter.bytes;
+      ended = l.splitter.ended;
+      failed = l.failed;
+    } };
 
     ghost invariant = { λ l. l.failed ≡ false → IsDrained 1 l.splitter };
 }
@@ -122,9 +126,11 @@ fn lines_fed<F: ListingForm>(
     piece: &[u8],
 ) -> Result<Vec<u8>, OutOfMemory>
     requires { IsDrained 1 splitter.old }
-    ensures taken { OnOk result (splitter.new ≡ after_units_left 1 (after_feed splitter.old piece.now)) }
+    ensures taken { OnOk result (splitter.new
+        ≡ after_units_left 1 (after_feed splitter.old piece.now)) }
     ensures drained { OnOk result (IsDrained 1 splitter.new) }
-    ensures added { IfOk result (λ added. unit_lines_so_far F.of_unit splitter.new.bytes splitter.new.ended
+    ensures added { IfOk result
+        (λ added. unit_lines_so_far F.of_unit splitter.new.bytes splitter.new.ended
         ≡ unit_lines_so_far F.of_unit splitter.old.bytes splitter.old.ended ++ added.items) }
 {
     units_stay();
@@ -142,7 +148,8 @@ fn lines_at_end<F: ListingForm>(
     requires { IsDrained 1 splitter.old }
     ensures taken { OnOk result (splitter.new ≡ after_units_left 1 (after_finish splitter.old)) }
     ensures drained { OnOk result (IsDrained 1 splitter.new) }
-    ensures added { IfOk result (λ added. unit_lines_so_far F.of_unit splitter.new.bytes splitter.new.ended
+    ensures added { IfOk result
+        (λ added. unit_lines_so_far F.of_unit splitter.new.bytes splitter.new.ended
         ≡ unit_lines_so_far F.of_unit splitter.old.bytes splitter.old.ended ++ added.items) }
 {
     units_stay();
@@ -158,7 +165,8 @@ fn lines_of_units_left<F: ListingForm>(
     splitter: &mut Splitter<1>,
 ) -> Result<String, OutOfMemory>
     requires { splitter.old.failed ≡ false }
-    ensures text { IfOk result (λ text. string_bytes text ≡ flat_map (line_of_unit F.of_unit) (units_left 1 splitter.old)) }
+    ensures text { IfOk result (λ text. string_bytes text
+        ≡ flat_map (line_of_unit F.of_unit) (units_left 1 splitter.old)) }
     ensures taken { OnOk result (splitter.new ≡ after_units_left 1 splitter.old) }
 {
     let mut text = String::new(alloc);
@@ -174,7 +182,8 @@ fn add_line<F: ListingForm>(
     text: &mut String,
     unit: &Unit,
 ) -> Result<(), OutOfMemory>
-    ensures { OnOk result (string_bytes text.new ≡ string_bytes text.old ++ line_of_unit F.of_unit unit.now) }
+    ensures { OnOk result (string_bytes text.new ≡ string_bytes text.old
+        ++ line_of_unit F.of_unit unit.now) }
 {
     form.add_unit(alloc, text, UnitFacts::of(unit))
 }

@@ -27,7 +27,8 @@ pub(crate) fn write_unit(piece: &mut Vec<u8>, unit: &Unit) -> Result<(), OutOfMe
 
 /// Adds a unit so, where it is wanted.
 pub(crate) fn write_if(piece: &mut Vec<u8>, unit: &Unit, wanted: bool) -> Result<(), OutOfMemory>
-    ensures { OnOk result (piece.new.items ≡ piece.old.items ++ (if wanted then written unit.now else [])) }
+    ensures { OnOk result (piece.new.items ≡ piece.old.items
+        ++ (if wanted then written unit.now else [])) }
 {
     if wanted {
         write_unit(piece, unit)

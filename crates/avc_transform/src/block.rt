@@ -32,7 +32,8 @@ pub fn residual4x4_with_dc(dc: i32, levels: &[i16; 15], qp: u8) -> [i32; 16]
 /// What `residual4x4_with_dc` gives at every sample of a block whose fifteen levels are all 0.
 pub fn residual_of_dc(dc: i32) -> i32
     requires { IsBelow (2 ^ 27) dc }
-    ensures values { (qp : ℕ) (levels : List ℤ) (x y : ℕ) → ((i : ℕ) → level levels i ≡ pos 0) → result ≡ residual4x4_with_dc qp dc levels x y }
+    ensures values { (qp : ℕ) (levels : List ℤ) (x y : ℕ) → ((i : ℕ) → level levels i ≡ pos 0) →
+        result ≡ residual4x4_with_dc qp dc levels x y }
     ensures small { IsBelow (2 ^ 25) result }
 {
     rounded(dc)

@@ -45,7 +45,8 @@ fn fall(residual: i32) -> u8
 /// A sample that is raised and lowered so much.
 #[inline(always)]
 fn moved_sample(sample: u8, rise: u8, fall: u8) -> u8
-    ensures { (z : ℤ) → rise ≡ clip1 z → fall ≡ clip1 (pos 0 -ℤ z) → result ≡ clip1 (pos sample +ℤ z) }
+    ensures { (z : ℤ) → rise ≡ clip1 z → fall ≡ clip1 (pos 0 -ℤ z) →
+        result ≡ clip1 (pos sample +ℤ z) }
 {
     let raised = sample.min(255 - rise) + rise;
     raised.max(fall) - fall
@@ -54,7 +55,8 @@ fn moved_sample(sample: u8, rise: u8, fall: u8) -> u8
 /// Four times each number.
 #[inline(always)]
 fn spread(a: u8, b: u8, c: u8, d: u8) -> [u8; 16]
-    ensures { (f : ℕ → ℕ) → a ≡ f 0 → b ≡ f 1 → c ≡ f 2 → d ≡ f 3 → (i : ℕ) → i < 16 → slice_index result i ≡ f (i / 4) }
+    ensures { (f : ℕ → ℕ) → a ≡ f 0 → b ≡ f 1 → c ≡ f 2 → d ≡ f 3 → (i : ℕ) → i < 16 →
+        slice_index result i ≡ f (i / 4) }
 {
     [a, a, a, a, b, b, b, b, c, c, c, c, d, d, d, d]
 }
@@ -66,7 +68,8 @@ fn moves_of_four(a: i32, b: i32, c: i32, d: i32) -> Moves
     requires second { IsBelow (2 ^ 25) b }
     requires third { IsBelow (2 ^ 25) c }
     requires fourth { IsBelow (2 ^ 25) d }
-    ensures { (f : ℕ → ℤ) → a ≡ f 0 → b ≡ f 1 → c ≡ f 2 → d ≡ f 3 → AreMovesOf (λ i. f (i / 4)) result }
+    ensures { (f : ℕ → ℤ) → a ≡ f 0 → b ≡ f 1 → c ≡ f 2 → d ≡ f 3 →
+        AreMovesOf (λ i. f (i / 4)) result }
 {
     Moves {
         rises: spread(rise(a), rise(b), rise(c), rise(d)),
@@ -77,7 +80,8 @@ fn moves_of_four(a: i32, b: i32, c: i32, d: i32) -> Moves
 /// Sixteen samples with their residuals (8.5.14): each sum held to 0 to 255.
 #[inline(always)]
 fn moved(samples: &[u8; 16], moves: &Moves) -> [u8; 16]
-    ensures { (f : ℕ → ℤ) → AreMovesOf f moves.now → (i : ℕ) → i < 16 → slice_index result i ≡ clip1 (pos (slice_index samples.now i) +ℤ f i) }
+    ensures { (f : ℕ → ℤ) → AreMovesOf f moves.now → (i : ℕ) → i < 16 → slice_index result i
+        ≡ clip1 (pos (slice_index samples.now i) +ℤ f i) }
 {
     let mut sums = [0; 16];
     for i in 0..16 {
@@ -103,9 +107,11 @@ fn sixteen_from(samples: &[u8; 64], first: usize) -> [u8; 16]
 #[inline(always)]
 fn put_sixteen(samples: &mut [u8; 64], first: usize, sixteen: &[u8; 16])
     requires { first + 16 ≤ 64 }
-    ensures here { (i : ℕ) → i < 16 → slice_index samples.new (first + i) ≡ slice_index sixteen.now i }
+    ensures here { (i : ℕ) → i < 16 → slice_index samples.new (first + i)
+        ≡ slice_index sixteen.now i }
     ensures before { (j : ℕ) → j < first → slice_index samples.new j ≡ slice_index samples.old j }
-    ensures behind { (j : ℕ) → first + 16 ≤ j → slice_index samples.new j ≡ slice_index samples.old j }
+    ensures behind { (j : ℕ) → first + 16 ≤ j → slice_index samples.new j
+        ≡ slice_index samples.old j }
 {
     for i in 0..16 {
         samples[first + i] = sixteen[i];
@@ -117,9 +123,11 @@ fn put_sixteen(samples: &mut [u8; 64], first: usize, sixteen: &[u8; 16])
 fn move_sixteen(samples: &mut [u8; 64], first: usize, moves: &Moves)
     requires { first + 16 ≤ 64 }
     ensures here { (f : ℕ → ℤ) → AreMovesOf f moves.now → (i : ℕ) → i < 16 →
-        slice_index samples.new (first + i) ≡ clip1 (pos (slice_index samples.old (first + i)) +ℤ f i) }
+        slice_index samples.new (first + i)
+        ≡ clip1 (pos (slice_index samples.old (first + i)) +ℤ f i) }
     ensures before { (j : ℕ) → j < first → slice_index samples.new j ≡ slice_index samples.old j }
-    ensures behind { (j : ℕ) → first + 16 ≤ j → slice_index samples.new j ≡ slice_index samples.old j }
+    ensures behind { (j : ℕ) → first + 16 ≤ j → slice_index samples.new j
+        ≡ slice_index samples.old j }
 {
     let sums = moved(&sixteen_from(samples, first), moves);
     put_sixteen(samples, first, &sums);
@@ -129,7 +137,8 @@ fn move_sixteen(samples: &mut [u8; 64], first: usize, moves: &Moves)
 /// sixteen of the second in another.
 #[inline(always)]
 fn moved_halves(samples: &[u8; 64], upper: &Moves, lower: &Moves) -> [u8; 64]
-    ensures { (f : ℕ → ℤ) → AreMovesOf (λ i. f (0 + i)) upper.now → AreMovesOf (λ i. f (16 + i)) upper.now
+    ensures { (f : ℕ → ℤ) → AreMovesOf (λ i. f (0 + i)) upper.now →
+        AreMovesOf (λ i. f (16 + i)) upper.now
         → AreMovesOf (λ i. f (32 + i)) lower.now → AreMovesOf (λ i. f (48 + i)) lower.now
         → (i : ℕ) → i < 64 → slice_index result i ≡ clip1 (pos (slice_index samples.now i) +ℤ f i) }
 {
@@ -146,7 +155,8 @@ fn moved_halves(samples: &[u8; 64], upper: &Moves, lower: &Moves) -> [u8; 64]
 #[inline(always)]
 pub fn add_to_row(samples: &[u8; 64], residuals: [i32; 4]) -> [u8; 64]
     requires { AllBelow 4 (2 ^ 25) residuals }
-    ensures { (i : ℕ) → i < 64 → slice_index result i ≡ clip1 (pos (slice_index samples.now i) +ℤ slice_index_or residuals (i % 16 / 4) (pos 0)) }
+    ensures { (i : ℕ) → i < 64 → slice_index result i
+        ≡ clip1 (pos (slice_index samples.now i) +ℤ slice_index_or residuals (i % 16 / 4) (pos 0)) }
 {
     let moves = moves_of_four(residuals[0], residuals[1], residuals[2], residuals[3]);
     moved_halves(samples, &moves, &moves)
@@ -158,7 +168,8 @@ pub fn add_to_row(samples: &[u8; 64], residuals: [i32; 4]) -> [u8; 64]
 pub fn add_to_square(samples: &[u8; 64], residuals: [i32; 4]) -> [u8; 64]
     requires { AllBelow 4 (2 ^ 25) residuals }
     ensures { (i : ℕ) → i < 64 → slice_index result i ≡
-        clip1 (pos (slice_index samples.now i) +ℤ slice_index_or residuals (2 * (i / 32) + i % 8 / 4) (pos 0)) }
+        clip1 (pos (slice_index samples.now i)
+        +ℤ slice_index_or residuals (2 * (i / 32) + i % 8 / 4) (pos 0)) }
 {
     let upper = moves_of_four(residuals[0], residuals[1], residuals[0], residuals[1]);
     let lower = moves_of_four(residuals[2], residuals[3], residuals[2], residuals[3]);
@@ -169,7 +180,8 @@ pub fn add_to_square(samples: &[u8; 64], residuals: [i32; 4]) -> [u8; 64]
 /// each sum held to 0 to 255.
 pub fn add_clip(prediction: &[u8; 16], residual: &[i32; 16]) -> [u8; 16]
     requires { AllBelow 16 (2 ^ 25) residual.now }
-    ensures { (i : ℕ) → i < 16 → slice_index result i ≡ clip1 (pos (slice_index prediction.now i) +ℤ slice_index_or residual.now i (pos 0)) }
+    ensures { (i : ℕ) → i < 16 → slice_index result i
+        ≡ clip1 (pos (slice_index prediction.now i) +ℤ slice_index_or residual.now i (pos 0)) }
 {
     let mut samples = [0; 16];
     for i in 0..16 {

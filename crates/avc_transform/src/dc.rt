@@ -19,8 +19,10 @@ fn hadamard_row(a: i32, b: i32, c: i32, d: i32) -> [i32; 4]
     requires small1 { IsBelow (2 ^ 14) b }
     requires small2 { IsBelow (2 ^ 14) c }
     requires small3 { IsBelow (2 ^ 14) d }
-    ensures values { (x : ℕ) → x < 4 → slice_index_or result x (pos 0) ≡ hadamard_row (λ u. slice_index_or (a ∷ b ∷ c ∷ d ∷ []) u (pos 0)) x }
-    ensures small { (x n : ℕ) → x < 4 → IsBelow n a → IsBelow n b → IsBelow n c → IsBelow n d → IsBelow (4 * n) (slice_index_or result x (pos 0)) }
+    ensures values { (x : ℕ) → x < 4 → slice_index_or result x (pos 0)
+        ≡ hadamard_row (λ u. slice_index_or (a ∷ b ∷ c ∷ d ∷ []) u (pos 0)) x }
+    ensures small { (x n : ℕ) → x < 4 → IsBelow n a → IsBelow n b → IsBelow n c → IsBelow n d →
+        IsBelow (4 * n) (slice_index_or result x (pos 0)) }
 {
     [
         (a + b) + (c + d),
@@ -34,7 +36,8 @@ fn hadamard_row(a: i32, b: i32, c: i32, d: i32) -> [i32; 4]
 #[inline(always)]
 fn hadamard4(d: Lines) -> Lines
     requires { AreBelow (2 ^ 29) d }
-    ensures values { (f : ℕ → ℕ → ℤ) → AreLines f d → AreLines (λ x y. hadamard_row (λ u. f u y) x) result }
+    ensures values { (f : ℕ → ℕ → ℤ) → AreLines f d →
+        AreLines (λ x y. hadamard_row (λ u. f u y) x) result }
     ensures small { (n : ℕ) → AreBelow n d → AreBelow (4 * n) result }
 {
     let e0 = sums(d.d0, d.d1);
@@ -110,7 +113,8 @@ fn chroma_dc_scaled(f: i32, qp: u8) -> i32
 /// (8.5.11.1).
 fn chroma_dc_product(levels: &[i16; 4]) -> [i32; 4]
     requires { AllBelow 4 (2 ^ 12) levels.now }
-    ensures values { (x y : ℕ) → x < 2 → y < 2 → slice_index_or result (2 * y + x) (pos 0) ≡ chroma_dc_product levels.now x y }
+    ensures values { (x y : ℕ) → x < 2 → y < 2 → slice_index_or result (2 * y + x) (pos 0)
+        ≡ chroma_dc_product levels.now x y }
     ensures small { AllBelow 4 (2 ^ 14) result }
 {
     let [whole, below, both, across] = hadamard_row(
@@ -127,7 +131,8 @@ fn chroma_dc_product(levels: &[i16; 4]) -> [i32; 4]
 pub fn chroma_dc(levels: &[i16; 4], qp: u8) -> [i32; 4]
     requires quantiser { qp ≤ 39 }
     requires levels { AllBelow 4 (2 ^ 12) levels.now }
-    ensures values { (x y : ℕ) → x < 2 → y < 2 → slice_index_or result (2 * y + x) (pos 0) ≡ chroma_dc qp levels.now x y }
+    ensures values { (x y : ℕ) → x < 2 → y < 2 → slice_index_or result (2 * y + x) (pos 0)
+        ≡ chroma_dc qp levels.now x y }
     ensures small { AllBelow 4 (2 ^ 27) result }
 {
     let mut out = chroma_dc_product(levels);

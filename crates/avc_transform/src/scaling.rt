@@ -84,7 +84,8 @@ pub fn in_columns(levels: &[i16; 16]) -> Lines
 fn scaled(levels: [i32; 4], scales: [u32; 4]) -> [i32; 4]
     requires levels { AllBelow 4 (2 ^ 12) levels }
     requires scales { (k : ℕ) → k < 4 → slice_index scales k < 2 ^ 13 }
-    ensures values { IsLine (λ k. slice_index_or levels k (pos 0) *ℤ pos (slice_index scales k)) result }
+    ensures values { IsLine (λ k. slice_index_or levels k (pos 0) *ℤ pos (slice_index scales k))
+        result }
     ensures small { AllBelow 4 (2 ^ 25) result }
 {
     [
@@ -122,8 +123,10 @@ fn raised(scales: [u32; 4], power: u32) -> [u32; 4]
 #[inline(always)]
 fn column_scales(qp: u8) -> ColumnScales
     requires { qp ≤ 51 }
-    ensures even { (y : ℕ) → y < 4 → slice_index result.even y ≡ level_scale (qp % 6) 0 y * 2 ^ (qp / 6) }
-    ensures odd { (y : ℕ) → y < 4 → slice_index result.odd y ≡ level_scale (qp % 6) 1 y * 2 ^ (qp / 6) }
+    ensures even { (y : ℕ) → y < 4 → slice_index result.even y
+        ≡ level_scale (qp % 6) 0 y * 2 ^ (qp / 6) }
+    ensures odd { (y : ℕ) → y < 4 → slice_index result.odd y
+        ≡ level_scale (qp % 6) 1 y * 2 ^ (qp / 6) }
     ensures even_small { (y : ℕ) → y < 4 → slice_index result.even y < 2 ^ 13 }
     ensures odd_small { (y : ℕ) → y < 4 → slice_index result.odd y < 2 ^ 13 }
 {

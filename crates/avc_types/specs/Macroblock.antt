@@ -1,12 +1,15 @@
 -- One macroblock as the syntax gives it (7.3.5, 7.4.5).
-use Rattle.std.specs.Prelude.{ℕ, ℤ, List, [], ◌∷◌, ◌++◌, ◌+◌, ◌*◌, ◌/◌, ◌%◌, ◌==◌, nat_abs, not, Option}
+use Rattle.std.specs.Prelude.{ℕ, ℤ, List, [], ◌∷◌, ◌++◌, ◌+◌, ◌*◌, ◌/◌, ◌%◌, ◌==◌, nat_abs, not}
+use Rattle.std.specs.Prelude.{Option}
 use Rattle.std.specs.List.{count_by}
 use Rattle.avc_types.specs.declared.macroblock.Mvd.{Mvd}
 use Rattle.avc_types.specs.declared.macroblock.Part.{Part}
 use Rattle.avc_types.specs.declared.macroblock.SubMbType.{SubMbType}
-use Rattle.avc_types.specs.declared.macroblock.SubMbType.TheVariants.{Sub8x8, Sub8x4, Sub4x8, Sub4x4}
+use Rattle.avc_types.specs.declared.macroblock.SubMbType.TheVariants.{Sub8x8, Sub8x4, Sub4x8}
+use Rattle.avc_types.specs.declared.macroblock.SubMbType.TheVariants.{Sub4x4}
 use Rattle.avc_types.specs.declared.macroblock.PMbType.{PMbType}
-use Rattle.avc_types.specs.declared.macroblock.PMbType.TheVariants.{P16x16, P16x8, P8x16, P8x8, P8x8Ref0}
+use Rattle.avc_types.specs.declared.macroblock.PMbType.TheVariants.{P16x16, P16x8, P8x16, P8x8}
+use Rattle.avc_types.specs.declared.macroblock.PMbType.TheVariants.{P8x8Ref0}
 
 -- The coded differences of one macroblock (7.3.5.3). Where a block is not coded its levels are all
 -- 0.
@@ -76,7 +79,8 @@ parts_of_quarter Sub4x4 x y q =
 -- those of the quarters from q on, one after another (6.4.2.2)
 abbrev pub parts_of_quarters : List SubMbType → ℕ → List Part
 parts_of_quarters [] q = []
-parts_of_quarters (s ∷ subs) q = parts_of_quarter s (quarter_x q) (quarter_y q) q ++ parts_of_quarters subs (q + 1)
+parts_of_quarters (s ∷ subs) q =
+    parts_of_quarter s (quarter_x q) (quarter_y q) q ++ parts_of_quarters subs (q + 1)
 
 -- The parts of a macroblock in decoding order: one for each element of `mvd` (6.4.2, Tables 7-13
 -- and 7-17).

@@ -20,4 +20,10 @@ unspecified = record {
 
 -- that of a frame that is no picture
 abbrev pub no_picture_info : PictureInfo
-no_picture_info = record { unit = 0; is_idr = false; frame_num = 0; pic_order_cnt = pos 0; usability = unspecified }
+no_picture_info = record {
+  unit = 0;
+  is_idr = false;
+  frame_num = 0;
+  pic_order_cnt = pos 0;
+  usability = unspecified;
+}

@@ -40,7 +40,8 @@ impl<const W: usize, const H: usize> Block<W, H> {
     #[inline(always)]
     pub fn set_rows(&mut self, samples: &[u8], first: usize, stride: usize)
         requires source { (y : ℕ) → y < H → first + y * stride + 16 ≤ length samples.now }
-        ensures { self.new ≡ block_of W H (λ x y. slice_index samples.now (first + y * stride + x)) }
+        ensures { self.new
+            ≡ block_of W H (λ x y. slice_index samples.now (first + y * stride + x)) }
     {
         let rows = &mut self.samples;
         copy_rows(samples, first, stride, W, H, rows);

@@ -10,7 +10,8 @@ fn copy_sixteen(samples: &[u8], from: usize, rows: &mut [u8], to: usize)
     requires source { from + 16 ≤ length samples.now }
     requires target { to + 16 ≤ length rows.old }
     ensures before { (k : ℕ) → k < to → slice_index rows.new k ≡ slice_index rows.old k }
-    ensures here { (i : ℕ) → i < 16 → slice_index rows.new (to + i) ≡ slice_index samples.now (from + i) }
+    ensures here { (i : ℕ) → i < 16 → slice_index rows.new (to + i)
+        ≡ slice_index samples.now (from + i) }
 {
     u8x16::from_slice(&samples[from..]).copy_to_slice(&mut rows[to..]);
 }
@@ -24,7 +25,8 @@ fn copy_row(samples: &[u8], from: usize, rows: &mut [u8], to: usize, count: usiz
     requires target { to + count ≤ length rows.old }
     requires target_of_sixteen { to + 16 ≤ length rows.old }
     ensures before { (k : ℕ) → k < to → slice_index rows.new k ≡ slice_index rows.old k }
-    ensures here { (i : ℕ) → i < count → slice_index rows.new (to + i) ≡ slice_index samples.now (from + i) }
+    ensures here { (i : ℕ) → i < count → slice_index rows.new (to + i)
+        ≡ slice_index samples.now (from + i) }
 {
     copy_sixteen(samples, from, rows, to);
     if count > 16 {
@@ -46,10 +48,12 @@ pub fn copy_rows(
 )
     requires narrow { width ≤ 32 }
     requires source { (y : ℕ) → y < height → first + y * stride + width ≤ length samples.now }
-    requires source_of_sixteen { (y : ℕ) → y < height → first + y * stride + 16 ≤ length samples.now }
+    requires source_of_sixteen { (y : ℕ) → y < height →
+        first + y * stride + 16 ≤ length samples.now }
     requires target { height * width ≤ length rows.old }
     requires target_of_sixteen { (y : ℕ) → y < height → y * width + 16 ≤ length rows.old }
-    ensures { (x y : ℕ) → x < width → y < height → slice_index rows.new (y * width + x) ≡ slice_index samples.now (first + y * stride + x) }
+    ensures { (x y : ℕ) → x < width → y < height → slice_index rows.new (y * width + x)
+        ≡ slice_index samples.now (first + y * stride + x) }
 {
     for y in 0..height {
         copy_row(samples, first + y * stride, rows, y * width, width);

@@ -1,5 +1,6 @@
 -- What a unit brings to whoever reads parameter sets and slice headers alone (7.3.1, 7.3.2, 7.3.3).
-use Rattle.std.specs.Prelude.{ℕ, true, false, List, Option, Some, None, Result, Ok, Err, option_and_then}
+use Rattle.std.specs.Prelude.{ℕ, true, false, List, Option, Some, None, Result, Ok, Err}
+use Rattle.std.specs.Prelude.{option_and_then}
 use Rattle.avc_types.specs.declared.fault.Fault.{Fault}
 use Rattle.avc_types.specs.declared.fault.Fault.TheVariants as faults
 use Rattle.avc_annexb.specs.Units.{forbidden_zero_bit}
@@ -11,7 +12,8 @@ use Rattle.avc_params.specs.declared.set_unit.SetUnit.TheVariants.{OfSps, OfPps}
 use Rattle.avc_params.specs.declared.sps.Sps.{Sps}
 use Rattle.avc_slice.specs.Reading.{header_in_rbsp}
 use Rattle.avc_slice.specs.declared.header.Header.{Header}
-use Rattle.avc_units.specs.Grouping.{Kind, slice, partition, sps, pps, boundary, other, kind, rbsp_of}
+use Rattle.avc_units.specs.Grouping.{Kind, slice, partition, sps, pps, boundary, other, kind}
+use Rattle.avc_units.specs.Grouping.{rbsp_of}
 use Rattle.avc_units.specs.declared.header_reader.Brought.{Brought}
 use Rattle.avc_units.specs.declared.header_reader.Brought.TheVariants.{Nothing, Set, Slice, Refused}
 use Rattle.avc_units.specs.declared.set_reading.ParameterSet.{ParameterSet}
@@ -42,7 +44,10 @@ brought_by sets header _ None = Refused faults.NalTooLong
 -- is refused (this decoder's rule).
 abbrev pub brought : Sets → Unit → Brought
 brought sets u =
-    elim (forbidden_zero_bit u.header) [ true ↦ Refused faults.ForbiddenBit | false ↦ brought_by sets u.header (kind u) (rbsp_of u) ]
+    elim (forbidden_zero_bit u.header) [
+      | true ↦ Refused faults.ForbiddenBit
+      | false ↦ brought_by sets u.header (kind u) (rbsp_of u)
+    ]
 
 -- what holds of the slice header that is brought
 abbrev pub IfHeader : Brought → (Header → Type 0) → Type 0
@@ -51,4 +56,5 @@ IfHeader _ holds = Prim.Unit {0}
 
 -- the sequence parameter set that a slice header refers to (7.4.1.2.1, 7.4.3)
 abbrev pub sps_under : Sets → Header → Option Sps
-sps_under sets h = option_and_then (λ p. sets.sps p.seq_parameter_set_id) (sets.pps h.pic_parameter_set_id)
+sps_under sets h =
+    option_and_then (λ p. sets.sps p.seq_parameter_set_id) (sets.pps h.pic_parameter_set_id)

@@ -1,5 +1,6 @@
 -- What a grouper stands for.
-use Rattle.std.specs.Prelude.{Bool, true, false, ◌&&◌, ◌||◌, List, [], ◌∷◌, ◌++◌, Option, Some, None}
+use Rattle.std.specs.Prelude.{Bool, true, false, ◌&&◌, ◌||◌, List, [], ◌∷◌, ◌++◌, Option, Some}
+use Rattle.std.specs.Prelude.{None}
 use Rattle.avc_annexb.specs.declared.unit.Unit.{Unit as StreamUnit}
 use Rattle.avc_params.specs.Tables.{Sets}
 use Rattle.avc_params.specs.declared.set_unit.SetUnit.{SetUnit}
@@ -56,7 +57,10 @@ after_step g u s = record {
 -- picture all the same, that one is open.
 abbrev pub after_fault : (closing : Bool) → GrouperState → GrouperState
 after_fault closing g =
-    elim (g.restarts && closing) [ true ↦ g | false ↦ record g { running = false; last = None; restarts = false } ]
+    elim (g.restarts && closing) [
+      | true ↦ g
+      | false ↦ record g { running = false; last = None; restarts = false }
+    ]
 
 -- The slice's header was read under these sets (7.3.3).
 abbrev pub IsSliceUnder : Sets → Slice → Type 0

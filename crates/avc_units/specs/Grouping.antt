@@ -1,5 +1,8 @@
--- What each unit does to the open picture and to the parameter sets (7.4.1.2, and this decoder's rules for faults).
-use Rattle.std.specs.Prelude.{◌≡◌, is_some, ℕ, Bool, true, false, not, ◌==◌, ◌&&◌, ◌||◌, nat_le, List, [], ◌∷◌, ◌++◌, Option, Some, None, Result, Ok, Err, if◌then◌else◌}
+-- What each unit does to the open picture and to the parameter sets (7.4.1.2, and this decoder's
+-- rules for faults).
+use Rattle.std.specs.Prelude.{◌≡◌, is_some, ℕ, Bool, true, false, not, ◌==◌, ◌&&◌, ◌||◌, nat_le}
+use Rattle.std.specs.Prelude.{List, [], ◌∷◌, ◌++◌, Option, Some, None, Result, Ok, Err}
+use Rattle.std.specs.Prelude.{if◌then◌else◌}
 use Rattle.avc_types.specs.declared.fault.Fault.{Fault}
 use Rattle.avc_types.specs.declared.fault.Fault.TheVariants as faults
 use Rattle.avc_annexb.specs.Units.{forbidden_zero_bit, nal_unit_type}
@@ -17,7 +20,8 @@ use Rattle.avc_slice.specs.declared.slice.Slice.{Slice}
 use Rattle.avc_slice.specs.Reading.{header_in_rbsp}
 use Rattle.avc_slice.specs.Begins.{begins}
 use Rattle.avc_units.specs.declared.step.Next.{Next}
-use Rattle.avc_units.specs.declared.step.Next.TheVariants.{Nothing, Refusal, FaultOfOpen, FaultOfOwn, Begins, Continues}
+use Rattle.avc_units.specs.declared.step.Next.TheVariants.{Nothing, Refusal, FaultOfOpen}
+use Rattle.avc_units.specs.declared.step.Next.TheVariants.{FaultOfOwn, Begins, Continues}
 use Rattle.avc_units.specs.declared.step.Step.{Step}
 
 -- ---- kinds of units (Table 7-1)
@@ -120,7 +124,10 @@ with_header u bytes (Err f) = Err f
 -- the slice that a unit brings, or why its header cannot be read (7.3.3)
 abbrev pub slice_in : Sets → Unit → Result Slice Fault
 slice_in sets u =
-    elim (rbsp_of u) [ None ↦ Err faults.NalTooLong | Some bytes ↦ with_header u bytes (header_in_rbsp u.header sets bytes) ]
+    elim (rbsp_of u) [
+      | None ↦ Err faults.NalTooLong
+      | Some bytes ↦ with_header u bytes (header_in_rbsp u.header sets bytes)
+    ]
 
 -- 0 is read
 abbrev pub reads_zero : Result (ℕ × Bits) Fault → Bool
@@ -183,7 +190,8 @@ slice_step open_picture starts (Err f) = unreadable open_picture f
 -- By its kind, where decoding runs or starts with the unit (7.4.1.2.3; this decoder's rule for
 -- faults).
 abbrev pub running_step : Sets → Option OpenPictureFacts → Unit → Kind → Step
-running_step sets open_picture u (slice idr) = slice_step open_picture (is_start u) (slice_in sets u)
+running_step sets open_picture u (slice idr) =
+    slice_step open_picture (is_start u) (slice_in sets u)
 running_step sets open_picture u partition = unreadable open_picture faults.DataPartition
 running_step sets open_picture u boundary = ends_picture Nothing
 running_step sets open_picture u other = no_effect
@@ -192,7 +200,11 @@ running_step sets open_picture u pps = ends_picture (refusal_of (set_fault pps (
 
 -- by its kind, where it waits: slices are dropped until one can start (this decoder's rule)
 abbrev pub waiting_step : Sets → Unit → Kind → Step
-waiting_step sets u (slice idr) = elim (is_start u) [ true ↦ running_step sets None u (slice idr) | false ↦ no_effect ]
+waiting_step sets u (slice idr) =
+    elim (is_start u) [
+      | true ↦ running_step sets None u (slice idr)
+      | false ↦ no_effect
+    ]
 waiting_step sets u partition = no_effect
 waiting_step sets u boundary = running_step sets None u boundary
 waiting_step sets u other = running_step sets None u other
@@ -205,6 +217,13 @@ waiting_step sets u pps = running_step sets None u pps
 abbrev pub step : Sets → (running : Bool) → Option OpenPictureFacts → Unit → Step
 step sets running open_picture u =
     elim (forbidden_zero_bit u.header) [
-      | true ↦ record { closes = false; next = Refusal faults.ForbiddenBit; even_after_fault = true }
-      | false ↦ elim running [ true ↦ running_step sets open_picture u (kind u) | false ↦ waiting_step sets u (kind u) ]
+      | true ↦ record {
+        closes = false;
+        next = Refusal faults.ForbiddenBit;
+        even_after_fault = true;
+      }
+      | false ↦ elim running [
+        | true ↦ running_step sets open_picture u (kind u)
+        | false ↦ waiting_step sets u (kind u)
+      ]
     ]

@@ -1,5 +1,6 @@
 -- Parameter sets that are sent again (7.4.1.2.1).
-use Rattle.std.specs.Prelude.{◌≡◌, ◌≤◌, ℕ, false, List, ◌++◌, length, Some, None, is_some, slice_get, IsTrue}
+use Rattle.std.specs.Prelude.{◌≡◌, ◌≤◌, ℕ, false, List, ◌++◌, length, Some, None, is_some}
+use Rattle.std.specs.Prelude.{slice_get, IsTrue}
 use Rattle.std.specs.List.{All}
 use Rattle.avc_annexb.specs.declared.unit.Unit.{Unit}
 use Rattle.avc_params.specs.Tables.{Sets, sets_after}

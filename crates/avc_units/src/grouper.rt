@@ -38,7 +38,13 @@ impl Model for Grouper {
 
     ghost Value = { GrouperState };
 
-    ghost view = { λ g. record { sets = g.table; running = g.running; last = g.last; restarts = g.restarts; failed = g.failed } };
+    ghost view = { λ g. record {
+      sets = g.table;
+      running = g.running;
+      last = g.last;
+      restarts = g.restarts;
+      failed = g.failed;
+    } };
 }
 
 fn begins_a_picture(next: &Next) -> bool
@@ -83,9 +89,12 @@ impl Grouper {
     /// full. The answer is carried out, or `fault` is called. After want of memory it answers so
     /// from then on.
     pub fn unit(&mut self, unit: &Unit, full: bool) -> Result<Step, OutOfMemory>
-        ensures step { IfOk result (λ s. s ≡ step (sets_after self.old.sets) self.old.running (open_picture_of full self.old.last) unit.now) }
+        ensures step { IfOk result (λ s. s
+            ≡ step (sets_after self.old.sets) self.old.running
+            (open_picture_of full self.old.last) unit.now) }
         ensures state { IfOk result (λ s. self.new ≡ after_step self.old unit.now s) }
-        ensures slice { IfOk result (λ s. IfSlice s.next (IsSliceUnder (sets_after self.new.sets))) }
+        ensures slice { IfOk result
+            (λ s. IfSlice s.next (IsSliceUnder (sets_after self.new.sets))) }
         ensures sets { IfOk result (λ s. IfSlice s.next (λ _. self.new.sets ≡ self.old.sets)) }
         ensures going { OnOk result (self.old.failed ≡ false) }
         ensures err { OnErr result (self.new.failed ≡ true) }

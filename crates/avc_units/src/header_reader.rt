@@ -108,8 +108,10 @@ fn read_rbsp(
     kind: UnitKind,
     rbsp: &[u8],
 ) -> Result<Brought, OutOfMemory>
-    ensures brought { IfOk result (λ b. b ≡ brought_by (sets_after table.old) header (meant kind) (Some rbsp.now)) }
-    ensures sets { OnOk result (table.new ≡ table.old ++ list_of (set_of (meant kind) (Some rbsp.now))) }
+    ensures brought { IfOk result (λ b. b
+        ≡ brought_by (sets_after table.old) header (meant kind) (Some rbsp.now)) }
+    ensures sets { OnOk result (table.new ≡ table.old
+        ++ list_of (set_of (meant kind) (Some rbsp.now))) }
     ensures slice { IfOk result (λ b. IfHeader b (λ _. table.new ≡ table.old)) }
     ensures unchanged { OnErr result (table.new ≡ table.old) }
 {

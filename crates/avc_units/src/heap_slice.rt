@@ -82,8 +82,10 @@ impl HeapSlice {
     pub(crate) fn read_header(&mut self, header: u8, table: &ParamTable) -> Result<(), Fault>
         ensures unit { self.new.unit ≡ self.old.unit }
         ensures rbsp { self.new.rbsp ≡ self.old.rbsp }
-        ensures header { filled result self.new.header ≡ header_in_rbsp header (sets_after table.now) self.old.rbsp }
-        ensures kept { IfOk result (λ _. IsReadUnder (sets_after table.now) self.old.rbsp self.new.header) }
+        ensures header { filled result self.new.header
+            ≡ header_in_rbsp header (sets_after table.now) self.old.rbsp }
+        ensures kept { IfOk result
+            (λ _. IsReadUnder (sets_after table.now) self.old.rbsp self.new.header) }
         ensures idr { IfOk result (λ _. is_idr self.new.header ≡ (header % 32 == 5)) }
     {
         let slice = self.slice.as_mut();

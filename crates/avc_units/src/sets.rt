@@ -72,7 +72,8 @@ pub(crate) fn put_sps(
     over: &mut Option<HeapSlice>,
     unit: &Unit,
 ) -> Result<Step, OutOfMemory>
-    ensures step { IfOk result (λ s. s ≡ ends_picture (refusal_of (set_fault sps (rbsp_of unit.now)))) }
+    ensures step { IfOk result (λ s. s
+        ≡ ends_picture (refusal_of (set_fault sps (rbsp_of unit.now)))) }
     ensures put { OnOk result (table.new ≡ table.old ++ list_of (set_of sps (rbsp_of unit.now))) }
     ensures memory { OnErr result (is_some unit.now.body ≡ true) }
 {
@@ -93,7 +94,8 @@ pub(crate) fn put_pps(
     over: &mut Option<HeapSlice>,
     unit: &Unit,
 ) -> Result<Step, OutOfMemory>
-    ensures step { IfOk result (λ s. s ≡ ends_picture (refusal_of (set_fault pps (rbsp_of unit.now)))) }
+    ensures step { IfOk result (λ s. s
+        ≡ ends_picture (refusal_of (set_fault pps (rbsp_of unit.now)))) }
     ensures put { OnOk result (table.new ≡ table.old ++ list_of (set_of pps (rbsp_of unit.now))) }
     ensures memory { OnErr result (is_some unit.now.body ≡ true) }
 {

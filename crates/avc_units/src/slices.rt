@@ -48,7 +48,9 @@ fn read_slice(
     unit: &Unit,
     rbsp: Bytes,
 ) -> Result<Result<HeapSlice, Fault>, OutOfMemory>
-    ensures slice { IfOk result (λ read. read ≡ with_header unit.now rbsp (header_in_rbsp unit.now.header (sets_after table.now) rbsp)) }
+    ensures slice { IfOk result (λ read. read
+        ≡ with_header unit.now rbsp
+        (header_in_rbsp unit.now.header (sets_after table.now) rbsp)) }
     ensures kept { IfOk result (λ read. IfOk read (IsSliceUnder (sets_after table.now))) }
 {
     let mut slice = HeapSlice::new(alloc, over.take(), unit.index, rbsp)?;
@@ -73,7 +75,8 @@ pub(crate) fn slice_unit(
 ) -> Result<Step, OutOfMemory>
     requires allowed { forbidden_zero_bit unit.now.header ≡ false }
     requires kind { kind unit.now ≡ slice idr }
-    ensures step { IfOk result (λ s. s ≡ step_by context.entry (sets_after table.now) unit.now (slice idr)) }
+    ensures step { IfOk result (λ s. s
+        ≡ step_by context.entry (sets_after table.now) unit.now (slice idr)) }
     ensures slice { IfOk result (λ s. IfSlice s.next (IsSliceUnder (sets_after table.now))) }
     ensures memory { OnErr result (is_some unit.now.body ≡ true) }
 {

@@ -95,7 +95,8 @@ pub(crate) fn slice_or_start(
     starts: bool,
     read: Result<HeapSlice, Fault>,
 ) -> Step
-    ensures { result ≡ slice_or_start context.entry.running (open_picture_in context.entry) starts read }
+    ensures { result
+        ≡ slice_or_start context.entry.running (open_picture_in context.entry) starts read }
 {
     if context.running {
         slice_step(context, starts, read)

@@ -30,8 +30,10 @@ fn step_by(
 ) -> Result<Step, OutOfMemory>
     requires allowed { forbidden_zero_bit unit.now.header ≡ false }
     requires kind { kind unit.now ≡ meant unit_kind }
-    ensures step { IfOk result (λ s. s ≡ step_by context.entry (sets_after table.old) unit.now (meant unit_kind)) }
-    ensures put { OnOk result (table.new ≡ table.old ++ list_of (set_of (meant unit_kind) (rbsp_of unit.now))) }
+    ensures step { IfOk result (λ s. s
+        ≡ step_by context.entry (sets_after table.old) unit.now (meant unit_kind)) }
+    ensures put { OnOk result (table.new ≡ table.old
+        ++ list_of (set_of (meant unit_kind) (rbsp_of unit.now))) }
     ensures slice { IfOk result (λ s. IfSlice s.next (IsSliceUnder (sets_after table.new))) }
     ensures sets { IfOk result (λ s. IfSlice s.next (λ _. table.new ≡ table.old)) }
     ensures body { OnErr result (is_some unit.now.body ≡ true) }
@@ -57,7 +59,9 @@ pub fn step_of(
     context: UnitContext,
     unit: &Unit,
 ) -> Result<Step, OutOfMemory>
-    ensures step { IfOk result (λ s. s ≡ step (sets_after table.old) context.entry.running (open_picture_in context.entry) unit.now) }
+    ensures step { IfOk result (λ s. s
+        ≡ step (sets_after table.old) context.entry.running (open_picture_in context.entry)
+        unit.now) }
     ensures put { OnOk result (table.new ≡ table.old ++ set_units (unit.now ∷ [])) }
     ensures slice { IfOk result (λ s. IfSlice s.next (IsSliceUnder (sets_after table.new))) }
     ensures sets { IfOk result (λ s. IfSlice s.next (λ _. table.new ≡ table.old)) }

@@ -1,5 +1,6 @@
 -- Writing by a table of codewords (9.2.1, 9.2.3): the codeword of a value.
-use Rattle.std.specs.Prelude.{ℕ, ℤ, Bool, ◌==◌, ◌&&◌, nat_le, if◌then◌else◌, List, [], ◌∷◌, Option, Some, None}
+use Rattle.std.specs.Prelude.{ℕ, ℤ, Bool, ◌==◌, ◌&&◌, nat_le, if◌then◌else◌, List, [], ◌∷◌, Option}
+use Rattle.std.specs.Prelude.{Some, None}
 use Rattle.std.proofs.Common.{◌≡◌, true, false, refl, ap, sym, ◌∙◌}
 use Rattle.std.proofs.lemmas.Bool.{eqb-true}
 use Rattle.avc_bits.specs.Bits.{bits_of}
@@ -26,7 +27,8 @@ token_is_same t other is =
     let both = both_true (other.total == t.total) (other.ones == t.ones) is in
     let total : other.total ≡ t.total = eqb-true other.total t.total both.0 in
     let ones : other.ones ≡ t.ones = eqb-true other.ones t.ones both.1 in
-    ap (λ n. record { total = n; ones = t.ones }) (sym total) ∙ ap (λ n. record { total = other.total; ones = n }) (sym ones)
+    ap (λ n. record { total = n; ones = t.ones }) (sym total)
+    ∙ ap (λ n. record { total = other.total; ones = n }) (sym ones)
 
 -- coeff_token, where nC has a codeword for it
 abbrev pub token_word : (nc : ℤ) → Token → Option (List Bool)
@@ -45,7 +47,8 @@ zeros_word total chroma_dc zeros = word_of (is_number_same zeros) (zeros_table t
 
 -- A run above zerosLeft has none.
 abbrev pub run_word : (zeros_left run : ℕ) → Option (List Bool)
-run_word zeros_left run = if nat_le run zeros_left then word_of (is_number_same run) (run_table zeros_left) else None
+run_word zeros_left run =
+    if nat_le run zeros_left then word_of (is_number_same run) (run_table zeros_left) else None
 
 -- a codeword's bits
 abbrev pub word_bits : Codeword → List Bool

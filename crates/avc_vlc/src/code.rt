@@ -86,7 +86,8 @@ impl<const N: usize> Code<N> {
         requires narrow { tail ≤ 8 }
         ensures row { result.0 ≤ last }
         ensures column { result.1 < 2 ^ tail }
-        ensures agrees { (ahead : List Bool) → Shows self.entry ahead → IsPlaceOf ahead last tail result.0 result.1 }
+        ensures agrees { (ahead : List Bool) → Shows self.entry ahead →
+            IsPlaceOf ahead last tail result.0 result.1 }
     {
         let zeros = self.word.leading_zeros().min(last as u32);
         let column = self.word >> (31 - tail - zeros) & ((1 << tail) - 1);

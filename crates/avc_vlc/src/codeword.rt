@@ -44,7 +44,8 @@ impl Codeword {
         requires tail { tail ≤ 3 }
         requires columns { N ≡ 2 ^ tail }
         requires short { AreShort rows.now }
-        ensures { (table : Table V) → IsWritten V.same table tail rows.now → option_map word_bits result ≡ word_of (V.same value) table }
+        ensures { (table : Table V) → IsWritten V.same table tail rows.now →
+            option_map word_bits result ≡ word_of (V.same value) table }
     {
         'rows: for row in 0..rows.len() {
             let places = &rows[row];
@@ -67,7 +68,8 @@ impl Codeword {
         requires tail { tail ≤ 3 }
         requires columns { N ≡ 2 ^ tail }
         requires short { AreWithin 16 tables.now }
-        ensures { (each : ℕ → Table V) → AreWritten V.same each tail tables.now → option_map word_bits result ≡ word_of (V.same value) (each table) }
+        ensures { (each : ℕ → Table V) → AreWritten V.same each tail tables.now →
+            option_map word_bits result ≡ word_of (V.same value) (each table) }
     {
         Codeword::of(&tables[table], tail, value)
     }

@@ -1,12 +1,13 @@
-//! coeff_token (9.2.1, Table 9-5). A table has a row for each number of zeros in front of the first 1, the last for all
-//! that are more, and a column for each value of the three bits behind that 1.
+//! coeff_token (9.2.1, Table 9-5). A table has a row for each number of zeros in front of the first
+//! 1, the last for all that are more, and a column for each value of the three bits behind that 1.
 ghost use Rattle.std.specs.Prelude.{◌≡◌, ◌≤◌, ◌<◌, ◌<ℤ◌, ℕ, ℤ, pos, List, Bool, length, Ok, Err};
 ghost use Rattle.std.specs.Prelude.{IfOk, IfSome, MatchOption, OnErr};
 ghost use Rattle.avc_types.specs.declared.fault.Fault.TheVariants.{BadCode};
 ghost use Rattle.avc_bits.specs.Bits.{Bits, passed};
 ghost use Rattle.avc_bits.specs.Reader.{IsWindow, Reads, reader_bits};
 ghost use Rattle.avc_vlc.specs.Reading.{IsToken, Table, coeff_token, token_table, tokens_8};
-ghost use Rattle.avc_vlc.specs.Indexing.{AreIndexed, AreWithin, Decides, IsIndexed, IsWithin, Shows};
+ghost use Rattle.avc_vlc.specs.Indexing.{AreIndexed, AreWithin, Decides, IsIndexed, IsWithin};
+ghost use Rattle.avc_vlc.specs.Indexing.{Shows};
 ghost use Rattle.avc_vlc.specs.Indexing.{class_table, six_bit_entry, six_bit_number};
 ghost use Rattle.avc_vlc.specs.Writing.{is_token_same, token_word, word_bits, word_of};
 ghost use Rattle.std.specs.Option.{option_map};
@@ -142,7 +143,8 @@ fn six_bit_number(token: Token) -> u32
 #[inline(always)]
 fn token_entry(code: Code<16>, nc: i8) -> Entry<Token>
     ensures short { result.length ≤ 16 }
-    ensures decides { (ahead : List Bool) → Shows code ahead → Decides (token_table nc) ahead result }
+    ensures decides { (ahead : List Bool) → Shows code ahead →
+        Decides (token_table nc) ahead result }
 {
     if nc < 8 {
         token_in(code, &TOKENS, class_of(nc))
@@ -192,7 +194,8 @@ fn six_bits(number: u32) -> Entry<Token>
 fn token_at(code: Code<16>, rows: &[[Entry<Token>; 8]]) -> Entry<Token>
     requires { length rows.now ≡ 16 }
     ensures short { (most : ℕ) → IsWithin most rows.now → result.length ≤ most }
-    ensures decides { (table : Table Token) (ahead : List Bool) → IsIndexed table 3 rows.now → Shows code ahead → Decides table ahead result }
+    ensures decides { (table : Table Token) (ahead : List Bool) → IsIndexed table 3 rows.now →
+        Shows code ahead → Decides table ahead result }
 {
     let (row, column) = code.place(15, 3);
     rows[row][column]
@@ -203,7 +206,8 @@ fn token_at(code: Code<16>, rows: &[[Entry<Token>; 8]]) -> Entry<Token>
 fn token_in(code: Code<16>, tables: &[[[Entry<Token>; 8]; 16]; 4], table: usize) -> Entry<Token>
     requires { table < 4 }
     ensures short { (most : ℕ) → AreWithin most tables.now → result.length ≤ most }
-    ensures decides { (each : ℕ → Table Token) (ahead : List Bool) → AreIndexed each 3 16 tables.now → Shows code ahead → Decides (each table) ahead result }
+    ensures decides { (each : ℕ → Table Token) (ahead : List Bool) →
+        AreIndexed each 3 16 tables.now → Shows code ahead → Decides (each table) ahead result }
 {
     token_at(code, &tables[table])
 }

@@ -5,7 +5,8 @@ ghost use Rattle.std.specs.Prelude.{◌<◌, MatchOption, OnErr, None, Err};
 ghost use Rattle.std.specs.List.{list_any};
 ghost use Rattle.avc_bits.specs.Reader.{Reads, reader_bits};
 ghost use Rattle.avc_vlc.specs.Reading.{Table, table_code};
-ghost use Rattle.avc_vlc.specs.Indexing.{AreIndexed, AreWithin, Decides, IsIndexed, IsWithin, Shows, holds};
+ghost use Rattle.avc_vlc.specs.Indexing.{AreIndexed, AreWithin, Decides, IsIndexed, IsWithin};
+ghost use Rattle.avc_vlc.specs.Indexing.{Shows, holds};
 
 use crate::code::Code;
 use crate::coeff_token::Token;
@@ -75,7 +76,8 @@ impl<V: Copy> Entry<V> {
     /// `BadCode`.
     #[inline(always)]
     pub(crate) fn read(self, reader: &mut BitReader) -> Result<V, Fault>
-        ensures read { (table : Table V) → Decides table (reader_bits reader.old).ahead self → Reads result (table_code table) reader.old reader.new }
+        ensures read { (table : Table V) → Decides table (reader_bits reader.old).ahead self →
+            Reads result (table_code table) reader.old reader.new }
         ensures stays { OnErr result (reader.new ≡ reader.old) }
     {
         match self.value {
@@ -92,7 +94,8 @@ impl<V: Copy> Entry<V> {
     #[inline(never)]
     fn refused(self, reader: BitReader) -> Fault
         requires { self.value ≡ None }
-        ensures { (table : Table V) → Decides table (reader_bits reader.entry).ahead self → table_code table (reader_bits reader.entry) ≡ Err result }
+        ensures { (table : Table V) → Decides table (reader_bits reader.entry).ahead self →
+            table_code table (reader_bits reader.entry) ≡ Err result }
     {
         let mut after = reader;
         match after.skip(u32::from(self.length)) {
@@ -104,7 +107,8 @@ impl<V: Copy> Entry<V> {
 
 // the first place in a row whose entry is the codeword of the value
 pub(crate) fn column_of<V: Coded, const N: usize>(row: &[Entry<V>; N], value: V) -> Option<usize>
-    ensures { MatchOption result (list_any (holds V.same value) row.now ≡ false) (λ column. (column < N) ×
+    ensures { MatchOption result (list_any (holds V.same value) row.now ≡ false)
+        (λ column. (column < N) ×
         ((e : Entry V) → holds V.same value (slice_index_or row.now column e) ≡ true)) }
 {
     'columns: for column in 0..N {
@@ -120,7 +124,8 @@ pub(crate) fn column_of<V: Coded, const N: usize>(row: &[Entry<V>; N], value: V)
 pub(crate) fn number_by(reader: &mut BitReader, rows: &[[Entry<u8>; 4]]) -> Result<u8, Fault>
     requires some { 1 ≤ length rows.now }
     requires few { length rows.now ≤ 16 }
-    ensures read { (table : Table ℕ) → IsIndexed table 2 rows.now → Reads result (table_code table) reader.old reader.new }
+    ensures read { (table : Table ℕ) → IsIndexed table 2 rows.now →
+        Reads result (table_code table) reader.old reader.new }
     ensures stays { OnErr result (reader.new ≡ reader.old) }
 {
     if reader.has_many() {
@@ -136,7 +141,8 @@ pub(crate) fn number_by(reader: &mut BitReader, rows: &[[Entry<u8>; 4]]) -> Resu
 fn number_near_end(reader: &mut BitReader, rows: &[[Entry<u8>; 4]]) -> Result<u8, Fault>
     requires some { 1 ≤ length rows.now }
     requires few { length rows.now ≤ 16 }
-    ensures read { (table : Table ℕ) → IsIndexed table 2 rows.now → Reads result (table_code table) reader.old reader.new }
+    ensures read { (table : Table ℕ) → IsIndexed table 2 rows.now →
+        Reads result (table_code table) reader.old reader.new }
     ensures stays { OnErr result (reader.new ≡ reader.old) }
 {
     entry_near_end(*reader, rows).read(reader)
@@ -148,7 +154,8 @@ fn number_near_end(reader: &mut BitReader, rows: &[[Entry<u8>; 4]]) -> Result<u8
 fn entry_near_end(reader: BitReader, rows: &[[Entry<u8>; 4]]) -> Entry<u8>
     requires some { 1 ≤ length rows.now }
     requires few { length rows.now ≤ 16 }
-    ensures { (table : Table ℕ) → IsIndexed table 2 rows.now → Decides table (reader_bits reader.entry).ahead result }
+    ensures { (table : Table ℕ) → IsIndexed table 2 rows.now →
+        Decides table (reader_bits reader.entry).ahead result }
 {
     number_at(Code::<16>::look(&reader), rows)
 }
@@ -158,7 +165,8 @@ fn entry_near_end(reader: BitReader, rows: &[[Entry<u8>; 4]]) -> Entry<u8>
 pub(crate) fn number_at(code: Code<16>, rows: &[[Entry<u8>; 4]]) -> Entry<u8>
     requires some { 1 ≤ length rows.now }
     requires few { length rows.now ≤ 16 }
-    ensures decides { (table : Table ℕ) (ahead : List Bool) → IsIndexed table 2 rows.now → Shows code ahead → Decides table ahead result }
+    ensures decides { (table : Table ℕ) (ahead : List Bool) → IsIndexed table 2 rows.now →
+        Shows code ahead → Decides table ahead result }
     ensures short { (most : ℕ) → IsWithin most rows.now → result.length ≤ most }
 {
     let (row, column) = code.place(rows.len() - 1, 2);
@@ -176,7 +184,8 @@ pub(crate) fn number_in<const ROWS: usize, const TABLES: usize>(
     requires few { ROWS ≤ 16 }
     requires there { table < TABLES }
     ensures short { (most : ℕ) → AreWithin most tables.now → result.length ≤ most }
-    ensures decides { (each : ℕ → Table ℕ) (ahead : List Bool) → AreIndexed each 2 ROWS tables.now → Shows code ahead → Decides (each table) ahead result }
+    ensures decides { (each : ℕ → Table ℕ) (ahead : List Bool) → AreIndexed each 2 ROWS tables.now →
+        Shows code ahead → Decides (each table) ahead result }
 {
     number_at(code, &tables[table])
 }

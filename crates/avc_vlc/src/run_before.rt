@@ -1,6 +1,6 @@
-//! run_before (9.2.3, Table 9-10). Where six zeros are left at most, the next three bits decide. Else a table has a row for
-//! each number of zeros in front of the first 1, the last for all that are more, and a column for
-//! each value of the two bits behind that 1.
+//! run_before (9.2.3, Table 9-10). Where six zeros are left at most, the next three bits decide.
+//! Else a table has a row for each number of zeros in front of the first 1, the last for all that
+//! are more, and a column for each value of the two bits behind that 1.
 ghost use Rattle.std.specs.Prelude.{◌≡◌, ◌+◌, ◌≤◌, ◌<◌, List, Bool, Ok, Err, IfOk, IfSome, OnErr};
 ghost use Rattle.std.specs.Prelude.{length, take};
 ghost use Rattle.avc_bits.specs.Bits.{Bits, number_of, passed};
@@ -52,7 +52,8 @@ fn read_few(reader: &mut BitReader, zeros_left: u8) -> u8
     requires some { 1 ≤ zeros_left }
     requires few { zeros_left ≤ 6 }
     requires ahead { 256 ≤ length (reader_bits reader.old).ahead }
-    ensures read { run_before zeros_left (reader_bits reader.old) ≡ Ok (result, reader_bits reader.new) }
+    ensures read { run_before zeros_left (reader_bits reader.old)
+        ≡ Ok (result, reader_bits reader.new) }
     ensures bytes { reader_bytes reader.new ≡ reader_bytes reader.old }
     ensures most { result ≤ zeros_left }
 {
@@ -155,7 +156,8 @@ fn few_entry(code: Code<16>, zeros_left: u8) -> Entry<u8>
 fn few_run(code: Code<16>, zeros_left: u8) -> Run
     requires some { 1 ≤ zeros_left }
     requires few { zeros_left ≤ 6 }
-    ensures decides { (ahead : List Bool) → Shows code ahead → Decides (run_table zeros_left) ahead (entry_of_run result) }
+    ensures decides { (ahead : List Bool) → Shows code ahead →
+        Decides (run_table zeros_left) ahead (entry_of_run result) }
     ensures most { result.zeros ≤ zeros_left }
     ensures short { result.length ≤ 3 }
 {
@@ -168,7 +170,8 @@ fn few_run(code: Code<16>, zeros_left: u8) -> Run
 fn run_of_three(code: Code<16>, tables: &[[Run; 8]], table: usize) -> Run
     requires there { table < length tables.now }
     requires few { table < 6 }
-    ensures decides { (ahead : List Bool) → AreRuns tables.now → Shows code ahead → Decides (few_table table) ahead (entry_of_run result) }
+    ensures decides { (ahead : List Bool) → AreRuns tables.now → Shows code ahead →
+        Decides (few_table table) ahead (entry_of_run result) }
     ensures most { AreRuns tables.now → result.zeros ≤ table + 1 }
     ensures short { AreRuns tables.now → result.length ≤ 3 }
 {
@@ -183,8 +186,10 @@ pub fn short_run(window: Window, first: u32, zeros_left: u8) -> Run
     requires few { zeros_left < 16 }
     requires within { first + 3 ≤ 57 }
     ensures read { (b : Bits) → IsWindow window b → 1 ≤ result.length
-        → run_before zeros_left (passed b first) ≡ Ok (result.zeros, passed b (first + result.length)) }
-    ensures exact { (b : Bits) → IsWindow window b → result ≡ short_run zeros_left (number_of (take 3 (passed b first).ahead)) }
+        → run_before zeros_left (passed b first)
+        ≡ Ok (result.zeros, passed b (first + result.length)) }
+    ensures exact { (b : Bits) → IsWindow window b →
+        result ≡ short_run zeros_left (number_of (take 3 (passed b first).ahead)) }
     ensures most { result.zeros ≤ zeros_left }
     ensures short { result.length ≤ 3 }
 {

@@ -1,6 +1,8 @@
-//! total_zeros (9.2.3, Tables 9-7 to 9-9). A table has a row for each number of zeros in front of the first 1, the last
-//! for all that are more, and a column for each value of the two bits behind that 1.
-ghost use Rattle.std.specs.Prelude.{◌≡◌, ◌≤◌, List, Bool, true, false, Ok, Err, OnErr, IsTrue, IfSome};
+//! total_zeros (9.2.3, Tables 9-7 to 9-9). A table has a row for each number of zeros in front of
+//! the first 1, the last for all that are more, and a column for each value of the two bits behind
+//! that 1.
+ghost use Rattle.std.specs.Prelude.{◌≡◌, ◌≤◌, List, Bool, true, false, Ok, Err, OnErr, IsTrue};
+ghost use Rattle.std.specs.Prelude.{IfSome};
 ghost use Rattle.std.specs.Prelude.{MatchOption};
 ghost use Rattle.avc_types.specs.declared.fault.Fault.TheVariants.{BadCode};
 ghost use Rattle.avc_bits.specs.Bits.{Bits, passed};
@@ -57,7 +59,8 @@ pub fn total_zeros_ahead(window: Window, total: u8, chroma_dc: bool) -> Option<R
 fn entry_of_code(code: Code<16>, total: u8, chroma_dc: bool) -> Entry<u8>
     requires most { total ≤ 15 }
     requires few { IsTrue chroma_dc → total ≤ 3 }
-    ensures decides { (ahead : List Bool) → Shows code ahead → Decides (zeros_table total chroma_dc) ahead result }
+    ensures decides { (ahead : List Bool) → Shows code ahead →
+        Decides (zeros_table total chroma_dc) ahead result }
     ensures short { result.length ≤ 9 }
 {
     if chroma_dc {
@@ -71,7 +74,8 @@ fn entry_of_code(code: Code<16>, total: u8, chroma_dc: bool) -> Entry<u8>
 #[inline(always)]
 fn chroma_dc_entry(code: Code<16>, total: u8) -> Entry<u8>
     requires { total ≤ 3 }
-    ensures decides { (ahead : List Bool) → Shows code ahead → Decides (zeros_table total true) ahead result }
+    ensures decides { (ahead : List Bool) → Shows code ahead →
+        Decides (zeros_table total true) ahead result }
     ensures short { result.length ≤ 9 }
 {
     match total {
@@ -121,7 +125,8 @@ fn entry_near_end(reader: BitReader, total: u8) -> Entry<u8>
 #[inline(always)]
 fn zeros_entry(code: Code<16>, total: u8) -> Entry<u8>
     requires { total ≤ 15 }
-    ensures decides { (ahead : List Bool) → Shows code ahead → Decides (zeros_table total false) ahead result }
+    ensures decides { (ahead : List Bool) → Shows code ahead →
+        Decides (zeros_table total false) ahead result }
     ensures short { result.length ≤ 9 }
 {
     number_in(code, &TOTAL_ZEROS, usize::from(total.saturating_sub(1)))

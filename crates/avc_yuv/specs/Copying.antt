@@ -1,5 +1,6 @@
 -- What is shown of a picture's components, written, or copied into memory, row by row.
-use Rattle.std.specs.Prelude.{ℕ, ◌^◌, ◌<◌, ◌≤◌, ◌+◌, ◌-◌, ◌*◌, List, [], ◌∷◌, ◌++◌, length, map, take, drop}
+use Rattle.std.specs.Prelude.{ℕ, ◌^◌, ◌<◌, ◌≤◌, ◌+◌, ◌-◌, ◌*◌, List, [], ◌∷◌, ◌++◌, length, map}
+use Rattle.std.specs.Prelude.{take, drop}
 use Rattle.std.specs.List.{range_with_len}
 use Rattle.avc_types.specs.declared.picture.Picture.{Picture}
 use Rattle.avc_yuv.specs.I420.{part_of_row, window, shown_width, shown_height}
@@ -26,7 +27,8 @@ pub record IsInside (p : Picture) (c : Component) (w : Window) : Type 0 where
 
 -- what is shown of row y of a component
 abbrev pub shown_of_row : Picture → Component → (y : ℕ) → List ℕ
-shown_of_row p c y = part_of_row (columns_of p c) (samples_of p c) (window_of p c).left (window_of p c).width y
+shown_of_row p c y =
+    part_of_row (columns_of p c) (samples_of p c) (window_of p c).left (window_of p c).width y
 
 -- the rows of a component that are shown
 abbrev pub shown_rows : Picture → Component → List (List ℕ)
@@ -35,13 +37,15 @@ shown_rows p c = map (shown_of_row p c) (range_with_len (window_of p c).top (win
 -- what is shown of a component, row by row
 abbrev pub shown_of : Picture → Component → List ℕ
 shown_of p c =
-    window (columns_of p c) (samples_of p c) (window_of p c).left (window_of p c).top (window_of p c).width (window_of p c).height
+    window (columns_of p c) (samples_of p c) (window_of p c).left (window_of p c).top
+    (window_of p c).width (window_of p c).height
 
 -- Memory with rows laid into it from its front, each `stride` bytes behind the one before. All
 -- other bytes stay.
 abbrev pub laid : (stride : ℕ) → (rows : List (List ℕ)) → (memory : List ℕ) → List ℕ
 laid stride [] memory = memory
-laid stride (row ∷ rows) memory = take stride (row ++ drop (length row) memory) ++ laid stride rows (drop stride memory)
+laid stride (row ∷ rows) memory =
+    take stride (row ++ drop (length row) memory) ++ laid stride rows (drop stride memory)
 
 -- memory with one row laid into it
 abbrev pub laid_at : (place : ℕ) → (row memory : List ℕ) → List ℕ

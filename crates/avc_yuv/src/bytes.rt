@@ -40,7 +40,8 @@ fn done_after(before: u64, done: usize, taken: usize) -> Result<usize, WriteFaul
 // How many bytes one `write` took: none where it answered an error.
 fn write_once<W: Write>(bytes: &[u8], writer: &mut W) -> usize
     ensures within { result ≤ length bytes.now }
-    ensures bytes { Appends (W.contents writer.old) (W.contents writer.new) (take result bytes.now) }
+    ensures bytes { Appends (W.contents writer.old) (W.contents writer.new)
+        (take result bytes.now) }
 {
     match writer.write(bytes) {
         Ok(taken) => taken,

@@ -34,7 +34,8 @@ fn area(of: Window) -> u128
 pub fn copy_i420<P: PictureRows>(picture: &P, out: &mut [u8])
     requires whole { IsWhole (P.picture picture.now) }
     requires room { length (i420 (P.picture picture.now)) ≤ length out.old }
-    ensures { out.new ≡ i420 (P.picture picture.now) ++ drop (length (i420 (P.picture picture.now))) out.old }
+    ensures { out.new ≡ i420 (P.picture picture.now)
+        ++ drop (length (i420 (P.picture picture.now))) out.old }
 {
     let luma = window_of(picture, Component::Luma);
     let chroma = window_of(picture, Component::Cb);

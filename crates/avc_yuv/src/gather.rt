@@ -31,7 +31,8 @@ pub(crate) fn gather_component<P: PictureRows, W: Write>(
 ) -> Result<Gathered, WriteFault>
     requires whole { IsWhole (P.picture picture.now) }
     requires within { before.waiting ≤ length room.old }
-    requires counted { before.written + before.waiting + length (shown_of (P.picture picture.now) component) < 2 ^ 64 }
+    requires counted { before.written + before.waiting
+        + length (shown_of (P.picture picture.now) component) < 2 ^ 64 }
     ensures same_length { length room.new ≡ length room.old }
     ensures rows { Gathers before (shown_of (P.picture picture.now) component) room.old room.new
         (W.contents writer.old) (W.contents writer.new) result }
@@ -84,7 +85,8 @@ fn put_rows<P: PictureRows>(
     requires room { at + count * of.width ≤ length room.old }
     ensures same_length { length room.new ≡ length room.old }
     ensures rows { take (at + count * of.width) room.new ≡ take at room.old
-        ++ window (columns_of (P.picture picture.now) component) (samples_of (P.picture picture.now) component)
+        ++ window (columns_of (P.picture picture.now) component)
+        (samples_of (P.picture picture.now) component)
         of.left (of.top + first) of.width count }
 {
     'rows: for number in 0..count {
@@ -103,7 +105,8 @@ fn gather<W: Write>(
     requires within { before.waiting ≤ length room.old }
     requires counted { before.written + before.waiting + length row.now < 2 ^ 64 }
     ensures same_length { length room.new ≡ length room.old }
-    ensures rows { Gathers before row.now room.old room.new (W.contents writer.old) (W.contents writer.new) result }
+    ensures rows { Gathers before row.now room.old room.new (W.contents writer.old)
+        (W.contents writer.new) result }
 {
     if row.len() <= room.len() - before.waiting {
         put(room, before.waiting, row);
@@ -125,7 +128,8 @@ fn gather_first<W: Write>(
 ) -> Result<Gathered, WriteFault>
     requires counted { written + length row.now < 2 ^ 64 }
     ensures same_length { length room.new ≡ length room.old }
-    ensures rows { Gathers (nothing_waits written) row.now room.old room.new (W.contents writer.old) (W.contents writer.new) result }
+    ensures rows { Gathers (nothing_waits written) row.now room.old room.new (W.contents writer.old)
+        (W.contents writer.new) result }
 {
     if room.len() < row.len() {
         let written = write_bytes(row, written, writer)?;

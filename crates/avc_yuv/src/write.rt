@@ -28,11 +28,16 @@ pub const ROOM: usize = 131_072;
 /// `write` that answers an error, also one that tells of an interruption, or that takes no byte. Of
 /// a picture whose planes or crop do not fit its size nothing is written.
 pub fn write_i420<P: PictureRows, W: Write>(picture: &P, writer: &mut W) -> Result<(), WriteFault>
-    ensures ok { IsWhole (P.picture picture.now) → OnOk result (Appends (W.contents writer.old) (W.contents writer.new) (i420 (P.picture picture.now))) }
-    ensures before_all { IsWhole (P.picture picture.now) → IfErr result (λ fault. fault.written < length (i420 (P.picture picture.now))) }
-    ensures err { IsWhole (P.picture picture.now) → IfErr result (λ fault. Appends (W.contents writer.old) (W.contents writer.new)
+    ensures ok { IsWhole (P.picture picture.now) →
+        OnOk result (Appends (W.contents writer.old) (W.contents writer.new)
+        (i420 (P.picture picture.now))) }
+    ensures before_all { IsWhole (P.picture picture.now) →
+        IfErr result (λ fault. fault.written < length (i420 (P.picture picture.now))) }
+    ensures err { IsWhole (P.picture picture.now) →
+        IfErr result (λ fault. Appends (W.contents writer.old) (W.contents writer.new)
         (take fault.written (i420 (P.picture picture.now)))) }
-    ensures unfit { (IsWhole (P.picture picture.now) → ⊥) → Keeps (W.contents writer.old) (W.contents writer.new) }
+    ensures unfit { (IsWhole (P.picture picture.now) → ⊥) →
+        Keeps (W.contents writer.old) (W.contents writer.new) }
 {
     if picture.is_whole() {
         return write_gathered(picture, writer);
@@ -48,11 +53,16 @@ pub fn write_i420_through<P: PictureRows, W: Write>(
     writer: &mut W,
 ) -> Result<(), WriteFault>
     ensures same_length { length room.new ≡ length room.old }
-    ensures ok { IsWhole (P.picture picture.now) → OnOk result (Appends (W.contents writer.old) (W.contents writer.new) (i420 (P.picture picture.now))) }
-    ensures before_all { IsWhole (P.picture picture.now) → IfErr result (λ fault. fault.written < length (i420 (P.picture picture.now))) }
-    ensures err { IsWhole (P.picture picture.now) → IfErr result (λ fault. Appends (W.contents writer.old) (W.contents writer.new)
+    ensures ok { IsWhole (P.picture picture.now) →
+        OnOk result (Appends (W.contents writer.old) (W.contents writer.new)
+        (i420 (P.picture picture.now))) }
+    ensures before_all { IsWhole (P.picture picture.now) →
+        IfErr result (λ fault. fault.written < length (i420 (P.picture picture.now))) }
+    ensures err { IsWhole (P.picture picture.now) →
+        IfErr result (λ fault. Appends (W.contents writer.old) (W.contents writer.new)
         (take fault.written (i420 (P.picture picture.now)))) }
-    ensures unfit { (IsWhole (P.picture picture.now) → ⊥) → Keeps (W.contents writer.old) (W.contents writer.new) }
+    ensures unfit { (IsWhole (P.picture picture.now) → ⊥) →
+        Keeps (W.contents writer.old) (W.contents writer.new) }
 {
     if picture.is_whole() {
         return write_rows(picture, room, writer);
@@ -65,8 +75,10 @@ pub fn write_i420_through<P: PictureRows, W: Write>(
 fn write_gathered<P: PictureRows, W: Write>(picture: &P, writer: &mut W) -> Result<(), WriteFault>
     requires whole { IsWhole (P.picture picture.now) }
     requires addressable { length (P.picture picture.now).luma < 2 ^ 63 }
-    ensures ok { OnOk result (Appends (W.contents writer.old) (W.contents writer.new) (i420 (P.picture picture.now))) }
-    ensures before_all { IfErr result (λ fault. fault.written < length (i420 (P.picture picture.now))) }
+    ensures ok { OnOk result
+        (Appends (W.contents writer.old) (W.contents writer.new) (i420 (P.picture picture.now))) }
+    ensures before_all { IfErr result
+        (λ fault. fault.written < length (i420 (P.picture picture.now))) }
     ensures err { IfErr result (λ fault. Appends (W.contents writer.old) (W.contents writer.new)
         (take fault.written (i420 (P.picture picture.now)))) }
 {
@@ -83,8 +95,10 @@ fn write_rows<P: PictureRows, W: Write>(
     requires whole { IsWhole (P.picture picture.now) }
     requires addressable { length (P.picture picture.now).luma < 2 ^ 63 }
     ensures same_length { length room.new ≡ length room.old }
-    ensures ok { OnOk result (Appends (W.contents writer.old) (W.contents writer.new) (i420 (P.picture picture.now))) }
-    ensures before_all { IfErr result (λ fault. fault.written < length (i420 (P.picture picture.now))) }
+    ensures ok { OnOk result
+        (Appends (W.contents writer.old) (W.contents writer.new) (i420 (P.picture picture.now))) }
+    ensures before_all { IfErr result
+        (λ fault. fault.written < length (i420 (P.picture picture.now))) }
     ensures err { IfErr result (λ fault. Appends (W.contents writer.old) (W.contents writer.new)
         (take fault.written (i420 (P.picture picture.now)))) }
 {

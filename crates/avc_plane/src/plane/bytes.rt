@@ -9,7 +9,8 @@ impl<const PAD: usize> Plane<PAD> {
     /// Does nothing. Each sample is a byte, and there are as many as columns and rows say.
     #[inline(always)]
     pub fn holds_bytes(&self)
-        ensures small { (x y : ℕ) → x < self.now.width → y < self.now.height → sample self.now x y ≤ 255 }
+        ensures small { (x y : ℕ) → x < self.now.width → y < self.now.height →
+            sample self.now x y ≤ 255 }
         ensures all { length self.now.samples ≡ self.now.width * self.now.height }
     {
         let _ = &self.stored;

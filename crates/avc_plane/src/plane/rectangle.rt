@@ -18,7 +18,8 @@ impl<const PAD: usize> Plane<PAD> {
         requires columns { left + W ≤ self.now.width }
         requires rows { top + H ≤ self.now.height }
         requires all { W * H ≡ N }
-        ensures samples { (x y : ℕ) → x < W → y < H → slice_index result (W * y + x) ≡ sample self.now (left + x) (top + y) }
+        ensures samples { (x y : ℕ) → x < W → y < H → slice_index result (W * y + x)
+            ≡ sample self.now (left + x) (top + y) }
         ensures all { length self.now.samples ≡ self.now.width * self.now.height }
     {
         let stride = self.stride;
@@ -38,7 +39,8 @@ impl<const PAD: usize> Plane<PAD> {
         requires columns { left + W ≤ self.old.width }
         requires rows { top + H ≤ self.old.height }
         requires all { W * H ≡ N }
-        ensures { self.new ≡ with_block self.old left top W H (λ x y. slice_index samples.now (W * y + x)) }
+        ensures { self.new
+            ≡ with_block self.old left top W H (λ x y. slice_index samples.now (W * y + x)) }
     {
         self.store_rectangle::<W, H, N, false>(left, top, samples);
     }
@@ -54,7 +56,8 @@ impl<const PAD: usize> Plane<PAD> {
         requires columns { left + W ≤ self.old.width }
         requires rows { top + H ≤ self.old.height }
         requires all { W * H ≡ N }
-        ensures { self.new ≡ with_block self.old left top W H (λ x y. slice_index samples.now (W * y + x)) }
+        ensures { self.new
+            ≡ with_block self.old left top W H (λ x y. slice_index samples.now (W * y + x)) }
     {
         self.store_rectangle::<W, H, N, true>(left, top, samples);
     }
@@ -69,7 +72,8 @@ impl<const PAD: usize> Plane<PAD> {
         requires columns { left + W ≤ self.old.width }
         requires rows { top + H ≤ self.old.height }
         requires all { W * H ≡ N }
-        ensures { self.new ≡ with_block self.old left top W H (λ x y. slice_index samples.now (W * y + x)) }
+        ensures { self.new
+            ≡ with_block self.old left top W H (λ x y. slice_index samples.now (W * y + x)) }
     {
         let stride = self.stride;
         let start = (top + PAD) * stride + (left + PAD);
@@ -86,7 +90,8 @@ fn load<const W: usize, const H: usize, const N: usize>(
 ) -> [u8; N]
     requires room { IsRoom W H start stride (length stored.now) }
     requires all { W * H ≡ N }
-    ensures { (x y : ℕ) → x < W → y < H → slice_index result (W * y + x) ≡ slice_index stored.now (start + y * stride + x) }
+    ensures { (x y : ℕ) → x < W → y < H → slice_index result (W * y + x)
+        ≡ slice_index stored.now (start + y * stride + x) }
 {
     let mut samples = [0; N];
     for y in 0..H {
@@ -132,7 +137,8 @@ fn store_row<const W: usize, const COPIES: bool>(
 )
     requires room { start + W ≤ length stored.old }
     requires within { from + W ≤ length samples.now }
-    ensures inside { (x : ℕ) → x < W → slice_index stored.new (start + x) ≡ slice_index samples.now (from + x) }
+    ensures inside { (x : ℕ) → x < W → slice_index stored.new (start + x)
+        ≡ slice_index samples.now (from + x) }
     ensures before { (j : ℕ) → j < start → slice_index stored.new j ≡ slice_index stored.old j }
     ensures behind { (j : ℕ) → start + W ≤ j → slice_index stored.new j ≡ slice_index stored.old j }
 {
@@ -155,7 +161,8 @@ fn store<const W: usize, const H: usize, const N: usize, const COPIES: bool>(
     requires room { IsRoom W H start stride (length stored.old) }
     requires apart { W ≤ stride }
     requires all { W * H ≡ N }
-    ensures inside { (y : ℕ) → y < H → (x : ℕ) → x < W → slice_index stored.new (start + y * stride + x) ≡ slice_index samples.now (W * y + x) }
+    ensures inside { (y : ℕ) → y < H → (x : ℕ) → x < W →
+        slice_index stored.new (start + y * stride + x) ≡ slice_index samples.now (W * y + x) }
     ensures outside { IsSameOutside W H start stride stored.old stored.new }
 {
     for y in 0..H {
