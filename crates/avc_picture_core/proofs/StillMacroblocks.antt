@@ -1,14 +1,16 @@
 -- Rectangles that are copied row by row, and skipped macroblocks whose samples are there already.
 use Rattle.avc_picture_core.proofs.InterTiles.{ℕ, pos, ◌≡◌, ◌+◌, ◌-◌, ◌*◌, ◌<◌, ◌≤◌, ◌∙◌, List, length, None, Ok, Option, refl, sym, ap, arith, ints, nat_tests, ◌/◌}
-use Rattle.avc_picture_core.proofs.InterTiles.{if◌then◌else◌, slice_index, subst, is_some, nat_abs, inter_luma, inter_chroma, Mb, p_skip, MbSyntax}
+use Rattle.avc_picture_core.proofs.InterTiles.{if◌then◌else◌, cases_lt, ⊎_elim, slice_index, subst, is_some, nat_abs, inter_luma, inter_chroma, Mb, p_skip, MbSyntax}
 use Rattle.avc_picture_core.proofs.InterTiles.{Plane, Planes, sample, sample-with_block, plane_of_same, is_inside, with_block, with_block_same, block_of_its_own, padded_planes_of}
 use Rattle.avc_picture_core.proofs.InterTiles.{part_unweighted, pictures_shown, all_as_first, all_predicted, whole_is, one_shape, usable_in, inter, planes_skip, canvas_built, Place, NeighbourInfo}
 use Rattle.avc_picture_core.proofs.InterTiles.{MacroblocksAround, chroma_qp}
+use Rattle.std.proofs.lemmas.Grind.{get_or_default_zero}
 use Rattle.std.proofs.lemmas.List.{get_or-take, get_or-drop}
 use Rattle.std.proofs.Math.Nat.{add-mul, mul-le-mul_right}
 use Rattle.avc_plane.proofs.PlaneMaps.{stride_wide}
-use Rattle.avc_plane.specs.Padded.{IsSurrounded, stride_of}
-use Rattle.std.specs.Prelude.{take, drop, ◌-ℤ◌, ◌+ℤ◌, true}
+use Rattle.avc_plane.specs.Lending.{with_rows}
+use Rattle.avc_plane.specs.Padded.{HaveSamples, IsSurrounded, stored_place, stride_of}
+use Rattle.std.specs.Prelude.{slice_index_or, take, drop, ◌-ℤ◌, ◌+ℤ◌, true}
 use Rattle.avc_types.specs.Arithmetic.{clip3}
 use Rattle.avc_motion.specs.Motion.{still_blocks, zero_vector}
 use Rattle.avc_plane.specs.Frames.{AreSized}
@@ -19,7 +21,7 @@ use Rattle.avc_picture_core.specs.declared.shape.Shape.TheVariants.{Whole}
 use Rattle.avc_picture_core.specs.Places.{IsAt}
 use Rattle.avc_picture_core.specs.References.{AreUsable}
 use Rattle.avc_picture_core.specs.Sides.{readable_near}
-use Rattle.avc_picture_core.specs.Still.{AreInPlace, AreSameIn, IsSameIn, with_rectangle_of}
+use Rattle.avc_picture_core.specs.Still.{AreInPlace, AreSameIn, IsPieceOf, IsSameIn, with_rectangle_of}
 use Rattle.avc_picture_core.specs.declared.inter.ReferencePicture.{ReferencePicture}
 
 -- ---- a rectangle that is copied row by row
@@ -51,6 +53,92 @@ module _ (pad : ℕ) (from : Plane) (rows : List ℕ) (all : IsSurrounded pad fr
       ∙ all.near (left + x + pad) (y + pad) (omega (arith, wide, is_stride, low, columns)) (omega (arith, row))
       ∙ rw (held_back pad from.width (left + x) (omega (arith, low, columns)), held_back pad from.height y row) refl
       )
+
+-- rows that are copied as one piece
+module _ (pad : ℕ) (from p : Plane) (rows old : List ℕ) (all : IsSurrounded pad from rows) (have : HaveSamples pad p old) (top height start stride : ℕ)
+    (same_width : p.width ≡ from.width) (inner : top + height ≤ from.height) (low : top + height ≤ p.height)
+    (is_start : start ≡ (top + pad) * stride) (is_stride : stride ≡ stride_of pad from.width) where
+  wide_rows : from.width + 2 * pad ≤ stride
+  wide_rows = omega (arith, stride_wide pad from.width, is_stride)
+
+  -- they lie in both
+  pub rows_lie_in : start + height * stride ≤ length rows
+  rows_lie_in =
+      let below : (top + pad + height) * stride ≤ (from.height + 2 * pad) * stride = mul-le-mul_right stride (omega (arith, inner)) in
+      let long : length rows ≡ (from.height + 2 * pad) * stride = all.long ∙ ap (λ n. (from.height + 2 * pad) * n) (sym is_stride) in
+      omega (arith, below, long, is_start, add-mul (top + pad) height stride)
+
+  pub rows_fit : start + height * stride ≤ length old
+  rows_fit =
+      let below : (top + pad + height) * stride ≤ (p.height + 2 * pad) * stride = mul-le-mul_right stride (omega (arith, low)) in
+      let long : length old ≡ (p.height + 2 * pad) * stride = have.long ∙ ap (λ n. (p.height + 2 * pad) * n) (ap (stride_of pad) same_width ∙ sym is_stride) in
+      omega (arith, below, long, is_start, add-mul (top + pad) height stride)
+
+  module _ (new : List ℕ) (set : IsPieceOf rows start (height * stride) old new) where
+    place_is : (x y : ℕ) → stored_place pad p.width x y ≡ (y + pad) * stride + (x + pad)
+    place_is x y = ap (λ n. (y + pad) * n + (x + pad)) (ap (stride_of pad) same_width ∙ sym is_stride)
+
+    row_ends : (x y m : ℕ) → x < p.width → y < m → (y + pad) * stride + (x + pad) < (m + pad) * stride
+    row_ends x y m column above =
+        let below : (y + pad + 1) * stride ≤ (m + pad) * stride = mul-le-mul_right stride (omega (arith, above)) in
+        omega (arith, below, wide_rows, column, same_width, add-mul (y + pad) 1 stride)
+
+    from_is : (x y : ℕ) → x < p.width → y < from.height → slice_index rows ((y + pad) * stride + (x + pad)) ≡ sample from x y
+    from_is x y column row =
+        ap (λ n. slice_index rows ((y + pad) * n + (x + pad))) is_stride
+        ∙ all.near (x + pad) (y + pad) (omega (arith, wide_rows, is_stride, column, same_width)) (omega (arith, row))
+        ∙ rw (held_back pad from.width x (omega (arith, column, same_width)), held_back pad from.height y row) refl
+
+    p_is : (x y : ℕ) → x < p.width → y < p.height → slice_index old ((y + pad) * stride + (x + pad)) ≡ sample p x y
+    p_is x y column row = ap (slice_index old) (sym (place_is x y)) ∙ have.at x y column row
+
+    from_under : (x y : ℕ) → top + height ≤ y → start + height * stride ≤ (y + pad) * stride + (x + pad)
+    from_under x y under =
+        let below : (top + pad + height) * stride ≤ (y + pad) * stride = mul-le-mul_right stride (omega (arith, under)) in
+        omega (arith, below, is_start, add-mul (top + pad) height stride)
+
+    fits_new : (x y : ℕ) → x < p.width → y < p.height → (y + pad) * stride + (x + pad) < length new
+    fits_new x y column row =
+        let long : length old ≡ (p.height + 2 * pad) * stride = have.long ∙ ap (λ n. (p.height + 2 * pad) * n) (ap (stride_of pad) same_width ∙ sym is_stride) in
+        let below : (p.height + pad) * stride ≤ (p.height + 2 * pad) * stride = mul-le-mul_right stride (omega arith) in
+        omega (arith, set.long, long, below, row_ends x y p.height column row)
+
+    abbrev copied : ℕ → ℕ → ℕ
+    copied x y = if is_inside 0 top from.width height x y then sample from (0 + (x - 0)) (top + (y - top)) else sample p x y
+
+    if_inside : (x y : ℕ) → x < p.width → top ≤ y → y < top + height → copied x y ≡ sample from x y
+    if_inside x y column from_top inside =
+        let across : 0 + (x - 0) ≡ x = omega arith in
+        let down : top + (y - top) ≡ y = omega (arith, from_top) in
+        grind (arith, nat_tests)
+
+    each_copied : (x y : ℕ) → x < p.width → y < p.height → slice_index new ((y + pad) * stride + (x + pad)) ≡ copied x y
+    each_copied x y column row =
+        ⊎_elim
+        (λ above. set.before _ (omega (arith, row_ends x y top column above, is_start)) ∙ p_is x y column row ∙ grind (arith, nat_tests))
+        (λ from_top. ⊎_elim
+        (λ inside.
+        let k = (y - top) * stride + (x + pad) in
+        let at_k : start + k ≡ (y + pad) * stride + (x + pad) =
+        let sum : y - top + (top + pad) ≡ y + pad = omega (arith, from_top) in
+        omega (arith, is_start, add-mul (y - top) (top + pad) stride, ap (λ n. n * stride) sum) in
+        let few : k < height * stride =
+        let ends : (top + height + pad) * stride ≡ (top + pad) * stride + height * stride =
+        ap (λ n. n * stride) (omega arith) ∙ add-mul (top + pad) height stride in
+        omega (arith, row_ends x y (top + height) column inside, at_k, is_start, ends) in
+        ap (slice_index new) (sym at_k) ∙ set.inside k few ∙ ap (slice_index rows) at_k ∙ from_is x y column (omega (arith, inside, inner))
+        ∙ sym (if_inside x y column from_top inside))
+        (λ under. set.behind _ (from_under x y under) ∙ p_is x y column row ∙ grind (arith, nat_tests))
+        (cases_lt y (top + height)))
+        (cases_lt y top)
+
+    pub rows_copied : with_rows pad p new ≡ with_rectangle_of from 0 top from.width height p
+    rows_copied =
+        plane_of_same p.width p.height (λ x y. slice_index_or new (stored_place pad p.width x y) (sample p x y)) copied
+        (λ x y column row.
+        ap (λ n. slice_index_or new n (sample p x y)) (place_is x y)
+        ∙ get_or_default_zero new ((y + pad) * stride + (x + pad)) (sample p x y) (fits_new x y column row)
+        ∙ each_copied x y column row)
 
 -- no row
 pub no_row : (p from : Plane) (left top width : ℕ) → length p.samples ≡ p.width * p.height → p ≡ with_rectangle_of from left top width 0 p

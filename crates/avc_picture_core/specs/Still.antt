@@ -1,6 +1,7 @@
 -- Macroblocks that stand still: their samples are those of a reference picture at the same places,
 -- ITU-T H.264 clause 8.4.2.2.
-use Rattle.std.specs.Prelude.{◌≡◌, ℕ, ◌+◌, ◌*◌, ◌<◌, ◌≤◌, List, Option, Some, None, slice_index_or}
+use Rattle.std.specs.Prelude.{◌≡◌, ℕ, ◌+◌, ◌*◌, ◌<◌, ◌≤◌, List, length, slice_index, Option, Some}
+use Rattle.std.specs.Prelude.{None, slice_index_or}
 use Rattle.avc_plane.specs.Frames.{padded_planes_of}
 use Rattle.avc_plane.specs.Plane.{Plane, sample, with_block}
 use Rattle.avc_plane.specs.Planes.{Planes}
@@ -19,6 +20,13 @@ pub record CoverRun (column row count : ℕ) (p : Planes) : Type 0 where
 abbrev pub with_rectangle_of : (from : Plane) → (left top width height : ℕ) → Plane → Plane
 with_rectangle_of from left top width height p =
     with_block p left top width height (λ x y. sample from (left + x) (top + y))
+
+-- a piece of a list is that of another, and nothing else has changed
+pub record IsPieceOf (from : List ℕ) (start count : ℕ) (old new : List ℕ) : Type 0 where
+  pub long : length new ≡ length old
+  pub before : (k : ℕ) → k < start → slice_index new k ≡ slice_index old k
+  pub inside : (k : ℕ) → k < count → slice_index new (start + k) ≡ slice_index from (start + k)
+  pub behind : (k : ℕ) → start + count ≤ k → slice_index new k ≡ slice_index old k
 
 -- planes with the samples of others in these macroblocks (6.2, 6.4.1)
 abbrev pub with_run_of : (from : Planes) → (column row count : ℕ) → Planes → Planes

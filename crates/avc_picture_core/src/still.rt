@@ -11,7 +11,7 @@ ghost use Rattle.avc_picture_core.specs.Canvas.{address_of, IsBuilt, IsPlaceOn};
 ghost use Rattle.avc_picture_core.specs.CanvasFields.{with_planes};
 ghost use Rattle.avc_picture_core.specs.References.{AreUsable};
 ghost use Rattle.avc_picture_core.specs.Still.{AreInPlace, CoverRun, with_rectangle_of};
-ghost use Rattle.avc_picture_core.specs.Still.{with_run_of};
+ghost use Rattle.avc_picture_core.specs.Still.{with_run_of, IsPieceOf};
 
 use crate::canvas::{Canvas, Sources};
 use crate::places::MbPlace;
@@ -34,7 +34,37 @@ fn line_of<const PAD: usize>(from: &PaddedPlane<PAD>, left: usize, y: usize, wid
     &from.padded_rows()[start..start + width]
 }
 
-/// Copies a rectangle of a plane to the same place of another, row by row.
+/// Copies `count` samples to the same place of other rows.
+fn copy_piece(from: &[u8], start: usize, count: usize, rows: &mut [u8])
+    requires source { start + count ≤ length from.now }
+    requires target { start + count ≤ length rows.old }
+    ensures { IsPieceOf from.now start count rows.old rows.new }
+{
+    rows[start..start + count].copy_from_slice(&from[start..start + count]);
+}
+
+/// Copies rows of a plane to the same place of another of its width, as one piece of memory with
+/// the padding between them: what is so long is copied without being read first where it goes.
+fn copy_rows<const PAD: usize>(
+    from: &PaddedPlane<PAD>,
+    top: usize,
+    height: usize,
+    plane: &mut Plane<PAD>,
+)
+    requires width { plane.old.width ≡ from.now.width }
+    requires from_rows { top + height ≤ from.now.height }
+    requires rows { top + height ≤ plane.old.height }
+    ensures { plane.new ≡ with_rectangle_of from.now 0 top from.now.width height plane.old }
+{
+    let stride = from.stride();
+    let _lines = from.height();
+    let start = (top + PAD) * stride;
+    let rows = plane.padded_rows_mut();
+    copy_piece(from.padded_rows(), start, height * stride, rows);
+}
+
+/// Copies a rectangle of a plane to the same place of another, row by row, or all at once where it
+/// is as wide as both.
 fn copy_rectangle<const PAD: usize>(
     from: &PaddedPlane<PAD>,
     left: usize,
@@ -51,6 +81,10 @@ fn copy_rectangle<const PAD: usize>(
 {
     let _columns = from.width();
     let _lines = from.height();
+    if width == from.width() && width == plane.width() {
+        copy_rows(from, top, height, plane);
+        return;
+    }
     plane.holds_bytes();
     for row in 0..height {
         let line = line_of(from, left, top + row, width);
