@@ -129,13 +129,20 @@ fn decode_data<const PAD: usize>(
     Ok(())
 }
 
+/// The number of a slice in its picture, and its header.
+#[derive(Clone, Copy)]
+struct SliceHead<'a> {
+    number: u32,
+
+    header: &'a Header,
+}
+
 /// Likewise from the first macroblock on, which is the current one. What all macroblocks of a slice
 /// are decoded with is large: it is made here, so that a slice without any pays nothing for it.
 #[inline(never)]
 fn decode_macroblocks<const PAD: usize>(
     unread: &mut SliceData<'_>,
-    number: u32,
-    header: &Header,
+    slice: SliceHead<'_>,
     frames: &[Frame<PAD>],
     places: &Places,
     macroblocks: &mut Macroblocks<PAD>,
@@ -145,10 +152,10 @@ fn decode_macroblocks<const PAD: usize>(
     requires frames { AreFrames macroblocks.old.canvas.width macroblocks.old.canvas.height
         frames.now }
     requires places { ArePlacesIn frames.now places.now }
-    requires deblocking { IfSome header.now.deblocking IsDeblocking }
-    requires weights { IfSome header.now.pred_weight_table
-        (IsPredWeightTable header.now.num_ref_idx_active) }
-    requires some { CanHaveFirst (IsContextAt number frames.now header.now places.now)
+    requires deblocking { IfSome slice.header.now.deblocking IsDeblocking }
+    requires weights { IfSome slice.header.now.pred_weight_table
+        (IsPredWeightTable slice.header.now.num_ref_idx_active) }
+    requires some { CanHaveFirst (IsContextAt slice.number frames.now slice.header.now places.now)
         macroblocks.old current.old unread.old }
     requires read { macroblocks.old.next ≡ read.old }
     requires small { macroblocks.old.canvas.width * macroblocks.old.canvas.height
@@ -156,12 +163,13 @@ fn decode_macroblocks<const PAD: usize>(
     ensures size { HasSameSize macroblocks.old macroblocks.new }
     ensures within { read.new ≤ macroblocks.old.canvas.width * macroblocks.old.canvas.height }
     ensures answer { (c : Coded) (names : Names) (s : SliceStart) (d : SliceFrom)
-        → HasFirst (IsContextAt number frames.now header.now places.now) c names s d macroblocks.old
+        → HasFirst (IsContextAt slice.entry.number frames.now slice.entry.header.now places.now) c
+        names s d macroblocks.old
         current.old unread.old
         → IsDataAnswer c names macroblocks.old.next (outcome_from c s macroblocks.old d) result
         read.new macroblocks.new }
 {
-    let context = SliceContext::new(number, header, frames, places);
+    let context = SliceContext::new(slice.number, slice.header, frames, places);
     let mut info = CurrentInfo::new();
     let mut run = StillRun::new();
     *read += 1;
@@ -211,8 +219,10 @@ pub(crate) fn decode_slice<const PAD: usize>(
     }
     decode_macroblocks(
         &mut unread,
-        number,
-        &slice.header,
+        SliceHead {
+            number,
+            header: &slice.header,
+        },
         frames,
         &places,
         macroblocks,

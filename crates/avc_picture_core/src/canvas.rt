@@ -13,7 +13,7 @@ ghost use Rattle.avc_picture_core.specs.References.{AreUsable};
 ghost use Rattle.avc_picture_core.specs.Sides.{readable_near};
 
 use crate::inter::ReferencePicture;
-use crate::macroblock::{build_macroblock, build_p_skip};
+use crate::macroblock::{References, build_macroblock, build_p_skip};
 use crate::places::{MbPlace, PictureSize};
 use crate::residual::Quantisers;
 use crate::sides::ReadableNeighbours;
@@ -115,12 +115,14 @@ impl Canvas {
         build_macroblock(
             planes,
             place,
-            size,
             &mb.syntax,
             qp,
             info,
             readable,
-            sources.references,
+            References {
+                size,
+                pictures: sources.references,
+            },
         )
     }
 }

@@ -158,6 +158,14 @@ pub(crate) fn build_i_nxn<const PAD: usize>(
     Ok(())
 }
 
+/// The transform coefficient levels of an Intra 16x16 macroblock: those of DC, and those of blocks.
+#[derive(Clone, Copy)]
+pub(crate) struct Levels16x16<'a> {
+    pub dc: &'a Levels<16>,
+
+    pub blocks: &'a BlockLevels<15>,
+}
+
 /// Builds an Intra 16x16 macroblock. IntraUnavailable where a prediction needs samples that are not
 /// there.
 pub(crate) fn build_i_16x16<const PAD: usize>(
@@ -166,19 +174,19 @@ pub(crate) fn build_i_16x16<const PAD: usize>(
     readable: ReadableNeighbours,
     mode: u8,
     chroma_mode: u8,
-    dc: &Levels<16>,
-    levels: &BlockLevels<15>,
+    levels: Levels16x16<'_>,
     qp: Quantisers,
 ) -> Result<(), Fault>
     requires room { CoverMacroblock place.column place.row (planes_of planes.old) }
     requires mode { mode ≤ 3 }
     requires chroma_mode { chroma_mode ≤ 3 }
-    requires levels { IsResidual (residual_of dc.now levels.now) }
+    requires levels { IsResidual (residual_of levels.dc.now levels.blocks.now) }
     requires luma { qp.luma ≤ 51 }
     requires chroma { qp.chroma ≤ 39 }
     ensures size { AreSameSize (planes_of planes.old) (planes_of planes.new) }
     ensures built { (p : Place) →
-        IsAt place.column place.row (i_16x16 mode chroma_mode (residual_of dc.now levels.now))
+        IsAt place.column place.row
+        (i_16x16 mode chroma_mode (residual_of levels.entry.dc.now levels.entry.blocks.now))
         qp.luma qp.chroma p →
         MayRead place.column place.row planes.old.luma.width readable p →
         ArePlanesBuilt p result (planes_of planes.old) (planes_of planes.new) }
@@ -194,8 +202,8 @@ pub(crate) fn build_i_16x16<const PAD: usize>(
         place,
         sides,
         luma_mode,
-        dc,
-        levels,
+        levels.dc,
+        levels.blocks,
         qp.luma,
     );
     build_component(
@@ -203,8 +211,8 @@ pub(crate) fn build_i_16x16<const PAD: usize>(
         place,
         sides,
         mode,
-        &levels.cb_dc,
-        &levels.cb_ac,
+        &levels.blocks.cb_dc,
+        &levels.blocks.cb_ac,
         qp.chroma,
     );
     build_component(
@@ -212,8 +220,8 @@ pub(crate) fn build_i_16x16<const PAD: usize>(
         place,
         sides,
         mode,
-        &levels.cr_dc,
-        &levels.cr_ac,
+        &levels.blocks.cr_dc,
+        &levels.blocks.cr_ac,
         qp.chroma,
     );
     Ok(())

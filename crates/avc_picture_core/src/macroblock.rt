@@ -19,7 +19,7 @@ ghost use Rattle.avc_picture_core.specs.Residuals.{with_residual};
 
 use crate::corner::{first_column, first_row};
 use crate::inter::{ReferencePicture, predict_inter};
-use crate::intra::{build_i_16x16, build_i_nxn};
+use crate::intra::{Levels16x16, build_i_16x16, build_i_nxn};
 use crate::places::{MbPlace, PictureSize};
 use crate::residual::{Quantisers, add_chroma_residual, add_luma_residual};
 use crate::sides::ReadableNeighbours;
@@ -27,6 +27,14 @@ use avc_motion::is_one_partition;
 use avc_neigh::{Motion, NeighbourInfo};
 use avc_plane::{Plane, Planes};
 use avc_types::{BlockLevels, Fault, PMbType, Syntax};
+
+/// The pictures that reference indices name, and the size that all have.
+#[derive(Clone, Copy)]
+pub(crate) struct References<'a, const PAD: usize> {
+    pub size: PictureSize,
+
+    pub pictures: &'a [Option<ReferencePicture<'a, PAD>>],
+}
 
 /// Lays the samples of a chroma component of a macroblock into its plane.
 fn set_component<const PAD: usize>(plane: &mut Plane<PAD>, place: MbPlace, samples: &[u8; 64])
@@ -150,17 +158,17 @@ pub(crate) fn build_p_skip<const PAD: usize>(
 fn build_p_inter<const PAD: usize>(
     planes: &mut Planes<PAD>,
     place: MbPlace,
-    size: PictureSize,
     motion: &[Motion; 16],
     mb_type: &PMbType,
     levels: &BlockLevels<16>,
     qp: Quantisers,
-    references: &[Option<ReferencePicture<'_, PAD>>],
+    references: References<'_, PAD>,
 ) -> Result<(), Fault>
     requires room { CoverMacroblock place.column place.row (planes_of planes.old) }
-    requires column { place.column < size.width }
-    requires row { place.row < size.height }
-    requires usable { AreUsable size.width size.height references.now }
+    requires column { place.column < references.size.width }
+    requires row { place.row < references.size.height }
+    requires usable { AreUsable references.size.width references.size.height
+        references.pictures.now }
     requires luma { qp.luma ≤ 51 }
     requires chroma { qp.chroma ≤ 39 }
     requires levels { IsResidual (residual_of [] levels.now) }
@@ -169,13 +177,14 @@ fn build_p_inter<const PAD: usize>(
     ensures built { (p : Place) (ref_idx : List ℕ) (mvd : List Mvd) →
         IsAt place.column place.row (p_inter mb_type.now ref_idx mvd (residual_of [] levels.now))
         qp.luma qp.chroma p →
-        p.coded.width ≡ size.width → p.coded.height ≡ size.height →
-        p.motion ≡ motion.now → AreReferences p.coded p.slice references.now →
+        p.coded.width ≡ references.entry.size.width →
+        p.coded.height ≡ references.entry.size.height →
+        p.motion ≡ motion.now → AreReferences p.coded p.slice references.entry.pictures.now →
         ArePlanesBuilt p result (planes_of planes.old) (planes_of planes.new) }
 {
     predict_inter(
-        references,
-        size,
+        references.pictures,
+        references.size,
         place,
         motion,
         is_one_partition(mb_type),
@@ -189,30 +198,38 @@ fn build_p_inter<const PAD: usize>(
 pub(crate) fn build_macroblock<const PAD: usize>(
     planes: &mut Planes<PAD>,
     place: MbPlace,
-    size: PictureSize,
     syntax: &Syntax,
     qp: Quantisers,
     info: &NeighbourInfo,
     readable: ReadableNeighbours,
-    references: &[Option<ReferencePicture<'_, PAD>>],
+    references: References<'_, PAD>,
 ) -> Result<(), Fault>
-    requires sized { AreSized size.width size.height (planes_of planes.old) }
-    requires column { place.column < size.width }
-    requires row { place.row < size.height }
+    requires sized { AreSized references.size.width references.size.height (planes_of planes.old) }
+    requires column { place.column < references.size.width }
+    requires row { place.row < references.size.height }
     requires syntax { IsInRange (syntax_of syntax.now) }
     requires luma { qp.luma ≤ 51 }
     requires chroma { qp.chroma ≤ 39 }
     requires modes { All IsMode info.now.modes }
-    requires usable { AreUsable size.width size.height references.now }
+    requires usable { AreUsable references.size.width references.size.height
+        references.pictures.now }
     requires one { has_one_motion (syntax_of syntax.now) ≡ true → AreOfOneMotion info.now.motion }
     ensures size { AreSameSize (planes_of planes.old) (planes_of planes.new) }
     ensures built { (p : Place) →
-        IsPlaceIn place.column place.row size.width size.height (syntax_of syntax.now) qp.luma
-        qp.chroma info.now readable references.now p →
+        IsPlaceIn place.column place.row references.entry.size.width references.entry.size.height
+        (syntax_of syntax.now) qp.luma qp.chroma info.now readable references.entry.pictures.now p →
         ArePlanesBuilt p result (planes_of planes.old) (planes_of planes.new) }
 {
     match syntax {
-        Syntax::PSkip => build_p_skip(planes, place, size, &info.motion, references),
+        Syntax::PSkip => {
+            build_p_skip(
+                planes,
+                place,
+                references.size,
+                &info.motion,
+                references.pictures,
+            )
+        }
         Syntax::IPcm { luma, cb, cr } => build_i_pcm(planes, place, luma, cb, cr),
         Syntax::INxN {
             chroma_mode,
@@ -238,23 +255,16 @@ pub(crate) fn build_macroblock<const PAD: usize>(
             readable,
             *mode,
             *chroma_mode,
-            luma_dc,
-            levels,
+            Levels16x16 {
+                dc: luma_dc,
+                blocks: levels,
+            },
             qp,
         ),
         Syntax::PInter {
             mb_type,
             levels,
             ..
-        } => build_p_inter(
-            planes,
-            place,
-            size,
-            &info.motion,
-            mb_type,
-            levels,
-            qp,
-            references,
-        ),
+        } => build_p_inter(planes, place, &info.motion, mb_type, levels, qp, references),
     }
 }

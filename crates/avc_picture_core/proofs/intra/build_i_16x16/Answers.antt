@@ -20,7 +20,7 @@ build_component-requires-2 g c =
 
 pub returns-then-not-has_sides16x16-clause-built : goal.returns-then-not-has_sides16x16-clause-built
 returns-then-not-has_sides16x16-clause-built g c = λ p at may.
-    let r = residual_of c.args.dc.now c.args.levels.now in
+    let r = residual_of c.args.levels.dc.now c.args.levels.blocks.now in
     let syntax = i_16x16 c.args.mode c.args.chroma_mode r in
     let sides = c.sides-sides.result in
     let mine : sides_of p.coded p.address 0 ≡ sides = may.sides 0 (omega arith) ∙ sym c.sides-sides.ensures in
@@ -29,7 +29,7 @@ returns-then-not-has_sides16x16-clause-built g c = λ p at may.
 
 pub returns-clause-built : goal.returns-clause-built
 returns-clause-built g c = λ p at may.
-    let r = residual_of c.args.dc.now c.args.levels.now in
+    let r = residual_of c.args.levels.dc.now c.args.levels.blocks.now in
     let m = c.args.mode in
     let chroma = c.args.chroma_mode in
     let syntax = i_16x16 m chroma r in
