@@ -7,6 +7,8 @@ set -u
 top=$(cd "$(dirname "$0")/.." && pwd)
 # shellcheck source=scripts/say.sh
 . "$top/scripts/say.sh"
+# shellcheck source=scripts/counting.sh
+. "$top/scripts/counting.sh"
 cc=${CROSS_CC:-aarch64-linux-gnu-gcc}
 ar=${CROSS_AR:-aarch64-linux-gnu-ar}
 objcopy=${CROSS_OBJCOPY:-aarch64-linux-gnu-objcopy}
@@ -21,21 +23,9 @@ done
 work=$(mktemp -d)
 trap 'hush; rm -rf "$work"' EXIT
 trap 'exit 130' INT TERM
+in_part=ARM64
 passed=0
 failed=0
-
-# counts a test by its name, where the command after it says so
-holds() {
-    what=$1
-    shift
-    if "$@"; then
-        passed=$((passed + 1))
-    else
-        failed=$((failed + 1))
-        echo "failed: ARM64: $what"
-    fi
-    reached "$what"
-}
 
 # ends where nothing more can be tried
 stop() {

@@ -6,6 +6,8 @@ set -u
 top=$(cd "$(dirname "$0")/.." && pwd)
 # shellcheck source=scripts/say.sh
 . "$top/scripts/say.sh"
+# shellcheck source=scripts/counting.sh
+. "$top/scripts/counting.sh"
 cc=${CC:-cc}
 cxx=${CXX:-c++}
 work=$(mktemp -d)
@@ -13,44 +15,7 @@ trap 'hush; rm -rf "$work"' EXIT
 trap 'exit 130' INT TERM
 vectors=$top/vectors
 all_well=true
-
-# begins a part
-part() {
-    name=$1
-    passed=0
-    failed=0
-    reached 'the start'
-    say "tests $name"
-    tell_while cat "$work/reached"
-}
-
-# ends it
-told() {
-    hush
-    echo "library, $name: $passed passed, $failed failed"
-    [ "$failed" = 0 ] || all_well=false
-}
-
-left_out() {
-    echo "library, $1: left out: $2"
-}
-
-# counts a test by its name, where the command after it says so
-holds() {
-    what=$1
-    shift
-    if "$@"; then
-        passed=$((passed + 1))
-    else
-        failed=$((failed + 1))
-        echo "failed: $name: $what"
-    fi
-    reached "$what"
-}
-
-has() {
-    command -v "$1" >/dev/null 2>&1
-}
+tests=library
 
 if ! has "$cc"; then
     left_out 'all of it' 'there is no C compiler'

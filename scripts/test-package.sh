@@ -9,47 +9,14 @@ other=${1:-$top}
 cc=${CC:-cc}
 # shellcheck source=scripts/say.sh
 . "$top/scripts/say.sh"
+# shellcheck source=scripts/counting.sh
+. "$top/scripts/counting.sh"
 work=$(mktemp -d)
 trap 'hush; rm -rf "$work"' EXIT
 trap 'exit 130' INT TERM
 stream=$top/vectors/cases/gap
 all_well=true
-
-part() {
-    name=$1
-    passed=0
-    failed=0
-    reached 'the start'
-    say "tests $name"
-    tell_while cat "$work/reached"
-}
-
-told() {
-    hush
-    echo "package, $name: $passed passed, $failed failed"
-    [ "$failed" = 0 ] || all_well=false
-}
-
-left_out() {
-    echo "package, $1: left out: $2"
-}
-
-# counts a test by its name, where the command after it says so
-holds() {
-    what=$1
-    shift
-    if "$@"; then
-        passed=$((passed + 1))
-    else
-        failed=$((failed + 1))
-        echo "failed: $name: $what"
-    fi
-    reached "$what"
-}
-
-has() {
-    command -v "$1" >/dev/null 2>&1
-}
+tests=package
 
 # whether a program that wrote $work/out, told $work/told and ended with this status decoded the stream
 is_decoded() {

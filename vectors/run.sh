@@ -10,6 +10,8 @@ set -u
 here=$(cd "$(dirname "$0")" && pwd)
 # shellcheck source=scripts/say.sh
 . "$here/../scripts/say.sh"
+# shellcheck source=scripts/counting.sh
+. "$here/../scripts/counting.sh"
 program=$here/../avcdec
 work=$(mktemp -d)
 trap 'hush; rm -rf "$work"' EXIT
@@ -34,19 +36,6 @@ judge() {
         cat "$work/told"
     fi
     reached "$1"
-}
-
-# counts a test by its name, where the command after it says so
-holds() {
-    row=$1
-    shift
-    if "$@"; then
-        passed=$((passed + 1))
-    else
-        failed=$((failed + 1))
-        echo "failed: $row"
-    fi
-    reached "$row"
 }
 
 # whether the pictures have this md5, the status is the wanted one, and this was told
