@@ -122,8 +122,6 @@ pub(crate) fn build_i_nxn<const PAD: usize>(
     requires modes { All IsMode modes.now }
     requires chroma_mode { chroma_mode ≤ 3 }
     requires levels { IsResidual (residual_of [] levels.now) }
-    requires luma { qp.luma ≤ 51 }
-    requires chroma { qp.chroma ≤ 39 }
     ensures size { AreSameSize (planes_of planes.old) (planes_of planes.new) }
     ensures built { (p : Place) (coded : List (Option ℕ)) →
         IsAt place.column place.row (i_nxn coded chroma_mode (residual_of [] levels.now)) qp.luma
@@ -181,8 +179,6 @@ pub(crate) fn build_i_16x16<const PAD: usize>(
     requires mode { mode ≤ 3 }
     requires chroma_mode { chroma_mode ≤ 3 }
     requires levels { IsResidual (residual_of levels.dc.now levels.blocks.now) }
-    requires luma { qp.luma ≤ 51 }
-    requires chroma { qp.chroma ≤ 39 }
     ensures size { AreSameSize (planes_of planes.old) (planes_of planes.new) }
     ensures built { (p : Place) →
         IsAt place.column place.row

@@ -97,8 +97,6 @@ fn add_residual<const PAD: usize>(
     qp: Quantisers,
 )
     requires room { CoverMacroblock place.column place.row (planes_of planes.old) }
-    requires luma { qp.luma ≤ 51 }
-    requires chroma { qp.chroma ≤ 39 }
     requires levels { IsResidual (residual_of [] levels.now) }
     ensures luma { planes.new.luma
         ≡ with_residual planes.old.luma (16 * place.column) (16 * place.row) 16 16
@@ -169,8 +167,6 @@ fn build_p_inter<const PAD: usize>(
     requires row { place.row < references.size.height }
     requires usable { AreUsable references.size.width references.size.height
         references.pictures.now }
-    requires luma { qp.luma ≤ 51 }
-    requires chroma { qp.chroma ≤ 39 }
     requires levels { IsResidual (residual_of [] levels.now) }
     requires one { is_one_partition_by mb_type.now ≡ true → AreOfOneMotion motion.now }
     ensures size { AreSameSize (planes_of planes.old) (planes_of planes.new) }
@@ -208,8 +204,6 @@ pub(crate) fn build_macroblock<const PAD: usize>(
     requires column { place.column < references.size.width }
     requires row { place.row < references.size.height }
     requires syntax { IsInRange (syntax_of syntax.now) }
-    requires luma { qp.luma ≤ 51 }
-    requires chroma { qp.chroma ≤ 39 }
     requires modes { All IsMode info.now.modes }
     requires usable { AreUsable references.size.width references.size.height
         references.pictures.now }

@@ -29,6 +29,9 @@ pub(crate) struct Quantisers {
 
     /// QP_C, 0 to 39 (8.5.8).
     pub chroma: u8,
+
+    ghost luma_qp: { luma ≤ 51 },
+    ghost chroma_qp: { chroma ≤ 39 },
 }
 
 /// Adds a residual to a 4x4 block.

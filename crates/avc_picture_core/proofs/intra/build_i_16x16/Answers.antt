@@ -6,17 +6,17 @@ use Rattle.avc_picture_core.proofs.intra.build_i_16x16.Goals as goal
 pub build_luma16x16-requires : goal.build_luma16x16-requires
 build_luma16x16-requires g c =
     let r = c.requires in
-    (omega arith, (r.room.luma_columns, (r.room.luma_rows, ((and_parts _ _ (sym c.has_sides16x16.ensures ∙ c.if-not-has_sides16x16.false)).0, (r.luma, r.levels)))))
+    (omega arith, (r.room.luma_columns, (r.room.luma_rows, ((and_parts _ _ (sym c.has_sides16x16.ensures ∙ c.if-not-has_sides16x16.false)).0, (c.args.qp.luma_qp, r.levels)))))
 
 pub build_component-requires : goal.build_component-requires
 build_component-requires g c =
     let r = c.requires in
-    (omega arith, (r.room.cb_columns, (r.room.cb_rows, ((and_parts _ _ (sym c.has_sides16x16.ensures ∙ c.if-not-has_sides16x16.false)).1, (r.chroma, (r.levels.dc_of_cb, r.levels.blocks_of_cb))))))
+    (omega arith, (r.room.cb_columns, (r.room.cb_rows, ((and_parts _ _ (sym c.has_sides16x16.ensures ∙ c.if-not-has_sides16x16.false)).1, (c.args.qp.chroma_qp, (r.levels.dc_of_cb, r.levels.blocks_of_cb))))))
 
 pub build_component-requires-2 : goal.build_component-requires-2
 build_component-requires-2 g c =
     let r = c.requires in
-    (omega arith, (r.room.cr_columns, (r.room.cr_rows, ((and_parts _ _ (sym c.has_sides16x16.ensures ∙ c.if-not-has_sides16x16.false)).1, (r.chroma, (r.levels.dc_of_cr, r.levels.blocks_of_cr))))))
+    (omega arith, (r.room.cr_columns, (r.room.cr_rows, ((and_parts _ _ (sym c.has_sides16x16.ensures ∙ c.if-not-has_sides16x16.false)).1, (c.args.qp.chroma_qp, (r.levels.dc_of_cr, r.levels.blocks_of_cr))))))
 
 pub returns-then-not-has_sides16x16-clause-built : goal.returns-then-not-has_sides16x16-clause-built
 returns-then-not-has_sides16x16-clause-built g c = λ p at may.

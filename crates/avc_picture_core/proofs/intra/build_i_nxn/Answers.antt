@@ -9,7 +9,7 @@ build_luma4x4-requires g c =
     let r = c.requires in
     let can = each_sixteen (λ k. can_predict4x4 (readable_sides c.args.readable k) (mode4x4_of (mode_number (slice_index_or c.args.modes.now k absent))))
     (and_parts _ _ (sym c.has_sides_nxn.ensures ∙ c.if-not-has_sides_nxn.false)).0 in
-    (omega arith, (r.room.luma_columns, (r.room.luma_rows, (r.luma, (r.levels, (r.modes, can))))))
+    (omega arith, (r.room.luma_columns, (r.room.luma_rows, (c.args.qp.luma_qp, (r.levels, (r.modes, can))))))
 
 pub build_component-requires : goal.build_component-requires
 build_component-requires g c =
@@ -22,7 +22,7 @@ build_component-requires g c =
           (
             subst (λ t. can_predict_chroma t c.mode_chroma-mode.result ≡ true) (sym c.sides-sides.ensures)
                 (and_parts _ _ (sym c.has_sides_nxn.ensures ∙ c.if-not-has_sides_nxn.false)).1,
-            (r.chroma, (r.levels.dc_of_cb, r.levels.blocks_of_cb)),
+            (c.args.qp.chroma_qp, (r.levels.dc_of_cb, r.levels.blocks_of_cb)),
           ),
         ),
       ),
@@ -39,7 +39,7 @@ build_component-requires-2 g c =
           (
             subst (λ t. can_predict_chroma t c.mode_chroma-mode.result ≡ true) (sym c.sides-sides.ensures)
                 (and_parts _ _ (sym c.has_sides_nxn.ensures ∙ c.if-not-has_sides_nxn.false)).1,
-            (r.chroma, (r.levels.dc_of_cr, r.levels.blocks_of_cr)),
+            (c.args.qp.chroma_qp, (r.levels.dc_of_cr, r.levels.blocks_of_cr)),
           ),
         ),
       ),
