@@ -1,9 +1,12 @@
 -- The samples of one component after the lines of one edge, ITU-T H.264 clause 8.7.1.
-use Rattle.std.specs.Prelude.{◌≡◌, ℕ, ◌+◌, ◌/◌, ◌==◌, ◌<◌, ◌≤◌, Bool, ◌||◌, true, false, if◌then◌else◌, List, [], ◌∷◌, slice_index}
+use Rattle.std.specs.Prelude.{◌≡◌, ℕ, ◌+◌, ◌*◌, ◌/◌, ◌==◌, ◌<◌, ◌≤◌, slice_index}
+use Rattle.std.specs.Prelude.{Bool, ◌||◌, true, false, if◌then◌else◌, List, [], ◌∷◌}
+use Rattle.std.specs.Coded.{Unit-prop, le_prop}
 use Rattle.std.specs.List.{range_with_len}
 use Rattle.avc_plane.specs.Plane.{Plane}
-use Rattle.avc_edges.specs.Line.{Setting, setting_of, threshold_index, alpha_of, beta_of, tc0_of}
-use Rattle.avc_edges.specs.Rows.{IsWeak}
+use Rattle.avc_edges.specs.Line.{Setting, filtered, setting_of}
+use Rattle.avc_edges.specs.Line.{threshold_index, alpha_of, beta_of, tc0_of}
+use Rattle.avc_edges.specs.Rows.{IsWeak, IsStrong, line_near}
 use Rattle.avc_edges.specs.PlaneLine.{line_filtered}
 use Rattle.avc_edges.specs.declared.strengths.Strengths.{Strengths}
 use Rattle.avc_edges.specs.declared.strengths.Strengths.TheVariants.{Four, BelowFour}
@@ -22,7 +25,8 @@ lines_filtered setting false x y (i ∷ is) s =
 
 -- the first n lines, in order
 unfoldable pub edge_filtered : (ℕ → Setting) → Bool → (x y n : ℕ) → Plane → Plane
-edge_filtered setting is_vertical x y n s = lines_filtered setting is_vertical x y (range_with_len 0 n) s
+edge_filtered setting is_vertical x y n s =
+    lines_filtered setting is_vertical x y (range_with_len 0 n) s
 
 -- ---- the settings of an edge's lines
 
@@ -36,13 +40,36 @@ abbrev pub AreStrengths : Strengths → Type 0
 AreStrengths Four = Unit {0}
 AreStrengths (BelowFour strengths) = (k : ℕ) → k < 4 → slice_index strengths k < 4
 
+pub AreStrengths-prop : (s : Strengths) → IsProp (AreStrengths s)
+AreStrengths-prop Four = Unit-prop
+AreStrengths-prop (BelowFour strengths) = Prim.hlevel (le_prop)
+
 -- line i of sixteen, where quarter k of the edge has the strength strengths(k)
 abbrev pub luma_setting : (ℕ → ℕ) → EdgeQp → ℕ → Setting
 luma_setting strengths qp i = setting_of true (strengths (i / 4)) qp.p qp.q qp.offset_a qp.offset_b
 
 -- line i of eight
 abbrev pub chroma_setting : (ℕ → ℕ) → EdgeQp → ℕ → Setting
-chroma_setting strengths qp i = setting_of false (strengths (i / 2)) qp.p qp.q qp.offset_a qp.offset_b
+chroma_setting strengths qp i =
+    setting_of false (strengths (i / 2)) qp.p qp.q qp.offset_a qp.offset_b
+
+-- the sixteen lines of luma of an edge with its first q0 at (x, y), at these strengths (8.7.2)
+abbrev pub luma_filtered : (ℕ → ℕ) → EdgeQp → Bool → (x y : ℕ) → Plane → Plane
+luma_filtered strengths qp is_vertical x y s =
+    edge_filtered (luma_setting strengths qp) is_vertical x y 16 s
+
+-- and the eight of a component of chroma
+abbrev pub chroma_filtered : (ℕ → ℕ) → EdgeQp → Bool → (x y : ℕ) → Plane → Plane
+chroma_filtered strengths qp is_vertical x y s =
+    edge_filtered (chroma_setting strengths qp) is_vertical x y 8 s
+
+-- Eight lines of Cb, and then eight of Cr, down four rows of sixteen samples that stand from a
+-- place of a table on, are filtered at these strengths (8.7.2).
+abbrev pub AreChromaFiltered : (ℕ → ℕ) → EdgeQp → (from : ℕ) → (t u : List ℕ) → Type 0
+AreChromaFiltered strengths qp from t u =
+    (p3 p2 q2 q3 b i : ℕ) → b < 2 → i < 8 →
+    filtered (chroma_setting strengths qp i) (line_near p3 p2 q2 q3 t from (8 * b + i))
+    ≡ line_near p3 p2 q2 q3 u from (8 * b + i)
 
 -- indexA and indexB of an edge's lines (8.7.2.2)
 abbrev pub index_a_of : EdgeQp → ℕ
@@ -56,7 +83,8 @@ index_b_of qp = threshold_index ((qp.p + qp.q + 1) / 2) qp.offset_b
 abbrev pub tc1_of : (strength index : ℕ) → ℕ
 tc1_of strength index = if strength == 0 then 0 else tc0_of strength index + 1
 
--- what is asked of one line stands at each of sixteen lines, and tc1_of by strength in the first four bytes of sixteen
+-- what is asked of one line stands at each of sixteen lines, and tc1_of by strength in the first
+-- four bytes of sixteen
 pub record AreSpread (l : QpLimits) : Type 0 where
   pub low : l.index_a < 52
   pub alpha : (k : ℕ) → k < 16 → slice_index l.lines.alpha1 k ≡ l.alpha1
@@ -74,4 +102,16 @@ pub record AreLimits (l : QpLimits) (qp : EdgeQp) : Type 0 where
 
 -- a line of luma, or of chroma, at this strength below 4 with these limits
 abbrev pub FitsWeak : (is_luma : Bool) → QpLimits → (strength : ℕ) → Setting → Type 0
-FitsWeak is_luma l strength s = IsWeak is_luma s (if strength == 0 then 0 else l.alpha1 + 1) (l.beta1 + 1) (tc0_of strength l.index_a)
+FitsWeak is_luma l strength s =
+    IsWeak is_luma s (if strength == 0 then 0 else l.alpha1 + 1) (l.beta1 + 1)
+    (tc0_of strength l.index_a)
+
+-- sixteen lines of luma at these strengths below 4 with these limits
+abbrev pub AreWeakSettings : QpLimits → (strengths : List ℕ) → (ℕ → Setting) → Type 0
+AreWeakSettings l strengths setting =
+    (i : ℕ) → i < 16 → FitsWeak true l (slice_index strengths (i / 4)) (setting i)
+
+-- and at strength 4
+abbrev pub AreStrongSettings : QpLimits → (ℕ → Setting) → Type 0
+AreStrongSettings l setting =
+    (i : ℕ) → i < 16 → IsStrong true (setting i) (l.alpha1 + 1) (l.beta1 + 1)

@@ -37,4 +37,5 @@ with_line s false x y l =
 
 -- the plane after one line filter (8.7.2)
 abbrev pub line_filtered : Setting → Bool → ℕ → ℕ → Plane → Plane
-line_filtered setting is_vertical x y s = with_line s is_vertical x y (filtered setting (line_at s is_vertical x y))
+line_filtered setting is_vertical x y s =
+    with_line s is_vertical x y (filtered setting (line_at s is_vertical x y))

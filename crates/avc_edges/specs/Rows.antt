@@ -1,21 +1,26 @@
--- The lines of an edge, whose samples stand in rows of sixteen: one row for each distance from the edge.
-use Rattle.std.specs.Prelude.{◌≡◌, ℕ, ◌+◌, ◌*◌, ◌/◌, ◌<◌, ◌≤◌, ◌==◌, ℤ, pos, ◌+ℤ◌, ◌-ℤ◌, neg_ℤ, Bool, if◌then◌else◌, List, slice_index}
+-- The lines of an edge, whose samples stand in rows of sixteen: a row for each distance from it.
+use Rattle.std.specs.Prelude.{◌≡◌, ℕ, ◌+◌, ◌*◌, ◌/◌, ◌<◌, ◌≤◌, ◌==◌}
+use Rattle.std.specs.Prelude.{◌≤ℤ◌, ◌<ℤ◌, ℤ, pos, ◌+ℤ◌, ◌-ℤ◌, neg_ℤ}
+use Rattle.std.specs.Prelude.{Bool, if◌then◌else◌, List, slice_index}
 use Rattle.avc_types.specs.Arithmetic.{◌>>ℤ◌, ◌<<ℤ◌, clip3}
 use Rattle.avc_edges.specs.Line.{Line, Setting}
 
 -- the eight samples across an edge (8.7.1)
 abbrev pub line : (p3 p2 p1 p0 q0 q1 q2 q3 : ℕ) → Line
-line p3 p2 p1 p0 q0 q1 q2 q3 = record { p0 = p0; p1 = p1; p2 = p2; p3 = p3; q0 = q0; q1 = q1; q2 = q2; q3 = q3 }
+line p3 p2 p1 p0 q0 q1 q2 q3 =
+    record { p0 = p0; p1 = p1; p2 = p2; p3 = p3; q0 = q0; q1 = q1; q2 = q2; q3 = q3 }
 
 -- line i of eight rows
 abbrev pub line_of_rows : (p3 p2 p1 p0 q0 q1 q2 q3 : List ℕ) → ℕ → Line
 line_of_rows p3 p2 p1 p0 q0 q1 q2 q3 i =
-    line (slice_index p3 i) (slice_index p2 i) (slice_index p1 i) (slice_index p0 i) (slice_index q0 i) (slice_index q1 i) (slice_index q2 i) (slice_index q3 i)
+    line (slice_index p3 i) (slice_index p2 i) (slice_index p1 i) (slice_index p0 i)
+    (slice_index q0 i) (slice_index q1 i) (slice_index q2 i) (slice_index q3 i)
 
 -- line i of six rows, between two samples that stand further off
 abbrev pub line_within : (p3 q3 : ℕ) → (p2 p1 p0 q0 q1 q2 : List ℕ) → ℕ → Line
 line_within p3 q3 p2 p1 p0 q0 q1 q2 i =
-    line p3 (slice_index p2 i) (slice_index p1 i) (slice_index p0 i) (slice_index q0 i) (slice_index q1 i) (slice_index q2 i) q3
+    line p3 (slice_index p2 i) (slice_index p1 i) (slice_index p0 i)
+    (slice_index q0 i) (slice_index q1 i) (slice_index q2 i) q3
 
 -- A setting of luma, or of chroma, at a strength below 4, has this tC0 and these thresholds; alpha
 -- is 0 at strength 0, where nothing is filtered (8.7.2.3).
@@ -37,6 +42,11 @@ bend p2 p1 p0 q0 = pos p2 +ℤ pos ((p0 + q0 + 1) / 2) -ℤ pos (2 * p1) >>ℤ 1
 -- z, held between -limit and limit (Clip3, 8.7.2.3)
 abbrev pub held : ℕ → ℤ → ℤ
 held limit z = clip3 (neg_ℤ (pos limit)) (pos limit) z
+
+-- the byte is 161 more than z, or 255 where that is less
+pub record IsBiased (step : ℕ) (z : ℤ) : Type 0 where
+  pub below : z ≤ℤ pos 94 → pos step ≡ pos 161 +ℤ z
+  pub above : pos 94 <ℤ z → step ≡ 255
 
 -- luma, or chroma, at strength 4, with these alpha and beta (8.7.2.4)
 pub record IsStrong (is_luma : Bool) (s : Setting) (alpha beta : ℕ) : Type 0 where
@@ -64,7 +74,8 @@ pub record IsRiffled (t u : List ℕ) : Type 0 where
 
 -- the sixteen rows of eight samples of t are the sixteen columns of the eight rows of u
 abbrev pub IsTransposed : (t u : List ℕ) → Type 0
-IsTransposed t u = (r c : ℕ) → r < 16 → c < 8 → slice_index u (16 * c + r) ≡ slice_index t (8 * r + c)
+IsTransposed t u =
+    (r c : ℕ) → r < 16 → c < 8 → slice_index u (16 * c + r) ≡ slice_index t (8 * r + c)
 
 -- u is t with the sixteen samples r at the place from
 pub record IsRowSet (from : ℕ) (r t u : List ℕ) : Type 0 where
@@ -76,13 +87,15 @@ pub record IsRowSet (from : ℕ) (r t u : List ℕ) : Type 0 where
 
 -- line i of four rows, between samples that stand further off
 abbrev pub line_inside : (p3 p2 q2 q3 : ℕ) → (p1 p0 q0 q1 : List ℕ) → ℕ → Line
-line_inside p3 p2 q2 q3 p1 p0 q0 q1 i = line p3 p2 (slice_index p1 i) (slice_index p0 i) (slice_index q0 i) (slice_index q1 i) q2 q3
+line_inside p3 p2 q2 q3 p1 p0 q0 q1 i =
+    line p3 p2 (slice_index p1 i) (slice_index p0 i) (slice_index q0 i) (slice_index q1 i) q2 q3
 
 -- line i of four rows of sixteen samples that stand from a place of a table on, between samples
 -- that stand further off
 abbrev pub line_near : (p3 p2 q2 q3 : ℕ) → (t : List ℕ) → (from i : ℕ) → Line
 line_near p3 p2 q2 q3 t from i =
-    line p3 p2 (slice_index t (from + i)) (slice_index t (from + 16 + i)) (slice_index t (from + 32 + i)) (slice_index t (from + 48 + i)) q2 q3
+    line p3 p2 (slice_index t (from + i)) (slice_index t (from + 16 + i))
+    (slice_index t (from + 32 + i)) (slice_index t (from + 48 + i)) q2 q3
 
 -- of four such rows the two in the middle may change, and nothing else
 pub record IsNearSet (from : ℕ) (t u : List ℕ) : Type 0 where

@@ -1,14 +1,13 @@
 //! Samples across a vertical edge, turned so that each line stands in a lane.
 
-ghost use Rattle.std.specs.Prelude.{◌≡◌, ℕ, ◌+◌, ◌*◌, ◌/◌, ◌%◌, ◌<◌, ◌≤◌, ◌==◌, true, false};
-ghost use Rattle.std.specs.Prelude.{if◌then◌else◌, slice_index};
+ghost use Rattle.std.specs.Prelude.{◌≡◌, ℕ, ◌+◌, ◌*◌, ◌/◌, ◌%◌, ◌<◌, ◌≤◌, true, false, slice_index};
 ghost use Rattle.avc_edges.specs.Line.{Setting, filtered};
-ghost use Rattle.avc_edges.specs.Rows.{IsRiffled, IsTransposed, IsRowSet, IsWeak, IsStrong};
+ghost use Rattle.avc_edges.specs.Rows.{IsRiffled, IsTransposed, IsRowSet};
 ghost use Rattle.avc_edges.specs.Rows.{IsNearSet, line_down, line_near};
+ghost use Rattle.avc_edges.specs.Fits.{FitsWeakLines, FitsStrongLines};
 
-use crate::lines::{
-    Limits, StrongLimits, strong_chroma_lines, strong_lines, weak_chroma_lines, weak_lines,
-};
+use crate::limits::{Limits, StrongLimits};
+use crate::lines::{SideRows, strong_chroma_lines, strong_lines, weak_chroma_lines, weak_lines};
 use crate::pair::half;
 use std::simd::prelude::*;
 
@@ -51,9 +50,12 @@ pub(crate) fn rows_of(t: &[u8; 128]) -> [u8; 128]
 fn words_of(t: &[u8; 64]) -> [u32; 16]
     requires { (k : ℕ) → k < 64 → slice_index t.now k < 256 }
     ensures first { (k : ℕ) → k < 16 → slice_index result k % 256 ≡ slice_index t.now (4 * k) }
-    ensures second { (k : ℕ) → k < 16 → slice_index result k / 256 % 256 ≡ slice_index t.now (4 * k + 1) }
-    ensures third { (k : ℕ) → k < 16 → slice_index result k / 65536 % 256 ≡ slice_index t.now (4 * k + 2) }
-    ensures fourth { (k : ℕ) → k < 16 → slice_index result k / 16777216 % 256 ≡ slice_index t.now (4 * k + 3) }
+    ensures second { (k : ℕ) → k < 16 →
+        slice_index result k / 256 % 256 ≡ slice_index t.now (4 * k + 1) }
+    ensures third { (k : ℕ) → k < 16 →
+        slice_index result k / 65536 % 256 ≡ slice_index t.now (4 * k + 2) }
+    ensures fourth { (k : ℕ) → k < 16 →
+        slice_index result k / 16777216 % 256 ≡ slice_index t.now (4 * k + 3) }
 {
     u32x16::from_le_bytes(u8x64::from_array(*t)).to_array()
 }
@@ -97,7 +99,8 @@ fn middle_apart(t: &[u8; 128]) -> [u8; 128]
 /// Those four rows as sixteen rows of four samples.
 #[inline(always)]
 pub(crate) fn rows_of_middle(t: &[u8; 128]) -> [u8; 64]
-    ensures { (r c : ℕ) → r < 16 → c < 4 → slice_index result (4 * r + c) ≡ slice_index t.now (32 + 16 * c + r) }
+    ensures { (r c : ℕ) → r < 16 → c < 4 →
+        slice_index result (4 * r + c) ≡ slice_index t.now (32 + 16 * c + r) }
 {
     let apart = middle_apart(t);
     let once = riffled(&apart);
@@ -144,10 +147,7 @@ pub(crate) fn spread(v: &[u8; 4]) -> [u8; 16]
 /// 0 to 3.
 #[inline(always)]
 pub(crate) fn weak_luma(t: &mut [u8; 128], limits: &Limits)
-    requires { (i : ℕ) → i < 16 → slice_index limits.now.tc0 i ≤ 92 }
-    ensures { (s : Setting) (i : ℕ) → i < 16 →
-        IsWeak true s (if slice_index limits.now.dead i == 0 then slice_index limits.now.alpha1 i + 1 else 0)
-        (slice_index limits.now.beta1 i + 1) (slice_index limits.now.tc0 i) →
+    ensures { (s : Setting) (i : ℕ) → i < 16 → FitsWeakLines true s limits.now i →
         filtered s (line_down t.old i) ≡ line_down t.new i }
 {
     let p2 = row(t, 16);
@@ -166,39 +166,41 @@ pub(crate) fn weak_luma(t: &mut [u8; 128], limits: &Limits)
 /// Filters the sixteen lines of luma down a block of eight rows of sixteen samples, at strength 4.
 #[inline(always)]
 pub(crate) fn strong_luma(t: &mut [u8; 128], limits: &StrongLimits)
-    requires { (i : ℕ) → i < 16 → slice_index limits.now.small1 i ≡ (slice_index limits.now.alpha1 i + 1) / 4 + 1 }
-    ensures { (s : Setting) (i : ℕ) → i < 16 →
-        IsStrong true s (slice_index limits.now.alpha1 i + 1) (slice_index limits.now.beta1 i + 1) →
+    ensures { (s : Setting) (i : ℕ) → i < 16 → FitsStrongLines true s limits.now i →
         filtered s (line_down t.old i) ≡ line_down t.new i }
 {
     let p3 = row(t, 0);
-    let mut p2 = row(t, 16);
-    let mut p1 = row(t, 32);
-    let mut p0 = row(t, 48);
-    let mut q0 = row(t, 64);
-    let mut q1 = row(t, 80);
-    let mut q2 = row(t, 96);
+    let p2 = row(t, 16);
+    let p1 = row(t, 32);
+    let p0 = row(t, 48);
+    let q0 = row(t, 64);
+    let q1 = row(t, 80);
+    let q2 = row(t, 96);
     let q3 = row(t, 112);
-    strong_lines(
-        &p3, &mut p2, &mut p1, &mut p0, &mut q0, &mut q1, &mut q2, &q3, limits,
-    );
-    set_row(t, 16, &p2);
-    set_row(t, 32, &p1);
-    set_row(t, 48, &p0);
-    set_row(t, 64, &q0);
-    set_row(t, 80, &q1);
-    set_row(t, 96, &q2);
+    let mut sides = SideRows {
+        p2,
+        p1,
+        p0,
+        q0,
+        q1,
+        q2,
+    };
+    strong_lines(&p3, &mut sides, &q3, limits);
+    set_row(t, 16, &sides.p2);
+    set_row(t, 32, &sides.p1);
+    set_row(t, 48, &sides.p0);
+    set_row(t, 64, &sides.q0);
+    set_row(t, 80, &sides.q1);
+    set_row(t, 96, &sides.q2);
 }
 
 /// Filters the sixteen lines of chroma down four rows of sixteen samples, which stand from a place
 /// of a table on, at strengths of 0 to 3.
 #[inline(always)]
 pub(crate) fn weak_chroma(t: &mut [u8; 128], from: usize, limits: &Limits)
-    requires tc0 { (i : ℕ) → i < 16 → slice_index limits.now.tc0 i ≤ 92 }
     requires room { from + 64 ≤ 128 }
     ensures lines { (p3 p2 q2 q3 : ℕ) (s : Setting) (i : ℕ) → i < 16 →
-        IsWeak false s (if slice_index limits.now.dead i == 0 then slice_index limits.now.alpha1 i + 1 else 0)
-        (slice_index limits.now.beta1 i + 1) (slice_index limits.now.tc0 i) →
+        FitsWeakLines false s limits.now i →
         filtered s (line_near p3 p2 q2 q3 t.old from i) ≡ line_near p3 p2 q2 q3 t.new from i }
     ensures others { IsNearSet from t.old t.new }
 {
@@ -217,7 +219,7 @@ pub(crate) fn weak_chroma(t: &mut [u8; 128], from: usize, limits: &Limits)
 pub(crate) fn strong_chroma(t: &mut [u8; 128], from: usize, limits: &StrongLimits)
     requires room { from + 64 ≤ 128 }
     ensures lines { (p3 p2 q2 q3 : ℕ) (s : Setting) (i : ℕ) → i < 16 →
-        IsStrong false s (slice_index limits.now.alpha1 i + 1) (slice_index limits.now.beta1 i + 1) →
+        FitsStrongLines false s limits.now i →
         filtered s (line_near p3 p2 q2 q3 t.old from i) ≡ line_near p3 p2 q2 q3 t.new from i }
     ensures others { IsNearSet from t.old t.new }
 {

@@ -1,9 +1,9 @@
-//! Means, differences and sums of samples in eight bits: each becomes one or a few instructions on sixteen samples at once.
+//! Means, differences and sums of samples in eight bits: each becomes one or a few instructions on
+//! sixteen samples at once.
 
 ghost use Rattle.std.specs.Prelude.{◌≡◌, ℕ, ◌+◌, ◌-◌, ◌*◌, ◌/◌, ◌%◌, ◌≤◌, min, ℤ, pos, ◌+ℤ◌, ◌-ℤ◌};
-ghost use Rattle.std.specs.Prelude.{◌≤ℤ◌, ◌<ℤ◌};
 ghost use Rattle.avc_types.specs.Arithmetic.{distance, clip1};
-ghost use Rattle.avc_edges.specs.Rows.{slope, held};
+ghost use Rattle.avc_edges.specs.Rows.{slope, held, IsBiased};
 
 /// The mean of two, rounded up.
 #[inline(always)]
@@ -116,8 +116,7 @@ pub(crate) fn far_mean(p3: u8, p2: u8, p1: u8, p0: u8, q0: u8) -> u8
 #[inline(always)]
 pub(crate) fn biased_step(p1: u8, p0: u8, q0: u8, q1: u8) -> u8
     ensures value { result ≡ min ((4 * q0 + p1 + 1292 - 4 * p0 - q1) / 8) 255 }
-    ensures below { slope p1 p0 q0 q1 ≤ℤ pos 94 → pos result ≡ pos 161 +ℤ slope p1 p0 q0 q1 }
-    ensures above { pos 94 <ℤ slope p1 p0 q0 q1 → result ≡ 255 }
+    ensures biased { IsBiased result (slope p1 p0 q0 q1) }
 {
     let rest = mean(mean(mean(255 - q1, p1), 3), parity(p0, q0));
     capped_sum(rest, mean(255 - p0, q0))
@@ -127,7 +126,7 @@ pub(crate) fn biased_step(p1: u8, p0: u8, q0: u8, q1: u8) -> u8
 #[inline(always)]
 pub(crate) fn raised(p: u8, step: u8, tc: u8) -> u8
     requires { tc ≤ 94 }
-    ensures { (z : ℤ) → (z ≤ℤ pos 94 → pos step ≡ pos 161 +ℤ z) → (pos 94 <ℤ z → step ≡ 255) → result ≡ clip1 (pos p +ℤ held tc z) }
+    ensures { (z : ℤ) → IsBiased step z → result ≡ clip1 (pos p +ℤ held tc z) }
 {
     capped_sum(less(p, less(161, step).min(tc)), less(step, 161).min(tc))
 }
@@ -136,7 +135,7 @@ pub(crate) fn raised(p: u8, step: u8, tc: u8) -> u8
 #[inline(always)]
 pub(crate) fn lowered(q: u8, step: u8, tc: u8) -> u8
     requires { tc ≤ 94 }
-    ensures { (z : ℤ) → (z ≤ℤ pos 94 → pos step ≡ pos 161 +ℤ z) → (pos 94 <ℤ z → step ≡ 255) → result ≡ clip1 (pos q -ℤ held tc z) }
+    ensures { (z : ℤ) → IsBiased step z → result ≡ clip1 (pos q -ℤ held tc z) }
 {
     capped_sum(less(q, less(step, 161).min(tc)), less(161, step).min(tc))
 }

@@ -1,15 +1,16 @@
 //! Edges of both chroma components together (8.7.2.2 to 8.7.2.4).
 
-ghost use Rattle.std.specs.Prelude.{◌≡◌, ℕ, ◌+◌, ◌*◌, ◌<◌, ◌≤◌, true, false, slice_index};
-ghost use Rattle.avc_edges.specs.Line.{filtered};
-ghost use Rattle.avc_edges.specs.Rows.{line_near, IsNearSet};
-ghost use Rattle.avc_edges.specs.OneEdge.{edge_filtered, chroma_setting, strength_along};
-ghost use Rattle.avc_edges.specs.OneEdge.{AreStrengths, AreLimits, AreSpread};
+ghost use Rattle.std.specs.Prelude.{◌≡◌, ℕ, ◌+◌, ◌<◌, ◌≤◌, true, false, slice_index};
+ghost use Rattle.avc_edges.specs.Rows.{IsNearSet};
+ghost use Rattle.avc_edges.specs.OneEdge.{chroma_filtered, strength_along};
+ghost use Rattle.avc_edges.specs.Settings.{strengths_of};
+ghost use Rattle.avc_edges.specs.OneEdge.{AreChromaFiltered, AreLimits, AreSpread};
 ghost use Rattle.avc_edges.specs.declared.strengths.Strengths.TheVariants.{Four, BelowFour};
 ghost use Rattle.avc_edges.specs.declared.thresholds.EdgeQp.{EdgeQp as Qps};
 
 use crate::block::{columns, rows_of, strong_chroma, weak_chroma};
 use crate::pair::{beside, half, joined, nearest};
+use crate::settings::EdgeSettings;
 use crate::strengths::Strengths;
 use crate::thresholds::{QpLimits, chroma_tc1s};
 use avc_plane::Plane;
@@ -22,9 +23,8 @@ fn filter_below_four(t: &mut [u8; 128], from: usize, strengths: &[u8; 4], limits
     requires on { limits.now.is_on ≡ true }
     requires spread { AreSpread limits.now }
     requires strengths { (k : ℕ) → k < 4 → slice_index strengths.now k < 4 }
-    ensures lines { (qp : Qps) → AreLimits limits.now qp → (p3 p2 q2 q3 b i : ℕ) → b < 2 → i < 8 →
-        filtered (chroma_setting (strength_along (BelowFour strengths.now)) qp i) (line_near p3 p2 q2 q3 t.old from (8 * b + i))
-        ≡ line_near p3 p2 q2 q3 t.new from (8 * b + i) }
+    ensures lines { (qp : Qps) → AreLimits limits.now qp →
+        AreChromaFiltered (strength_along (BelowFour strengths.now)) qp from t.old t.new }
     ensures others { IsNearSet from t.old t.new }
 {
     let tc1 = chroma_tc1s(strengths, limits);
@@ -37,9 +37,8 @@ fn filter_at_four(t: &mut [u8; 128], from: usize, limits: &QpLimits)
     requires room { from + 64 ≤ 128 }
     requires on { limits.now.is_on ≡ true }
     requires spread { AreSpread limits.now }
-    ensures lines { (qp : Qps) → AreLimits limits.now qp → (p3 p2 q2 q3 b i : ℕ) → b < 2 → i < 8 →
-        filtered (chroma_setting (strength_along Four) qp i) (line_near p3 p2 q2 q3 t.old from (8 * b + i))
-        ≡ line_near p3 p2 q2 q3 t.new from (8 * b + i) }
+    ensures lines { (qp : Qps) → AreLimits limits.now qp →
+        AreChromaFiltered (strength_along Four) qp from t.old t.new }
     ensures others { IsNearSet from t.old t.new }
 {
     strong_chroma(t, from, &limits.strong());
@@ -47,19 +46,16 @@ fn filter_at_four(t: &mut [u8; 128], from: usize, limits: &QpLimits)
 
 /// Filters the lines of chroma down four rows of sixteen samples at any strengths.
 #[inline(always)]
-fn filter_chroma(t: &mut [u8; 128], from: usize, strengths: &Strengths, limits: &QpLimits)
+fn filter_chroma(t: &mut [u8; 128], from: usize, settings: EdgeSettings<'_>)
     requires room { from + 64 ≤ 128 }
-    requires on { limits.now.is_on ≡ true }
-    requires spread { AreSpread limits.now }
-    requires strengths { AreStrengths strengths.now }
-    ensures lines { (qp : Qps) → AreLimits limits.now qp → (p3 p2 q2 q3 b i : ℕ) → b < 2 → i < 8 →
-        filtered (chroma_setting (strength_along strengths.now) qp i) (line_near p3 p2 q2 q3 t.old from (8 * b + i))
-        ≡ line_near p3 p2 q2 q3 t.new from (8 * b + i) }
+    requires on { settings.limits.now.is_on ≡ true }
+    ensures lines { (qp : Qps) → AreLimits settings.entry.limits.now qp →
+        AreChromaFiltered (strengths_of settings.entry) qp from t.old t.new }
     ensures others { IsNearSet from t.old t.new }
 {
-    match strengths {
-        Strengths::Four => filter_at_four(t, from, limits),
-        Strengths::BelowFour(s) => filter_below_four(t, from, s, limits),
+    match settings.strengths {
+        Strengths::Four => filter_at_four(t, from, settings.limits),
+        Strengths::BelowFour(s) => filter_below_four(t, from, s, settings.limits),
     }
 }
 
@@ -72,26 +68,25 @@ pub fn vertical_chroma<const PAD: usize>(
     cr: &mut Plane<PAD>,
     left: usize,
     top: usize,
-    strengths: &Strengths,
-    limits: &QpLimits,
+    settings: EdgeSettings<'_>,
 )
     requires cb_columns { left + 8 ≤ cb.old.width }
     requires cb_rows { top + 8 ≤ cb.old.height }
     requires cr_columns { left + 8 ≤ cr.old.width }
     requires cr_rows { top + 8 ≤ cr.old.height }
-    requires spread { AreSpread limits.now }
-    requires strengths { AreStrengths strengths.now }
-    ensures cb { (qp : Qps) → AreLimits limits.now qp → cb.new ≡ edge_filtered (chroma_setting (strength_along strengths.now) qp) true (left + 4) top 8 cb.old }
-    ensures cr { (qp : Qps) → AreLimits limits.now qp → cr.new ≡ edge_filtered (chroma_setting (strength_along strengths.now) qp) true (left + 4) top 8 cr.old }
+    ensures cb { (qp : Qps) → AreLimits settings.entry.limits.now qp → cb.new
+        ≡ chroma_filtered (strengths_of settings.entry) qp true (left + 4) top cb.old }
+    ensures cr { (qp : Qps) → AreLimits settings.entry.limits.now qp → cr.new
+        ≡ chroma_filtered (strengths_of settings.entry) qp true (left + 4) top cr.old }
 {
-    if !limits.is_on {
+    if !settings.limits.is_on {
         return;
     }
     let of_cb = cb.rectangle::<8, 8, 64>(left, top);
     let of_cr = cr.rectangle::<8, 8, 64>(left, top);
     let block = joined(&of_cb, &of_cr);
     let mut lines = columns(&block);
-    filter_chroma(&mut lines, 32, strengths, limits);
+    filter_chroma(&mut lines, 32, settings);
     let after = rows_of(&lines);
     let new_cb = half(&after, 0);
     let new_cr = half(&after, 64);
@@ -107,35 +102,31 @@ pub fn two_vertical_chroma<const PAD: usize>(
     cr: &mut Plane<PAD>,
     left: usize,
     top: usize,
-    first: &Strengths,
-    first_limits: &QpLimits,
-    second: &Strengths,
-    second_limits: &QpLimits,
+    first: EdgeSettings<'_>,
+    second: EdgeSettings<'_>,
 )
     requires cb_columns { left + 12 ≤ cb.old.width }
     requires cb_rows { top + 8 ≤ cb.old.height }
     requires cr_columns { left + 12 ≤ cr.old.width }
     requires cr_rows { top + 8 ≤ cr.old.height }
-    requires first_on { first_limits.now.is_on ≡ true }
-    requires first_spread { AreSpread first_limits.now }
-    requires first_strengths { AreStrengths first.now }
-    requires second_on { second_limits.now.is_on ≡ true }
-    requires second_spread { AreSpread second_limits.now }
-    requires second_strengths { AreStrengths second.now }
-    ensures cb { (qp next : Qps) → AreLimits first_limits.now qp → AreLimits second_limits.now next → cb.new
-        ≡ edge_filtered (chroma_setting (strength_along second.now) next) true (left + 8) top 8
-        (edge_filtered (chroma_setting (strength_along first.now) qp) true (left + 4) top 8 cb.old) }
-    ensures cr { (qp next : Qps) → AreLimits first_limits.now qp → AreLimits second_limits.now next → cr.new
-        ≡ edge_filtered (chroma_setting (strength_along second.now) next) true (left + 8) top 8
-        (edge_filtered (chroma_setting (strength_along first.now) qp) true (left + 4) top 8 cr.old) }
+    requires first_on { first.limits.now.is_on ≡ true }
+    requires second_on { second.limits.now.is_on ≡ true }
+    ensures cb { (qp next : Qps) → AreLimits first.entry.limits.now qp →
+        AreLimits second.entry.limits.now next →
+        cb.new ≡ chroma_filtered (strengths_of second.entry) next true (left + 8) top
+        (chroma_filtered (strengths_of first.entry) qp true (left + 4) top cb.old) }
+    ensures cr { (qp next : Qps) → AreLimits first.entry.limits.now qp →
+        AreLimits second.entry.limits.now next →
+        cr.new ≡ chroma_filtered (strengths_of second.entry) next true (left + 8) top
+        (chroma_filtered (strengths_of first.entry) qp true (left + 4) top cr.old) }
 {
     let _columns = cb.width();
     let of_cb = cb.rectangle::<8, 8, 64>(left + 2, top);
     let of_cr = cr.rectangle::<8, 8, 64>(left + 2, top);
     let block = joined(&of_cb, &of_cr);
     let mut lines = columns(&block);
-    filter_chroma(&mut lines, 0, first, first_limits);
-    filter_chroma(&mut lines, 64, second, second_limits);
+    filter_chroma(&mut lines, 0, first);
+    filter_chroma(&mut lines, 64, second);
     let after = rows_of(&lines);
     let new_cb = half(&after, 0);
     let new_cr = half(&after, 64);
@@ -162,9 +153,11 @@ fn weak_horizontal<const PAD: usize>(
     requires spread { AreSpread limits.now }
     requires strengths { (k : ℕ) → k < 4 → slice_index strengths.now k < 4 }
     ensures cb { (qp : Qps) → AreLimits limits.now qp →
-        cb.new ≡ edge_filtered (chroma_setting (strength_along (BelowFour strengths.now)) qp) false left (top + 4) 8 cb.old }
+        cb.new ≡ chroma_filtered (strength_along (BelowFour strengths.now)) qp false
+        left (top + 4) cb.old }
     ensures cr { (qp : Qps) → AreLimits limits.now qp →
-        cr.new ≡ edge_filtered (chroma_setting (strength_along (BelowFour strengths.now)) qp) false left (top + 4) 8 cr.old }
+        cr.new ≡ chroma_filtered (strength_along (BelowFour strengths.now)) qp false
+        left (top + 4) cr.old }
 {
     let _rows = cb.height();
     let of_cb = cb.rectangle::<8, 8, 64>(left, top);
@@ -193,9 +186,9 @@ fn strong_horizontal<const PAD: usize>(
     requires on { limits.now.is_on ≡ true }
     requires spread { AreSpread limits.now }
     ensures cb { (qp : Qps) → AreLimits limits.now qp →
-        cb.new ≡ edge_filtered (chroma_setting (strength_along Four) qp) false left (top + 4) 8 cb.old }
+        cb.new ≡ chroma_filtered (strength_along Four) qp false left (top + 4) cb.old }
     ensures cr { (qp : Qps) → AreLimits limits.now qp →
-        cr.new ≡ edge_filtered (chroma_setting (strength_along Four) qp) false left (top + 4) 8 cr.old }
+        cr.new ≡ chroma_filtered (strength_along Four) qp false left (top + 4) cr.old }
 {
     let _rows = cb.height();
     let of_cb = cb.rectangle::<8, 8, 64>(left, top);
@@ -216,24 +209,22 @@ pub fn horizontal_chroma<const PAD: usize>(
     cr: &mut Plane<PAD>,
     left: usize,
     top: usize,
-    strengths: &Strengths,
-    limits: &QpLimits,
+    settings: EdgeSettings<'_>,
 )
     requires cb_columns { left + 8 ≤ cb.old.width }
     requires cb_rows { top + 8 ≤ cb.old.height }
     requires cr_columns { left + 8 ≤ cr.old.width }
     requires cr_rows { top + 8 ≤ cr.old.height }
-    requires spread { AreSpread limits.now }
-    requires strengths { AreStrengths strengths.now }
-    ensures cb { (qp : Qps) → AreLimits limits.now qp →
-        cb.new ≡ edge_filtered (chroma_setting (strength_along strengths.now) qp) false left (top + 4) 8 cb.old }
-    ensures cr { (qp : Qps) → AreLimits limits.now qp →
-        cr.new ≡ edge_filtered (chroma_setting (strength_along strengths.now) qp) false left (top + 4) 8 cr.old }
+    ensures cb { (qp : Qps) → AreLimits settings.entry.limits.now qp → cb.new
+        ≡ chroma_filtered (strengths_of settings.entry) qp false left (top + 4) cb.old }
+    ensures cr { (qp : Qps) → AreLimits settings.entry.limits.now qp → cr.new
+        ≡ chroma_filtered (strengths_of settings.entry) qp false left (top + 4) cr.old }
 {
+    let limits = settings.limits;
     if !limits.is_on {
         return;
     }
-    match strengths {
+    match settings.strengths {
         Strengths::Four => strong_horizontal(cb, cr, left, top, limits),
         Strengths::BelowFour(s) => weak_horizontal(cb, cr, left, top, s, limits),
     }

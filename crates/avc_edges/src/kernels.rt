@@ -1,9 +1,9 @@
 //! Sixteen lines of luma across an edge, in a plane.
 
-ghost use Rattle.std.specs.Prelude.{◌≡◌, ℕ, ◌+◌, ◌/◌, ◌<◌, ◌≤◌, slice_index, true, false};
+ghost use Rattle.std.specs.Prelude.{◌≡◌, ℕ, ◌+◌, ◌<◌, ◌≤◌, slice_index, true, false};
 ghost use Rattle.avc_edges.specs.Line.{Setting};
-ghost use Rattle.avc_edges.specs.Rows.{IsStrong};
-ghost use Rattle.avc_edges.specs.OneEdge.{edge_filtered, AreSpread, FitsWeak};
+ghost use Rattle.avc_edges.specs.OneEdge.{edge_filtered, AreSpread};
+ghost use Rattle.avc_edges.specs.OneEdge.{AreStrongSettings, AreWeakSettings};
 
 use crate::block::{columns, rows_of, rows_of_middle, strong_luma, weak_luma};
 use crate::pair::half;
@@ -26,7 +26,7 @@ fn weak_horizontal<const PAD: usize>(
     requires spread { AreSpread limits.now }
     ensures width { plane.new.width ≡ plane.old.width }
     ensures height { plane.new.height ≡ plane.old.height }
-    ensures lines { (setting : ℕ → Setting) → ((i : ℕ) → i < 16 → FitsWeak true limits.now (slice_index strengths.now (i / 4)) (setting i)) →
+    ensures lines { (setting : ℕ → Setting) → AreWeakSettings limits.now strengths.now setting →
         plane.new ≡ edge_filtered setting false left (top + 4) 16 plane.old }
 {
     let _rows = plane.height();
@@ -53,7 +53,7 @@ fn weak_vertical<const PAD: usize>(
     requires spread { AreSpread limits.now }
     ensures width { plane.new.width ≡ plane.old.width }
     ensures height { plane.new.height ≡ plane.old.height }
-    ensures lines { (setting : ℕ → Setting) → ((i : ℕ) → i < 16 → FitsWeak true limits.now (slice_index strengths.now (i / 4)) (setting i)) →
+    ensures lines { (setting : ℕ → Setting) → AreWeakSettings limits.now strengths.now setting →
         plane.new ≡ edge_filtered setting true (left + 4) top 16 plane.old }
 {
     let _columns = plane.width();
@@ -76,7 +76,7 @@ pub(crate) fn strong_horizontal<const PAD: usize>(
     requires columns { left + 16 ≤ plane.old.width }
     requires rows { top + 8 ≤ plane.old.height }
     requires spread { AreSpread limits.now }
-    ensures { (setting : ℕ → Setting) → ((i : ℕ) → i < 16 → IsStrong true (setting i) (limits.now.alpha1 + 1) (limits.now.beta1 + 1)) →
+    ensures { (setting : ℕ → Setting) → AreStrongSettings limits.now setting →
         plane.new ≡ edge_filtered setting false left (top + 4) 16 plane.old }
 {
     let mut lines = plane.rectangle::<16, 8, 128>(left, top);
@@ -95,7 +95,7 @@ pub(crate) fn strong_vertical<const PAD: usize>(
     requires columns { left + 8 ≤ plane.old.width }
     requires rows { top + 16 ≤ plane.old.height }
     requires spread { AreSpread limits.now }
-    ensures { (setting : ℕ → Setting) → ((i : ℕ) → i < 16 → IsStrong true (setting i) (limits.now.alpha1 + 1) (limits.now.beta1 + 1)) →
+    ensures { (setting : ℕ → Setting) → AreStrongSettings limits.now setting →
         plane.new ≡ edge_filtered setting true (left + 4) top 16 plane.old }
 {
     let block = plane.rectangle::<8, 16, 128>(left, top);
@@ -118,7 +118,7 @@ pub(crate) fn one_horizontal<const PAD: usize>(
     requires rows { top + 8 ≤ plane.old.height }
     requires strengths { (k : ℕ) → k < 4 → slice_index strengths.now k < 4 }
     requires spread { AreSpread limits.now }
-    ensures { (setting : ℕ → Setting) → ((i : ℕ) → i < 16 → FitsWeak true limits.now (slice_index strengths.now (i / 4)) (setting i)) →
+    ensures { (setting : ℕ → Setting) → AreWeakSettings limits.now strengths.now setting →
         plane.new ≡ edge_filtered setting false left (top + 4) 16 plane.old }
 {
     weak_horizontal(plane, left, top, limits, strengths);
@@ -137,7 +137,7 @@ pub(crate) fn one_vertical<const PAD: usize>(
     requires rows { top + 16 ≤ plane.old.height }
     requires strengths { (k : ℕ) → k < 4 → slice_index strengths.now k < 4 }
     requires spread { AreSpread limits.now }
-    ensures { (setting : ℕ → Setting) → ((i : ℕ) → i < 16 → FitsWeak true limits.now (slice_index strengths.now (i / 4)) (setting i)) →
+    ensures { (setting : ℕ → Setting) → AreWeakSettings limits.now strengths.now setting →
         plane.new ≡ edge_filtered setting true (left + 4) top 16 plane.old }
 {
     weak_vertical(plane, left, top, limits, strengths);
@@ -157,9 +157,10 @@ pub(crate) fn three_horizontal<const PAD: usize>(
     requires rows { top + 16 ≤ plane.old.height }
     requires strengths { (k : ℕ) → k < 4 → slice_index strengths.now k < 4 }
     requires spread { AreSpread limits.now }
-    ensures { (setting : ℕ → Setting) → ((i : ℕ) → i < 16 → FitsWeak true limits.now (slice_index strengths.now (i / 4)) (setting i)) →
+    ensures { (setting : ℕ → Setting) → AreWeakSettings limits.now strengths.now setting →
         plane.new ≡ edge_filtered setting false left (top + 12) 16
-        (edge_filtered setting false left (top + 8) 16 (edge_filtered setting false left (top + 4) 16 plane.old)) }
+        (edge_filtered setting false left (top + 8) 16
+        (edge_filtered setting false left (top + 4) 16 plane.old)) }
 {
     let _rows = plane.height();
     weak_horizontal(plane, left, top, limits, strengths);
@@ -180,9 +181,10 @@ pub(crate) fn three_vertical<const PAD: usize>(
     requires rows { top + 16 ≤ plane.old.height }
     requires strengths { (k : ℕ) → k < 4 → slice_index strengths.now k < 4 }
     requires spread { AreSpread limits.now }
-    ensures { (setting : ℕ → Setting) → ((i : ℕ) → i < 16 → FitsWeak true limits.now (slice_index strengths.now (i / 4)) (setting i)) →
+    ensures { (setting : ℕ → Setting) → AreWeakSettings limits.now strengths.now setting →
         plane.new ≡ edge_filtered setting true (left + 12) top 16
-        (edge_filtered setting true (left + 8) top 16 (edge_filtered setting true (left + 4) top 16 plane.old)) }
+        (edge_filtered setting true (left + 8) top 16
+        (edge_filtered setting true (left + 4) top 16 plane.old)) }
 {
     let _columns = plane.width();
     weak_vertical(plane, left, top, limits, strengths);

@@ -5,15 +5,18 @@ mod block;
 mod bytes;
 mod chroma_edge;
 mod kernels;
+mod limits;
 mod line;
 mod lines;
 mod luma_edge;
 mod pair;
+mod settings;
 mod strengths;
 mod thresholds;
 
 pub use chroma_edge::{horizontal_chroma, two_vertical_chroma, vertical_chroma};
 pub use line::{all_three, both, either};
 pub use luma_edge::{horizontal_luma, three_horizontal_luma, three_vertical_luma, vertical_luma};
+pub use settings::EdgeSettings;
 pub use strengths::Strengths;
 pub use thresholds::{EdgeQp, LineLimits, QpLimits};

@@ -4,12 +4,14 @@ ghost use Rattle.std.specs.Prelude.{◌≡◌, ◌≤◌, ℕ, ◌+◌, ◌*◌,
 ghost use Rattle.std.specs.Prelude.{true, false, if◌then◌else◌, ◌&&◌, ◌||◌, ℤ, Bool};
 ghost use Rattle.avc_types.specs.Arithmetic.{distance};
 ghost use Rattle.avc_edges.specs.Line.{Setting, filtered, strong_p0, strong_p1, strong_p2};
-ghost use Rattle.avc_edges.specs.Rows.{line, IsWeak, bend, held, IsStrong};
+ghost use Rattle.avc_edges.specs.Rows.{line, bend, held, IsStrong};
+ghost use Rattle.avc_edges.specs.Fits.{FitsWeakLine, FitsStrongLine};
 
 use crate::bytes::{
     biased_step, capped_sum, distance, far_mean, floor_mean, less, lowered, mean, mean_of_four,
     near_mean, raised, rough_mean,
 };
+use crate::limits::{StrongThresholds, WeakThresholds};
 
 /// By how much a line is beyond the thresholds: 0 where it is filtered. `a1` and `b1` are one less
 /// than alpha and beta.
@@ -89,6 +91,7 @@ pub fn either(a: bool, b: bool) -> bool
     a | b
 }
 
+/// The two nearest samples of a line on each side.
 #[derive(Clone, Copy)]
 pub(crate) struct Inner {
     pub(crate) p1: u8,
@@ -97,24 +100,33 @@ pub(crate) struct Inner {
     pub(crate) q1: u8,
 }
 
+/// The three nearest samples of a line on each side: those that may change at strength 4.
+#[derive(Clone, Copy)]
+pub(crate) struct Sides {
+    pub(crate) p2: u8,
+    pub(crate) p1: u8,
+    pub(crate) p0: u8,
+    pub(crate) q0: u8,
+    pub(crate) q1: u8,
+    pub(crate) q2: u8,
+}
+
 #[inline(always)]
-pub(crate) fn weak_line(
-    p2: u8,
-    p1: u8,
-    p0: u8,
-    q0: u8,
-    q1: u8,
-    q2: u8,
-    a1: u8,
-    b1: u8,
-    dead: u8,
-    tc0: u8,
-) -> Inner
-    requires { tc0 ≤ 92 }
-    ensures { (p3 q3 : ℕ) (s : Setting) → IsWeak true s (if dead == 0 then a1 + 1 else 0) (b1 + 1) tc0 →
-        filtered s (line p3 p2 p1 p0 q0 q1 q2 q3) ≡ line p3 p2 result.p1 result.p0 result.q0 result.q1 q2 q3 }
+pub(crate) fn weak_line(l: Sides, thresholds: WeakThresholds) -> Inner
+    ensures { (p3 q3 : ℕ) (s : Setting) → FitsWeakLine true s thresholds →
+        filtered s (line p3 l.p2 l.p1 l.p0 l.q0 l.q1 l.q2 q3)
+        ≡ line p3 l.p2 result.p1 result.p0 result.q0 result.q1 l.q2 q3 }
 {
-    let beyond = excess(p1, p0, q0, q1, a1, b1, dead);
+    let Sides {
+        p2,
+        p1,
+        p0,
+        q0,
+        q1,
+        q2,
+    } = l;
+    let (a1, b1, tc0) = (thresholds.alpha1, thresholds.beta1, thresholds.tc0);
+    let beyond = excess(p1, p0, q0, q1, a1, b1, thresholds.dead);
     let on = is_zero(beyond);
     let smooth_p = is_smooth(beyond, p2, p0, b1);
     let smooth_q = is_smooth(beyond, q2, q0, b1);
@@ -133,24 +145,14 @@ pub(crate) fn weak_line(
 /// p0 of a side: whether the line is filtered, and whether by the wide means.
 #[inline(always)]
 fn strong_nearest(on: bool, smooth: bool, p2: u8, p1: u8, p0: u8, q0: u8, q1: u8) -> u8
-    ensures { result ≡ (if smooth then (p2 + 2 * p1 + 2 * p0 + 2 * q0 + q1 + 4) / 8 else (if on then (2 * p1 + p0 + q1 + 2) / 4 else p0)) }
+    ensures { result ≡ (if smooth then (p2 + 2 * p1 + 2 * p0 + 2 * q0 + q1 + 4) / 8
+        else (if on then (2 * p1 + p0 + q1 + 2) / 4 else p0)) }
 {
     pick(
         smooth,
         near_mean(p2, p1, p0, q0, q1),
         pick(on, rough_mean(p1, p0, q1), p0),
     )
-}
-
-/// The samples of a line that may change at strength 4.
-#[derive(Clone, Copy)]
-pub(crate) struct Sides {
-    pub(crate) p2: u8,
-    pub(crate) p1: u8,
-    pub(crate) p0: u8,
-    pub(crate) q0: u8,
-    pub(crate) q1: u8,
-    pub(crate) q2: u8,
 }
 
 /// The excess where the step at the edge is small enough for the wide means.
@@ -162,26 +164,23 @@ fn excess_of_step(beyond: u8, p0: u8, q0: u8, c1: u8) -> u8
 }
 
 #[inline(always)]
-pub(crate) fn strong_line(
-    p3: u8,
-    p2: u8,
-    p1: u8,
-    p0: u8,
-    q0: u8,
-    q1: u8,
-    q2: u8,
-    q3: u8,
-    a1: u8,
-    b1: u8,
-    c1: u8,
-) -> Sides
-    requires { c1 ≡ (a1 + 1) / 4 + 1 }
-    ensures { (s : Setting) → IsStrong true s (a1 + 1) (b1 + 1) →
-        filtered s (line p3 p2 p1 p0 q0 q1 q2 q3) ≡ line p3 result.p2 result.p1 result.p0 result.q0 result.q1 result.q2 q3 }
+pub(crate) fn strong_line(p3: u8, l: Sides, q3: u8, thresholds: StrongThresholds) -> Sides
+    ensures { (s : Setting) → FitsStrongLine true s thresholds →
+        filtered s (line p3 l.p2 l.p1 l.p0 l.q0 l.q1 l.q2 q3)
+        ≡ line p3 result.p2 result.p1 result.p0 result.q0 result.q1 result.q2 q3 }
 {
+    let Sides {
+        p2,
+        p1,
+        p0,
+        q0,
+        q1,
+        q2,
+    } = l;
+    let (a1, b1) = (thresholds.alpha1, thresholds.beta1);
     let beyond = excess(p1, p0, q0, q1, a1, b1, 0);
     let on = is_zero(beyond);
-    let small = excess_of_step(beyond, p0, q0, c1);
+    let small = excess_of_step(beyond, p0, q0, thresholds.small1);
     let smooth_p = is_smooth(small, p2, p0, b1);
     let smooth_q = is_smooth(small, q2, q0, b1);
     Sides {
@@ -196,6 +195,7 @@ pub(crate) fn strong_line(
 
 // ---- chroma
 
+/// The nearest sample of a line on each side.
 #[derive(Clone, Copy)]
 pub(crate) struct Nearest {
     pub(crate) p0: u8,
@@ -203,22 +203,15 @@ pub(crate) struct Nearest {
 }
 
 #[inline(always)]
-pub(crate) fn weak_chroma_line(
-    p1: u8,
-    p0: u8,
-    q0: u8,
-    q1: u8,
-    a1: u8,
-    b1: u8,
-    dead: u8,
-    tc0: u8,
-) -> Nearest
-    requires { tc0 ≤ 92 }
-    ensures { (p3 p2 q2 q3 : ℕ) (s : Setting) → IsWeak false s (if dead == 0 then a1 + 1 else 0) (b1 + 1) tc0 →
-        filtered s (line p3 p2 p1 p0 q0 q1 q2 q3) ≡ line p3 p2 p1 result.p0 result.q0 q1 q2 q3 }
+pub(crate) fn weak_chroma_line(l: Inner, thresholds: WeakThresholds) -> Nearest
+    ensures { (p3 p2 q2 q3 : ℕ) (s : Setting) → FitsWeakLine false s thresholds →
+        filtered s (line p3 p2 l.p1 l.p0 l.q0 l.q1 q2 q3)
+        ≡ line p3 p2 l.p1 result.p0 result.q0 l.q1 q2 q3 }
 {
+    let Inner { p1, p0, q0, q1 } = l;
+    let (a1, b1, dead) = (thresholds.alpha1, thresholds.beta1, thresholds.dead);
     let on = is_zero(excess(p1, p0, q0, q1, a1, b1, dead));
-    let tc = pick(on, tc0 + 1, 0);
+    let tc = pick(on, thresholds.tc0 + 1, 0);
     let step = biased_step(p1, p0, q0, q1);
     Nearest {
         p0: raised(p0, step, tc),
@@ -227,11 +220,13 @@ pub(crate) fn weak_chroma_line(
 }
 
 #[inline(always)]
-pub(crate) fn strong_chroma_line(p1: u8, p0: u8, q0: u8, q1: u8, a1: u8, b1: u8) -> Nearest
-    ensures { (p3 p2 q2 q3 : ℕ) (s : Setting) → IsStrong false s (a1 + 1) (b1 + 1) →
-        filtered s (line p3 p2 p1 p0 q0 q1 q2 q3) ≡ line p3 p2 p1 result.p0 result.q0 q1 q2 q3 }
+pub(crate) fn strong_chroma_line(l: Inner, alpha1: u8, beta1: u8) -> Nearest
+    ensures { (p3 p2 q2 q3 : ℕ) (s : Setting) → IsStrong false s (alpha1 + 1) (beta1 + 1) →
+        filtered s (line p3 p2 l.p1 l.p0 l.q0 l.q1 q2 q3)
+        ≡ line p3 p2 l.p1 result.p0 result.q0 l.q1 q2 q3 }
 {
-    let on = is_zero(excess(p1, p0, q0, q1, a1, b1, 0));
+    let Inner { p1, p0, q0, q1 } = l;
+    let on = is_zero(excess(p1, p0, q0, q1, alpha1, beta1, 0));
     Nearest {
         p0: pick(on, rough_mean(p1, p0, q1), p0),
         q0: pick(on, rough_mean(q1, q0, p1), q0),

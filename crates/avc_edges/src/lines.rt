@@ -1,41 +1,25 @@
 //! Sixteen lines at once: their limits, and what becomes of their samples.
 
-ghost use Rattle.std.specs.Prelude.{◌≡◌, ℕ, ◌+◌, ◌-◌, ◌/◌, ◌<◌, ◌≤◌, ◌==◌, true, false};
-ghost use Rattle.std.specs.Prelude.{if◌then◌else◌, slice_index};
+ghost use Rattle.std.specs.Prelude.{◌≡◌, ℕ, ◌-◌, ◌<◌, ◌≤◌, true, false, slice_index};
 ghost use Rattle.avc_edges.specs.Line.{Setting, filtered};
-ghost use Rattle.avc_edges.specs.Rows.{line_of_rows, line_within, line_inside, IsWeak, IsStrong};
+ghost use Rattle.avc_edges.specs.Rows.{line_within, line_inside};
+ghost use Rattle.avc_edges.specs.Fits.{FitsWeakLines, FitsStrongLines, line_of_sides};
 ghost use Rattle.avc_edges.specs.OneEdge.{AreSpread};
 
 use crate::bytes::less;
-use crate::line::{strong_chroma_line, strong_line, weak_chroma_line, weak_line};
+use crate::limits::{Limits, StrongLimits, StrongThresholds, WeakThresholds};
+use crate::line::{Inner, Sides, strong_chroma_line, strong_line, weak_chroma_line, weak_line};
 use crate::thresholds::QpLimits;
 
-/// What sixteen lines are filtered with below strength 4.
+/// Sixteen lines across an edge by the three nearest samples on each side: a row for each.
 #[derive(Clone, Copy)]
-pub(crate) struct Limits {
-    /// One less than alpha.
-    pub(crate) alpha1: [u8; 16],
-
-    /// One less than beta.
-    pub(crate) beta1: [u8; 16],
-
-    /// Not 0 where the strength is 0.
-    pub(crate) dead: [u8; 16],
-
-    pub(crate) tc0: [u8; 16],
-}
-
-/// What sixteen lines are filtered with at strength 4.
-#[derive(Clone, Copy)]
-pub(crate) struct StrongLimits {
-    /// One less than alpha.
-    pub(crate) alpha1: [u8; 16],
-
-    /// One less than beta.
-    pub(crate) beta1: [u8; 16],
-
-    /// One less than a quarter of alpha and two.
-    pub(crate) small1: [u8; 16],
+pub(crate) struct SideRows {
+    pub(crate) p2: [u8; 16],
+    pub(crate) p1: [u8; 16],
+    pub(crate) p0: [u8; 16],
+    pub(crate) q0: [u8; 16],
+    pub(crate) q1: [u8; 16],
+    pub(crate) q2: [u8; 16],
 }
 
 /// One number for all lines.
@@ -80,7 +64,8 @@ impl QpLimits {
     /// Those of sixteen lines; `tc1` is one more than tC0, or 0 where nothing is filtered.
     #[inline(always)]
     pub(crate) fn weak(&self, tc1: &[u8; 16]) -> Limits
-        requires { AreSpread self.now }
+        requires spread { AreSpread self.now }
+        requires small { (k : ℕ) → k < 16 → slice_index tc1.now k ≤ 26 }
         ensures alpha { (k : ℕ) → k < 16 → slice_index result.alpha1 k ≡ self.now.alpha1 }
         ensures beta { (k : ℕ) → k < 16 → slice_index result.beta1 k ≡ self.now.beta1 }
         ensures dead { (k : ℕ) → k < 16 → slice_index result.dead k ≡ 1 - slice_index tc1.now k }
@@ -100,7 +85,6 @@ impl QpLimits {
         requires { AreSpread self.now }
         ensures alpha { (k : ℕ) → k < 16 → slice_index result.alpha1 k ≡ self.now.alpha1 }
         ensures beta { (k : ℕ) → k < 16 → slice_index result.beta1 k ≡ self.now.beta1 }
-        ensures small { (k : ℕ) → k < 16 → slice_index result.small1 k ≡ (slice_index result.alpha1 k + 1) / 4 + 1 }
     {
         StrongLimits {
             alpha1: self.lines.alpha1,
@@ -121,11 +105,9 @@ pub(crate) fn weak_lines(
     q2: &[u8; 16],
     limits: &Limits,
 )
-    requires { (i : ℕ) → i < 16 → slice_index limits.now.tc0 i ≤ 92 }
-    ensures { (p3 q3 : ℕ) (s : Setting) (i : ℕ) → i < 16 →
-        IsWeak true s (if slice_index limits.now.dead i == 0 then slice_index limits.now.alpha1 i + 1 else 0)
-        (slice_index limits.now.beta1 i + 1) (slice_index limits.now.tc0 i) →
-        filtered s (line_within p3 q3 p2.now p1.old p0.old q0.old q1.old q2.now i) ≡ line_within p3 q3 p2.now p1.new p0.new q0.new q1.new q2.now i }
+    ensures { (p3 q3 : ℕ) (s : Setting) (i : ℕ) → i < 16 → FitsWeakLines true s limits.now i →
+        filtered s (line_within p3 q3 p2.now p1.old p0.old q0.old q1.old q2.now i)
+        ≡ line_within p3 q3 p2.now p1.new p0.new q0.new q1.new q2.now i }
 {
     let (p2, a1, a0, b0, b1, q2) = (*p2, *p1, *p0, *q0, *q1, *q2);
     let (alpha1, beta1, dead, tc0) = (limits.alpha1, limits.beta1, limits.dead, limits.tc0);
@@ -134,9 +116,21 @@ pub(crate) fn weak_lines(
     let mut r0 = b0;
     let mut r1 = b1;
     for i in 0..16 {
-        let inner = weak_line(
-            p2[i], a1[i], a0[i], b0[i], b1[i], q2[i], alpha1[i], beta1[i], dead[i], tc0[i],
-        );
+        let line = Sides {
+            p2: p2[i],
+            p1: a1[i],
+            p0: a0[i],
+            q0: b0[i],
+            q1: b1[i],
+            q2: q2[i],
+        };
+        let thresholds = WeakThresholds {
+            alpha1: alpha1[i],
+            beta1: beta1[i],
+            dead: dead[i],
+            tc0: tc0[i],
+        };
+        let inner = weak_line(line, thresholds);
         o1[i] = inner.p1;
         o0[i] = inner.p0;
         r0[i] = inner.q0;
@@ -152,21 +146,17 @@ pub(crate) fn weak_lines(
 #[inline(always)]
 pub(crate) fn strong_lines(
     p3: &[u8; 16],
-    p2: &mut [u8; 16],
-    p1: &mut [u8; 16],
-    p0: &mut [u8; 16],
-    q0: &mut [u8; 16],
-    q1: &mut [u8; 16],
-    q2: &mut [u8; 16],
+    sides: &mut SideRows,
     q3: &[u8; 16],
     limits: &StrongLimits,
 )
-    requires { (i : ℕ) → i < 16 → slice_index limits.now.small1 i ≡ (slice_index limits.now.alpha1 i + 1) / 4 + 1 }
-    ensures { (s : Setting) (i : ℕ) → i < 16 → IsStrong true s (slice_index limits.now.alpha1 i + 1) (slice_index limits.now.beta1 i + 1) →
-        filtered s (line_of_rows p3.now p2.old p1.old p0.old q0.old q1.old q2.old q3.now i)
-        ≡ line_of_rows p3.now p2.new p1.new p0.new q0.new q1.new q2.new q3.now i }
+    ensures { (s : Setting) (i : ℕ) → i < 16 → FitsStrongLines true s limits.now i →
+        filtered s (line_of_sides p3.now sides.old q3.now i)
+        ≡ line_of_sides p3.now sides.new q3.now i }
 {
-    let (p3, a2, a1, a0, b0, b1, b2, q3) = (*p3, *p2, *p1, *p0, *q0, *q1, *q2, *q3);
+    let (p3, q3) = (*p3, *q3);
+    let (a2, a1, a0) = (sides.p2, sides.p1, sides.p0);
+    let (b0, b1, b2) = (sides.q0, sides.q1, sides.q2);
     let (alpha1, beta1, small1) = (limits.alpha1, limits.beta1, limits.small1);
     let mut o2 = a2;
     let mut o1 = a1;
@@ -175,22 +165,35 @@ pub(crate) fn strong_lines(
     let mut r1 = b1;
     let mut r2 = b2;
     for i in 0..16 {
-        let sides = strong_line(
-            p3[i], a2[i], a1[i], a0[i], b0[i], b1[i], b2[i], q3[i], alpha1[i], beta1[i], small1[i],
-        );
-        o2[i] = sides.p2;
-        o1[i] = sides.p1;
-        o0[i] = sides.p0;
-        r0[i] = sides.q0;
-        r1[i] = sides.q1;
-        r2[i] = sides.q2;
+        let line = Sides {
+            p2: a2[i],
+            p1: a1[i],
+            p0: a0[i],
+            q0: b0[i],
+            q1: b1[i],
+            q2: b2[i],
+        };
+        let thresholds = StrongThresholds {
+            alpha1: alpha1[i],
+            beta1: beta1[i],
+            small1: small1[i],
+        };
+        let after = strong_line(p3[i], line, q3[i], thresholds);
+        o2[i] = after.p2;
+        o1[i] = after.p1;
+        o0[i] = after.p0;
+        r0[i] = after.q0;
+        r1[i] = after.q1;
+        r2[i] = after.q2;
     }
-    *p2 = o2;
-    *p1 = o1;
-    *p0 = o0;
-    *q0 = r0;
-    *q1 = r1;
-    *q2 = r2;
+    *sides = SideRows {
+        p2: o2,
+        p1: o1,
+        p0: o0,
+        q0: r0,
+        q1: r1,
+        q2: r2,
+    };
 }
 
 /// Sixteen lines of chroma, at strengths of 0 to 3.
@@ -202,20 +205,29 @@ pub(crate) fn weak_chroma_lines(
     q1: &[u8; 16],
     limits: &Limits,
 )
-    requires { (i : ℕ) → i < 16 → slice_index limits.now.tc0 i ≤ 92 }
     ensures { (p3 p2 q2 q3 : ℕ) (s : Setting) (i : ℕ) → i < 16 →
-        IsWeak false s (if slice_index limits.now.dead i == 0 then slice_index limits.now.alpha1 i + 1 else 0)
-        (slice_index limits.now.beta1 i + 1) (slice_index limits.now.tc0 i) →
-        filtered s (line_inside p3 p2 q2 q3 p1.now p0.old q0.old q1.now i) ≡ line_inside p3 p2 q2 q3 p1.now p0.new q0.new q1.now i }
+        FitsWeakLines false s limits.now i →
+        filtered s (line_inside p3 p2 q2 q3 p1.now p0.old q0.old q1.now i)
+        ≡ line_inside p3 p2 q2 q3 p1.now p0.new q0.new q1.now i }
 {
     let (p1, a0, b0, q1) = (*p1, *p0, *q0, *q1);
     let (alpha1, beta1, dead, tc0) = (limits.alpha1, limits.beta1, limits.dead, limits.tc0);
     let mut o0 = a0;
     let mut r0 = b0;
     for i in 0..16 {
-        let nearest = weak_chroma_line(
-            p1[i], a0[i], b0[i], q1[i], alpha1[i], beta1[i], dead[i], tc0[i],
-        );
+        let line = Inner {
+            p1: p1[i],
+            p0: a0[i],
+            q0: b0[i],
+            q1: q1[i],
+        };
+        let thresholds = WeakThresholds {
+            alpha1: alpha1[i],
+            beta1: beta1[i],
+            dead: dead[i],
+            tc0: tc0[i],
+        };
+        let nearest = weak_chroma_line(line, thresholds);
         o0[i] = nearest.p0;
         r0[i] = nearest.q0;
     }
@@ -232,15 +244,23 @@ pub(crate) fn strong_chroma_lines(
     q1: &[u8; 16],
     limits: &StrongLimits,
 )
-    ensures { (p3 p2 q2 q3 : ℕ) (s : Setting) (i : ℕ) → i < 16 → IsStrong false s (slice_index limits.now.alpha1 i + 1) (slice_index limits.now.beta1 i + 1) →
-        filtered s (line_inside p3 p2 q2 q3 p1.now p0.old q0.old q1.now i) ≡ line_inside p3 p2 q2 q3 p1.now p0.new q0.new q1.now i }
+    ensures { (p3 p2 q2 q3 : ℕ) (s : Setting) (i : ℕ) → i < 16 →
+        FitsStrongLines false s limits.now i →
+        filtered s (line_inside p3 p2 q2 q3 p1.now p0.old q0.old q1.now i)
+        ≡ line_inside p3 p2 q2 q3 p1.now p0.new q0.new q1.now i }
 {
     let (p1, a0, b0, q1) = (*p1, *p0, *q0, *q1);
     let (alpha1, beta1) = (limits.alpha1, limits.beta1);
     let mut o0 = a0;
     let mut r0 = b0;
     for i in 0..16 {
-        let nearest = strong_chroma_line(p1[i], a0[i], b0[i], q1[i], alpha1[i], beta1[i]);
+        let line = Inner {
+            p1: p1[i],
+            p0: a0[i],
+            q0: b0[i],
+            q1: q1[i],
+        };
+        let nearest = strong_chroma_line(line, alpha1[i], beta1[i]);
         o0[i] = nearest.p0;
         r0[i] = nearest.q0;
     }

@@ -1,8 +1,8 @@
 //! An edge of luma, at the strengths of its blocks (8.7.2.2 to 8.7.2.4).
 
 ghost use Rattle.std.specs.Prelude.{◌≡◌, ℕ, ◌+◌, ◌<◌, ◌≤◌, true, false, slice_index};
-ghost use Rattle.avc_edges.specs.OneEdge.{edge_filtered, luma_setting, strength_along};
-ghost use Rattle.avc_edges.specs.OneEdge.{AreStrengths, AreLimits, AreSpread};
+ghost use Rattle.avc_edges.specs.OneEdge.{luma_filtered, strength_along, AreLimits, AreSpread};
+ghost use Rattle.avc_edges.specs.Settings.{strengths_of};
 ghost use Rattle.avc_edges.specs.declared.strengths.Strengths.TheVariants.{BelowFour};
 ghost use Rattle.avc_edges.specs.declared.thresholds.EdgeQp.{EdgeQp as Qps};
 
@@ -10,6 +10,7 @@ use crate::kernels::{
     one_horizontal, one_vertical, strong_horizontal, strong_vertical, three_horizontal,
     three_vertical,
 };
+use crate::settings::EdgeSettings;
 use crate::strengths::Strengths;
 use crate::thresholds::QpLimits;
 use avc_plane::Plane;
@@ -22,20 +23,18 @@ pub fn vertical_luma<const PAD: usize>(
     plane: &mut Plane<PAD>,
     left: usize,
     top: usize,
-    strengths: &Strengths,
-    limits: &QpLimits,
+    settings: EdgeSettings<'_>,
 )
     requires columns { left + 8 ≤ plane.old.width }
     requires rows { top + 16 ≤ plane.old.height }
-    requires spread { AreSpread limits.now }
-    requires strengths { AreStrengths strengths.now }
-    ensures { (qp : Qps) → AreLimits limits.now qp →
-        plane.new ≡ edge_filtered (luma_setting (strength_along strengths.now) qp) true (left + 4) top 16 plane.old }
+    ensures { (qp : Qps) → AreLimits settings.entry.limits.now qp → plane.new
+        ≡ luma_filtered (strengths_of settings.entry) qp true (left + 4) top plane.old }
 {
+    let limits = settings.limits;
     if !limits.is_on {
         return;
     }
-    match strengths {
+    match settings.strengths {
         Strengths::Four => strong_vertical(plane, left, top, limits),
         Strengths::BelowFour(s) => one_vertical(plane, left, top, limits, s),
     }
@@ -49,20 +48,18 @@ pub fn horizontal_luma<const PAD: usize>(
     plane: &mut Plane<PAD>,
     left: usize,
     top: usize,
-    strengths: &Strengths,
-    limits: &QpLimits,
+    settings: EdgeSettings<'_>,
 )
     requires columns { left + 16 ≤ plane.old.width }
     requires rows { top + 8 ≤ plane.old.height }
-    requires spread { AreSpread limits.now }
-    requires strengths { AreStrengths strengths.now }
-    ensures { (qp : Qps) → AreLimits limits.now qp →
-        plane.new ≡ edge_filtered (luma_setting (strength_along strengths.now) qp) false left (top + 4) 16 plane.old }
+    ensures { (qp : Qps) → AreLimits settings.entry.limits.now qp → plane.new
+        ≡ luma_filtered (strengths_of settings.entry) qp false left (top + 4) plane.old }
 {
+    let limits = settings.limits;
     if !limits.is_on {
         return;
     }
-    match strengths {
+    match settings.strengths {
         Strengths::Four => strong_horizontal(plane, left, top, limits),
         Strengths::BelowFour(s) => one_horizontal(plane, left, top, limits, s),
     }
@@ -84,9 +81,10 @@ pub fn three_vertical_luma<const PAD: usize>(
     requires spread { AreSpread limits.now }
     requires strengths { (k : ℕ) → k < 4 → slice_index strengths.now k < 4 }
     ensures { (qp : Qps) → AreLimits limits.now qp → plane.new
-        ≡ edge_filtered (luma_setting (strength_along (BelowFour strengths.now)) qp) true (left + 12) top 16
-        (edge_filtered (luma_setting (strength_along (BelowFour strengths.now)) qp) true (left + 8) top 16
-        (edge_filtered (luma_setting (strength_along (BelowFour strengths.now)) qp) true (left + 4) top 16 plane.old)) }
+        ≡ luma_filtered (strength_along (BelowFour strengths.now)) qp true (left + 12) top
+        (luma_filtered (strength_along (BelowFour strengths.now)) qp true (left + 8) top
+        (luma_filtered (strength_along (BelowFour strengths.now)) qp true (left + 4) top
+        plane.old)) }
 {
     if !limits.is_on {
         return;
@@ -110,9 +108,10 @@ pub fn three_horizontal_luma<const PAD: usize>(
     requires spread { AreSpread limits.now }
     requires strengths { (k : ℕ) → k < 4 → slice_index strengths.now k < 4 }
     ensures { (qp : Qps) → AreLimits limits.now qp → plane.new
-        ≡ edge_filtered (luma_setting (strength_along (BelowFour strengths.now)) qp) false left (top + 12) 16
-        (edge_filtered (luma_setting (strength_along (BelowFour strengths.now)) qp) false left (top + 8) 16
-        (edge_filtered (luma_setting (strength_along (BelowFour strengths.now)) qp) false left (top + 4) 16 plane.old)) }
+        ≡ luma_filtered (strength_along (BelowFour strengths.now)) qp false left (top + 12)
+        (luma_filtered (strength_along (BelowFour strengths.now)) qp false left (top + 8)
+        (luma_filtered (strength_along (BelowFour strengths.now)) qp false left (top + 4)
+        plane.old)) }
 {
     if !limits.is_on {
         return;

@@ -32,8 +32,10 @@ pub(crate) fn half(t: &[u8; 128], from: usize) -> [u8; 64]
 /// Eight rows of eight samples, and to their right eight others.
 #[inline(always)]
 pub(crate) fn beside(a: &[u8; 64], b: &[u8; 64]) -> [u8; 128]
-    ensures left { (r c : ℕ) → r < 8 → c < 8 → slice_index result (16 * r + c) ≡ slice_index a.now (8 * r + c) }
-    ensures right { (r c : ℕ) → r < 8 → c < 8 → slice_index result (16 * r + (8 + c)) ≡ slice_index b.now (8 * r + c) }
+    ensures left { (r c : ℕ) → r < 8 → c < 8 →
+        slice_index result (16 * r + c) ≡ slice_index a.now (8 * r + c) }
+    ensures right { (r c : ℕ) → r < 8 → c < 8 →
+        slice_index result (16 * r + (8 + c)) ≡ slice_index b.now (8 * r + c) }
 {
     let mut out = [0; 128];
     for r in 0..8 {
@@ -61,7 +63,8 @@ pub(crate) fn spread_twice(v: &[u8; 4]) -> [u8; 16]
 #[inline(always)]
 pub(crate) fn nearest(t: &[u8; 128], from: usize) -> [u8; 16]
     requires { from + 8 ≤ 16 }
-    ensures { (r c : ℕ) → r < 2 → c < 8 → slice_index result (8 * r + c) ≡ slice_index t.now (16 * (3 + r) + (from + c)) }
+    ensures { (r c : ℕ) → r < 2 → c < 8 →
+        slice_index result (8 * r + c) ≡ slice_index t.now (16 * (3 + r) + (from + c)) }
 {
     let mut out = [0; 16];
     for r in 0..2 {

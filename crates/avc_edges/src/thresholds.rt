@@ -2,7 +2,7 @@
 
 ghost use Rattle.std.specs.Prelude.{◌≡◌, ℕ, ◌+◌, ◌*◌, ◌/◌, ◌%◌, ◌<◌, ◌≤◌, slice_index};
 ghost use Rattle.avc_edges.specs.Line.{threshold_index, alpha_of, beta_of};
-ghost use Rattle.avc_edges.specs.OneEdge.{tc1_of, AreLimits, AreSpread};
+ghost use Rattle.avc_edges.specs.OneEdge.{index_a_of, index_b_of, tc1_of, AreLimits, AreSpread};
 
 use crate::block::spread;
 use crate::bytes::less;
@@ -99,7 +99,8 @@ fn beta(index: u8) -> u8
 #[tactic(auto, using(crate::proofs::EdgesOnPlane::tc1_at))]
 fn tc1(place: usize) -> u8
     requires { place < 220 }
-    ensures value { (strength index : ℕ) → strength < 4 → index < 52 → place ≡ 4 * index + strength → result ≡ tc1_of strength index }
+    ensures value { (strength index : ℕ) → strength < 4 → index < 52 →
+        place ≡ 4 * index + strength → result ≡ tc1_of strength index }
     ensures small { result ≤ 26 }
 {
     TC1[place]
@@ -124,7 +125,8 @@ fn each_tc1(index: u8) -> [u8; 16]
 #[inline(always)]
 fn looked_up(table: &[u8; 16], places: &[u8; 16]) -> [u8; 16]
     requires { (k : ℕ) → k < 16 → slice_index places.now k < 16 }
-    ensures { (k : ℕ) → k < 16 → slice_index result k ≡ slice_index table.now (slice_index places.now k) }
+    ensures { (k : ℕ) → k < 16 →
+        slice_index result k ≡ slice_index table.now (slice_index places.now k) }
 {
     u8x16::from_array(*table)
         .swizzle_dyn(u8x16::from_array(*places))
@@ -136,7 +138,8 @@ fn looked_up(table: &[u8; 16], places: &[u8; 16]) -> [u8; 16]
 fn tc1s(strengths: &[u8; 16], limits: &QpLimits) -> [u8; 16]
     requires strengths { (k : ℕ) → k < 16 → slice_index strengths.now k < 4 }
     requires spread { AreSpread limits.now }
-    ensures value { (k : ℕ) → k < 16 → slice_index result k ≡ tc1_of (slice_index strengths.now k) limits.now.index_a }
+    ensures value { (k : ℕ) → k < 16 →
+        slice_index result k ≡ tc1_of (slice_index strengths.now k) limits.now.index_a }
     ensures small { (k : ℕ) → k < 16 → slice_index result k ≤ 26 }
 {
     looked_up(&limits.lines.tc1, strengths)
@@ -147,7 +150,8 @@ fn tc1s(strengths: &[u8; 16], limits: &QpLimits) -> [u8; 16]
 pub(crate) fn luma_tc1s(strengths: &[u8; 4], limits: &QpLimits) -> [u8; 16]
     requires strengths { (k : ℕ) → k < 4 → slice_index strengths.now k < 4 }
     requires spread { AreSpread limits.now }
-    ensures value { (k : ℕ) → k < 16 → slice_index result k ≡ tc1_of (slice_index strengths.now (k / 4)) limits.now.index_a }
+    ensures value { (k : ℕ) → k < 16 →
+        slice_index result k ≡ tc1_of (slice_index strengths.now (k / 4)) limits.now.index_a }
     ensures small { (k : ℕ) → k < 16 → slice_index result k ≤ 26 }
 {
     tc1s(&spread(strengths), limits)
@@ -158,7 +162,8 @@ pub(crate) fn luma_tc1s(strengths: &[u8; 4], limits: &QpLimits) -> [u8; 16]
 pub(crate) fn chroma_tc1s(strengths: &[u8; 4], limits: &QpLimits) -> [u8; 16]
     requires strengths { (k : ℕ) → k < 4 → slice_index strengths.now k < 4 }
     requires spread { AreSpread limits.now }
-    ensures value { (k : ℕ) → k < 16 → slice_index result k ≡ tc1_of (slice_index strengths.now (k % 8 / 2)) limits.now.index_a }
+    ensures value { (k : ℕ) → k < 16 →
+        slice_index result k ≡ tc1_of (slice_index strengths.now (k % 8 / 2)) limits.now.index_a }
     ensures small { (k : ℕ) → k < 16 → slice_index result k ≤ 26 }
 {
     tc1s(&spread_twice(strengths), limits)
@@ -214,10 +219,10 @@ fn line_limits(alpha1: u8, beta1: u8, index: u8) -> LineLimits
 impl EdgeQp {
     #[inline(always)]
     pub(crate) fn thresholds(&self) -> Thresholds
-        ensures index { result.index_a ≡ threshold_index ((self.now.p + self.now.q + 1) / 2) self.now.offset_a }
+        ensures index { result.index_a ≡ index_a_of self.now }
         ensures small { result.index_a < 52 }
-        ensures alpha { result.alpha ≡ alpha_of (threshold_index ((self.now.p + self.now.q + 1) / 2) self.now.offset_a) }
-        ensures beta { result.beta ≡ beta_of (threshold_index ((self.now.p + self.now.q + 1) / 2) self.now.offset_b) }
+        ensures alpha { result.alpha ≡ alpha_of (index_a_of self.now) }
+        ensures beta { result.beta ≡ beta_of (index_b_of self.now) }
     {
         let index_a = index_of(self.p, self.q, self.offset_a);
         Thresholds {

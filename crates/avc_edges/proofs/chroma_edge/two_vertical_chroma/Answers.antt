@@ -5,7 +5,7 @@ pub returns-clause-cb : goal.returns-clause-cb
 returns-clause-cb g c qp next are is =
     let e = c.rectangle-of_cb.ensures in
     c.set_rectangle.ensures
-    ∙ two_edges (chroma_setting (strength_along c.args.first.now) qp) (chroma_setting (strength_along c.args.second.now) next) c.args.left c.args.top 0 c.args.cb.now
+    ∙ two_edges (chroma_setting (strength_along c.args.first.strengths.now) qp) (chroma_setting (strength_along c.args.second.strengths.now) next) c.args.left c.args.top 0 c.args.cb.now
     c.rectangle-of_cb.result c.half-new_cb.result c.joined-block.result c.columns-lines.result c.filter_chroma.new.t c.filter_chroma-2.new.t c.rows_of-after.result
     (omega arith) e.all c.requires.cb_columns c.requires.cb_rows e.samples
     (λ k low. ap (slice_index c.joined-block.result) (omega arith) ∙ c.joined-block.ensures.first k low) c.columns-lines.ensures c.rows_of-after.ensures
@@ -15,7 +15,7 @@ pub returns-clause-cr : goal.returns-clause-cr
 returns-clause-cr g c qp next are is =
     let e = c.rectangle-of_cr.ensures in
     c.set_rectangle-2.ensures
-    ∙ two_edges (chroma_setting (strength_along c.args.first.now) qp) (chroma_setting (strength_along c.args.second.now) next) c.args.left c.args.top 1 c.args.cr.now
+    ∙ two_edges (chroma_setting (strength_along c.args.first.strengths.now) qp) (chroma_setting (strength_along c.args.second.strengths.now) next) c.args.left c.args.top 1 c.args.cr.now
     c.rectangle-of_cr.result c.half-new_cr.result c.joined-block.result c.columns-lines.result c.filter_chroma.new.t c.filter_chroma-2.new.t c.rows_of-after.result
     (omega arith) e.all c.requires.cr_columns c.requires.cr_rows e.samples
     (λ k low. ap (slice_index c.joined-block.result) (omega arith) ∙ c.joined-block.ensures.second k low) c.columns-lines.ensures c.rows_of-after.ensures

@@ -4,16 +4,17 @@ use Rattle.avc_edges.proofs.line.strong_line.Goals as goal
 
 pub returns : goal.returns
 returns c s w =
-    let a = c.args in
-    let alpha : ℕ = a.a1 + 1 in
-    let beta : ℕ = a.b1 + 1 in
-    let l : Line = line a.p3 a.p2 a.p1 a.p0 a.q0 a.q1 a.q2 a.q3 in
+    let a = c.args.l in
+    let t = c.args.thresholds in
+    let alpha : ℕ = t.alpha1 + 1 in
+    let beta : ℕ = t.beta1 + 1 in
+    let l : Line = line c.args.p3 a.p2 a.p1 a.p0 a.q0 a.q1 a.q2 c.args.q3 in
     let on : Bool = c.is_zero-on.result in
     let zero_on : on ≡ (c.excess-beyond.result == 0) = c.is_zero-on.ensures in
     let near : Bool = nat_lt (distance a.p0 a.q0) (alpha / 4 + 2) in
-    let two : a.c1 + 1 ≡ alpha / 4 + 2 = omega (arith) in
+    let two : t.small1 + 1 ≡ alpha / 4 + 2 = omega (arith, t.quarter) in
     let small : (c.excess_of_step-small.result == 0) ≡ (on && near) =
-    c.excess_of_step-small.ensures ∙ ap (λ (b : Bool). b && nat_lt (distance a.p0 a.q0) (a.c1 + 1)) (sym zero_on) ∙ ap (λ (n : ℕ). on && nat_lt (distance a.p0 a.q0) n) two in
+    c.excess_of_step-small.ensures ∙ ap (λ (b : Bool). b && nat_lt (distance a.p0 a.q0) (t.small1 + 1)) (sym zero_on) ∙ ap (λ (n : ℕ). on && nat_lt (distance a.p0 a.q0) n) two in
     let up : Bool = nat_lt (distance a.p2 a.p0) beta in
     let uq : Bool = nat_lt (distance a.q2 a.q0) beta in
     let sp : c.is_smooth-smooth_p.result ≡ (on && near && up) = c.is_smooth-smooth_p.ensures ∙ ap (λ (b : Bool). b && up) small in

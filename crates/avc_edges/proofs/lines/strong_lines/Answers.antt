@@ -11,6 +11,6 @@ loop-i-preserved c = record {
   far2 = length-set _ _ _ ∙ c.loop-i.invariant.far2;
   done = λ s. below_more _ _
       (λ k h w. c.loop-i.invariant.done s k h w ∙ wide_before _ c.loop-i.o2 c.loop-i.o1 c.loop-i.o0 c.loop-i.r0 c.loop-i.r1 c.loop-i.r2 _ _ _ _ _ _ _ c.loop-i.i k h)
-      (λ w. c.strong_line-sides.ensures s w
+      (λ w. c.strong_line-after.ensures s w
       ∙ wide_here _ c.loop-i.o2 c.loop-i.o1 c.loop-i.o0 c.loop-i.r0 c.loop-i.r1 c.loop-i.r2 _ _ _ _ _ _ _ c.loop-i.i (omega arith) (omega arith) (omega arith) (omega arith) (omega arith) (omega arith));
 }
