@@ -1,5 +1,6 @@
 -- A stream whose events are taken one by one: these words are the crate's own.
-use Rattle.std.specs.Prelude.{◌≡◌, ℕ, ◌≤◌, ◌^◌, Bool, true, List, [], ◌∷◌, ◌++◌, length, Option, Some, None}
+use Rattle.std.specs.Prelude.{◌≡◌, ℕ, ◌≤◌, ◌^◌, Bool, true, List, [], ◌∷◌, ◌++◌, length, Option}
+use Rattle.std.specs.Prelude.{Some, None}
 use Rattle.std.specs.Io.KnownBytes.{Consumes, IsAtEnd}
 use Rattle.avc_decoder.specs.Output.{Output}
 use Rattle.avc_decoder.specs.Events.{events}
@@ -14,7 +15,8 @@ use Rattle.avc_compare.specs.Kept.{Waiting}
 
 -- Of the bytes that were read some were fed, and the rest wait; of the events that the fed ones
 -- define these were taken.
-pub record IsReading (output : Output) (unread left : Option (List ℕ)) (m : Machine) (a : Waiting) (done : List Event) : Type 0 where
+pub record IsReading (output : Output) (unread left : Option (List ℕ)) (m : Machine) (a : Waiting)
+    (done : List Event) : Type 0 where
   pub mode : m.output ≡ output
   pub consumed : Consumes unread left (m.bytes ++ a.bytes)
   pub ended : m.ended ≡ a.ended
@@ -24,8 +26,10 @@ pub record IsReading (output : Output) (unread left : Option (List ℕ)) (m : Ma
   pub taken : m.taken ≡ length done
 
 -- Reading went on, and no event was taken.
-pub record ReadsOn (old_left new_left : Option (List ℕ)) (old new : Machine) (before now : Waiting) : Type 0 where
-  pub on : (output : Output) (unread : Option (List ℕ)) (done : List Event) → IsReading output unread old_left old before done
+pub record ReadsOn (old_left new_left : Option (List ℕ)) (old new : Machine)
+    (before now : Waiting) : Type 0 where
+  pub on : (output : Output) (unread : Option (List ℕ)) (done : List Event) →
+      IsReading output unread old_left old before done
       → IsReading output unread new_left new now done
 
 -- why it broke off: a read failed, when no event was left; there were so many bytes; or memory was
@@ -37,7 +41,8 @@ StopsFor Memory bytes rest = Unit {0}
 StopsFor _ bytes rest = ⊥
 
 -- These bytes were read, and these events of them taken, when a fault came.
-pub record IsReadOff (output : Output) (unread left : Option (List ℕ)) (done : List Event) (fault : RunFault) : Type 0 where
+pub record IsReadOff (output : Output) (unread left : Option (List ℕ)) (done : List Event)
+    (fault : RunFault) : Type 0 where
   pub bytes : List ℕ
   pub all : Bool
   pub rest : List Event
@@ -46,18 +51,25 @@ pub record IsReadOff (output : Output) (unread left : Option (List ℕ)) (done :
   pub why : StopsFor fault bytes rest
 
 -- A fault came while reading went on.
-pub record BreaksReading (old_left new_left : Option (List ℕ)) (old : Machine) (before : Waiting) (fault : RunFault) : Type 0 where
-  pub on : (output : Output) (unread : Option (List ℕ)) (done : List Event) → IsReading output unread old_left old before done
+pub record BreaksReading (old_left new_left : Option (List ℕ)) (old : Machine) (before : Waiting)
+    (fault : RunFault) : Type 0 where
+  pub on : (output : Output) (unread : Option (List ℕ)) (done : List Event) →
+      IsReading output unread old_left old before done
       → IsReadOff output unread new_left done fault
 
 -- The next event was taken; or there is none, since the stream has ended.
-abbrev pub IsNext : Output → (unread left : Option (List ℕ)) → Machine → Waiting → (done : List Event) → Option Event → Type 0
-IsNext output unread left m a done (Some event) = IsReading output unread left m a (done ++ event ∷ [])
-IsNext output unread left m a done None = HasRead unread left m.bytes true × (events output max_unit m.bytes true ≡ done)
+abbrev pub IsNext : Output → (unread left : Option (List ℕ)) → Machine → Waiting →
+    (done : List Event) → Option Event → Type 0
+IsNext output unread left m a done (Some event) =
+    IsReading output unread left m a (done ++ event ∷ [])
+IsNext output unread left m a done None =
+    HasRead unread left m.bytes true × (events output max_unit m.bytes true ≡ done)
 
 -- Reading went on to the next event, or to the end.
-pub record TakesNext (old_left new_left : Option (List ℕ)) (old new : Machine) (before now : Waiting) (event : Option Event) : Type 0 where
-  pub on : (output : Output) (unread : Option (List ℕ)) (done : List Event) → IsReading output unread old_left old before done
+pub record TakesNext (old_left new_left : Option (List ℕ)) (old new : Machine)
+    (before now : Waiting) (event : Option Event) : Type 0 where
+  pub on : (output : Output) (unread : Option (List ℕ)) (done : List Event) →
+      IsReading output unread old_left old before done
       → IsNext output unread new_left new now done event
 
 -- where it is a picture, this is whole

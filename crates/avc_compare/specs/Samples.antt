@@ -1,5 +1,6 @@
 -- The samples of a picture of ours, and the other's beside them: these words are the crate's own.
-use Rattle.std.specs.Prelude.{◌≡◌, ℕ, ◌+◌, ◌<◌, Bool, true, false, List, [], ◌++◌, length, Option, Result, Ok, Err}
+use Rattle.std.specs.Prelude.{◌≡◌, ℕ, ◌+◌, ◌<◌, Bool, true, false, List, [], ◌++◌, length, Option}
+use Rattle.std.specs.Prelude.{Result, Ok, Err}
 use Rattle.std.specs.Io.KnownBytes.{Consumes, IsAtEnd}
 use Rattle.avc_types.specs.declared.picture.Picture.{Picture as Decoded}
 use Rattle.avc_yuv.specs.I420.{i420}
@@ -23,14 +24,23 @@ IsUnread (Ours Memory) = Unit {0}
 IsUnread (Ours _) = ⊥
 IsUnread Theirs = Unit {0}
 
--- As many of the other's next bytes were read as the picture has as I420; or all that were left, which are fewer.
-abbrev pub ReadsBeside : Decoded → (old new : Option (List ℕ)) → (theirs : List ℕ) → Result Bool CompareFault → Type 0
+-- As many of the other's next bytes were read as the picture has as I420; or all that were left,
+-- which are fewer.
+abbrev pub ReadsBeside : Decoded → (old new : Option (List ℕ)) → (theirs : List ℕ) →
+    Result Bool CompareFault → Type 0
 ReadsBeside p old new theirs (Ok true) = Consumes old new theirs × (length theirs ≡ length (i420 p))
-ReadsBeside p old new theirs (Ok false) = (here : List ℕ) × Consumes old new here × IsAtEnd new × (length here < length (i420 p))
+ReadsBeside p old new theirs (Ok false) =
+    (here : List ℕ) × Consumes old new here × IsAtEnd new × (length here < length (i420 p))
 ReadsBeside p old new theirs (Err fault) = (here : List ℕ) × Consumes old new here × IsUnread fault
 
--- Behind these first bytes of the other the next were read, until there were so many; or all that were left, which are fewer.
-abbrev pub ReadsRest : (first : List ℕ) → (old new : Option (List ℕ)) → (theirs : List ℕ) → Result Bool CompareFault → Type 0
-ReadsRest first old new theirs (Ok true) = (more : List ℕ) × Consumes old new more × (theirs ≡ first ++ more)
-ReadsRest first old new theirs (Ok false) = (more : List ℕ) × Consumes old new more × IsAtEnd new × (length first + length more < length theirs)
-ReadsRest first old new theirs (Err fault) = (more : List ℕ) × Consumes old new more × IsUnread fault
+-- Behind these first bytes of the other the next were read, until there were so many; or all that
+-- were left, which are fewer.
+abbrev pub ReadsRest : (first : List ℕ) → (old new : Option (List ℕ)) → (theirs : List ℕ) →
+    Result Bool CompareFault → Type 0
+ReadsRest first old new theirs (Ok true) =
+    (more : List ℕ) × Consumes old new more × (theirs ≡ first ++ more)
+ReadsRest first old new theirs (Ok false) =
+    (more : List ℕ) × Consumes old new more × IsAtEnd new ×
+    (length first + length more < length theirs)
+ReadsRest first old new theirs (Err fault) =
+    (more : List ℕ) × Consumes old new more × IsUnread fault

@@ -1,6 +1,7 @@
 //! Bytes of a stream that were read and not yet fed.
 
-ghost use Rattle.std.specs.Prelude.{◌≡◌, ◌<◌, ◌≤◌, [], drop, length, take, true, IfErr, IfOk, OnErr, OnOk};
+ghost use Rattle.std.specs.Prelude.{◌≡◌, ◌<◌, ◌≤◌, [], drop, length, take, true, IfErr, IfOk};
+ghost use Rattle.std.specs.Prelude.{OnErr, OnOk};
 ghost use Rattle.std.specs.Io.KnownBytes.{Consumes, IsAtEnd, Keeps};
 ghost use Rattle.avc_compare.specs.Kept.{nothing_read};
 ghost use Rattle.avc_console.specs.declared.fault.RunFault.TheVariants as faults;
@@ -26,7 +27,10 @@ impl Model for Ahead {
 
     ghost Value = { Waiting };
 
-    ghost view = { λ a. record { bytes = slice_range a.piece.items a.start a.end; ended = a.has_ended } };
+    ghost view = { λ a. record {
+      bytes = slice_range a.piece.items a.start a.end;
+      ended = a.has_ended;
+    } };
 
     ghost invariant = { λ a. IsKept a.piece.items a.start a.end };
 }
@@ -87,7 +91,8 @@ impl Ahead {
     pub(crate) fn read_on<R: Read>(&mut self, most: u128, reader: &mut R) -> Result<(), RunFault>
         requires none { self.old.bytes ≡ [] }
         requires some { 0 < most }
-        ensures ok { OnOk result (Consumes (R.remaining reader.old) (R.remaining reader.new) self.new.bytes) }
+        ensures ok { OnOk result
+            (Consumes (R.remaining reader.old) (R.remaining reader.new) self.new.bytes) }
         ensures last { OnOk result (self.new.bytes ≡ [] → IsAtEnd (R.remaining reader.new)) }
         ensures few { OnOk result (length self.new.bytes ≤ most) }
         ensures ended { self.new.ended ≡ self.old.ended }
@@ -106,8 +111,10 @@ fn read_front<R: Read>(piece: &mut [u8], most: u128, reader: &mut R) -> Result<u
     ensures length { length piece.new ≡ length piece.old }
     ensures within { IfOk result (λ len. len ≤ length piece.new) }
     ensures few { IfOk result (λ len. len ≤ most) }
-    ensures bytes { IfOk result (λ len. Consumes (R.remaining reader.old) (R.remaining reader.new) (take len piece.new)) }
-    ensures last { IfOk result (λ len. len ≡ 0 → 0 < length piece.old → 0 < most → IsAtEnd (R.remaining reader.new)) }
+    ensures bytes { IfOk result
+        (λ len. Consumes (R.remaining reader.old) (R.remaining reader.new) (take len piece.new)) }
+    ensures last { IfOk result (λ len. len ≡ 0 → 0 < length piece.old → 0 < most →
+        IsAtEnd (R.remaining reader.new)) }
     ensures fault { IfErr result (λ fault. fault ≡ faults.Read) }
     ensures err { OnErr result (Keeps (R.remaining reader.old) (R.remaining reader.new)) }
 {

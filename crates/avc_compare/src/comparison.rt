@@ -42,8 +42,8 @@ pub struct Comparison {
 pub struct Findings {
     pub verdict: Verdict,
 
-    /// Which of the other's pictures, from the first that differs on, are ours of another number; or the
-    /// fault that came while they were sought.
+    /// Which of the other's pictures, from the first that differs on, are ours of another number;
+    /// or the fault that came while they were sought.
     pub displaced: Result<DisplacedPictures, CompareFault>,
 }
 
@@ -51,11 +51,11 @@ pub struct Findings {
 pub(crate) const EVENTS: u64 = 4_294_967_296;
 
 /// Compares the pictures of a byte stream (Annex B) with another decoder's, which are I420, one
-/// behind another, to the first that differs. Of the other's pictures from that one on, and at most 16
-/// behind it, it then finds those that are ours of another number among as many. Each refusal is
+/// behind another, to the first that differs. Of the other's pictures from that one on, and at most
+/// 16 behind it, it then finds those that are ours of another number among as many. Each refusal is
 /// reported as it comes, and the line on a picture is written once it was read of both, if that is
-/// wanted: to the end of one of both. Neither is read further than that needs, and of each one picture
-/// is held at a time.
+/// wanted: to the end of one of both. Neither is read further than that needs, and of each one
+/// picture is held at a time.
 pub fn run_comparison<T: Reporter, E: Write, R: Read, O: Read, W: Write>(
     alloc: Global,
     how: Comparison,
@@ -66,9 +66,11 @@ pub fn run_comparison<T: Reporter, E: Write, R: Read, O: Read, W: Write>(
     writer: &mut W,
 ) -> Result<Findings, CompareFault>
     requires { (T.reported report.old).report ≡ no_report }
-    ensures compares { Compares how (R.remaining reader.old) (R.remaining reader.new) (O.remaining other.old) (O.remaining other.new)
+    ensures compares { Compares how (R.remaining reader.old) (R.remaining reader.new)
+        (O.remaining other.old) (O.remaining other.new)
         (W.contents writer.old) (W.contents writer.new) (T.reported report.new).report result }
-    ensures told { TellsOn (T.reported report.old) (T.reported report.new) (E.contents errors.old) (E.contents errors.new) }
+    ensures told { TellsOn (T.reported report.old) (T.reported report.new) (E.contents errors.old)
+        (E.contents errors.new) }
 {
     events_only_grow();
     let mut decoder = Decoder::<MAX_UNIT, SharedPicture>::sharing(alloc, how.output);
@@ -131,10 +133,13 @@ fn find_behind<T: Reporter, E: Write, R: Read, O: Read, W: Write>(
 ) -> Findings
     ensures same { result.verdict ≡ verdict }
     ensures finds { FindsBehind how verdict
-        (stand (R.remaining reader.old) (O.remaining other.old) (W.contents writer.old) decoder.old ahead.old (T.reported report.old).report)
-        (stand (R.remaining reader.new) (O.remaining other.new) (W.contents writer.new) decoder.new ahead.new (T.reported report.new).report)
+        (stand (R.remaining reader.old) (O.remaining other.old) (W.contents writer.old) decoder.old
+        ahead.old (T.reported report.old).report)
+        (stand (R.remaining reader.new) (O.remaining other.new) (W.contents writer.new) decoder.new
+        ahead.new (T.reported report.new).report)
         result.displaced }
-    ensures told { TellsOn (T.reported report.old) (T.reported report.new) (E.contents errors.old) (E.contents errors.new) }
+    ensures told { TellsOn (T.reported report.old) (T.reported report.new) (E.contents errors.old)
+        (E.contents errors.new) }
 {
     let displaced = displaced_behind(
         alloc, how, &verdict, decoder, ahead, report, errors, reader, other, writer,
@@ -155,10 +160,13 @@ fn displaced_behind<T: Reporter, E: Write, R: Read, O: Read, W: Write>(
     writer: &mut W,
 ) -> Result<DisplacedPictures, CompareFault>
     ensures finds { FindsBehind how verdict.now
-        (stand (R.remaining reader.old) (O.remaining other.old) (W.contents writer.old) decoder.old ahead.old (T.reported report.old).report)
-        (stand (R.remaining reader.new) (O.remaining other.new) (W.contents writer.new) decoder.new ahead.new (T.reported report.new).report)
+        (stand (R.remaining reader.old) (O.remaining other.old) (W.contents writer.old) decoder.old
+        ahead.old (T.reported report.old).report)
+        (stand (R.remaining reader.new) (O.remaining other.new) (W.contents writer.new) decoder.new
+        ahead.new (T.reported report.new).report)
         result }
-    ensures told { TellsOn (T.reported report.old) (T.reported report.new) (E.contents errors.old) (E.contents errors.new) }
+    ensures told { TellsOn (T.reported report.old) (T.reported report.new) (E.contents errors.old)
+        (E.contents errors.new) }
 {
     match verdict {
         Verdict::Differs(differing) => seek_displaced(
@@ -182,9 +190,11 @@ fn compare_event<T: Reporter, E: Write, O: Read, W: Write>(
     writer: &mut W,
 ) -> Result<Option<Verdict>, CompareFault>
     requires { IfPicture event IsWhole }
-    ensures compares { ComparesEvent how event (O.remaining other.old) (O.remaining other.new) (W.contents writer.old) (W.contents writer.new)
+    ensures compares { ComparesEvent how event (O.remaining other.old) (O.remaining other.new)
+        (W.contents writer.old) (W.contents writer.new)
         (T.reported report.old).report (T.reported report.new).report result }
-    ensures told { TellsOn (T.reported report.old) (T.reported report.new) (E.contents errors.old) (E.contents errors.new) }
+    ensures told { TellsOn (T.reported report.old) (T.reported report.new) (E.contents errors.old)
+        (E.contents errors.new) }
 {
     match event {
         Event::Picture(picture) => {

@@ -11,11 +11,12 @@ use md5::{Digest, Md5};
 use std::alloc::Global;
 use std::marker::Model;
 
-/// So many of the other's pictures, from the first that differs on, are sought among as many of ours.
+/// So many of the other's pictures, from the first that differs on, are sought among as many of
+/// ours.
 pub(crate) const MOST_SOUGHT: usize = 17;
 
-/// The MD5s of our first pictures from the first that differs on, and of the other's. A contract sees
-/// both lists.
+/// The MD5s of our first pictures from the first that differs on, and of the other's. A contract
+/// sees both lists.
 #[derive(Drop)]
 pub(crate) struct Digests {
     ours: Vec<[u8; 16]>,
@@ -37,7 +38,10 @@ impl Digests {
         ours: [u8; 16],
         theirs: [u8; 16],
     ) -> Result<Digests, RunFault>
-        ensures ok { IfOk result (λ digests. digests ≡ record { ours = ours ∷ []; theirs = theirs ∷ [] }) }
+        ensures ok { IfOk result (λ digests. digests ≡ record {
+          ours = ours ∷ [];
+          theirs = theirs ∷ [];
+        }) }
         ensures err { IfErr result (λ fault. fault ≡ faults.Memory) }
     {
         Ok(Digests {

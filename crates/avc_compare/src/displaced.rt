@@ -21,8 +21,8 @@ pub struct Displaced {
     pub ours: u64,
 }
 
-/// The other's pictures that are ours of another number, in the other's order. A contract sees their
-/// list.
+/// The other's pictures that are ours of another number, in the other's order. A contract sees
+/// their list.
 #[derive(Drop)]
 pub struct DisplacedPictures {
     pictures: Vec<Displaced>,
@@ -67,8 +67,8 @@ impl DisplacedPictures {
     }
 }
 
-/// The other's pictures that are ours of another number, by the MD5s of both, where the first of both
-/// have this number.
+/// The other's pictures that are ours of another number, by the MD5s of both, where the first of
+/// both have this number.
 pub(crate) fn find_displaced(
     alloc: Global,
     first: u64,

@@ -1,4 +1,5 @@
-//! A stream's pictures beside another decoder's: whether they are the same, and where they differ first.
+//! A stream's pictures beside another decoder's: whether they are the same, and where they differ
+//! first.
 #![tactic(auto)]
 
 mod ahead;

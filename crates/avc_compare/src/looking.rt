@@ -36,10 +36,13 @@ pub(crate) fn seek_displaced<T: Reporter, E: Write, R: Read, O: Read, W: Write>(
     writer: &mut W,
 ) -> Result<DisplacedPictures, CompareFault>
     ensures seeks { Seeks how differing.now
-        (stand (R.remaining reader.old) (O.remaining other.old) (W.contents writer.old) decoder.old ahead.old (T.reported report.old).report)
-        (stand (R.remaining reader.new) (O.remaining other.new) (W.contents writer.new) decoder.new ahead.new (T.reported report.new).report)
+        (stand (R.remaining reader.old) (O.remaining other.old) (W.contents writer.old) decoder.old
+        ahead.old (T.reported report.old).report)
+        (stand (R.remaining reader.new) (O.remaining other.new) (W.contents writer.new) decoder.new
+        ahead.new (T.reported report.new).report)
         result }
-    ensures told { TellsOn (T.reported report.old) (T.reported report.new) (E.contents errors.old) (E.contents errors.new) }
+    ensures told { TellsOn (T.reported report.old) (T.reported report.new) (E.contents errors.old)
+        (E.contents errors.new) }
 {
     report.count_picture();
     let digests = look_on(
@@ -58,9 +61,9 @@ pub(crate) fn seek_displaced<T: Reporter, E: Write, R: Read, O: Read, W: Write>(
     Ok(find_displaced(alloc, differing.picture.number, &digests)?)
 }
 
-/// Looks at the pictures behind the first that differs, whose MD5s are these, beside the other's next
-/// bytes: at 16, or where lines are told on each at all, to the end of one of both. Each refusal is
-/// reported as it comes.
+/// Looks at the pictures behind the first that differs, whose MD5s are these, beside the other's
+/// next bytes: at 16, or where lines are told on each at all, to the end of one of both. Each
+/// refusal is reported as it comes.
 fn look_on<T: Reporter, E: Write, R: Read, O: Read, W: Write>(
     alloc: Global,
     how: Comparison,
@@ -75,10 +78,13 @@ fn look_on<T: Reporter, E: Write, R: Read, O: Read, W: Write>(
     writer: &mut W,
 ) -> Result<Digests, CompareFault>
     ensures looks { LooksOn how ours theirs
-        (stand (R.remaining reader.old) (O.remaining other.old) (W.contents writer.old) decoder.old ahead.old (T.reported report.old).report)
-        (stand (R.remaining reader.new) (O.remaining other.new) (W.contents writer.new) decoder.new ahead.new (T.reported report.new).report)
+        (stand (R.remaining reader.old) (O.remaining other.old) (W.contents writer.old) decoder.old
+        ahead.old (T.reported report.old).report)
+        (stand (R.remaining reader.new) (O.remaining other.new) (W.contents writer.new) decoder.new
+        ahead.new (T.reported report.new).report)
         result }
-    ensures told { TellsOn (T.reported report.old) (T.reported report.new) (E.contents errors.old) (E.contents errors.new) }
+    ensures told { TellsOn (T.reported report.old) (T.reported report.new) (E.contents errors.old)
+        (E.contents errors.new) }
 {
     events_only_grow();
     let mut digests = Digests::of_both(alloc, ours, theirs)?;
@@ -130,9 +136,12 @@ fn look_at_event<T: Reporter, E: Write, O: Read, W: Write>(
     writer: &mut W,
 ) -> Result<bool, CompareFault>
     requires { IfPicture event IsWhole }
-    ensures looks { LooksAtEvent how event (O.remaining other.old) (O.remaining other.new) (W.contents writer.old) (W.contents writer.new)
-        (T.reported report.old).report (T.reported report.new).report digests.old digests.new result }
-    ensures told { TellsOn (T.reported report.old) (T.reported report.new) (E.contents errors.old) (E.contents errors.new) }
+    ensures looks { LooksAtEvent how event (O.remaining other.old) (O.remaining other.new)
+        (W.contents writer.old) (W.contents writer.new)
+        (T.reported report.old).report (T.reported report.new).report digests.old digests.new
+        result }
+    ensures told { TellsOn (T.reported report.old) (T.reported report.new) (E.contents errors.old)
+        (E.contents errors.new) }
 {
     match event {
         Event::Picture(picture) => {

@@ -1,6 +1,7 @@
 //! The other's bytes, read as long as they are what is shown of a picture.
 
-ghost use Rattle.std.specs.Prelude.{◌≡◌, ℕ, ◌<◌, ◌≤◌, List, [], length, take, IfErr, IfOk, OnErr, OnOk};
+ghost use Rattle.std.specs.Prelude.{◌≡◌, ℕ, ◌<◌, ◌≤◌, List, [], length, take, IfErr, IfOk, OnErr};
+ghost use Rattle.std.specs.Prelude.{OnOk};
 ghost use Rattle.std.specs.Io.KnownBytes.{Consumes, IsAtEnd, Keeps};
 ghost use Rattle.avc_types.specs.Whole.{IsWhole};
 ghost use Rattle.avc_yuv.specs.Copying.{shown_of};
@@ -15,9 +16,9 @@ use avc_plane::{Component, SharedPicture};
 use avc_yuv::{shown_row, window_of};
 use std::io::Read;
 
-/// Reads the other's next bytes as long as they are what is shown of a picture, which has `left` bytes
-/// as I420, and in any case no more than so many. Answers how many of the first are; those that were
-/// read behind them wait, if the other has not ended there.
+/// Reads the other's next bytes as long as they are what is shown of a picture, which has `left`
+/// bytes as I420, and in any case no more than so many. Answers how many of the first are; those
+/// that were read behind them wait, if the other has not ended there.
 pub(crate) fn meet_picture<O: Read>(
     picture: &SharedPicture,
     left: u128,
@@ -27,10 +28,14 @@ pub(crate) fn meet_picture<O: Read>(
     requires whole { IsWhole picture.now }
     requires left { left ≡ length (i420 picture.now) }
     requires few { length ahead.old.bytes ≤ left }
-    ensures ok { IfOk result (λ met. Meets (i420 picture.now) left met ahead.old.bytes ahead.new.bytes (O.remaining other.old) (O.remaining other.new)) }
-    ensures over { IfOk result (λ met. met < length (i420 picture.now) → ahead.new.bytes ≡ [] → IsAtEnd (O.remaining other.new)) }
+    ensures ok { IfOk result
+        (λ met. Meets (i420 picture.now) left met ahead.old.bytes ahead.new.bytes
+        (O.remaining other.old) (O.remaining other.new)) }
+    ensures over { IfOk result (λ met. met < length (i420 picture.now) → ahead.new.bytes ≡ [] →
+        IsAtEnd (O.remaining other.new)) }
     ensures fault { IfErr result (λ fault. fault ≡ ends.Theirs) }
-    ensures err { OnErr result ((here : List ℕ) × Consumes (O.remaining other.old) (O.remaining other.new) here) }
+    ensures err { OnErr result ((here : List ℕ) ×
+        Consumes (O.remaining other.old) (O.remaining other.new) here) }
 {
     let chroma = samples_of(picture, Component::Cb);
     let luma = meet_component(picture, Component::Luma, left, ahead, other)?;
@@ -65,11 +70,14 @@ fn meet_component<O: Read>(
     requires whole { IsWhole picture.now }
     requires within { length (shown_of picture.now component) ≤ left }
     requires few { length ahead.old.bytes ≤ left }
-    ensures ok { IfOk result (λ met. Meets (shown_of picture.now component) left met ahead.old.bytes ahead.new.bytes
+    ensures ok { IfOk result
+        (λ met. Meets (shown_of picture.now component) left met ahead.old.bytes ahead.new.bytes
         (O.remaining other.old) (O.remaining other.new)) }
-    ensures over { IfOk result (λ met. met < length (shown_of picture.now component) → ahead.new.bytes ≡ [] → IsAtEnd (O.remaining other.new)) }
+    ensures over { IfOk result (λ met. met < length (shown_of picture.now component) →
+        ahead.new.bytes ≡ [] → IsAtEnd (O.remaining other.new)) }
     ensures fault { IfErr result (λ fault. fault ≡ ends.Theirs) }
-    ensures err { OnErr result ((here : List ℕ) × Consumes (O.remaining other.old) (O.remaining other.new) here) }
+    ensures err { OnErr result ((here : List ℕ) ×
+        Consumes (O.remaining other.old) (O.remaining other.new) here) }
 {
     let of = window_of(picture, component);
     let mut met = 0;
@@ -93,10 +101,13 @@ fn meet_row<O: Read>(
 ) -> Result<usize, CompareFault>
     requires within { length row.now ≤ left }
     requires few { length ahead.old.bytes ≤ left }
-    ensures ok { IfOk result (λ met. Meets row.now left met ahead.old.bytes ahead.new.bytes (O.remaining other.old) (O.remaining other.new)) }
-    ensures over { IfOk result (λ met. met < length row.now → ahead.new.bytes ≡ [] → IsAtEnd (O.remaining other.new)) }
+    ensures ok { IfOk result (λ met. Meets row.now left met ahead.old.bytes ahead.new.bytes
+        (O.remaining other.old) (O.remaining other.new)) }
+    ensures over { IfOk result (λ met. met < length row.now → ahead.new.bytes ≡ [] →
+        IsAtEnd (O.remaining other.new)) }
     ensures fault { IfErr result (λ fault. fault ≡ ends.Theirs) }
-    ensures err { OnErr result ((here : List ℕ) × Consumes (O.remaining other.old) (O.remaining other.new) here) }
+    ensures err { OnErr result ((here : List ℕ) ×
+        Consumes (O.remaining other.old) (O.remaining other.new) here) }
 {
     let mut met = 0;
     'parts: while met < row.len() {
@@ -115,7 +126,8 @@ fn meet_row<O: Read>(
 fn fill<O: Read>(left: u128, ahead: &mut Ahead, other: &mut O) -> Result<(), CompareFault>
     requires some { 0 < left }
     requires few { length ahead.old.bytes ≤ left }
-    ensures ok { OnOk result (Fills (O.remaining other.old) (O.remaining other.new) ahead.old ahead.new) }
+    ensures ok { OnOk result
+        (Fills (O.remaining other.old) (O.remaining other.new) ahead.old ahead.new) }
     ensures few { OnOk result (length ahead.new.bytes ≤ left) }
     ensures fault { IfErr result (λ fault. fault ≡ ends.Theirs) }
     ensures err { OnErr result (Keeps (O.remaining other.old) (O.remaining other.new)) }

@@ -32,7 +32,8 @@ pub(crate) fn compare_picture<O: Read, W: Write>(
     writer: &mut W,
 ) -> Result<Option<Verdict>, CompareFault>
     requires { IsWhole picture.now }
-    ensures { ComparesPicture how number picture.now (O.remaining other.old) (O.remaining other.new) (W.contents writer.old) (W.contents writer.new) result }
+    ensures { ComparesPicture how number picture.now (O.remaining other.old) (O.remaining other.new)
+        (W.contents writer.old) (W.contents writer.new) result }
 {
     if let Some(sizes) = other_size(how.size, picture) {
         return Ok(Some(Verdict::OtherSize(sizes)));
@@ -52,8 +53,8 @@ pub(crate) fn compare_picture<O: Read, W: Write>(
     Ok(found)
 }
 
-// Whether nothing is to be told of a picture of which so many bytes are the other's: all are, and no line
-// is wanted. Where not all are, they may be near enough all the same.
+// Whether nothing is to be told of a picture of which so many bytes are the other's: all are, and
+// no line is wanted. Where not all are, they may be near enough all the same.
 fn is_passed(how: Comparison, picture: &SharedPicture, met: u128) -> bool
     requires whole { IsWhole picture.now }
     ensures all { result ≡ true → met ≡ length (i420 picture.now) }
@@ -62,9 +63,9 @@ fn is_passed(how: Comparison, picture: &SharedPicture, met: u128) -> bool
     !how.has_psnr && met == i420_len(picture)
 }
 
-/// Looks at a picture behind the first that differs, beside the other's next bytes, as many as it has
-/// as I420: adds the MD5s of both, and writes the line on it, if that is wanted. Answers whether the
-/// other has so many.
+/// Looks at a picture behind the first that differs, beside the other's next bytes, as many as it
+/// has as I420: adds the MD5s of both, and writes the line on it, if that is wanted. Answers
+/// whether the other has so many.
 pub(crate) fn look_at_picture<O: Read, W: Write>(
     alloc: Global,
     how: Comparison,
@@ -76,7 +77,8 @@ pub(crate) fn look_at_picture<O: Read, W: Write>(
     writer: &mut W,
 ) -> Result<bool, CompareFault>
     requires { IsWhole picture.now }
-    ensures { LooksAt how number picture.now (O.remaining other.old) (O.remaining other.new) (W.contents writer.old) (W.contents writer.new)
+    ensures { LooksAt how number picture.now (O.remaining other.old) (O.remaining other.new)
+        (W.contents writer.old) (W.contents writer.new)
         digests.old digests.new result }
 {
     samples.copy(alloc, picture)?;
@@ -106,7 +108,8 @@ fn tell_line<W: Write>(
 ) -> Result<(), RunFault>
     requires same { length theirs.now ≡ length ours.now }
     requires whole { length ours.now ≡ sample_count picture.shape }
-    ensures { TellsLine is_told picture ours.now theirs.now (W.contents writer.old) (W.contents writer.new) result }
+    ensures { TellsLine is_told picture ours.now theirs.now (W.contents writer.old)
+        (W.contents writer.new) result }
 {
     if !is_told {
         return Ok(());

@@ -6,8 +6,10 @@ ghost use Rattle.avc_console.specs.Program.{TellsRun};
 ghost use Rattle.avc_console.specs.Reporting.{report_in, reported_by, IsTold};
 ghost use Rattle.avc_formats.specs.Formats.{StopsPicture};
 ghost use Rattle.avc_console.specs.Status.{other_status};
-ghost use Rattle.avc_compare.specs.Told.{ended_by, fault_names, findings_text, found_pictures, is_same, names_of};
-ghost use Rattle.avc_compare.specs.Told.{run_fault, run_of, verdict_status, EndsComparing, HasMarks};
+ghost use Rattle.avc_compare.specs.Told.{ended_by, fault_names, findings_text, found_pictures};
+ghost use Rattle.avc_compare.specs.Told.{is_same, names_of};
+ghost use Rattle.avc_compare.specs.Told.{run_fault, run_of, verdict_status, EndsComparing};
+ghost use Rattle.avc_compare.specs.Told.{HasMarks};
 
 use crate::comparison::{Comparison, Findings, run_comparison};
 use crate::displaced::DisplacedPictures;
@@ -21,9 +23,9 @@ use std::io::{Read, Write};
 
 /// The command `compare`: compares the pictures of a byte stream (Annex B) with another decoder's,
 /// as I420, from a file of this name, and writes where they differ first, or nothing; behind that
-/// which of the other's pictures are ours of another number; and before it, if it is wanted, a line on
-/// how near each picture is. It tells on the console of each refusal when it comes, and of the fault
-/// that ended the run. The status is 1 where something differs and no fault came.
+/// which of the other's pictures are ours of another number; and before it, if it is wanted, a line
+/// on how near each picture is. It tells on the console of each refusal when it comes, and of the
+/// fault that ended the run. The status is 1 where something differs and no fault came.
 pub fn compare<R: Read, O: Read, W: Write, E: Write, V: Watch>(
     alloc: Global,
     how: Comparison,
@@ -33,8 +35,10 @@ pub fn compare<R: Read, O: Read, W: Write, E: Write, V: Watch>(
     writer: &mut W,
     console: &mut Console<'_, E, V>,
 ) -> Ending
-    ensures { EndsComparing console.old.names other_name.entry console.old.is_explained how (R.remaining reader.old) (R.remaining reader.new)
-        (O.remaining other.old) (O.remaining other.new) (W.contents writer.old) (W.contents writer.new)
+    ensures { EndsComparing console.old.names other_name.entry console.old.is_explained how
+        (R.remaining reader.old) (R.remaining reader.new)
+        (O.remaining other.old) (O.remaining other.new) (W.contents writer.old)
+        (W.contents writer.new)
         (E.contents console.old.errors) (E.contents console.new.errors) result }
 {
     let mut tally = Tally::new(console.is_explained);
@@ -72,7 +76,8 @@ pub fn compare<R: Read, O: Read, W: Write, E: Write, V: Watch>(
     }
 }
 
-// What was found of the stream: beside what was reported, the picture at which the comparison ended.
+// What was found of the stream: beside what was reported, the picture at which the comparison
+// ended.
 fn found_with(reported: Counts, verdict: &Verdict) -> Counts
     ensures pictures { result.pictures ≡ found_pictures reported.pictures verdict.now }
     ensures refused { result.refused ≡ reported.refused }
@@ -108,8 +113,10 @@ fn tell_end<E: Write>(
     names: &Names<'_>,
     errors: &mut E,
 ) -> Ending
-    ensures { (start : Option (List ℕ)) → IsTold start (E.contents errors.old) (reported_by tally.now)
-        → TellsRun (names_of names.now other_name.entry ended) tally.now.explained (report_in tally.now) (run_of ended)
+    ensures { (start : Option (List ℕ)) →
+        IsTold start (E.contents errors.old) (reported_by tally.now)
+        → TellsRun (names_of names.now other_name.entry ended) tally.now.explained
+        (report_in tally.now) (run_of ended)
         start (E.contents errors.new) result }
 {
     match ended {
@@ -126,8 +133,10 @@ fn tell_fault<E: Write>(
     names: &Names<'_>,
     errors: &mut E,
 ) -> Ending
-    ensures { (start : Option (List ℕ)) → IsTold start (E.contents errors.old) (reported_by tally.now)
-        → TellsRun (fault_names names.now other_name.entry fault) tally.now.explained (report_in tally.now) (Err (run_fault fault))
+    ensures { (start : Option (List ℕ)) →
+        IsTold start (E.contents errors.old) (reported_by tally.now)
+        → TellsRun (fault_names names.now other_name.entry fault) tally.now.explained
+        (report_in tally.now) (Err (run_fault fault))
         start (E.contents errors.new) result }
 {
     match fault {
@@ -149,8 +158,11 @@ fn write_findings<W: Write>(
     writer: &mut W,
 ) -> Result<(), RunFault>
     requires { HasMarks findings.now.verdict }
-    ensures ok { OnOk result (Appends (W.contents writer.old) (W.contents writer.new) (findings_text findings.now)) }
-    ensures err { IfErr result (λ fault. StopsPicture fault true (W.contents writer.old) (W.contents writer.new) (findings_text findings.now)) }
+    ensures ok { OnOk result
+        (Appends (W.contents writer.old) (W.contents writer.new) (findings_text findings.now)) }
+    ensures err { IfErr result
+        (λ fault. StopsPicture fault true (W.contents writer.old) (W.contents writer.new)
+        (findings_text findings.now)) }
 {
     let mut text = String::new(alloc);
     add_findings(&mut text, findings)?;

@@ -1,6 +1,7 @@
 //! The samples of a picture of ours, and the other's beside them.
 
-ghost use Rattle.std.specs.Prelude.{◌≡◌, ℕ, ◌+◌, ◌<◌, ◌≤◌, List, [], ◌++◌, length, take, IfErr, IfOk, OnErr, OnOk};
+ghost use Rattle.std.specs.Prelude.{◌≡◌, ℕ, ◌+◌, ◌<◌, ◌≤◌, List, [], ◌++◌, length, take, IfErr};
+ghost use Rattle.std.specs.Prelude.{IfOk, OnErr, OnOk};
 ghost use Rattle.std.specs.Io.KnownBytes.{Consumes, IsAtEnd};
 ghost use Rattle.avc_types.specs.Whole.{IsWhole};
 ghost use Rattle.avc_yuv.specs.I420.{i420};
@@ -22,8 +23,8 @@ use std::marker::Model;
 /// How many of the other's bytes are read at once: they stay near while they are compared.
 const ROOM: usize = 131_072;
 
-/// The samples of a picture of ours and the other's, both as I420. They are kept from one picture to
-/// the next, since to make room anew for each takes longer than to compare what stands in it.
+/// The samples of a picture of ours and the other's, both as I420. They are kept from one picture
+/// to the next, since to make room anew for each takes longer than to compare what stands in it.
 #[derive(Drop)]
 pub(crate) struct Samples {
     ours: Vec<u8>,
@@ -37,7 +38,11 @@ impl Model for Samples {
 
     ghost Value = { Sampled };
 
-    ghost view = { λ s. record { ours = s.ours.items; theirs = s.theirs.items; waiting = s.ahead.bytes } };
+    ghost view = { λ s. record {
+      ours = s.ours.items;
+      theirs = s.theirs.items;
+      waiting = s.ahead.bytes;
+    } };
 }
 
 impl Samples {
@@ -76,26 +81,29 @@ impl Samples {
         Ok(())
     }
 
-    /// Reads the other's next bytes as long as they are what is shown of a picture, piece by piece, so that
-    /// each is compared while it is near. Answers how many of the first are.
+    /// Reads the other's next bytes as long as they are what is shown of a picture, piece by piece,
+    /// so that each is compared while it is near. Answers how many of the first are.
     pub(crate) fn meet<O: Read>(
         &mut self,
         picture: &SharedPicture,
         other: &mut O,
     ) -> Result<u128, CompareFault>
         requires { IsWhole picture.now }
-        ensures ok { IfOk result (λ met. Meets (i420 picture.now) (length (i420 picture.now)) met [] self.new.waiting
+        ensures ok { IfOk result
+            (λ met. Meets (i420 picture.now) (length (i420 picture.now)) met [] self.new.waiting
             (O.remaining other.old) (O.remaining other.new)) }
-        ensures over { IfOk result (λ met. met < length (i420 picture.now) → self.new.waiting ≡ [] → IsAtEnd (O.remaining other.new)) }
+        ensures over { IfOk result (λ met. met < length (i420 picture.now) → self.new.waiting ≡ [] →
+            IsAtEnd (O.remaining other.new)) }
         ensures fault { IfErr result (λ fault. fault ≡ ends.Theirs) }
-        ensures err { OnErr result ((here : List ℕ) × Consumes (O.remaining other.old) (O.remaining other.new) here) }
+        ensures err { OnErr result ((here : List ℕ) ×
+            Consumes (O.remaining other.old) (O.remaining other.new) here) }
     {
         self.ahead.clear();
         meet_picture(picture, i420_len(picture), &mut self.ahead, other)
     }
 
-    /// Reads the rest beside a picture of which so many bytes were met, so that the samples of both are here.
-    /// Answers whether the other has so many.
+    /// Reads the rest beside a picture of which so many bytes were met, so that the samples of both
+    /// are here. Answers whether the other has so many.
     pub(crate) fn complete<O: Read>(
         &mut self,
         alloc: Global,
@@ -105,10 +113,12 @@ impl Samples {
     ) -> Result<bool, CompareFault>
         requires whole { IsWhole picture.now }
         requires few { met + length self.old.waiting ≤ length (i420 picture.now) }
-        requires over { met < length (i420 picture.now) → self.old.waiting ≡ [] → IsAtEnd (O.remaining other.old) }
+        requires over { met < length (i420 picture.now) → self.old.waiting ≡ [] →
+            IsAtEnd (O.remaining other.old) }
         ensures ours { OnOk result (self.new.ours ≡ i420 picture.now) }
         ensures long { OnOk result (length self.new.theirs ≡ length (i420 picture.now)) }
-        ensures reads { ReadsRest (take met (i420 picture.now) ++ self.old.waiting) (O.remaining other.old) (O.remaining other.new) self.new.theirs result }
+        ensures reads { ReadsRest (take met (i420 picture.now) ++ self.old.waiting)
+            (O.remaining other.old) (O.remaining other.new) self.new.theirs result }
     {
         self.copy(alloc, picture)?;
         make_room(alloc, &mut self.theirs, picture)?;
@@ -120,7 +130,8 @@ impl Samples {
         read_rest(&mut self.theirs, known, self.ahead.as_slice(), other)
     }
 
-    /// Reads the other's next bytes, as many as this picture has. Answers whether there are so many.
+    /// Reads the other's next bytes, as many as this picture has. Answers whether there are so
+    /// many.
     pub(crate) fn read<O: Read>(
         &mut self,
         alloc: Global,
@@ -129,7 +140,8 @@ impl Samples {
     ) -> Result<bool, CompareFault>
         requires { IsWhole picture.now }
         ensures ours { self.new.ours ≡ self.old.ours }
-        ensures reads { ReadsBeside picture.now (O.remaining other.old) (O.remaining other.new) self.new.theirs result }
+        ensures reads { ReadsBeside picture.now (O.remaining other.old) (O.remaining other.new)
+            self.new.theirs result }
     {
         make_room(alloc, &mut self.theirs, picture)?;
         read_rest(&mut self.theirs, &[], &[], other)
@@ -161,7 +173,8 @@ fn read_rest<O: Read>(
 ) -> Result<bool, CompareFault>
     requires { length first.now + length second.now ≤ length room.old }
     ensures long { length room.new ≡ length room.old }
-    ensures reads { ReadsRest (first.now ++ second.now) (O.remaining other.old) (O.remaining other.new) room.new result }
+    ensures reads { ReadsRest (first.now ++ second.now) (O.remaining other.old)
+        (O.remaining other.new) room.new result }
 {
     put(room, 0, first);
     put(room, first.len(), second);
@@ -186,10 +199,13 @@ fn put(room: &mut [u8], at: usize, bytes: &[u8])
 pub(crate) fn read_other<O: Read>(bytes: &mut [u8], other: &mut O) -> Result<usize, CompareFault>
     ensures length { length bytes.new ≡ length bytes.old }
     ensures within { IfOk result (λ count. count ≤ length bytes.new) }
-    ensures ok { IfOk result (λ count. Consumes (O.remaining other.old) (O.remaining other.new) (take count bytes.new)) }
-    ensures last { IfOk result (λ count. count < length bytes.new → IsAtEnd (O.remaining other.new)) }
+    ensures ok { IfOk result
+        (λ count. Consumes (O.remaining other.old) (O.remaining other.new) (take count bytes.new)) }
+    ensures last { IfOk result (λ count. count < length bytes.new →
+        IsAtEnd (O.remaining other.new)) }
     ensures fault { IfErr result (λ fault. fault ≡ ends.Theirs) }
-    ensures err { OnErr result ((here : List ℕ) × Consumes (O.remaining other.old) (O.remaining other.new) here) }
+    ensures err { OnErr result ((here : List ℕ) ×
+        Consumes (O.remaining other.old) (O.remaining other.new) here) }
 {
     let mut count = 0;
     'reads: while count < bytes.len() {

@@ -23,8 +23,11 @@ pub(crate) fn next_of<R: Read>(
     ahead: &mut Ahead,
     reader: &mut R,
 ) -> Result<Option<Event<SharedPicture>>, RunFault>
-    ensures ok { IfOk result (λ event. TakesNext (R.remaining reader.old) (R.remaining reader.new) decoder.old decoder.new ahead.old ahead.new event) }
-    ensures err { IfErr result (λ fault. BreaksReading (R.remaining reader.old) (R.remaining reader.new) decoder.old ahead.old fault) }
+    ensures ok { IfOk result (λ event. TakesNext (R.remaining reader.old) (R.remaining reader.new)
+        decoder.old decoder.new ahead.old ahead.new event) }
+    ensures err { IfErr result
+        (λ fault. BreaksReading (R.remaining reader.old) (R.remaining reader.new) decoder.old
+        ahead.old fault) }
     ensures whole { IfOk result (λ event. IsWholeIfAny event) }
 {
     events_only_grow();
@@ -51,10 +54,14 @@ fn go_on<R: Read>(
 ) -> Result<bool, RunFault>
     requires open_end { ahead.old.ended ≡ false }
     requires none { next_event max_unit decoder.old ≡ None }
-    ensures ok { OnOk result (ReadsOn (R.remaining reader.old) (R.remaining reader.new) decoder.old decoder.new ahead.old ahead.new) }
-    ensures fed { IfOk result (λ fed. fed ≡ true → length decoder.old.bytes < length decoder.new.bytes) }
+    ensures ok { OnOk result (ReadsOn (R.remaining reader.old) (R.remaining reader.new) decoder.old
+        decoder.new ahead.old ahead.new) }
+    ensures fed { IfOk result (λ fed. fed ≡ true →
+        length decoder.old.bytes < length decoder.new.bytes) }
     ensures ended { IfOk result (λ fed. fed ≡ false → ahead.new.ended ≡ true) }
-    ensures err { IfErr result (λ fault. BreaksReading (R.remaining reader.old) (R.remaining reader.new) decoder.old ahead.old fault) }
+    ensures err { IfErr result
+        (λ fault. BreaksReading (R.remaining reader.old) (R.remaining reader.new) decoder.old
+        ahead.old fault) }
 {
     events_only_grow();
     fill(ahead, reader)?;
@@ -70,7 +77,8 @@ fn go_on<R: Read>(
 
 // Reads on where no byte waits.
 fn fill<R: Read>(ahead: &mut Ahead, reader: &mut R) -> Result<(), RunFault>
-    ensures ok { OnOk result (Fills (R.remaining reader.old) (R.remaining reader.new) ahead.old ahead.new) }
+    ensures ok { OnOk result
+        (Fills (R.remaining reader.old) (R.remaining reader.new) ahead.old ahead.new) }
     ensures fault { IfErr result (λ fault. fault ≡ faults.Read) }
     ensures err { OnErr result (Keeps (R.remaining reader.old) (R.remaining reader.new)) }
     ensures none { OnErr result (ahead.old.bytes ≡ []) }

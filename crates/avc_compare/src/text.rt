@@ -2,7 +2,8 @@
 
 ghost use Rattle.std.specs.Prelude.{◌≡◌, ◌++◌, OnOk, string_bytes};
 ghost use Rattle.std.specs.List.{flat_map};
-ghost use Rattle.avc_compare.specs.Told.{displaced_line, fewer_line, findings_text, info_line, more_line};
+ghost use Rattle.avc_compare.specs.Told.{displaced_line, fewer_line, findings_text, info_line};
+ghost use Rattle.avc_compare.specs.Told.{more_line};
 ghost use Rattle.avc_compare.specs.Told.{sizes_line, verdict_text, HasMarks};
 
 use crate::comparison::Findings;
@@ -12,11 +13,12 @@ use avc_console::RunFault;
 use avc_report::add_difference;
 use avc_types::OutOfMemory;
 
-/// Adds what is written of what a comparison found: nothing where all is the same, and nothing behind a
-/// line that could not be written.
+/// Adds what is written of what a comparison found: nothing where all is the same, and nothing
+/// behind a line that could not be written.
 pub fn add_findings(text: &mut String, findings: &Findings) -> Result<(), OutOfMemory>
     requires { HasMarks findings.now.verdict }
-    ensures { OnOk result (string_bytes text.new ≡ string_bytes text.old ++ findings_text findings.now) }
+    ensures { OnOk result (string_bytes text.new ≡ string_bytes text.old
+        ++ findings_text findings.now) }
 {
     match &findings.displaced {
         Ok(displaced) => {
@@ -30,7 +32,8 @@ pub fn add_findings(text: &mut String, findings: &Findings) -> Result<(), OutOfM
 
 // A line for each picture that is ours of another number.
 fn add_displaced(text: &mut String, pictures: &[Displaced]) -> Result<(), OutOfMemory>
-    ensures { OnOk result (string_bytes text.new ≡ string_bytes text.old ++ flat_map displaced_line pictures.now) }
+    ensures { OnOk result (string_bytes text.new ≡ string_bytes text.old
+        ++ flat_map displaced_line pictures.now) }
 {
     'pictures: for picture in pictures {
         add_picture(text, *picture)?;
@@ -39,7 +42,8 @@ fn add_displaced(text: &mut String, pictures: &[Displaced]) -> Result<(), OutOfM
 }
 
 fn add_picture(text: &mut String, picture: Displaced) -> Result<(), OutOfMemory>
-    ensures { OnOk result (string_bytes text.new ≡ string_bytes text.old ++ displaced_line picture) }
+    ensures { OnOk result (string_bytes text.new ≡ string_bytes text.old
+        ++ displaced_line picture) }
 {
     let Displaced { number, ours } = picture;
     writeln!(text, "picture {number} is our picture {ours}")?;
@@ -49,7 +53,8 @@ fn add_picture(text: &mut String, picture: Displaced) -> Result<(), OutOfMemory>
 // What is written of the verdict.
 fn add_verdict(text: &mut String, verdict: &Verdict) -> Result<(), OutOfMemory>
     requires { HasMarks verdict.now }
-    ensures { OnOk result (string_bytes text.new ≡ string_bytes text.old ++ verdict_text verdict.now) }
+    ensures { OnOk result (string_bytes text.new ≡ string_bytes text.old
+        ++ verdict_text verdict.now) }
 {
     match verdict {
         Verdict::Same => Ok(()),

@@ -1,12 +1,15 @@
 -- What the info of a macroblock says of a coded picture, ITU-T H.264 clause 8.7.
-use Rattle.std.specs.Prelude.{◌≡◌, ℕ, zero, suc, ◌+◌, ◌-◌, ◌*◌, ◌/◌, ◌%◌, ◌^◌, ◌<◌, ◌==◌, nat_le, nat_abs, ◌-ℤ◌, Bool, true, false, not, ◌||◌, if◌then◌else◌, List, [], Some, length, slice_index, slice_index_or}
+use Rattle.std.specs.Prelude.{◌≡◌, ℕ, zero, suc, ◌+◌, ◌-◌, ◌*◌, ◌/◌, ◌%◌, ◌^◌, ◌<◌, ◌==◌}
+use Rattle.std.specs.Prelude.{nat_le, nat_abs, ◌-ℤ◌, Bool, true, false, not, ◌||◌, if◌then◌else◌}
+use Rattle.std.specs.Prelude.{List, [], Some, length, slice_index, slice_index_or}
 use Rattle.avc_types.specs.declared.vector.Mv.{Mv}
 use Rattle.avc_types.specs.declared.edges.FilteredEdges.{FilteredEdges}
 use Rattle.avc_types.specs.declared.edges.FilteredEdges.TheVariants.{All, NoEdges, WithinSlice}
 use Rattle.avc_types.specs.Pictures.{Coded}
 use Rattle.avc_neigh.specs.Blocks.{block_at}
 use Rattle.avc_neigh.specs.declared.neighbour_info.Motion.{Motion}
-use Rattle.avc_neigh.specs.declared.neighbour_info.Motion.TheVariants.{Absent as absent, Inter as inter}
+use Rattle.avc_neigh.specs.declared.neighbour_info.Motion.TheVariants.{Absent as absent}
+use Rattle.avc_neigh.specs.declared.neighbour_info.Motion.TheVariants.{Inter as inter}
 use Rattle.avc_motion.specs.Motion.{is_intra, zero_vector}
 use Rattle.avc_deblock.specs.Edges.{mb_at, slice_at, filter_qp, has_coefficients, picture_named}
 use Rattle.avc_deblock.specs.declared.mb_info.MbInfo.{MbInfo}
@@ -23,17 +26,22 @@ abbrev pub has_bit : ℕ → ℕ → Bool
 has_bit mask k = mask / 2 ^ k % 2 == 1
 
 -- luma block k has the vector and the picture that the info gives it
-pub record HasMotion (c : Coded) (names : Names) (a : ℕ) (f : MbInfo) (k : ℕ) (m : Motion) : Type 0 where
+pub record HasMotion (c : Coded) (names : Names) (a : ℕ) (f : MbInfo) (k : ℕ) (m : Motion) :
+    Type 0 where
   pub reference : ℕ
   pub is : m ≡ inter reference (slice_index_or f.vectors k zero_vector)
-  pub picture : picture_named c a reference ≡ Some (names.decoding_index (slice_index f.pictures (k / 4)))
+  pub picture :
+      picture_named c a reference ≡ Some (names.decoding_index (slice_index f.pictures (k / 4)))
   pub named : slice_index f.pictures (k / 4) < names.count
 
 -- This is the info of macroblock a of the picture; `motion` is that of all its macroblocks.
-pub record HasInfo (c : Coded) (motion : List (List Motion)) (names : Names) (a : ℕ) (f : MbInfo) : Type 0 where
+pub record HasInfo (c : Coded) (motion : List (List Motion)) (names : Names) (a : ℕ) (f : MbInfo) :
+    Type 0 where
   pub intra_is : f.is_intra ≡ is_intra (mb_at c a).mb.syntax
-  pub coefficients_is : (k : ℕ) → k < 16 → has_bit f.coefficients k ≡ has_coefficients (mb_at c a).mb.syntax k
-  pub motion_is : f.is_intra ≡ false → (k : ℕ) → k < 16 → HasMotion c names a f k (slice_index_or (slice_index_or motion a []) k absent)
+  pub coefficients_is : (k : ℕ) → k < 16 →
+      has_bit f.coefficients k ≡ has_coefficients (mb_at c a).mb.syntax k
+  pub motion_is : f.is_intra ≡ false → (k : ℕ) → k < 16 →
+      HasMotion c names a f k (slice_index_or (slice_index_or motion a []) k absent)
   pub qp_is : f.qp ≡ filter_qp (mb_at c a).mb.qp (mb_at c a).mb.syntax
   pub slice_is : f.slice ≡ (mb_at c a).slice
   pub edges_is : f.filtered_edges ≡ (slice_at c a).disable_deblocking_filter_idc
@@ -46,12 +54,16 @@ pub record HasInfo (c : Coded) (motion : List (List Motion)) (names : Names) (a 
 abbrev pub are_far : Mv → Mv → Bool
 are_far u v = nat_le 4 (nat_abs (u.x -ℤ v.x)) || nat_le 4 (nat_abs (u.y -ℤ v.y))
 
+-- the vector of a block
+abbrev pub vector_at : MbInfo → ℕ → Mv
+vector_at f k = slice_index_or f.vectors k zero_vector
+
 -- bS between two inter blocks without coefficients: 1 by other pictures or far vectors, else 0
 -- (8.7.2.1)
 abbrev pub motion_strength : (p : MbInfo) (kp : ℕ) (q : MbInfo) (kq : ℕ) → ℕ
 motion_strength p kp q kq =
     if not (slice_index p.pictures (kp / 4) == slice_index q.pictures (kq / 4))
-    || are_far (slice_index_or p.vectors kp zero_vector) (slice_index_or q.vectors kq zero_vector) then 1 else 0
+    || are_far (vector_at p kp) (vector_at q kq) then 1 else 0
 
 -- bS between two inter blocks: 2 by coefficients, else by motion (8.7.2.1)
 abbrev pub inter_strength : (p : MbInfo) (kp : ℕ) (q : MbInfo) (kq : ℕ) → ℕ
@@ -63,18 +75,26 @@ pub record HaveOneMotion (p : MbInfo) (kp : ℕ) (q : MbInfo) (kq : ℕ) : Type 
   pub no_p_levels : has_bit p.coefficients kp ≡ false
   pub no_q_levels : has_bit q.coefficients kq ≡ false
   pub picture : slice_index p.pictures (kp / 4) ≡ slice_index q.pictures (kq / 4)
-  pub vector : slice_index_or p.vectors kp zero_vector ≡ slice_index_or q.vectors kq zero_vector
+  pub vector : vector_at p kp ≡ vector_at q kq
+
+-- the quarters have one picture
+abbrev pub HasOnePicture : MbInfo → Type 0
+HasOnePicture f = (k : ℕ) → k < 4 → slice_index f.pictures k ≡ slice_index f.pictures 0
+
+-- each block k has the vector of block other(k)
+abbrev pub HasVectors : MbInfo → (other : ℕ → ℕ) → Type 0
+HasVectors f other = (k : ℕ) → k < 16 → vector_at f k ≡ vector_at f (other k)
 
 -- an inter macroblock whose blocks have one picture and one vector
 pub record IsOfOneMotion (f : MbInfo) : Type 0 where
   pub inter : f.is_intra ≡ false
-  pub pictures_are : (k : ℕ) → k < 4 → slice_index f.pictures k ≡ slice_index f.pictures 0
-  pub vectors_are : (k : ℕ) → k < 16 → slice_index_or f.vectors k zero_vector ≡ slice_index_or f.vectors 0 zero_vector
+  pub pictures_are : HasOnePicture f
+  pub vectors_are : HasVectors f (λ _. 0)
 
 -- an inter macroblock in each 8x8 quarter of which the blocks have one vector
 pub record IsOfFourVectors (f : MbInfo) : Type 0 where
   pub inter : f.is_intra ≡ false
-  pub vectors_are : (k : ℕ) → k < 16 → slice_index_or f.vectors k zero_vector ≡ slice_index_or f.vectors (4 * (k / 4)) zero_vector
+  pub vectors_are : HasVectors f (λ k. 4 * (k / 4))
 
 -- The luma block on the q side of edge n of a macroblock in the k-th quarter of the edge. The edges
 -- of a macroblock are numbered from 0, four luma samples apart.
@@ -82,12 +102,22 @@ abbrev pub edge_block : Bool → (n k : ℕ) → ℕ
 edge_block true n k = block_at (4 * n) (4 * k)
 edge_block false n k = block_at (4 * k) (4 * n)
 
+-- bS between the blocks of two inter macroblocks in the k-th quarter of edge n (8.7.2.1)
+abbrev pub strength_beside : (p q : MbInfo) → Bool → (n k : ℕ) → ℕ
+strength_beside p q v n k = inter_strength p (edge_block v ((n + 3) % 4) k) q (edge_block v n k)
+
+-- in each quarter of edge n the blocks of both sides have one picture and one vector
+abbrev pub HaveOneMotionBeside : (p q : MbInfo) → Bool → (n : ℕ) → Type 0
+HaveOneMotionBeside p q v n =
+    (k : ℕ) → k < 4 → HaveOneMotion p (edge_block v ((n + 3) % 4) k) q (edge_block v n k)
+
 -- Along edge n between two inter macroblocks bS is s wherever the blocks have no coefficients.
 pub record HasByMotion (p q : MbInfo) (v : Bool) (n s : ℕ) : Type 0 where
   pub p_inter : p.is_intra ≡ false
   pub q_inter : q.is_intra ≡ false
   pub low : s < 3
-  pub each : (k : ℕ) → k < 4 → motion_strength p (edge_block v ((n + 3) % 4) k) q (edge_block v n k) ≡ s
+  pub each : (k : ℕ) → k < 4 →
+      motion_strength p (edge_block v ((n + 3) % 4) k) q (edge_block v n k) ≡ s
 
 -- at edge n inside a macroblock no strength comes of motion
 abbrev pub IsStillAt : MbInfo → Bool → (n : ℕ) → Type 0
@@ -123,4 +153,5 @@ filters_between f g = filters_at f.filtered_edges (f.slice == g.slice)
 -- This is the info of as many macroblocks, one after another from the address `first` on.
 abbrev pub HaveInfo : Coded → List (List Motion) → Names → (first : ℕ) → List MbInfo → Type 0
 HaveInfo c motion names first info =
-    (k : ℕ) (other : MbInfo) → k < length info → HasInfo c motion names (first + k) (slice_index_or info k other)
+    (k : ℕ) (other : MbInfo) → k < length info →
+    HasInfo c motion names (first + k) (slice_index_or info k other)

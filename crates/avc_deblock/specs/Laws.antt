@@ -1,5 +1,6 @@
 -- Laws of the order of the line filters, and of the info of macroblocks.
-use Rattle.std.specs.Prelude.{◌≡◌, ℕ, ◌+◌, ◌*◌, ◌<◌, ◌≤◌, List, [], ◌∷◌, true, length, slice_index_or}
+use Rattle.std.specs.Prelude.{◌≡◌, ℕ, ◌+◌, ◌*◌, ◌<◌, ◌≤◌, true}
+use Rattle.std.specs.Prelude.{List, [], ◌∷◌, length, slice_index_or}
 use Rattle.std.specs.List.{range_with_len, flat_map}
 use Rattle.avc_types.specs.Pictures.{Coded}
 use Rattle.avc_neigh.specs.declared.neighbour_info.Motion.{Motion}
@@ -12,7 +13,9 @@ use Rattle.avc_deblock.specs.ByInfo.{no_info, strength_of, luma_qp_of}
 
 -- The line filters of a picture are those of its rows of macroblocks, one row after another.
 abbrev pub RowsInOrder : Type 0
-RowsInOrder = (c : Coded) (height : ℕ) → length c.mbs ≡ height * c.width → line_filters c ≡ flat_map (row_lines c) (range_with_len 0 height)
+RowsInOrder =
+    (c : Coded) (height : ℕ) → length c.mbs ≡ height * c.width →
+    line_filters c ≡ flat_map (row_lines c) (range_with_len 0 height)
 
 -- At the first n addresses picture d has what picture c has: the macroblocks, their slices, and
 -- their motion.
@@ -24,7 +27,8 @@ pub record AgreeBelow (n : ℕ) (c d : Coded) (motion_c motion_d : List (List Mo
 -- The info of a picture's first macroblocks is that of every picture that begins with them.
 abbrev pub InfoOfFirstMacroblocksStays : Type 0
 InfoOfFirstMacroblocksStays =
-    (n : ℕ) (c d : Coded) (motion_c motion_d : List (List Motion)) (names : Names) (first : ℕ) (info : List MbInfo) →
+    (n : ℕ) (c d : Coded) (motion_c motion_d : List (List Motion)) (names : Names)
+    (first : ℕ) (info : List MbInfo) →
     AgreeBelow n c d motion_c motion_d → first + length info ≤ n →
     HaveInfo c motion_c names first info → HaveInfo d motion_d names first info
 
@@ -38,7 +42,9 @@ intra_at_51 = record no_info { qp = 51 }
 -- samples from its left
 abbrev line_of_edge : (n : ℕ) → Plane → Plane
 line_of_edge n s =
-    lines_filtered (luma_setting (strength_of intra_at_51 intra_at_51 true n) (luma_qp_of intra_at_51 intra_at_51)) true (4 + 4 * n) 0 (0 ∷ []) s
+    lines_filtered
+    (luma_setting (strength_of intra_at_51 intra_at_51 true n) (luma_qp_of intra_at_51 intra_at_51))
+    true (4 + 4 * n) 0 (0 ∷ []) s
 
 abbrev one_row : List ℕ → Plane
 one_row samples = record { width = 12; height = 1; samples = samples }
@@ -47,5 +53,6 @@ one_row samples = record { width = 12; height = 1; samples = samples }
 -- what edge 0 left.
 abbrev pub TwoEdgesOfAStep : Type 0
 TwoEdgesOfAStep =
-    line_of_edge 1 (line_of_edge 0 (one_row (100 ∷ 100 ∷ 100 ∷ 100 ∷ 160 ∷ 160 ∷ 160 ∷ 160 ∷ 160 ∷ 160 ∷ 160 ∷ 160 ∷ [])))
+    line_of_edge 1 (line_of_edge 0
+    (one_row (100 ∷ 100 ∷ 100 ∷ 100 ∷ 160 ∷ 160 ∷ 160 ∷ 160 ∷ 160 ∷ 160 ∷ 160 ∷ 160 ∷ [])))
     ≡ one_row (100 ∷ 108 ∷ 115 ∷ 123 ∷ 138 ∷ 145 ∷ 152 ∷ 159 ∷ 161 ∷ 160 ∷ 160 ∷ 160 ∷ [])

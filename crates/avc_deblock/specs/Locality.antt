@@ -19,7 +19,8 @@ pub record ChangesWithin (first end : ℕ) (s t : Plane) : Type 0 where
   pub width : t.width ≡ s.width
   pub height : t.height ≡ s.height
   pub long : length t.samples ≡ length s.samples
-  pub samples : (x y : ℕ) → x < s.width → y < s.height → (first ≤ y → y < end → ⊥) → sample t x y ≡ sample s x y
+  pub samples : (x y : ℕ) → x < s.width → y < s.height → (first ≤ y → y < end → ⊥) →
+      sample t x y ≡ sample s x y
 
 -- the three planes have the samples of s above the end of this row of macroblocks
 pub record AgreesToRow (row : ℕ) (s t : Planes) : Type 0 where
@@ -58,13 +59,17 @@ RowChangesItsRows =
 -- It reads nothing below the row.
 abbrev pub RowReadsNoneBelow : Type 0
 RowReadsNoneBelow =
-    (offset : ℤ) (row : ℕ) (above info : List MbInfo) (s t : Planes) → HasRow row (length info) s → AgreesToRow row s t →
-    AgreesToRow row (row_by_info offset row above info (length info) s) (row_by_info offset row above info (length info) t)
+    (offset : ℤ) (row : ℕ) (above info : List MbInfo) (s t : Planes) →
+    HasRow row (length info) s → AgreesToRow row s t →
+    AgreesToRow row (row_by_info offset row above info (length info) s)
+    (row_by_info offset row above info (length info) t)
 
 -- So a block of component k that is built below the row can be built before the filter or after it.
 abbrev pub RowCommutesWithBlocksBelow : Type 0
 RowCommutesWithBlocksBelow =
     (offset : ℤ) (row : ℕ) (above info : List MbInfo) (s : Planes) → HasRow row (length info) s →
     (k left top width height : ℕ) (f : ℕ → ℕ → ℕ) → 16 / luma_per_sample k * (row + 1) ≤ top →
-    row_by_info offset row above info (length info) (in_component k (λ p. with_block p left top width height f) s)
-    ≡ in_component k (λ p. with_block p left top width height f) (row_by_info offset row above info (length info) s)
+    row_by_info offset row above info (length info)
+    (in_component k (λ p. with_block p left top width height f) s)
+    ≡ in_component k (λ p. with_block p left top width height f)
+    (row_by_info offset row above info (length info) s)

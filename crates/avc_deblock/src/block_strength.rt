@@ -1,14 +1,16 @@
 //! The strength bS between two blocks (8.7.2.1).
 
-ghost use Rattle.std.specs.Prelude.{◌≡◌, ℕ, ◌/◌, ◌<◌, ◌==◌, ◌-ℤ◌, nat_le, nat_abs, List, not, ◌||◌, if◌then◌else◌};
-ghost use Rattle.std.specs.Prelude.{slice_index, slice_index_or};
+ghost use Rattle.std.specs.Prelude.{◌≡◌, ℕ, ◌/◌, ◌<◌, ◌==◌, ◌-ℤ◌, nat_le, nat_abs, List};
+ghost use Rattle.std.specs.Prelude.{not, ◌||◌, if◌then◌else◌, slice_index, slice_index_or};
 ghost use Rattle.avc_types.specs.Pictures.{Coded};
 ghost use Rattle.avc_neigh.specs.declared.neighbour_info.Motion.{Motion};
 ghost use Rattle.avc_motion.specs.Motion.{zero_vector};
 ghost use Rattle.avc_deblock.specs.Edges.{strength_between};
-ghost use Rattle.avc_deblock.specs.FilterInfo.{Names, HasInfo, has_bit, are_far, inter_strength, motion_strength};
+ghost use Rattle.avc_deblock.specs.FilterInfo.{Names, HasInfo, has_bit, are_far};
+ghost use Rattle.avc_deblock.specs.FilterInfo.{inter_strength, motion_strength};
 
 use crate::mb_info::MbInfo;
+use crate::place::BlockPair;
 use avc_edges::either;
 use avc_types::Mv;
 
@@ -48,49 +50,39 @@ impl MbInfo {
 
     /// The strength between two blocks of inter macroblocks that have no coefficients.
     #[inline(always)]
-    pub(crate) fn motion_strength(&self, block: usize, q: &MbInfo, q_block: usize) -> u8
-        requires p { block < 16 }
-        requires q { q_block < 16 }
-        ensures value { result ≡ motion_strength self.now block q.now q_block }
+    pub(crate) fn motion_strength(&self, q: &MbInfo, blocks: BlockPair) -> u8
+        ensures value { result ≡ motion_strength self.now blocks.p q.now blocks.q }
         ensures low { result < 3 }
     {
         u8::from(either(
-            self.pictures[block / 4] != q.pictures[q_block / 4],
-            are_far(self.vectors[block], q.vectors[q_block]),
+            self.pictures[blocks.p / 4] != q.pictures[blocks.q / 4],
+            are_far(self.vectors[blocks.p], q.vectors[blocks.q]),
         ))
     }
 
-    /// The strength between two blocks of inter macroblocks, which is `by_motion` where they have no
-    /// coefficients.
+    /// The strength between two blocks of inter macroblocks, which is `by_motion` where they have
+    /// no coefficients.
     #[inline(always)]
-    pub(crate) fn strength_over(
-        &self,
-        block: usize,
-        q: &MbInfo,
-        q_block: usize,
-        by_motion: u8,
-    ) -> u8
-        requires p { block < 16 }
-        requires q { q_block < 16 }
-        requires low { by_motion < 3 }
-        ensures value { result ≡ (if has_bit self.now.coefficients block || has_bit q.now.coefficients q_block then 2 else by_motion) }
+    pub(crate) fn strength_over(&self, q: &MbInfo, blocks: BlockPair, by_motion: u8) -> u8
+        requires { by_motion < 3 }
+        ensures value { result ≡
+            (if has_bit self.now.coefficients blocks.p || has_bit q.now.coefficients blocks.q
+            then 2 else by_motion) }
         ensures low { result < 3 }
     {
         // bits that stay in their places: so those of four blocks are looked at together
-        let bits = self.coefficient_bit(block) | q.coefficient_bit(q_block);
+        let bits = self.coefficient_bit(blocks.p) | q.coefficient_bit(blocks.q);
         if bits == 0 { by_motion } else { 2 }
     }
 
     /// The strength between two blocks of inter macroblocks.
     #[inline(always)]
-    pub(crate) fn inter_strength(&self, block: usize, q: &MbInfo, q_block: usize) -> u8
-        requires p { block < 16 }
-        requires q { q_block < 16 }
-        ensures value { result ≡ inter_strength self.now block q.now q_block }
+    pub(crate) fn inter_strength(&self, q: &MbInfo, blocks: BlockPair) -> u8
+        ensures value { result ≡ inter_strength self.now blocks.p q.now blocks.q }
         ensures low { result < 3 }
     {
-        let by_motion = self.motion_strength(block, q, q_block);
-        self.strength_over(block, q, q_block, by_motion)
+        let by_motion = self.motion_strength(q, blocks);
+        self.strength_over(q, blocks, by_motion)
     }
 }
 
@@ -106,6 +98,10 @@ pub fn strength(p: &MbInfo, p_block: usize, q: &MbInfo, q_block: usize, is_insid
     if p.is_intra || q.is_intra {
         if is_inside { 3 } else { 4 }
     } else {
-        p.inter_strength(p_block, q, q_block)
+        let blocks = BlockPair {
+            p: p_block,
+            q: q_block,
+        };
+        p.inter_strength(q, blocks)
     }
 }

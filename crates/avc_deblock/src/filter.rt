@@ -13,7 +13,7 @@ ghost use Rattle.avc_deblock.specs.ByInfo.{row_by_info};
 use crate::kept_limits::RowLimits;
 use crate::macroblock::macroblock;
 use crate::mb_info::MbInfo;
-use crate::planes_edge::Place;
+use crate::place::Place;
 use avc_plane::Planes;
 
 /// Filters the edges of a row of macroblocks, `row` of which lie above it. `info` is that of its
@@ -26,9 +26,13 @@ pub fn row<const PAD: usize>(
     chroma_qp_index_offset: i8,
 )
     requires same { length above.now ≡ length info.now }
-    requires room { (column : ℕ) → column < length info.now → HasRoom column row (planes_of planes.old) }
-    ensures room { (column row : ℕ) → HasRoom column row (planes_of planes.old) → HasRoom column row (planes_of planes.new) }
-    ensures lines { planes_of planes.new ≡ row_by_info chroma_qp_index_offset row above.now info.now (length info.now) (planes_of planes.old) }
+    requires room { (column : ℕ) → column < length info.now →
+        HasRoom column row (planes_of planes.old) }
+    ensures room { (column row : ℕ) →
+        HasRoom column row (planes_of planes.old) → HasRoom column row (planes_of planes.new) }
+    ensures lines { planes_of planes.new
+        ≡ row_by_info chroma_qp_index_offset row above.now info.now (length info.now)
+        (planes_of planes.old) }
 {
     let _columns = planes.luma.width();
     let _rows = planes.luma.height();
@@ -68,9 +72,12 @@ pub fn picture<const PAD: usize>(
     chroma_qp_index_offset: i8,
 )
     requires all { length info.now ≡ height * width }
-    requires room { (column row : ℕ) → column < width → row < height → HasRoom column row (planes_of planes.old) }
-    ensures room { (column row : ℕ) → HasRoom column row (planes_of planes.old) → HasRoom column row (planes_of planes.new) }
-    ensures lines { (c : Coded) (motion : List (List Motion)) (names : Names) → c.width ≡ width → length c.mbs ≡ height * width →
+    requires room { (column row : ℕ) → column < width → row < height →
+        HasRoom column row (planes_of planes.old) }
+    ensures room { (column row : ℕ) →
+        HasRoom column row (planes_of planes.old) → HasRoom column row (planes_of planes.new) }
+    ensures lines { (c : Coded) (motion : List (List Motion)) (names : Names) →
+        c.width ≡ width → length c.mbs ≡ height * width →
         c.chroma_qp_index_offset ≡ chroma_qp_index_offset → HaveInfo c motion names 0 info.now →
         planes_of planes.new ≡ all_filtered c motion (planes_of planes.old) (line_filters c) }
 {

@@ -2,10 +2,12 @@
 
 ghost use Rattle.std.specs.Option.{option_copied};
 ghost use Rattle.std.specs.Prelude.{IfSome, ◌≡◌, true};
-ghost use Rattle.avc_deblock.specs.MbLimits.{AreKept, AreRowLimits, ArePairLimits, IsFor};
+ghost use Rattle.avc_deblock.specs.MbLimits.{AreKept, AreRowLimits, IsFor};
+ghost use Rattle.avc_deblock.specs.Places.{AreLimitsAt};
 
 use crate::mb_info::MbInfo;
-use crate::planes_edge::{PairLimits, Place, pair_limits};
+use crate::place::Place;
+use crate::planes_edge::{PairLimits, pair_limits};
 use avc_edges::both;
 
 /// What the lines between macroblocks of two QPs are filtered with, at the offsets of one slice.
@@ -57,8 +59,8 @@ impl KeptLimits {
         *self = KeptLimits::of(q, q, place);
     }
 
-    /// Makes them those between `p` and `q`, where they are not yet; where no `p` is given they stay.
-    /// `inside` are those inside `q`.
+    /// Makes them those between `p` and `q`, where they are not yet; where no `p` is given they
+    /// stay. `inside` are those inside `q`.
     #[inline(always)]
     fn fit(&mut self, p: Option<&MbInfo>, q: &MbInfo, inside: &KeptLimits, place: Place)
         requires kept { AreKept self.old place.chroma_qp_index_offset }
@@ -107,8 +109,8 @@ impl RowLimits {
         }
     }
 
-    /// Makes them those of `q`: those inside it, and those to each neighbour that is given, which an
-    /// edge that is filtered leads to.
+    /// Makes them those of `q`: those inside it, and those to each neighbour that is given, which
+    /// an edge that is filtered leads to.
     #[inline(always)]
     pub(crate) fn fit(
         &mut self,
@@ -119,9 +121,11 @@ impl RowLimits {
     )
         requires { AreRowLimits self.old place.chroma_qp_index_offset }
         ensures kept { AreRowLimits self.new place.chroma_qp_index_offset }
-        ensures inside { ArePairLimits self.new.inside.limits place.chroma_qp_index_offset q.now q.now }
-        ensures left { IfSome (option_copied left.entry) (λ p. ArePairLimits self.new.left.limits place.chroma_qp_index_offset p q.now) }
-        ensures above { IfSome (option_copied above.entry) (λ p. ArePairLimits self.new.above.limits place.chroma_qp_index_offset p q.now) }
+        ensures inside { AreLimitsAt place self.new.inside.limits q.now q.now }
+        ensures left { IfSome (option_copied left.entry)
+            (λ p. AreLimitsAt place self.new.left.limits p q.now) }
+        ensures above { IfSome (option_copied above.entry)
+            (λ p. AreLimitsAt place self.new.above.limits p q.now) }
     {
         self.inside.fit_inside(q, place);
         self.left.fit(left, q, &self.inside, place);

@@ -1,19 +1,21 @@
 //! The edges of one macroblock, in the order of the standard (8.7).
 
-ghost use Rattle.std.specs.Prelude.{◌≡◌, ℕ, ◌+◌, ◌*◌, ◌^◌, ◌<◌, ◌≤◌, ◌&&◌, true, false};
+ghost use Rattle.std.specs.Prelude.{◌≡◌, ℕ, ◌+◌, ◌*◌, ◌<◌, ◌≤◌, ◌&&◌, true, false};
 ghost use Rattle.avc_plane.specs.Frames.{planes_of};
-ghost use Rattle.avc_deblock.specs.OneEdge.{HasRoom};
-ghost use Rattle.avc_edges.specs.OneEdge.{AreStrengths, strength_along};
+ghost use Rattle.avc_edges.specs.OneEdge.{AreStrengths};
+ghost use Rattle.avc_deblock.specs.OneEdge.{HasRoom, KeepsRoom};
 ghost use Rattle.avc_deblock.specs.FilterInfo.{filters_between, IsOfOneMotion, IsStillAt, IsToldOf};
-ghost use Rattle.avc_deblock.specs.MbLimits.{ArePairLimits, AreRowLimits};
-ghost use Rattle.avc_deblock.specs.ByInfo.{edge_by_info, edges_by_info, mb_by_info, strength_of};
+ghost use Rattle.avc_deblock.specs.MbLimits.{AreRowLimits};
+ghost use Rattle.avc_deblock.specs.ByInfo.{edge_by_info, mb_by_info, strength_of, HasStrengths};
+ghost use Rattle.avc_deblock.specs.Places.{edges_at, AreLimitsAt};
 
 use crate::edge_strengths::{edge_strengths, inner_strengths};
 use crate::horizontal_edges::inner_intra_edges;
 use crate::inner_motion::InnerMotion;
 use crate::kept_limits::RowLimits;
 use crate::mb_info::MbInfo;
-use crate::planes_edge::{PairLimits, Place, edge_at};
+use crate::place::{EdgePlace, MbEdge, Place};
+use crate::planes_edge::{PairLimits, edge_at};
 use crate::vertical_edges::vertical_edges;
 use avc_edges::{Strengths, all_three, both};
 use avc_plane::Planes;
@@ -63,12 +65,14 @@ impl MbInfo {
         exists: bool,
     ) -> OuterEdge
         requires motion { is_of_one_motion ≡ true → IsOfOneMotion self.now }
-        ensures on { result.is_filtered ≡ true → (exists && filters_between self.now other.now) ≡ true }
-        ensures off { result.is_filtered ≡ false → (exists && filters_between self.now other.now) ≡ true →
+        ensures on { result.is_filtered ≡ true →
+            (exists && filters_between self.now other.now) ≡ true }
+        ensures off { result.is_filtered ≡ false →
+            (exists && filters_between self.now other.now) ≡ true →
             (k : ℕ) → k < 4 → strength_of other.now self.now is_vertical 0 k ≡ 0 }
         ensures low { AreStrengths result.strengths }
         ensures strengths { result.is_filtered ≡ true →
-            (k : ℕ) → k < 4 → strength_along result.strengths k ≡ strength_of other.now self.now is_vertical 0 k }
+            HasStrengths result.strengths other.now self.now is_vertical 0 }
     {
         if !both(exists, self.filters_edge_to(other)) || other.meets_quietly(self, is_vertical) {
             return OuterEdge {
@@ -77,7 +81,8 @@ impl MbInfo {
             };
         }
         let by_motion = self.strength_by_motion(other, is_of_one_motion);
-        let strengths = edge_strengths(other, self, is_vertical, 0, by_motion);
+        let edge = MbEdge { is_vertical, n: 0 };
+        let strengths = edge_strengths(other, self, edge, by_motion);
         OuterEdge {
             is_filtered: !strengths.are_zero(),
             strengths,
@@ -85,31 +90,32 @@ impl MbInfo {
     }
 }
 
+/// Filters the edge of macroblock `q` to `p`, where it is to be filtered.
 #[inline(always)]
 fn outer_edge<const PAD: usize>(
     planes: &mut Planes<PAD>,
     p: &MbInfo,
     q: &MbInfo,
     is_vertical: bool,
-    edge: OuterEdge,
+    outer: OuterEdge,
     limits: &PairLimits,
     place: Place,
 )
-    requires vertical { edge.is_filtered ≡ true → is_vertical ≡ true → 1 ≤ place.column }
-    requires horizontal { edge.is_filtered ≡ true → is_vertical ≡ false → 1 ≤ place.row }
-    requires columns_fit { 16 * place.column + 16 < 2 ^ 64 }
-    requires rows_fit { 16 * place.row + 16 < 2 ^ 64 }
+    requires vertical { outer.is_filtered ≡ true → is_vertical ≡ true → 1 ≤ place.column }
+    requires horizontal { outer.is_filtered ≡ true → is_vertical ≡ false → 1 ≤ place.row }
     requires room { HasRoom place.column place.row (planes_of planes.old) }
-    requires limits { edge.is_filtered ≡ true → ArePairLimits limits.now place.chroma_qp_index_offset p.now q.now }
-    requires low { AreStrengths edge.strengths }
-    requires strengths { edge.is_filtered ≡ true →
-        (k : ℕ) → k < 4 → strength_along edge.strengths k ≡ strength_of p.now q.now is_vertical 0 k }
-    ensures room { (column row : ℕ) → HasRoom column row (planes_of planes.old) → HasRoom column row (planes_of planes.new) }
+    requires limits { outer.is_filtered ≡ true →
+        AreLimitsAt place limits.now p.now q.now }
+    requires strengths { outer.is_filtered ≡ true →
+        HasStrengths outer.strengths p.now q.now is_vertical 0 }
+    ensures room { KeepsRoom (planes_of planes.old) (planes_of planes.new) }
     ensures lines { planes_of planes.new
-        ≡ edges_by_info is_vertical place.column place.row place.chroma_qp_index_offset edge.is_filtered false p.now q.now (planes_of planes.old) }
+        ≡ edges_at place is_vertical outer.is_filtered false p.now q.now (planes_of planes.old) }
 {
-    if edge.is_filtered {
-        edge_at(planes, p, q, is_vertical, 0, &edge.strengths, limits, place);
+    if outer.is_filtered {
+        let edge = MbEdge { is_vertical, n: 0 };
+        let at = EdgePlace { edge, place };
+        edge_at(planes, p, q, at, &outer.strengths, limits);
     }
 }
 
@@ -127,20 +133,21 @@ fn inner_edge<const PAD: usize>(
 )
     requires some { 1 ≤ n }
     requires edge { n < 4 }
-    requires columns_fit { 16 * place.column + 16 < 2 ^ 64 }
-    requires rows_fit { 16 * place.row + 16 < 2 ^ 64 }
     requires room { HasRoom place.column place.row (planes_of planes.old) }
-    requires limits { ArePairLimits limits.now place.chroma_qp_index_offset q.now q.now }
+    requires limits { AreLimitsAt place limits.now q.now q.now }
     requires still { is_still ≡ true → IsStillAt q.now is_vertical n }
-    ensures room { (column row : ℕ) → HasRoom column row (planes_of planes.old) → HasRoom column row (planes_of planes.new) }
+    ensures room { KeepsRoom (planes_of planes.old) (planes_of planes.new) }
     ensures lines { planes_of planes.new
-        ≡ edge_by_info is_vertical place.column place.row n place.chroma_qp_index_offset q.now q.now (planes_of planes.old) }
+        ≡ edge_by_info is_vertical place.column place.row n place.chroma_qp_index_offset q.now q.now
+        (planes_of planes.old) }
 {
-    let strengths = inner_strengths(q, is_vertical, n, is_still);
+    let edge = MbEdge { is_vertical, n };
+    let strengths = inner_strengths(q, edge, is_still);
     if strengths.are_zero() {
         return;
     }
-    edge_at(planes, q, q, is_vertical, n, &strengths, limits, place);
+    let at = EdgePlace { edge, place };
+    edge_at(planes, q, q, at, &strengths, limits);
 }
 
 /// Filters the vertical edges inside macroblock `q`.
@@ -153,13 +160,11 @@ fn inner_vertical<const PAD: usize>(
     place: Place,
 )
     requires motion { IsToldOf q.now inner.motion }
-    requires columns_fit { 16 * place.column + 16 < 2 ^ 64 }
-    requires rows_fit { 16 * place.row + 16 < 2 ^ 64 }
     requires room { HasRoom place.column place.row (planes_of planes.old) }
-    requires limits { ArePairLimits limits.now place.chroma_qp_index_offset q.now q.now }
-    ensures room { (column row : ℕ) → HasRoom column row (planes_of planes.old) → HasRoom column row (planes_of planes.new) }
+    requires limits { AreLimitsAt place limits.now q.now q.now }
+    ensures room { KeepsRoom (planes_of planes.old) (planes_of planes.new) }
     ensures lines { planes_of planes.new
-        ≡ edges_by_info true place.column place.row place.chroma_qp_index_offset false inner.are_filtered q.now q.now (planes_of planes.old) }
+        ≡ edges_at place true false inner.are_filtered q.now q.now (planes_of planes.old) }
 {
     if inner.are_filtered {
         let (beside, middle) = (
@@ -180,38 +185,26 @@ fn all_vertical<const PAD: usize>(
     q: &MbInfo,
     outer: OuterEdge,
     inner: InnerEdges,
-    outer_limits: &PairLimits,
-    inner_limits: &PairLimits,
+    kept: &RowLimits,
     place: Place,
 )
     requires some { outer.is_filtered ≡ true → 1 ≤ place.column }
     requires motion { IsToldOf q.now inner.motion }
-    requires low { AreStrengths outer.strengths }
     requires strengths { outer.is_filtered ≡ true →
-        (k : ℕ) → k < 4 → strength_along outer.strengths k ≡ strength_of p.now q.now true 0 k }
-    requires columns_fit { 16 * place.column + 16 < 2 ^ 64 }
-    requires rows_fit { 16 * place.row + 16 < 2 ^ 64 }
+        HasStrengths outer.strengths p.now q.now true 0 }
     requires room { HasRoom place.column place.row (planes_of planes.old) }
-    requires outer_limits { outer.is_filtered ≡ true → ArePairLimits outer_limits.now place.chroma_qp_index_offset p.now q.now }
-    requires inner_limits { ArePairLimits inner_limits.now place.chroma_qp_index_offset q.now q.now }
-    ensures room { (column row : ℕ) → HasRoom column row (planes_of planes.old) → HasRoom column row (planes_of planes.new) }
-    ensures lines { planes_of planes.new ≡ edges_by_info true place.column place.row place.chroma_qp_index_offset false inner.are_filtered q.now q.now
-        (edges_by_info true place.column place.row place.chroma_qp_index_offset outer.is_filtered false p.now q.now (planes_of planes.old)) }
+    requires left { outer.is_filtered ≡ true →
+        AreLimitsAt place kept.now.left.limits p.now q.now }
+    requires inside { AreLimitsAt place kept.now.inside.limits q.now q.now }
+    ensures room { KeepsRoom (planes_of planes.old) (planes_of planes.new) }
+    ensures lines { planes_of planes.new ≡ edges_at place true false inner.are_filtered q.now q.now
+        (edges_at place true outer.is_filtered false p.now q.now (planes_of planes.old)) }
 {
     if outer.is_filtered && inner.are_filtered {
-        vertical_edges(
-            planes,
-            p,
-            q,
-            &outer.strengths,
-            inner.motion,
-            outer_limits,
-            inner_limits,
-            place,
-        );
+        vertical_edges(planes, p, q, &outer.strengths, inner.motion, kept, place);
     } else {
-        outer_edge(planes, p, q, true, outer, outer_limits, place);
-        inner_vertical(planes, q, inner, inner_limits, place);
+        outer_edge(planes, p, q, true, outer, &kept.left.limits, place);
+        inner_vertical(planes, q, inner, &kept.inside.limits, place);
     }
 }
 
@@ -225,13 +218,11 @@ fn inner_horizontal<const PAD: usize>(
     place: Place,
 )
     requires motion { IsToldOf q.now inner.motion }
-    requires columns_fit { 16 * place.column + 16 < 2 ^ 64 }
-    requires rows_fit { 16 * place.row + 16 < 2 ^ 64 }
     requires room { HasRoom place.column place.row (planes_of planes.old) }
-    requires limits { ArePairLimits limits.now place.chroma_qp_index_offset q.now q.now }
-    ensures room { (column row : ℕ) → HasRoom column row (planes_of planes.old) → HasRoom column row (planes_of planes.new) }
+    requires limits { AreLimitsAt place limits.now q.now q.now }
+    ensures room { KeepsRoom (planes_of planes.old) (planes_of planes.new) }
     ensures lines { planes_of planes.new
-        ≡ edges_by_info false place.column place.row place.chroma_qp_index_offset false inner.are_filtered q.now q.now (planes_of planes.old) }
+        ≡ edges_at place false false inner.are_filtered q.now q.now (planes_of planes.old) }
 {
     if !inner.are_filtered {
         return;
@@ -259,14 +250,13 @@ pub(crate) fn macroblock<const PAD: usize>(
     kept: &mut RowLimits,
     place: Place,
 )
-    requires columns_fit { 16 * place.column + 16 < 2 ^ 64 }
-    requires rows_fit { 16 * place.row + 16 < 2 ^ 64 }
     requires room { HasRoom place.column place.row (planes_of planes.old) }
     requires kept { AreRowLimits kept.old place.chroma_qp_index_offset }
-    ensures room { (column row : ℕ) → HasRoom column row (planes_of planes.old) → HasRoom column row (planes_of planes.new) }
+    ensures room { KeepsRoom (planes_of planes.old) (planes_of planes.new) }
     ensures kept { AreRowLimits kept.new place.chroma_qp_index_offset }
     ensures lines { planes_of planes.new
-        ≡ mb_by_info place.chroma_qp_index_offset place.column place.row left.now above.now mb.now (planes_of planes.old) }
+        ≡ mb_by_info place.chroma_qp_index_offset place.column place.row left.now above.now mb.now
+        (planes_of planes.old) }
 {
     let of_one = mb.is_of_one_motion();
     let inner = both(mb.filters_edge_to(mb), !mb.is_still(of_one));
@@ -282,21 +272,11 @@ pub(crate) fn macroblock<const PAD: usize>(
         from_above.is_filtered.then_some(above),
         place,
     );
-    let inside = &kept.inside.limits;
     let inner = InnerEdges {
         are_filtered: inner,
         motion: mb.inner_motion(of_one),
     };
-    all_vertical(
-        planes,
-        left,
-        mb,
-        from_left,
-        inner,
-        &kept.left.limits,
-        inside,
-        place,
-    );
+    all_vertical(planes, left, mb, from_left, inner, kept, place);
     outer_edge(
         planes,
         above,
@@ -306,5 +286,5 @@ pub(crate) fn macroblock<const PAD: usize>(
         &kept.above.limits,
         place,
     );
-    inner_horizontal(planes, mb, inner, inside, place);
+    inner_horizontal(planes, mb, inner, &kept.inside.limits, place);
 }

@@ -4,12 +4,15 @@ ghost use Rattle.std.specs.Prelude.{◌≡◌, ℕ, ◌+◌, ◌%◌, ◌<◌, �
 ghost use Rattle.std.specs.Prelude.{false, ◌/◌, ◌*◌, pos, Bool, IfSome};
 ghost use Rattle.avc_motion.specs.Motion.{is_in_range, zero_vector};
 ghost use Rattle.avc_neigh.specs.declared.neighbour_info.Motion.TheVariants.{Inter as inter};
-ghost use Rattle.avc_deblock.specs.FilterInfo.{edge_block, has_bit, inter_strength, HaveOneMotion, IsOfFourVectors, IsOfOneMotion};
-ghost use Rattle.avc_deblock.specs.FilterInfo.{HasByMotion};
+ghost use Rattle.avc_deblock.specs.FilterInfo.{edge_block, has_bit, vector_at};
+ghost use Rattle.avc_deblock.specs.FilterInfo.{inter_strength, strength_beside};
+ghost use Rattle.avc_deblock.specs.FilterInfo.{HaveOneMotion, HaveOneMotionBeside, HasByMotion};
+ghost use Rattle.avc_deblock.specs.FilterInfo.{HasOnePicture, HasVectors};
+ghost use Rattle.avc_deblock.specs.FilterInfo.{IsOfFourVectors, IsOfOneMotion};
 ghost use Rattle.avc_deblock.specs.ByInfo.{strength_of};
 
-use crate::edge_strengths::edge_block;
 use crate::mb_info::MbInfo;
+use crate::place::{BlockPair, MbEdge};
 use avc_edges::{all_three, both, either};
 use avc_types::Mv;
 use std::simd::prelude::*;
@@ -23,10 +26,14 @@ const IN_ORDER: [usize; 16] = [0, 1, 2, 3, 4, 5, 6, 7, 8, 9, 10, 11, 12, 13, 14,
 fn components(vectors: &[Mv; 16], blocks: [usize; 16]) -> [i16; 32]
     requires { (k : ℕ) → k < 16 → slice_index blocks k < 16 }
     ensures x { (k : ℕ) → k < 16 →
-        slice_index_or result (2 * k) (pos 0) ≡ (slice_index_or vectors.now (slice_index blocks k) zero_vector).x }
+        slice_index_or result (2 * k) (pos 0)
+        ≡ (slice_index_or vectors.now (slice_index blocks k) zero_vector).x }
     ensures y { (k : ℕ) → k < 16 →
-        slice_index_or result (2 * k + 1) (pos 0) ≡ (slice_index_or vectors.now (slice_index blocks k) zero_vector).y }
-    ensures small { (k : ℕ) → k < 16 → is_in_range (inter 0 (slice_index_or vectors.now (slice_index blocks k) zero_vector)) ≡ true }
+        slice_index_or result (2 * k + 1) (pos 0)
+        ≡ (slice_index_or vectors.now (slice_index blocks k) zero_vector).y }
+    ensures small { (k : ℕ) → k < 16 →
+        is_in_range (inter 0 (slice_index_or vectors.now (slice_index blocks k) zero_vector))
+        ≡ true }
 {
     let mut out = [0; 32];
     for k in 0..16 {
@@ -39,8 +46,8 @@ fn components(vectors: &[Mv; 16], blocks: [usize; 16]) -> [i16; 32]
 impl MbInfo {
     #[inline(always)]
     fn has_one_picture(&self) -> bool
-        ensures one { result ≡ true → (k : ℕ) → k < 4 → slice_index self.now.pictures k ≡ slice_index self.now.pictures 0 }
-        ensures found { ((k : ℕ) → k < 4 → slice_index self.now.pictures k ≡ slice_index self.now.pictures 0) → result ≡ true }
+        ensures one { result ≡ true → HasOnePicture self.now }
+        ensures found { HasOnePicture self.now → result ≡ true }
     {
         // all four at once
         u32::from_le_bytes(self.pictures) == u32::from_le_bytes([self.pictures[0]; 4])
@@ -51,10 +58,8 @@ impl MbInfo {
     #[inline(always)]
     fn has_vectors_of(&self, blocks: [usize; 16]) -> bool
         requires { (k : ℕ) → k < 16 → slice_index blocks k < 16 }
-        ensures one { result ≡ true → (k : ℕ) → k < 16 →
-            slice_index_or self.now.vectors k zero_vector ≡ slice_index_or self.now.vectors (slice_index blocks k) zero_vector }
-        ensures found { ((k : ℕ) → k < 16 →
-            slice_index_or self.now.vectors k zero_vector ≡ slice_index_or self.now.vectors (slice_index blocks k) zero_vector) → result ≡ true }
+        ensures one { result ≡ true → HasVectors self.now (slice_index blocks) }
+        ensures found { HasVectors self.now (slice_index blocks) → result ≡ true }
     {
         let here = i16x32::from_array(components(&self.vectors, IN_ORDER));
         let there = i16x32::from_array(components(&self.vectors, blocks));
@@ -63,10 +68,8 @@ impl MbInfo {
 
     #[inline(always)]
     fn has_one_vector(&self) -> bool
-        ensures one { result ≡ true → (k : ℕ) → k < 16 →
-            slice_index_or self.now.vectors k zero_vector ≡ slice_index_or self.now.vectors 0 zero_vector }
-        ensures found { ((k : ℕ) → k < 16 →
-            slice_index_or self.now.vectors k zero_vector ≡ slice_index_or self.now.vectors 0 zero_vector) → result ≡ true }
+        ensures one { result ≡ true → HasVectors self.now (λ _. 0) }
+        ensures found { HasVectors self.now (λ _. 0) → result ≡ true }
     {
         // the first four in a ring, and the others beside them: so each four are loaded together
         self.has_vectors_of([1, 2, 3, 0, 0, 1, 2, 3, 0, 1, 2, 3, 0, 1, 2, 3])
@@ -103,7 +106,8 @@ impl MbInfo {
     pub(crate) fn is_still(&self, is_of_one_motion: bool) -> bool
         requires motion { is_of_one_motion ≡ true → IsOfOneMotion self.now }
         ensures inter { result ≡ true → self.now.is_intra ≡ false }
-        ensures strengths { result ≡ true → (j k : ℕ) → j < 16 → k < 16 → inter_strength self.now j self.now k ≡ 0 }
+        ensures strengths { result ≡ true → (j k : ℕ) → j < 16 → k < 16 →
+            inter_strength self.now j self.now k ≡ 0 }
         ensures found { is_of_one_motion ≡ true → self.now.coefficients ≡ 0 → result ≡ true }
     {
         both(is_of_one_motion, self.coefficients == 0)
@@ -116,10 +120,11 @@ impl MbInfo {
     #[inline(always)]
     pub(crate) fn strength_by_motion(&self, p: &MbInfo, is_of_one_motion: bool) -> Option<u8>
         requires motion { is_of_one_motion ≡ true → IsOfOneMotion self.now }
-        ensures { IfSome result (λ s. (v : Bool) (n : ℕ) → n < 4 → HasByMotion p.now self.now v n s) }
+        ensures { IfSome result (λ s. (v : Bool) (n : ℕ) → n < 4 →
+            HasByMotion p.now self.now v n s) }
     {
         if is_of_one_motion && p.is_of_one_motion() {
-            Some(p.motion_strength(0, self, 0))
+            Some(p.motion_strength(self, BlockPair { p: 0, q: 0 }))
         } else {
             None
         }
@@ -127,60 +132,51 @@ impl MbInfo {
 
     /// The blocks have one picture and one vector.
     #[inline(always)]
-    fn moves_as(&self, block: usize, q: &MbInfo, q_block: usize) -> bool
-        requires p { block < 16 }
-        requires q { q_block < 16 }
-        ensures picture { result ≡ true → slice_index self.now.pictures (block / 4) ≡ slice_index q.now.pictures (q_block / 4) }
-        ensures vector { result ≡ true →
-            slice_index_or self.now.vectors block zero_vector ≡ slice_index_or q.now.vectors q_block zero_vector }
-        ensures found { HaveOneMotion self.now block q.now q_block → result ≡ true }
+    fn moves_as(&self, q: &MbInfo, blocks: BlockPair) -> bool
+        ensures picture { result ≡ true →
+            slice_index self.now.pictures (blocks.p / 4)
+            ≡ slice_index q.now.pictures (blocks.q / 4) }
+        ensures vector { result ≡ true → vector_at self.now blocks.p ≡ vector_at q.now blocks.q }
+        ensures found { HaveOneMotion self.now blocks.p q.now blocks.q → result ≡ true }
     {
-        let (u, v) = (self.vectors[block], q.vectors[q_block]);
-        let same_picture = self.pictures[block / 4] == q.pictures[q_block / 4];
+        let (u, v) = (self.vectors[blocks.p], q.vectors[blocks.q]);
+        let same_picture = self.pictures[blocks.p / 4] == q.pictures[blocks.q / 4];
         all_three(u.x == v.x, u.y == v.y, same_picture)
     }
 
-    /// The strengths along edge `n` of `q`, of which `self` is the other side, are 0, as one look
+    /// The strengths along an edge of `q`, of which `self` is the other side, are 0, as one look
     /// tells: no coefficients, and each two blocks have one picture and one vector.
     #[inline(always)]
-    pub(crate) fn is_quiet(&self, q: &MbInfo, is_vertical: bool, n: usize) -> bool
-        requires { n < 4 }
+    pub(crate) fn is_quiet(&self, q: &MbInfo, edge: MbEdge) -> bool
         ensures strengths { result ≡ true → (k : ℕ) → k < 4 →
-            inter_strength self.now (edge_block is_vertical ((n + 3) % 4) k) q.now (edge_block is_vertical n k) ≡ 0 }
-        ensures found { ((k : ℕ) → k < 4 →
-            HaveOneMotion self.now (edge_block is_vertical ((n + 3) % 4) k) q.now (edge_block is_vertical n k)) → result ≡ true }
+            strength_beside self.now q.now edge.is_vertical edge.n k ≡ 0 }
+        ensures found { HaveOneMotionBeside self.now q.now edge.is_vertical edge.n → result ≡ true }
     {
         let mut moves = true;
         for k in 0..4 {
-            let here = self.moves_as(
-                edge_block(is_vertical, (n + 3) % 4, k),
-                q,
-                edge_block(is_vertical, n, k),
-            );
+            let here = self.moves_as(q, edge.blocks(k));
             moves = both(moves, here);
         }
-        both(moves, !self.has_coefficients_beside(q, is_vertical, n))
+        both(moves, !self.has_coefficients_beside(q, edge))
     }
 
-    /// A block beside edge `n` of `q` has coefficients. The bits of each side by themselves, so that
+    /// A block beside an edge of `q` has coefficients. The bits of each side by themselves, so that
     /// they are looked at together.
     #[inline(always)]
-    pub(crate) fn has_coefficients_beside(&self, q: &MbInfo, is_vertical: bool, n: usize) -> bool
-        requires { n < 4 }
+    pub(crate) fn has_coefficients_beside(&self, q: &MbInfo, edge: MbEdge) -> bool
         ensures none { result ≡ false → (k : ℕ) → k < 4 →
-            (has_bit self.now.coefficients (edge_block is_vertical ((n + 3) % 4) k) ≡ false)
-            × (has_bit q.now.coefficients (edge_block is_vertical n k) ≡ false) }
-        ensures found { ((k : ℕ) → k < 4 →
-            HaveOneMotion self.now (edge_block is_vertical ((n + 3) % 4) k) q.now (edge_block is_vertical n k)) → result ≡ false }
+            (has_bit self.now.coefficients (edge_block edge.is_vertical ((edge.n + 3) % 4) k)
+            ≡ false)
+            × (has_bit q.now.coefficients (edge_block edge.is_vertical edge.n k) ≡ false) }
+        ensures found { HaveOneMotionBeside self.now q.now edge.is_vertical edge.n
+            → result ≡ false }
     {
         let mut on_p = false;
         let mut on_q = false;
         for k in 0..4 {
-            on_p = either(
-                on_p,
-                self.has_coefficients(edge_block(is_vertical, (n + 3) % 4, k)),
-            );
-            on_q = either(on_q, q.has_coefficients(edge_block(is_vertical, n, k)));
+            let blocks = edge.blocks(k);
+            on_p = either(on_p, self.has_coefficients(blocks.p));
+            on_q = either(on_q, q.has_coefficients(blocks.q));
         }
         either(on_p, on_q)
     }
@@ -189,13 +185,15 @@ impl MbInfo {
     /// coefficients, are 0, as one look tells.
     #[inline(always)]
     pub(crate) fn meets_quietly(&self, q: &MbInfo, is_vertical: bool) -> bool
-        ensures strengths { result ≡ true → (k : ℕ) → k < 4 → strength_of self.now q.now is_vertical 0 k ≡ 0 }
-        ensures found { self.now.is_intra ≡ false → q.now.is_intra ≡ false → q.now.coefficients ≡ 0 →
-            ((k : ℕ) → k < 4 → HaveOneMotion self.now (edge_block is_vertical 3 k) q.now (edge_block is_vertical 0 k)) → result ≡ true }
+        ensures strengths { result ≡ true → (k : ℕ) → k < 4 →
+            strength_of self.now q.now is_vertical 0 k ≡ 0 }
+        ensures found { self.now.is_intra ≡ false → q.now.is_intra ≡ false →
+            q.now.coefficients ≡ 0 → HaveOneMotionBeside self.now q.now is_vertical 0 →
+            result ≡ true }
     {
         if self.is_intra | q.is_intra | (q.coefficients != 0) {
             return false;
         }
-        self.is_quiet(q, is_vertical, 0)
+        self.is_quiet(q, MbEdge { is_vertical, n: 0 })
     }
 }

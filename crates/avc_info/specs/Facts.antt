@@ -1,5 +1,6 @@
 -- What parameter sets and slice headers say of a stream.
-use Rattle.std.specs.Prelude.{ℕ, ◌+◌, max, Bool, true, ◌&&◌, if◌then◌else◌, [], ◌∷◌, ◌++◌, Option, Some, None}
+use Rattle.std.specs.Prelude.{ℕ, ◌+◌, max, Bool, true, ◌&&◌, if◌then◌else◌, [], ◌∷◌, ◌++◌, Option}
+use Rattle.std.specs.Prelude.{Some, None}
 use Rattle.std.specs.Option.{option_map}
 use Rattle.avc_types.specs.declared.fault.Fault.{Fault}
 use Rattle.avc_annexb.specs.Units.{saturated}
@@ -79,4 +80,7 @@ after_refusal unit fault f = record f {
 
 -- with a sequence parameter set: what it says, or what it begins with where it is refused
 abbrev pub with_set : Option SequenceFacts → Option SetHead → StreamFacts → StreamFacts
-with_set said refused f = record f { first_set = first_of f.first_set said; refused_set = first_of f.refused_set refused }
+with_set said refused f = record f {
+  first_set = first_of f.first_set said;
+  refused_set = first_of f.refused_set refused;
+}

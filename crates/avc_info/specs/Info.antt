@@ -14,14 +14,17 @@ abbrev pub facts_so_far : List ℕ → (ended : Bool) → StreamFacts
 facts_so_far bytes ended = facts_after [] (units max_unit bytes ended) no_facts
 
 -- the facts of the whole stream, and its length, in a form, once it has ended
-abbrev pub info_so_far : (form : StreamFacts → (bytes : ℕ) → List ℕ) → List ℕ → (ended : Bool) → List ℕ
-info_so_far form bytes ended = if ended then form (facts_of bytes) (saturated (length bytes)) else []
+abbrev pub info_so_far : (form : StreamFacts → (bytes : ℕ) → List ℕ) → List ℕ → (ended : Bool) →
+    List ℕ
+info_so_far form bytes ended =
+    if ended then form (facts_of bytes) (saturated (length bytes)) else []
 
 -- ---- for private clauses
 
 -- All units whose end has been seen were taken, and these are the sets that they brought and the
 -- facts; so many bytes came.
-pub record AreNoted (max : ℕ) (s : SplitterState) (ended : Bool) (sets : List SetUnit) (facts : StreamFacts) (bytes : ℕ) : Type 0 where
+pub record AreNoted (max : ℕ) (s : SplitterState) (ended : Bool) (sets : List SetUnit)
+    (facts : StreamFacts) (bytes : ℕ) : Type 0 where
   pub drained : IsDrained max s
   pub end_is : ended ≡ s.ended
   pub sets_are : sets ≡ set_units (units max s.bytes s.ended)

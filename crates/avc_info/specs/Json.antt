@@ -1,6 +1,8 @@
--- What is told of a stream to programs: one line of JSON (RFC 8259). The members of an object stand in the order of their names.
+-- What is told of a stream to programs: one line of JSON (RFC 8259). The members of an object stand
+-- in the order of their names.
 use Rattle.std.specs.Prelude.{ℕ, Bool, List, ◌++◌, map, Option, Some, None, codes, option_and_then}
-use Rattle.serde_json.specs.Data.{Data, array, boolean, member, no_members, null, number, object, string, unsigned}
+use Rattle.serde_json.specs.Data.{Data, array, boolean, member, no_members, null, number, object}
+use Rattle.serde_json.specs.Data.{string, unsigned}
 use Rattle.serde_json.specs.View.{items_of}
 use Rattle.serde_json.specs.Written.{compact_text}
 use Rattle.avc_types.specs.Faults.{number_of, name_of}
@@ -127,9 +129,11 @@ clock_of s = option_and_then (λ x. x.timing) s
 -- all of it, of a stream of so many bytes
 abbrev pub facts_data : StreamFacts → (bytes : ℕ) → Data
 facts_data f bytes =
-    object (member (codes "bits_per_second") (count_if_given (bit_rate (clock_of (sequence_of f)) bytes f.counts.pictures))
+    object (member (codes "bits_per_second")
+    (count_if_given (bit_rate (clock_of (sequence_of f)) bytes f.counts.pictures))
     (member (codes "coded_video_sequences") (count f.counts.sequences)
-    (member (codes "duration_in_milliseconds") (count_if_given (duration (clock_of (sequence_of f)) f.counts.pictures))
+    (member (codes "duration_in_milliseconds")
+    (count_if_given (duration (clock_of (sequence_of f)) f.counts.pictures))
     (member (codes "first_refusal") (refusal_data f.first_refusal)
     (member (codes "more_sizes") (boolean f.sizes.others)
     (member (codes "pictures") (count f.counts.pictures)

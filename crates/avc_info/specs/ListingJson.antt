@@ -1,5 +1,5 @@
--- The JSON of listings: an object in one line (RFC 8259) for each line of `units`, `headers` and `pieces`. The members stand in the
--- order of their names.
+-- The JSON of listings: an object in one line (RFC 8259) for each line of `units`, `headers` and
+-- `pieces`. The members stand in the order of their names.
 use Rattle.std.specs.Prelude.{ℕ, List, [], ◌++◌, Option, Some, None, Result, Ok, Err, codes}
 use Rattle.serde_json.specs.Data.{Data, member, no_members, number, object, string}
 use Rattle.serde_json.specs.Find.{of_integer}
@@ -19,7 +19,8 @@ use Rattle.avc_units.specs.declared.header_reader.Brought.{Brought}
 use Rattle.avc_units.specs.declared.header_reader.Brought.TheVariants.{Nothing, Set, Slice, Refused}
 use Rattle.avc_units.specs.declared.set_reading.ParameterSet.{ParameterSet}
 use Rattle.avc_units.specs.declared.set_reading.ParameterSet.TheVariants.{OfSequence, OfPicture}
-use Rattle.avc_tools.specs.Lines.{flag_number, newline, order_type, shown_height, shown_width, slice_qp_under, type_name}
+use Rattle.avc_tools.specs.Lines.{flag_number, newline, order_type, shown_height, shown_width}
+use Rattle.avc_tools.specs.Lines.{slice_qp_under, type_name}
 use Rattle.avc_tools.specs.declared.piece_facts.PieceFacts.{PieceFacts}
 use Rattle.avc_tools.specs.declared.unit_facts.UnitFacts.{UnitFacts}
 use Rattle.avc_info.specs.Json.{count}
@@ -75,10 +76,13 @@ sps_data unit s =
 -- of a picture parameter set: its elements
 abbrev pub pps_data : (unit : ℕ) → Pps → Data
 pps_data unit p =
-    object (member (codes "constrained_intra_pred_flag") (count (flag_number p.constrained_intra_pred_flag))
-    (member (codes "deblocking_filter_control_present_flag") (count (flag_number p.deblocking_filter_control_present_flag))
+    object (member (codes "constrained_intra_pred_flag")
+    (count (flag_number p.constrained_intra_pred_flag))
+    (member (codes "deblocking_filter_control_present_flag")
+    (count (flag_number p.deblocking_filter_control_present_flag))
     (member (codes "kind") (string (codes "pps"))
-    (member (codes "num_ref_idx_l0_default_active_minus1") (count p.num_ref_idx_l0_default_active_minus1)
+    (member (codes "num_ref_idx_l0_default_active_minus1")
+    (count p.num_ref_idx_l0_default_active_minus1)
     (member (codes "pic_init_qp_minus26") (number (of_integer p.pic_init_qp_minus26))
     (member (codes "pic_parameter_set_id") (count p.pic_parameter_set_id)
     (member (codes "seq_parameter_set_id") (count p.seq_parameter_set_id)

@@ -1,5 +1,6 @@
 -- What a stream's units say of it, one after another.
-use Rattle.std.specs.Prelude.{ℕ, nat_lt, true, if◌then◌else◌, List, [], ◌∷◌, ◌++◌, length, slice_index, Option, Some, None, Result, Ok, Err, option_and_then}
+use Rattle.std.specs.Prelude.{ℕ, nat_lt, true, if◌then◌else◌, List, [], ◌∷◌, ◌++◌, length}
+use Rattle.std.specs.Prelude.{slice_index, Option, Some, None, Result, Ok, Err, option_and_then}
 use Rattle.avc_annexb.specs.Units.{units}
 use Rattle.avc_annexb.specs.declared.unit.Unit.{Unit}
 use Rattle.avc_params.specs.Tables.{Sets, sets_after}
@@ -44,7 +45,11 @@ said_in _ = None
 abbrev pub set_head : (rbsp : List ℕ) → Option SetHead
 set_head rbsp =
     if nat_lt (length rbsp) 3 then None
-    else Some (record { profile_idc = slice_index rbsp 0; level_idc = slice_index rbsp 2; coded = size_in rbsp })
+    else Some (record {
+      profile_idc = slice_index rbsp 0;
+      level_idc = slice_index rbsp 2;
+      coded = size_in rbsp;
+    })
 
 -- what a sequence parameter set begins with that is refused
 abbrev pub refused_head : Unit → Brought → Option SetHead
@@ -54,12 +59,15 @@ refused_head u _ = None
 -- a unit, under the parameter sets in force before it: what is refused is what `headers` tells as
 -- refused
 abbrev pub after_unit : Sets → Unit → StreamFacts → StreamFacts
-after_unit sets u f = with_set (said_in (brought sets u)) (refused_head u (brought sets u)) (after_brought sets u.index (brought sets u) f)
+after_unit sets u f =
+    with_set (said_in (brought sets u)) (refused_head u (brought sets u))
+    (after_brought sets u.index (brought sets u) f)
 
 -- these units, where these parameter sets came before
 abbrev pub facts_after : List SetUnit → List Unit → StreamFacts → StreamFacts
 facts_after sets [] f = f
-facts_after sets (u ∷ us) f = facts_after (sets ++ set_units (u ∷ [])) us (after_unit (sets_after sets) u f)
+facts_after sets (u ∷ us) f =
+    facts_after (sets ++ set_units (u ∷ [])) us (after_unit (sets_after sets) u f)
 
 -- all units of a stream
 abbrev pub facts_of : List ℕ → StreamFacts

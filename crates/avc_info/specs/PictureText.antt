@@ -1,4 +1,5 @@
--- The text that tells people how a stream's pictures are coded and shown, and how many bits and seconds they take.
+-- The text that tells people how a stream's pictures are coded and shown, and how many bits and
+-- seconds they take.
 use Rattle.std.specs.Prelude.{ℕ, Bool, true, false, List, [], ◌++◌, Option, Some, None, codes}
 use Rattle.std.specs.Fmt.{decimal}
 use Rattle.avc_presentation.specs.Ratios.{ratio_word}
@@ -22,7 +23,8 @@ coded_text s = codes "coded " ++ decimal s.width ++ codes "x" ++ decimal s.heigh
 -- what is cropped at each side
 abbrev pub crop_text : Crop → List ℕ
 crop_text c =
-    codes ", crop left " ++ decimal c.left ++ codes ", right " ++ decimal c.right ++ codes ", top " ++ decimal c.top
+    codes ", crop left " ++ decimal c.left ++ codes ", right " ++ decimal c.right ++ codes ", top "
+    ++ decimal c.top
     ++ codes ", bottom " ++ decimal c.bottom
 
 -- both
@@ -45,13 +47,15 @@ range_text (Some false) = codes ", range limited"
 -- the shape of samples, their range, and chroma_sample_loc_type_top_field
 abbrev pub samples_line : SequenceFacts → List ℕ
 samples_line s =
-    aspect_text s.sample_aspect ++ range_text s.full_range ++ if_given (codes ", chroma place") s.chroma_place ++ newline
+    aspect_text s.sample_aspect ++ range_text s.full_range
+    ++ if_given (codes ", chroma place") s.chroma_place ++ newline
 
 -- colour_primaries, transfer_characteristics and matrix_coefficients
 abbrev pub colour_text : Option Colour → List ℕ
 colour_text None = codes "colour primaries not given, transfer not given, matrix not given"
 colour_text (Some c) =
-    codes "colour primaries " ++ decimal c.colour_primaries ++ codes ", transfer " ++ decimal c.transfer_characteristics
+    codes "colour primaries " ++ decimal c.colour_primaries ++ codes ", transfer "
+    ++ decimal c.transfer_characteristics
     ++ codes ", matrix " ++ decimal c.matrix_coefficients
 
 -- the same as a line
@@ -76,4 +80,5 @@ picture_text bytes pictures (Some s) =
 
 -- all that is told of a stream of so many bytes
 abbrev pub info_text : StreamFacts → (bytes : ℕ) → List ℕ
-info_text f bytes = stream_text f ++ picture_text bytes f.counts.pictures (sequence_of f) ++ sizes_line f.sizes
+info_text f bytes =
+    stream_text f ++ picture_text bytes f.counts.pictures (sequence_of f) ++ sizes_line f.sizes

@@ -1,4 +1,5 @@
--- The kinds of a stream's refusals: one for each fault, with its number of units and the first of them.
+-- The kinds of a stream's refusals: one for each fault, with its number of units and the first of
+-- them.
 use Rattle.std.specs.Prelude.{ℕ, ◌+◌, Bool, not, ◌==◌, if◌then◌else◌, List, [], ◌∷◌, length}
 use Rattle.std.specs.List.{filter}
 use Rattle.avc_types.specs.Faults.{number_of}
@@ -17,7 +18,11 @@ count_of fault refusals = length (filter (λ r. is_fault fault r.fault) refusals
 
 -- the kind of the first of these that has its fault: how many have it, and which unit is the first
 abbrev pub kind_of : (first : Refusal) → List Refusal → RefusalKind
-kind_of first refusals = record { fault = first.fault; count = saturated (count_of first.fault refusals); first_unit = first.unit }
+kind_of first refusals = record {
+  fault = first.fault;
+  count = saturated (count_of first.fault refusals);
+  first_unit = first.unit;
+}
 
 -- The kinds of these refusals, each once, in the order in which they came first: the first
 -- refusal's, and of those of the others the kinds of other faults.
@@ -38,4 +43,5 @@ one_more k = record k { count = saturated (k.count + 1) }
 -- the kinds with a refusal more
 abbrev pub with_refusal : Refusal → List RefusalKind → List RefusalKind
 with_refusal r [] = kind_of r (r ∷ []) ∷ []
-with_refusal r (k ∷ ks) = if is_fault r.fault k.fault then one_more k ∷ ks else k ∷ with_refusal r ks
+with_refusal r (k ∷ ks) =
+    if is_fault r.fault k.fault then one_more k ∷ ks else k ∷ with_refusal r ks

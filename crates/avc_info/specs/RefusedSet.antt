@@ -1,5 +1,6 @@
 -- The size that a sequence parameter set of any profile says (7.3.2.1.1).
-use Rattle.std.specs.Prelude.{ℕ, zero, suc, ◌+◌, ◌*◌, ◌%◌, pos, negsuc, ℤ, ◌+ℤ◌, nat_abs, Bool, true, false, not, ◌==◌, ◌||◌, if◌then◌else◌, List, Option}
+use Rattle.std.specs.Prelude.{ℕ, zero, suc, ◌+◌, ◌*◌, ◌%◌, pos, negsuc, ℤ, ◌+ℤ◌, nat_abs, Bool}
+use Rattle.std.specs.Prelude.{true, false, not, ◌==◌, ◌||◌, if◌then◌else◌, List, Option}
 use Rattle.avc_bits.specs.Bits.{Read, ◌>>=◌, ◌>>◌, give, start, where_set}
 use Rattle.avc_bits.specs.Codes.{u, flag, ue, ue_to, se_within}
 use Rattle.avc_params.specs.Reading.{read_value}
@@ -15,13 +16,14 @@ if_present false part = give tt
 abbrev pub next_scale : (last_scale : ℕ) → (delta_scale : ℤ) → ℕ
 next_scale last_scale delta_scale = nat_abs (pos (last_scale + 256) +ℤ delta_scale) % 256
 
--- scaling_list, from an entry on: so many entries are left, and lastScale is that of the one before. delta_scale is -128 to 127; none
--- is coded behind nextScale 0 (7.3.2.1.1.1, 7.4.2.1.1.1).
+-- scaling_list, from an entry on: so many entries are left, and lastScale is that of the one
+-- before. delta_scale is -128 to 127; none is coded behind nextScale 0 (7.3.2.1.1.1, 7.4.2.1.1.1).
 unfoldable pub scaling_list : (entries last_scale : ℕ) → Read (Unit {0})
 scaling_list zero last_scale = give tt
 scaling_list (suc n) last_scale = do
   delta_scale ← se_within (negsuc 127) (pos 127)
-  if_present (not (next_scale last_scale delta_scale == 0)) (scaling_list n (next_scale last_scale delta_scale))
+  if_present (not (next_scale last_scale delta_scale == 0))
+      (scaling_list n (next_scale last_scale delta_scale))
 
 -- seq_scaling_list_present_flag and the list, so many times (7.3.2.1.1)
 unfoldable pub scaling_lists : (count entries : ℕ) → Read (Unit {0})
@@ -37,12 +39,14 @@ lists_8x8 chroma_format_idc = if chroma_format_idc == 3 then 6 else 2
 
 -- those of 4x4 blocks, and of 8x8 blocks (7.3.2.1.1)
 abbrev pub scaling_matrix : (chroma_format_idc : ℕ) → Read (Unit {0})
-scaling_matrix chroma_format_idc = scaling_lists 6 16 >> scaling_lists (lists_8x8 chroma_format_idc) 64
+scaling_matrix chroma_format_idc =
+    scaling_lists 6 16 >> scaling_lists (lists_8x8 chroma_format_idc) 64
 
 -- profile_idc of those whose sets say a chroma format (7.3.2.1.1)
 abbrev pub has_chroma_format : ℕ → Bool
 has_chroma_format p =
-    p == 100 || p == 110 || p == 122 || p == 244 || p == 44 || p == 83 || p == 86 || p == 118 || p == 128 || p == 138 || p == 139 || p == 134 || p == 135
+    p == 100 || p == 110 || p == 122 || p == 244 || p == 44 || p == 83 || p == 86 || p == 118
+    || p == 128 || p == 138 || p == 139 || p == 134 || p == 135
 
 -- chroma_format_idc, 0 to 3, up to the scaling lists (7.3.2.1.1, 7.4.2.1.1)
 abbrev pub chroma_format : Read (Unit {0})
@@ -69,8 +73,10 @@ before_size = do
   gaps_in_frame_num_value_allowed_flag ← flag
   give tt
 
--- the size before cropping, in luma samples; a map unit is two macroblocks high where there are fields (7.4.2.1.1)
-abbrev pub size_of : (pic_width_in_mbs_minus1 pic_height_in_map_units_minus1 : ℕ) → (frame_mbs_only_flag : Bool) → Size
+-- the size before cropping, in luma samples; a map unit is two macroblocks high where there are
+-- fields (7.4.2.1.1)
+abbrev pub size_of : (pic_width_in_mbs_minus1 pic_height_in_map_units_minus1 : ℕ) →
+    (frame_mbs_only_flag : Bool) → Size
 size_of pic_width_in_mbs_minus1 pic_height_in_map_units_minus1 frame_mbs_only_flag = record {
   width = 16 * (pic_width_in_mbs_minus1 + 1);
   height = 16 * (pic_height_in_map_units_minus1 + 1) * (if frame_mbs_only_flag then 1 else 2);

@@ -1,5 +1,6 @@
 -- The sizes of a stream's pictures, after cropping, and the line that tells people of them.
-use Rattle.std.specs.Prelude.{ℕ, Bool, true, false, ◌==◌, ◌&&◌, if◌then◌else◌, nat_lt, List, [], ◌∷◌, ◌++◌, length, Option, Some, None, codes}
+use Rattle.std.specs.Prelude.{ℕ, Bool, true, false, ◌==◌, ◌&&◌, if◌then◌else◌, nat_lt, List, []}
+use Rattle.std.specs.Prelude.{◌∷◌, ◌++◌, length, Option, Some, None, codes}
 use Rattle.std.specs.Fmt.{decimal}
 use Rattle.std.specs.List.{flat_map, list_any}
 use Rattle.avc_params.specs.declared.sps.Sps.{Sps}
@@ -29,7 +30,8 @@ has_size s sizes = list_any (λ other. other.width == s.width && other.height ==
 abbrev pub with_size : Sizes → Size → Sizes
 with_size s size =
     if has_size size s.first then s
-    else (if nat_lt (length s.first) most_sizes then record s { first = s.first ++ size ∷ [] } else record s { others = true })
+    else (if nat_lt (length s.first) most_sizes then record s { first = s.first ++ size ∷ [] }
+    else record s { others = true })
 
 -- where there is one
 abbrev pub with_size_if : Sizes → Option Size → Sizes
@@ -46,4 +48,6 @@ others_text others = if others then codes " and others" else []
 
 -- a line, where there are more than one
 abbrev pub sizes_line : Sizes → List ℕ
-sizes_line s = if nat_lt (length s.first) 2 then [] else codes "sizes" ++ flat_map size_word s.first ++ others_text s.others ++ newline
+sizes_line s =
+    if nat_lt (length s.first) 2 then [] else codes "sizes" ++ flat_map size_word s.first
+    ++ others_text s.others ++ newline

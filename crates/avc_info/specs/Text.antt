@@ -1,5 +1,6 @@
 -- The text that tells people of a stream.
-use Rattle.std.specs.Prelude.{ℕ, ◌*◌, ◌/◌, ◌%◌, Bool, ◌==◌, ◌&&◌, ◌||◌, if◌then◌else◌, nat_lt, List, [], ◌∷◌, ◌++◌, length, Option, Some, None, codes}
+use Rattle.std.specs.Prelude.{ℕ, ◌*◌, ◌/◌, ◌%◌, Bool, ◌==◌, ◌&&◌, ◌||◌, if◌then◌else◌, nat_lt, List}
+use Rattle.std.specs.Prelude.{[], ◌∷◌, ◌++◌, length, Option, Some, None, codes}
 use Rattle.std.specs.Fmt.{decimal}
 use Rattle.std.specs.List.{flat_map}
 use Rattle.avc_types.specs.Faults.{number_of, name_of}
@@ -20,7 +21,8 @@ newline = 10 ∷ []
 -- the profile's name (A.2)
 abbrev pub profile_name : SequenceFacts → List ℕ
 profile_name s =
-    if s.profile_idc == 66 then (if s.constraint_set1_flag then codes "Constrained Baseline" else codes "Baseline")
+    if s.profile_idc == 66
+    then (if s.constraint_set1_flag then codes "Constrained Baseline" else codes "Baseline")
     else (if s.profile_idc == 77 then codes "Main" else codes "Extended")
 
 -- the level is 1b (7.4.2.1.1)
@@ -29,7 +31,9 @@ is_level_1b s = s.level_idc == 9 || (s.level_idc == 11 && s.constraint_set3_flag
 
 -- the level's number (A.3.1)
 abbrev pub level_name : SequenceFacts → List ℕ
-level_name s = if is_level_1b s then codes "1b" else decimal (s.level_idc / 10) ++ codes "." ++ decimal (s.level_idc % 10)
+level_name s =
+    if is_level_1b s then codes "1b" else decimal (s.level_idc / 10) ++ codes "."
+    ++ decimal (s.level_idc % 10)
 
 -- the level
 abbrev pub level_text : SequenceFacts → List ℕ
@@ -37,7 +41,8 @@ level_text s = codes ", level " ++ level_name s
 
 -- three digits behind the point
 abbrev pub behind_point : ℕ → List ℕ
-behind_point n = codes "." ++ (decimal (n / 100 % 10) ++ (decimal (n / 10 % 10) ++ decimal (n % 10)))
+behind_point n =
+    codes "." ++ (decimal (n / 100 % 10) ++ (decimal (n / 10 % 10) ++ decimal (n % 10)))
 
 -- so many thousandths
 abbrev pub thousandths : ℕ → List ℕ
@@ -75,7 +80,8 @@ references_text s = codes "reference frames " ++ decimal s.max_num_ref_frames
 
 -- the second line
 abbrev pub frames_line : SequenceFacts → List ℕ
-frames_line s = references_text s ++ if_given (codes ", reorder number") s.max_num_reorder_frames ++ newline
+frames_line s =
+    references_text s ++ if_given (codes ", reorder number") s.max_num_reorder_frames ++ newline
 
 -- of a stream with a picture
 abbrev pub sequence_text : Option SequenceFacts → List ℕ
@@ -95,7 +101,9 @@ refused_text n = codes "refused " ++ decimal n
 -- the first of them
 abbrev pub refusal_text : Option Refusal → List ℕ
 refusal_text None = []
-refusal_text (Some r) = codes ", the first unit " ++ decimal r.unit ++ codes ": " ++ decimal (number_of r.fault) ++ codes " " ++ name_of r.fault
+refusal_text (Some r) =
+    codes ", the first unit " ++ decimal r.unit ++ codes ": " ++ decimal (number_of r.fault)
+    ++ codes " " ++ name_of r.fault
 
 -- whether any is refused
 abbrev pub refused_line : StreamFacts → List ℕ
@@ -104,7 +112,8 @@ refused_line f = refused_text f.refused ++ refusal_text f.first_refusal ++ newli
 -- a kind of refusals: its fault, how many units, and the first of them
 abbrev pub kind_line : RefusalKind → List ℕ
 kind_line k =
-    codes "refused as " ++ decimal (number_of k.fault) ++ codes " " ++ name_of k.fault ++ codes ": " ++ decimal k.count
+    codes "refused as " ++ decimal (number_of k.fault) ++ codes " " ++ name_of k.fault ++ codes ": "
+    ++ decimal k.count
     ++ codes ", the first unit " ++ decimal k.first_unit ++ newline
 
 -- a line for each kind, where there are more than one: of one alone the line before says it all
@@ -114,7 +123,8 @@ kind_lines kinds = if nat_lt (length kinds) 2 then [] else flat_map kind_line ki
 -- profile_idc and level_idc of a sequence parameter set that is refused
 abbrev pub set_head_text : SetHead → List ℕ
 set_head_text h =
-    codes "refused sequence: profile_idc " ++ decimal h.profile_idc ++ codes ", level_idc " ++ decimal h.level_idc
+    codes "refused sequence: profile_idc " ++ decimal h.profile_idc ++ codes ", level_idc "
+    ++ decimal h.level_idc
 
 -- its size before cropping, where it can be read
 abbrev pub set_size_text : Option Size → List ℕ
@@ -138,5 +148,6 @@ sequence_of f = elim f.sequence [ Some s ↦ Some s | None ↦ f.first_set ]
 -- the lines that say what a stream is
 abbrev pub stream_text : StreamFacts → List ℕ
 stream_text f =
-    sequence_text (sequence_of f) ++ counts_line f.counts ++ refused_line f ++ kind_lines (kinds_of f.refusals)
+    sequence_text (sequence_of f) ++ counts_line f.counts ++ refused_line f
+    ++ kind_lines (kinds_of f.refusals)
     ++ refused_set_line f.refused_set

@@ -85,7 +85,8 @@ pub(crate) fn put_count(
     name: &str,
     count: u64,
 ) -> Result<(), OutOfMemory>
-    ensures { OnOk result (members_view map.new.entries ≡ with_member name.now (count_data count) (members_view map.old.entries)) }
+    ensures { OnOk result (members_view map.new.entries
+        ≡ with_member name.now (count_data count) (members_view map.old.entries)) }
 {
     put(map, alloc, name, Value::from(count))?;
     Ok(())
@@ -98,7 +99,8 @@ pub(crate) fn put_text(
     name: &str,
     text: &str,
 ) -> Result<(), OutOfMemory>
-    ensures { OnOk result (members_view map.new.entries ≡ with_member name.now (string text.now) (members_view map.old.entries)) }
+    ensures { OnOk result (members_view map.new.entries
+        ≡ with_member name.now (string text.now) (members_view map.old.entries)) }
 {
     let text = Value::try_from_str(alloc, text)?;
     put(map, alloc, name, text)?;
@@ -110,7 +112,9 @@ fn put_level(
     alloc: Global,
     sequence: &SequenceFacts,
 ) -> Result<(), OutOfMemory>
-    ensures { OnOk result (members_view map.new.entries ≡ with_member (codes "level") (string (level_name sequence.now)) (members_view map.old.entries)) }
+    ensures { OnOk result (members_view map.new.entries
+        ≡ with_member (codes "level") (string (level_name sequence.now))
+        (members_view map.old.entries)) }
 {
     let mut name = String::new(alloc);
     add_level_name(&mut name, sequence)?;
@@ -123,7 +127,9 @@ fn put_profile(
     alloc: Global,
     sequence: &SequenceFacts,
 ) -> Result<(), OutOfMemory>
-    ensures { OnOk result (members_view map.new.entries ≡ with_member (codes "profile") (string (profile_name sequence.now)) (members_view map.old.entries)) }
+    ensures { OnOk result (members_view map.new.entries
+        ≡ with_member (codes "profile") (string (profile_name sequence.now))
+        (members_view map.old.entries)) }
 {
     let name = Value::try_from_str(alloc, profile_name(sequence))?;
     put(map, alloc, "profile", name)?;

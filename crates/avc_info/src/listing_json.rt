@@ -67,7 +67,8 @@ impl ListingForm for ForPrograms {
 // Adds a value in a line of its own.
 fn add_value(alloc: Global, text: &mut String, value: &Value) -> Result<(), OutOfMemory>
     requires { has_float (view value.now) ≡ false }
-    ensures { OnOk result (string_bytes text.new ≡ string_bytes text.old ++ line_of_data (view value.now)) }
+    ensures { OnOk result (string_bytes text.new ≡ string_bytes text.old
+        ++ line_of_data (view value.now)) }
 {
     let line = value.to_string(alloc)?;
     text.push_str(&line)?;
@@ -107,7 +108,8 @@ fn add_brought(
     unit: u64,
     brought: &Brought,
 ) -> Result<(), OutOfMemory>
-    ensures { OnOk result (string_bytes text.new ≡ string_bytes text.old ++ line_of_data_if (header_data unit (sets_after reader.now) brought.now)) }
+    ensures { OnOk result (string_bytes text.new ≡ string_bytes text.old
+        ++ line_of_data_if (header_data unit (sets_after reader.now) brought.now)) }
 {
     match brought {
         Brought::Nothing => Ok(()),
@@ -202,7 +204,8 @@ fn pps_value(alloc: Global, unit: u64, pps: &Pps) -> Result<Value, OutOfMemory>
 
 fn put_initial_qp(map: &mut Map<String, Value>, alloc: Global, pps: &Pps) -> Result<(), OutOfMemory>
     ensures { OnOk result (members_view map.new.entries
-        ≡ with_member (codes "pic_init_qp_minus26") (number (of_integer pps.now.pic_init_qp_minus26)) (members_view map.old.entries)) }
+        ≡ with_member (codes "pic_init_qp_minus26")
+        (number (of_integer pps.now.pic_init_qp_minus26)) (members_view map.old.entries)) }
 {
     put(
         map,
@@ -220,7 +223,8 @@ fn put_byte(
     name: &str,
     number: u8,
 ) -> Result<(), OutOfMemory>
-    ensures { OnOk result (members_view map.new.entries ≡ with_member name.now (count number) (members_view map.old.entries)) }
+    ensures { OnOk result (members_view map.new.entries
+        ≡ with_member name.now (count number) (members_view map.old.entries)) }
 {
     put_count(map, alloc, name, u64::from(number))
 }
@@ -231,7 +235,8 @@ fn slice_value(
     reader: &HeaderReader,
     header: &Header,
 ) -> Result<Value, OutOfMemory>
-    ensures { IfOk result (λ value. view value ≡ slice_data unit (sets_after reader.now) header.now) }
+    ensures { IfOk result (λ value. view value
+        ≡ slice_data unit (sets_after reader.now) header.now) }
 {
     let mut map = Map::new(alloc);
     put_byte(&mut map, alloc, "IdrPicFlag", flag_number(header.is_idr()))?;

@@ -1,4 +1,5 @@
-//! The text that tells people how a stream's pictures are coded and shown, and how many bits and seconds they take.
+//! The text that tells people how a stream's pictures are coded and shown, and how many bits and
+//! seconds they take.
 
 ghost use Rattle.std.specs.Prelude.{◌≡◌, ◌++◌, OnOk, string_bytes};
 ghost use Rattle.avc_info.specs.PictureText.{aspect_text, coded_line, coded_text, colour_line};
@@ -18,7 +19,8 @@ pub(crate) fn add_picture(
     pictures: u64,
     sequence: &Option<SequenceFacts>,
 ) -> Result<(), OutOfMemory>
-    ensures { OnOk result (string_bytes text.new ≡ string_bytes text.old ++ picture_text bytes pictures sequence.now) }
+    ensures { OnOk result (string_bytes text.new ≡ string_bytes text.old
+        ++ picture_text bytes pictures sequence.now) }
 {
     match sequence {
         Some(sequence) => {
@@ -32,7 +34,8 @@ pub(crate) fn add_picture(
 }
 
 fn add_coded(text: &mut String, sequence: &SequenceFacts) -> Result<(), OutOfMemory>
-    ensures { OnOk result (string_bytes text.new ≡ string_bytes text.old ++ coded_line sequence.now) }
+    ensures { OnOk result (string_bytes text.new ≡ string_bytes text.old
+        ++ coded_line sequence.now) }
 {
     add_coded_size(text, sequence.coded)?;
     add_crop(text, sequence.crop)?;
@@ -63,7 +66,8 @@ fn add_crop(text: &mut String, crop: Crop) -> Result<(), OutOfMemory>
 }
 
 fn add_samples(text: &mut String, sequence: &SequenceFacts) -> Result<(), OutOfMemory>
-    ensures { OnOk result (string_bytes text.new ≡ string_bytes text.old ++ samples_line sequence.now) }
+    ensures { OnOk result (string_bytes text.new ≡ string_bytes text.old
+        ++ samples_line sequence.now) }
 {
     add_aspect(text, sequence.sample_aspect)?;
     text.push_str(range_text(sequence.full_range))?;
@@ -99,7 +103,8 @@ fn range_text(full_range: Option<bool>) -> &'static str
 }
 
 fn add_colour(text: &mut String, sequence: &SequenceFacts) -> Result<(), OutOfMemory>
-    ensures { OnOk result (string_bytes text.new ≡ string_bytes text.old ++ colour_line sequence.now) }
+    ensures { OnOk result (string_bytes text.new ≡ string_bytes text.old
+        ++ colour_line sequence.now) }
 {
     add_colour_numbers(text, sequence.colour)?;
     end_line(text)
@@ -132,7 +137,8 @@ fn add_rates(
     bytes: u64,
     pictures: u64,
 ) -> Result<(), OutOfMemory>
-    ensures { OnOk result (string_bytes text.new ≡ string_bytes text.old ++ rates_line timing bytes pictures) }
+    ensures { OnOk result (string_bytes text.new ≡ string_bytes text.old
+        ++ rates_line timing bytes pictures) }
 {
     add_if_given(text, "bit rate", bit_rate(timing, bytes, pictures))?;
     add_thousandths_if_given(text, ", duration", duration(timing, pictures))?;

@@ -20,8 +20,10 @@ pub fn info<F: InfoForm + Drop, R: Read, W: Write, E: Write, V>(
     writer: &mut W,
     console: &mut Console<'_, E, V>,
 ) -> Ending
-    ensures { EndsListing console.old.names (info_so_far F.text) (R.remaining reader.old) (R.remaining reader.new) (W.contents writer.old)
-        (W.contents writer.new) (E.contents console.old.errors) (E.contents console.new.errors) result }
+    ensures { EndsListing console.old.names (info_so_far F.text) (R.remaining reader.old)
+        (R.remaining reader.new) (W.contents writer.old)
+        (W.contents writer.new) (E.contents console.old.errors) (E.contents console.new.errors)
+        result }
 {
     let run = run_info(alloc, form, reader, writer);
     end_listing(run, &console.names, &mut console.errors)
@@ -35,7 +37,8 @@ pub fn run_info<F: InfoForm + Drop, R: Read, W: Write>(
     reader: &mut R,
     writer: &mut W,
 ) -> Result<(), RunFault>
-    ensures { Lists (info_so_far F.text) (R.remaining reader.old) (R.remaining reader.new) (W.contents writer.old) (W.contents writer.new) result }
+    ensures { Lists (info_so_far F.text) (R.remaining reader.old) (R.remaining reader.new)
+        (W.contents writer.old) (W.contents writer.new) result }
 {
     let mut lines = InfoLines::new(alloc, form);
     write_stream(alloc, &mut lines, reader, writer)?;

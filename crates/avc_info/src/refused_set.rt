@@ -3,7 +3,8 @@
 ghost use Rattle.std.specs.Prelude.{◌≡◌, ◌<◌, ◌≤◌, ◌==◌, ◌||◌, ◌≤ℤ◌, ℤ, pos, negsuc};
 ghost use Rattle.avc_bits.specs.Reader.{Reads};
 ghost use Rattle.avc_info.specs.RefusedSet.{any_size, before_size, chroma_format};
-ghost use Rattle.avc_info.specs.RefusedSet.{has_chroma_format, if_present, lists_8x8, next_scale, scaling_list};
+ghost use Rattle.avc_info.specs.RefusedSet.{has_chroma_format, if_present, lists_8x8, next_scale};
+ghost use Rattle.avc_info.specs.RefusedSet.{scaling_list};
 ghost use Rattle.avc_info.specs.RefusedSet.{scaling_lists, scaling_matrix, size_in, size_of};
 
 use avc_bits::BitReader;
@@ -111,7 +112,8 @@ fn pass_scaling_matrix_if(
     present: bool,
     chroma_format_idc: u32,
 ) -> Result<(), Fault>
-    ensures read { Reads result (if_present present (scaling_matrix chroma_format_idc)) reader.old reader.new }
+    ensures read { Reads result (if_present present (scaling_matrix chroma_format_idc)) reader.old
+        reader.new }
 {
     if present {
         pass_scaling_matrix(reader, chroma_format_idc)
@@ -149,7 +151,8 @@ fn pass_scaling_lists(reader: &mut BitReader, count: u32, entries: u32) -> Resul
 }
 
 fn pass_scaling_list_if(reader: &mut BitReader, present: bool, entries: u32) -> Result<(), Fault>
-    ensures read { Reads result (if_present present (scaling_list entries 8)) reader.old reader.new }
+    ensures read { Reads result (if_present present (scaling_list entries 8)) reader.old
+        reader.new }
 {
     if present {
         pass_scaling_list(reader, entries)

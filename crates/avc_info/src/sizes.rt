@@ -71,7 +71,8 @@ pub(crate) fn add_sizes(text: &mut String, sizes: &Sizes) -> Result<(), OutOfMem
 }
 
 fn add_words(text: &mut String, sizes: &[Size]) -> Result<(), OutOfMemory>
-    ensures { OnOk result (string_bytes text.new ≡ string_bytes text.old ++ flat_map size_word sizes.now) }
+    ensures { OnOk result (string_bytes text.new ≡ string_bytes text.old
+        ++ flat_map size_word sizes.now) }
 {
     for size in sizes {
         add_word(text, *size)?;

@@ -30,7 +30,8 @@ pub trait MacroblockCommand {
         console: &mut Console<'_, E, V>,
     ) -> Ending
         ensures { ends wording choice console.old.names
-            (R.remaining reader.old) (R.remaining reader.new) (W.contents writer.old) (W.contents writer.new)
+            (R.remaining reader.old) (R.remaining reader.new) (W.contents writer.old)
+            (W.contents writer.new)
             (E.contents console.old.errors) (E.contents console.new.errors) result };
 }
 
@@ -45,7 +46,8 @@ pub fn tell<C: MacroblockCommand, R: Read, W: Write, E: Write, V: Watch>(
     console: &mut Console<'_, E, V>,
 ) -> Ending
     ensures { EndsTelling C.ends wording subject console.old.names
-        (R.remaining reader.old) (R.remaining reader.new) (W.contents writer.old) (W.contents writer.new)
+        (R.remaining reader.old) (R.remaining reader.new) (W.contents writer.old)
+        (W.contents writer.new)
         (E.contents console.old.errors) (E.contents console.new.errors) result }
 {
     match wording {
@@ -83,9 +85,11 @@ fn tell_in<
     writer: &mut W,
     console: &mut Console<'_, E, V>,
 ) -> Ending
-    ensures { EndsTellingOf subject (unit_lines_so_far F.of_unit) (header_lines_so_far F.of_header) (cut_point_lines_so_far F.of_piece)
+    ensures { EndsTellingOf subject (unit_lines_so_far F.of_unit) (header_lines_so_far F.of_header)
+        (cut_point_lines_so_far F.of_piece)
         (info_so_far F.text) (C.ends wording) console.old.names
-        (R.remaining reader.old) (R.remaining reader.new) (W.contents writer.old) (W.contents writer.new)
+        (R.remaining reader.old) (R.remaining reader.new) (W.contents writer.old)
+        (W.contents writer.new)
         (E.contents console.old.errors) (E.contents console.new.errors) result }
 {
     match subject {

@@ -7,7 +7,8 @@ ghost use Rattle.avc_info.specs.Text.{clock_text, counts_line, frames_line, if_g
 ghost use Rattle.avc_info.specs.Text.{is_level_1b, kind_line, kind_lines};
 ghost use Rattle.avc_info.specs.Text.{level_name, level_text, profile_name, profile_text};
 ghost use Rattle.avc_info.specs.Text.{newline, references_text, refusal_text, refused_line};
-ghost use Rattle.avc_info.specs.Text.{refused_set_line, refused_text, set_head_line, set_head_text, set_size_text};
+ghost use Rattle.avc_info.specs.Text.{refused_set_line, refused_text, set_head_line, set_head_text};
+ghost use Rattle.avc_info.specs.Text.{set_size_text};
 ghost use Rattle.avc_info.specs.Text.{sequence_text, shape_line, size_text, stream_text};
 ghost use Rattle.avc_info.specs.Text.{thousandths, thousandths_if_given};
 
@@ -42,7 +43,8 @@ fn add_stream(text: &mut String, facts: &StreamFacts) -> Result<(), OutOfMemory>
 }
 
 fn add_sequence(text: &mut String, sequence: &Option<SequenceFacts>) -> Result<(), OutOfMemory>
-    ensures { OnOk result (string_bytes text.new ≡ string_bytes text.old ++ sequence_text sequence.now) }
+    ensures { OnOk result (string_bytes text.new ≡ string_bytes text.old
+        ++ sequence_text sequence.now) }
 {
     match sequence {
         Some(sequence) => {
@@ -55,7 +57,8 @@ fn add_sequence(text: &mut String, sequence: &Option<SequenceFacts>) -> Result<(
 }
 
 fn add_shape(text: &mut String, sequence: &SequenceFacts) -> Result<(), OutOfMemory>
-    ensures { OnOk result (string_bytes text.new ≡ string_bytes text.old ++ shape_line sequence.now) }
+    ensures { OnOk result (string_bytes text.new ≡ string_bytes text.old
+        ++ shape_line sequence.now) }
 {
     add_size(text, sequence)?;
     add_profile(text, sequence)?;
@@ -66,7 +69,8 @@ fn add_shape(text: &mut String, sequence: &SequenceFacts) -> Result<(), OutOfMem
 }
 
 fn add_size(text: &mut String, sequence: &SequenceFacts) -> Result<(), OutOfMemory>
-    ensures { OnOk result (string_bytes text.new ≡ string_bytes text.old ++ size_text sequence.now) }
+    ensures { OnOk result (string_bytes text.new ≡ string_bytes text.old
+        ++ size_text sequence.now) }
 {
     let width = sequence.width;
     let height = sequence.height;
@@ -75,7 +79,8 @@ fn add_size(text: &mut String, sequence: &SequenceFacts) -> Result<(), OutOfMemo
 }
 
 fn add_profile(text: &mut String, sequence: &SequenceFacts) -> Result<(), OutOfMemory>
-    ensures { OnOk result (string_bytes text.new ≡ string_bytes text.old ++ profile_text sequence.now) }
+    ensures { OnOk result (string_bytes text.new ≡ string_bytes text.old
+        ++ profile_text sequence.now) }
 {
     let name = profile_name(sequence);
     write!(text, ", profile {name}")?;
@@ -100,7 +105,8 @@ pub fn profile_name(sequence: &SequenceFacts) -> &'static str
 }
 
 fn add_level(text: &mut String, sequence: &SequenceFacts) -> Result<(), OutOfMemory>
-    ensures { OnOk result (string_bytes text.new ≡ string_bytes text.old ++ level_text sequence.now) }
+    ensures { OnOk result (string_bytes text.new ≡ string_bytes text.old
+        ++ level_text sequence.now) }
 {
     text.push_str(", level ")?;
     add_level_name(text, sequence)
@@ -108,7 +114,8 @@ fn add_level(text: &mut String, sequence: &SequenceFacts) -> Result<(), OutOfMem
 
 /// Adds the level's number (A.3.1).
 pub(crate) fn add_level_name(text: &mut String, sequence: &SequenceFacts) -> Result<(), OutOfMemory>
-    ensures { OnOk result (string_bytes text.new ≡ string_bytes text.old ++ level_name sequence.now) }
+    ensures { OnOk result (string_bytes text.new ≡ string_bytes text.old
+        ++ level_name sequence.now) }
 {
     if is_level_1b(sequence) {
         text.push_str("1b")?;
@@ -128,7 +135,8 @@ fn is_level_1b(sequence: &SequenceFacts) -> bool
 }
 
 fn add_clock(text: &mut String, sequence: &SequenceFacts) -> Result<(), OutOfMemory>
-    ensures { OnOk result (string_bytes text.new ≡ string_bytes text.old ++ clock_text sequence.now) }
+    ensures { OnOk result (string_bytes text.new ≡ string_bytes text.old
+        ++ clock_text sequence.now) }
 {
     add_thousandths_if_given(text, ", frame rate", frame_rate(sequence.timing))
 }
@@ -139,7 +147,8 @@ pub(crate) fn add_if_given(
     name: &str,
     number: Option<u64>,
 ) -> Result<(), OutOfMemory>
-    ensures { OnOk result (string_bytes text.new ≡ string_bytes text.old ++ if_given name.now number) }
+    ensures { OnOk result (string_bytes text.new ≡ string_bytes text.old
+        ++ if_given name.now number) }
 {
     text.push_str(name)?;
     match number {
@@ -155,7 +164,8 @@ pub(crate) fn add_thousandths_if_given(
     name: &str,
     number: Option<u64>,
 ) -> Result<(), OutOfMemory>
-    ensures { OnOk result (string_bytes text.new ≡ string_bytes text.old ++ thousandths_if_given name.now number) }
+    ensures { OnOk result (string_bytes text.new ≡ string_bytes text.old
+        ++ thousandths_if_given name.now number) }
 {
     text.push_str(name)?;
     match number {
@@ -168,7 +178,8 @@ pub(crate) fn add_thousandths_if_given(
 }
 
 fn add_thousandths(text: &mut String, number: u64) -> Result<(), OutOfMemory>
-    ensures { OnOk result (string_bytes text.new ≡ string_bytes text.old ++ codes " " ++ thousandths number) }
+    ensures { OnOk result (string_bytes text.new ≡ string_bytes text.old ++ codes " "
+        ++ thousandths number) }
 {
     let whole = number / 1000;
     let tenth = number / 100 % 10;
@@ -179,7 +190,8 @@ fn add_thousandths(text: &mut String, number: u64) -> Result<(), OutOfMemory>
 }
 
 fn add_frames(text: &mut String, sequence: &SequenceFacts) -> Result<(), OutOfMemory>
-    ensures { OnOk result (string_bytes text.new ≡ string_bytes text.old ++ frames_line sequence.now) }
+    ensures { OnOk result (string_bytes text.new ≡ string_bytes text.old
+        ++ frames_line sequence.now) }
 {
     add_references(text, sequence)?;
     add_if_given(text, ", reorder number", sequence.max_num_reorder_frames)?;
@@ -188,7 +200,8 @@ fn add_frames(text: &mut String, sequence: &SequenceFacts) -> Result<(), OutOfMe
 }
 
 fn add_references(text: &mut String, sequence: &SequenceFacts) -> Result<(), OutOfMemory>
-    ensures { OnOk result (string_bytes text.new ≡ string_bytes text.old ++ references_text sequence.now) }
+    ensures { OnOk result (string_bytes text.new ≡ string_bytes text.old
+        ++ references_text sequence.now) }
 {
     let references = sequence.max_num_ref_frames;
     write!(text, "reference frames {references}")?;
@@ -196,7 +209,8 @@ fn add_references(text: &mut String, sequence: &SequenceFacts) -> Result<(), Out
 }
 
 fn add_counts(text: &mut String, counts: &SliceCounts) -> Result<(), OutOfMemory>
-    ensures { OnOk result (string_bytes text.new ≡ string_bytes text.old ++ counts_line counts.now) }
+    ensures { OnOk result (string_bytes text.new ≡ string_bytes text.old
+        ++ counts_line counts.now) }
 {
     let pictures = counts.pictures;
     let sequences = counts.sequences;
@@ -209,7 +223,8 @@ fn add_counts(text: &mut String, counts: &SliceCounts) -> Result<(), OutOfMemory
 }
 
 fn add_refused(text: &mut String, facts: &StreamFacts) -> Result<(), OutOfMemory>
-    ensures { OnOk result (string_bytes text.new ≡ string_bytes text.old ++ refused_line facts.now) }
+    ensures { OnOk result (string_bytes text.new ≡ string_bytes text.old
+        ++ refused_line facts.now) }
 {
     add_refused_count(text, facts.refused)?;
     add_first_refusal(text, facts.first_refusal)?;
@@ -250,7 +265,8 @@ fn add_kinds(text: &mut String, kinds: &[RefusalKind]) -> Result<(), OutOfMemory
 }
 
 fn add_kind_lines(text: &mut String, kinds: &[RefusalKind]) -> Result<(), OutOfMemory>
-    ensures { OnOk result (string_bytes text.new ≡ string_bytes text.old ++ flat_map kind_line kinds.now) }
+    ensures { OnOk result (string_bytes text.new ≡ string_bytes text.old
+        ++ flat_map kind_line kinds.now) }
 {
     for kind in kinds {
         add_kind_line(text, *kind)?;

@@ -30,12 +30,11 @@ two_steps u r v d a b c e =
     omega (arith, shared v (u * a) (r * b), shared d (u * c) (r * e), turned v u a, turned v r b, turned d u c, turned d r e)
 
 -- the two steps are the definition's one
-pub eighth_shown : (s : Wide) (left left' top top' : ℤ) (columns lines first stride right down r d : ℕ) (p : List ℕ) →
-    ((i j : ℕ) → i < columns → j < lines → slice_index p (first + j * stride + i) ≡ s (left' +ℤ pos i) (top' +ℤ pos j)) → left' ≡ left → top' ≡ top → r ≡ right → d ≡ down →
-    (i j : ℕ) → i + 1 < columns → j + 1 < lines → eighth_at r d stride p (first + (j * stride + i)) ≡ bilinear s (left +ℤ pos i) (top +ℤ pos j) right down
-eighth_shown s left left' top top' columns lines first stride right down r d p shown is_left is_top is_right is_down i j column row =
+pub eighth_shown : (s : Wide) (left left' top top' : ℤ) (columns lines first stride right down : ℕ) (p : List ℕ) →
+    ((i j : ℕ) → i < columns → j < lines → slice_index p (first + j * stride + i) ≡ s (left' +ℤ pos i) (top' +ℤ pos j)) → left' ≡ left → top' ≡ top →
+    (i j : ℕ) → i + 1 < columns → j + 1 < lines → eighth_at right down stride p (first + (j * stride + i)) ≡ bilinear s (left +ℤ pos i) (top +ℤ pos j) right down
+eighth_shown s left left' top top' columns lines first stride right down p shown is_left is_top i j column row =
     let at = first + (j * stride + i) in
     let shares : BilinearWeights = record { here = (8 - right) * (8 - down); right = right * (8 - down); below = (8 - right) * down; across = right * down } in
-    ap (λ m. eighth_at m d stride p at) is_right ∙ ap (λ m. eighth_at right m stride p at) is_down
-    ∙ ap (λ m. (m + 32) / 64) (two_steps (8 - right) right (8 - down) down (slice_index p at) (slice_index p (at + 1)) (slice_index p (at + stride)) (slice_index p (at + stride + 1)))
+    ap (λ m. (m + 32) / 64) (two_steps (8 - right) right (8 - down) down (slice_index p at) (slice_index p (at + 1)) (slice_index p (at + stride)) (slice_index p (at + stride + 1)))
     ∙ blend_at s left left' top top' columns lines first stride right down p shares shown is_left is_top refl refl refl refl i j column row

@@ -267,6 +267,13 @@ module _ (s : Wide) (left top : ℤ) (w h first stride : ℕ) (p : List ℕ)
 pub below_half : 48 < 2 ^ 63
 below_half = omega arith
 
+-- and so are the 16 bytes of a target or of two references, and the 40 of the targets of both chroma components
+pub two_words : 16 < 2 ^ 63
+two_words = omega arith
+
+pub five_words : 40 < 2 ^ 63
+five_words = omega arith
+
 -- the rows of a luma block and five more are few
 pub lines_few : (columns n : ℕ) → AreLanes columns → n ≤ 21 → 16 / columns * n < 2 ^ 16
 lines_few columns n lanes few =
@@ -298,22 +305,19 @@ back_before z p = rw (back_moved z p) (omega (arith, ints, p.low, p.high))
 pub place_before : (z : ℤ) → IsMoved z → IsPlace (to_z w64 (of_z w64 (to_z w64 (of_z w64 z) -ℤ pos 2)))
 place_before z p = rw (back_before z p) (record { low = omega (arith, ints, p.low); high = omega (arith, ints, p.high) })
 
-pub still_moved : (z : ℤ) → IsMoved z → IsMoved (to_z w64 (of_z w64 z))
-still_moved z p = rw (back_moved z p) p
-
 -- the same place by other words
 pub moved_at : (s : Wide) (left top : ℤ) (i j : ℕ) → IsMoved left → IsMoved top → s (to_z w64 (of_z w64 left) +ℤ pos i) (to_z w64 (of_z w64 top) +ℤ pos j) ≡ s (left +ℤ pos i) (top +ℤ pos j)
 moved_at s left top i j p q = rw (back_moved left p, back_moved top q) refl
 
 -- what a vector leads to is the definition's sample
-pub vector_at : (shift : ℕ) (F : ℤ → ℤ → ℕ → ℕ → ℕ) (mv : Mv) (x y fx fy : ℕ) (left top u v : ℤ) → IsMoved left → IsMoved top →
-    left ≡ pos x +ℤ (u >>ℤ shift) → top ≡ pos y +ℤ (v >>ℤ shift) → fx ≡ low_bits u shift → fy ≡ low_bits v shift → u ≡ mv.x → v ≡ mv.y → (i j : ℕ) →
-    F (to_z w64 (of_z w64 left) +ℤ pos i) (to_z w64 (of_z w64 top) +ℤ pos j) fx fy
+pub vector_at : (shift : ℕ) (F : ℤ → ℤ → ℕ → ℕ → ℕ) (mv : Mv) (x y right down : ℕ) (left top : ℤ) →
+    left ≡ pos x +ℤ (mv.x >>ℤ shift) → top ≡ pos y +ℤ (mv.y >>ℤ shift) → right ≡ low_bits mv.x shift → down ≡ low_bits mv.y shift → (i j : ℕ) →
+    F (left +ℤ pos i) (top +ℤ pos j) right down
     ≡ F (pos (x + i) +ℤ (mv.x >>ℤ shift)) (pos (y + j) +ℤ (mv.y >>ℤ shift)) (low_bits mv.x shift) (low_bits mv.y shift)
-vector_at shift F mv x y fx fy left top u v moved_left moved_top is_left is_top is_fx is_fy across down i j =
-    let column : left +ℤ pos i ≡ pos (x + i) +ℤ (u >>ℤ shift) = omega (arith, ints, is_left) in
-    let row : top +ℤ pos j ≡ pos (y + j) +ℤ (v >>ℤ shift) = omega (arith, ints, is_top) in
-    rw (back_moved left moved_left, back_moved top moved_top, column, row, is_fx, is_fy, across, down) refl
+vector_at shift F mv x y right down left top is_left is_top is_right is_down i j =
+    let column : left +ℤ pos i ≡ pos (x + i) +ℤ (mv.x >>ℤ shift) = omega (arith, ints, is_left) in
+    let row : top +ℤ pos j ≡ pos (y + j) +ℤ (mv.y >>ℤ shift) = omega (arith, ints, is_top) in
+    rw (column, row, is_right, is_down) refl
 
 -- a block between whole samples, from rows that show what is around it
 pub between_at : (s : Wide) (left left' top top' : ℤ) (w h columns lines first stride fx fy : ℕ) (p : List ℕ) → left' ≡ left -ℤ pos 2 → top' ≡ top -ℤ pos 2 →

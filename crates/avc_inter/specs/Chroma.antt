@@ -15,4 +15,5 @@ bilinear s x y p q =
 -- of chroma samples (8.4.1.4, 8.4.2.2.2).
 abbrev pub inter_chroma : (width height : ℕ) → (ℕ → ℕ → ℕ) → Mv → ℕ → ℕ → ℕ
 inter_chroma width height f mv x y =
-    bilinear (clamped width height f) (pos x +ℤ (mv.x >>ℤ 3)) (pos y +ℤ (mv.y >>ℤ 3)) (low_bits mv.x 3) (low_bits mv.y 3)
+    bilinear (clamped width height f) (pos x +ℤ (mv.x >>ℤ 3)) (pos y +ℤ (mv.y >>ℤ 3))
+    (low_bits mv.x 3) (low_bits mv.y 3)

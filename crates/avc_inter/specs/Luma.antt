@@ -1,5 +1,5 @@
--- Luma sample interpolation, ITU-T H.264 clause 8.4.2.2.1. A whole picture is seen as a map that has a sample at every
--- place, those outside being the nearest ones inside: `clamped` of a plane.
+-- Luma sample interpolation, ITU-T H.264 clause 8.4.2.2.1. A whole picture is seen as a map that
+-- has a sample at every place, those outside being the nearest ones inside: `clamped` of a plane.
 use Rattle.std.specs.Prelude.{ℕ, zero, suc, ℤ, pos, ◌+ℤ◌, ◌-ℤ◌, ◌*ℤ◌}
 use Rattle.avc_types.specs.Arithmetic.{◌>>ℤ◌, low_bits, clip1, mean_of_two}
 use Rattle.avc_types.specs.declared.vector.Mv.{Mv}
@@ -87,4 +87,5 @@ quarter s x y fx (suc (suc (suc f))) = at_row_3 s x y fx
 -- (8.4.2.2.1).
 abbrev pub inter_luma : (width height : ℕ) → (ℕ → ℕ → ℕ) → Mv → ℕ → ℕ → ℕ
 inter_luma width height f mv x y =
-    quarter (clamped width height f) (pos x +ℤ (mv.x >>ℤ 2)) (pos y +ℤ (mv.y >>ℤ 2)) (low_bits mv.x 2) (low_bits mv.y 2)
+    quarter (clamped width height f) (pos x +ℤ (mv.x >>ℤ 2)) (pos y +ℤ (mv.y >>ℤ 2))
+    (low_bits mv.x 2) (low_bits mv.y 2)

@@ -1,13 +1,16 @@
 -- The six-tap filter over samples that lie in a list, each a step behind the last.
-use Rattle.std.specs.Prelude.{ℕ, zero, suc, ◌+◌, ◌*◌, ◌/◌, ◌≡◌, ℤ, pos, ◌+ℤ◌, List, slice_index, slice_index_or}
+use Rattle.std.specs.Prelude.{ℕ, zero, suc, ◌+◌, ◌*◌, ◌/◌, ◌≡◌, ℤ, pos, ◌+ℤ◌, List}
+use Rattle.std.specs.Prelude.{slice_index, slice_index_or}
 use Rattle.avc_types.specs.Arithmetic.{◌>>ℤ◌, clip1, mean_of_two}
 use Rattle.avc_inter.specs.Luma.{six_taps}
 use Rattle.avc_inter.specs.declared.bilinear.BilinearWeights.{BilinearWeights}
 
 -- the unrounded sum of six samples, a step apart (8.4.2.2.1)
 abbrev pub taps_along : List ℕ → (at step : ℕ) → ℤ
-taps_along p at step = six_taps (pos (slice_index p at)) (pos (slice_index p (at + step))) (pos (slice_index p (at + 2 * step)))
-    (pos (slice_index p (at + 3 * step))) (pos (slice_index p (at + 4 * step))) (pos (slice_index p (at + 5 * step)))
+taps_along p at step = six_taps
+    (pos (slice_index p at)) (pos (slice_index p (at + step)))
+    (pos (slice_index p (at + 2 * step))) (pos (slice_index p (at + 3 * step)))
+    (pos (slice_index p (at + 4 * step))) (pos (slice_index p (at + 5 * step)))
 
 -- the half sample between the third and the fourth of them (8.4.2.2.1)
 abbrev pub half_along : List ℕ → (at step : ℕ) → ℕ
@@ -19,8 +22,10 @@ rounded_sum sum = clip1 (sum +ℤ pos 16 >>ℤ 5)
 
 -- over unrounded sums
 abbrev pub sums_along : List ℤ → (at step : ℕ) → ℤ
-sums_along m at step = six_taps (slice_index_or m at (pos 0)) (slice_index_or m (at + step) (pos 0)) (slice_index_or m (at + 2 * step) (pos 0))
-    (slice_index_or m (at + 3 * step) (pos 0)) (slice_index_or m (at + 4 * step) (pos 0)) (slice_index_or m (at + 5 * step) (pos 0))
+sums_along m at step = six_taps
+    (slice_index_or m at (pos 0)) (slice_index_or m (at + step) (pos 0))
+    (slice_index_or m (at + 2 * step) (pos 0)) (slice_index_or m (at + 3 * step) (pos 0))
+    (slice_index_or m (at + 4 * step) (pos 0)) (slice_index_or m (at + 5 * step) (pos 0))
 
 -- the half sample j, from six unrounded sums (8.4.2.2.1)
 abbrev pub centre_along : List ℤ → (at step : ℕ) → ℕ
@@ -60,8 +65,12 @@ m_of p stride k = half_along p (3 + k) stride
 
 -- j, in the middle of four samples
 abbrev pub j_of : List ℕ → (stride k : ℕ) → ℕ
-j_of p stride k = clip1 (six_taps (taps_along p k 1) (taps_along p (k + stride) 1) (taps_along p (k + 2 * stride) 1)
-    (taps_along p (k + 3 * stride) 1) (taps_along p (k + 4 * stride) 1) (taps_along p (k + 5 * stride) 1) +ℤ pos 512 >>ℤ 10)
+j_of p stride k =
+    clip1 (six_taps
+    (taps_along p k 1) (taps_along p (k + stride) 1)
+    (taps_along p (k + 2 * stride) 1) (taps_along p (k + 3 * stride) 1)
+    (taps_along p (k + 4 * stride) 1) (taps_along p (k + 5 * stride) 1)
+    +ℤ pos 512 >>ℤ 10)
 
 -- the sixteen positions by the fraction of x, for each fraction of y, as in `quarter`
 abbrev pub row_0_of : List ℕ → (stride k fx : ℕ) → ℕ
@@ -101,7 +110,8 @@ quarter_of p stride k fx (suc (suc (suc f))) = row_3_of p stride k fx
 -- by four weights, the mean of a sample, that right of it and the two below them
 abbrev pub blend_of : BilinearWeights → List ℕ → (stride k : ℕ) → ℕ
 blend_of w p stride k =
-    (w.here * slice_index p k + w.right * slice_index p (k + 1) + w.below * slice_index p (k + stride) + w.across * slice_index p (k + stride + 1) + 32) / 64
+    (w.here * slice_index p k + w.right * slice_index p (k + 1)
+    + w.below * slice_index p (k + stride) + w.across * slice_index p (k + stride + 1) + 32) / 64
 
 -- the weights are 64 together
 pub record IsWhole (w : BilinearWeights) : Type 0 where

@@ -1,9 +1,17 @@
 -- The six-tap filter over six rows of samples.
-use Rattle.std.specs.Prelude.{ℕ, ◌+◌, ◌*◌, ◌/◌, ◌%◌, ◌<◌, ◌≤◌, ◌≡◌, ℤ, pos, ◌+ℤ◌, List, length, slice_index, slice_index_or}
+use Rattle.std.specs.Prelude.{ℕ, ◌+◌, ◌*◌, ◌/◌, ◌%◌, ◌<◌, ◌≤◌, ◌≡◌, ℤ, pos, ◌+ℤ◌, List, length}
+use Rattle.std.specs.Prelude.{slice_index, slice_index_or}
 use Rattle.avc_types.specs.Arithmetic.{◌>>ℤ◌, clip1}
 use Rattle.avc_samples.specs.Sums.{AreSums}
 use Rattle.avc_inter.specs.Luma.{six_taps}
 use Rattle.avc_inter.specs.Patch.{taps_along}
+
+-- a row has sixteen samples by a function of their number, and sixteen unrounded sums
+abbrev pub AreSixteen : List ℕ → (f : ℕ → ℕ) → Type 0
+AreSixteen row f = (k : ℕ) → k < 16 → slice_index row k ≡ f k
+
+abbrev pub AreSixteenSums : List ℤ → (f : ℕ → ℤ) → Type 0
+AreSixteenSums row f = (k : ℕ) → k < 16 → slice_index_or row k (pos 0) ≡ f k
 
 -- where sample k of a block of so many columns is behind its first one, in rows that begin a stride
 -- apart
@@ -23,7 +31,8 @@ pub record AreLanes (columns : ℕ) : Type 0 where
 -- so many times sixteen samples of a block from this place on are there, five rows more, and five
 -- columns right of them
 abbrev pub HasRoom : (columns stride count at : ℕ) → List ℕ → Type 0
-HasRoom columns stride count at p = HasPlaces columns stride (16 * (count + (5 * columns + 15) / 16)) (at + 5) p
+HasRoom columns stride count at p =
+    HasPlaces columns stride (16 * (count + (5 * columns + 15) / 16)) (at + 5) p
 
 -- the unrounded sum at place k of the rows (8.4.2.2.1)
 abbrev pub taps_of : (e f g h i j : List ℕ) → ℕ → ℤ
@@ -38,10 +47,14 @@ half_of e f g h i j k = clip1 (taps_of e f g h i j k +ℤ pos 16 >>ℤ 5)
 -- the half sample j of six rows of unrounded sums
 abbrev pub centre_of : (e f g h i j : List ℤ) → ℕ → ℕ
 centre_of e f g h i j k =
-    clip1 (six_taps (slice_index_or e k (pos 0)) (slice_index_or f k (pos 0)) (slice_index_or g k (pos 0))
-    (slice_index_or h k (pos 0)) (slice_index_or i k (pos 0)) (slice_index_or j k (pos 0)) +ℤ pos 512 >>ℤ 10)
+    clip1 (six_taps
+    (slice_index_or e k (pos 0)) (slice_index_or f k (pos 0)) (slice_index_or g k (pos 0))
+    (slice_index_or h k (pos 0)) (slice_index_or i k (pos 0)) (slice_index_or j k (pos 0))
+    +ℤ pos 512 >>ℤ 10)
 
--- the first n numbers are the unrounded sums of the first n samples of a block whose first one is at this place (8.4.2.2.1)
+-- the first n numbers are the unrounded sums of the first n samples of a block whose first one is
+-- at this place (8.4.2.2.1)
 pub record AreSumsOf (columns stride n at : ℕ) (p : List ℕ) (m : List ℤ) : Type 0 where
-  pub value : (k : ℕ) → k < n → slice_index_or m k (pos 0) ≡ taps_along p (at + place_of columns stride k) 1
+  pub value : (k : ℕ) → k < n →
+      slice_index_or m k (pos 0) ≡ taps_along p (at + place_of columns stride k) 1
   pub small : AreSums n m

@@ -1,13 +1,12 @@
 //! Samples between whole ones, laid into rows (8.4.2.2.1).
 
-ghost use Rattle.std.specs.Prelude.{◌≡◌, ℕ, ◌+◌, ◌*◌, ◌/◌, ◌<◌, ◌≤◌, ◌^◌, pos, ◌+ℤ◌, length};
-ghost use Rattle.avc_plane.specs.Plane.{sample, clamped};
-ghost use Rattle.avc_plane.specs.Strided.{IsRoom, IsStridedSet};
-ghost use Rattle.avc_inter.specs.Luma.{quarter};
-ghost use Rattle.avc_inter.specs.Bounds.{IsMoved};
-ghost use Rattle.avc_inter.specs.SixRows.{AreLanes};
+ghost use Rattle.std.specs.Prelude.{◌≡◌, ◌+◌, ◌*◌, ◌/◌, ◌<◌, ◌≤◌, ◌^◌};
+ghost use Rattle.avc_inter.specs.Laid.{HasRows, IsLaid};
+ghost use Rattle.avc_inter.specs.Moved.{quarters_from};
 
 use crate::positions::{count_around, quarters};
+use crate::target::Target;
+use crate::vector::{MovedPlace, Quarters};
 use avc_plane::{PaddedPlane, RowsPlace};
 use avc_samples::{fetch_held, find_within};
 
@@ -16,31 +15,26 @@ use avc_samples::{fetch_held, find_within};
 #[inline(never)]
 fn lay_far<const L: usize, const W: usize, const PAD: usize, const P: usize>(
     reference: &PaddedPlane<PAD>,
-    left: i64,
-    top: i64,
+    at: MovedPlace,
+    beyond: Quarters,
     count: usize,
-    fx: u8,
-    fy: u8,
     out: &mut [u8],
-    to: RowsPlace,
+    to: Target<L, W>,
 )
-    requires lanes { AreLanes L }
-    requires columns { W ≤ L }
     requires low { count ≤ 16 }
-    requires left { IsMoved left }
-    requires top { IsMoved top }
     requires patch { (16 / L * (count + (5 * L + 15) / 16) * (L + 5) ≤ P) × (P < 65536) }
-    requires fx { fx < 4 }
-    requires fy { fy < 4 }
-    requires apart { W ≤ to.stride }
-    requires room { IsRoom W (16 / L * count) to.first to.stride (length out.old) }
-    ensures { IsStridedSet W (16 / L * count) to.first to.stride
-        (λ i j. quarter (clamped reference.now.width reference.now.height (sample reference.now)) (left +ℤ pos i) (top +ℤ pos j) fx fy) out.old out.new }
+    requires room { HasRows W (16 / L * count) to.rows out.old }
+    ensures { IsLaid W (16 / L * count) to.entry.rows
+        (quarters_from reference.now at beyond) out.old out.new }
 {
     let mut patch = [0; P];
     let lines = 16 / L * count_around(L, count);
-    fetch_held(reference, left - 2, top - 2, L + 5, lines, &mut patch);
-    quarters::<L, W>(&patch, 0, L + 5, count, fx, fy, out, to);
+    fetch_held(reference, at.left - 2, at.top - 2, L + 5, lines, &mut patch);
+    let from = RowsPlace {
+        first: 0,
+        stride: L + 5,
+    };
+    quarters::<L, W>(&patch, from, count, beyond, out, to);
 }
 
 /// Lays the samples between whole ones, in rows of L columns of which W are wanted: `count` times
@@ -48,39 +42,23 @@ fn lay_far<const L: usize, const W: usize, const PAD: usize, const P: usize>(
 #[inline(always)]
 pub fn lay_between<const L: usize, const W: usize, const PAD: usize, const P: usize>(
     reference: &PaddedPlane<PAD>,
-    left: i64,
-    top: i64,
+    at: MovedPlace,
+    beyond: Quarters,
     count: usize,
-    fx: u8,
-    fy: u8,
     out: &mut [u8],
-    to: RowsPlace,
+    to: Target<L, W>,
 )
-    requires lanes { AreLanes L }
-    requires columns { W ≤ L }
     requires low { count ≤ 16 }
-    requires left { IsMoved left }
-    requires top { IsMoved top }
     requires patch { (16 / L * (count + (5 * L + 15) / 16) * (L + 5) ≤ P) × (P < 65536) }
-    requires fx { fx < 4 }
-    requires fy { fy < 4 }
-    requires apart { W ≤ to.stride }
-    requires room { IsRoom W (16 / L * count) to.first to.stride (length out.old) }
-    ensures { IsStridedSet W (16 / L * count) to.first to.stride
-        (λ i j. quarter (clamped reference.now.width reference.now.height (sample reference.now)) (left +ℤ pos i) (top +ℤ pos j) fx fy) out.old out.new }
+    requires room { HasRows W (16 / L * count) to.rows out.old }
+    ensures { IsLaid W (16 / L * count) to.entry.rows
+        (quarters_from reference.now at beyond) out.old out.new }
 {
     let lines = 16 / L * count_around(L, count);
-    match find_within(reference, left - 2, top - 2, L + 5, lines) {
-        Some(at) => quarters::<L, W>(
-            reference.padded_rows(),
-            at.first,
-            at.stride,
-            count,
-            fx,
-            fy,
-            out,
-            to,
-        ),
-        None => lay_far::<L, W, PAD, P>(reference, left, top, count, fx, fy, out, to),
+    match find_within(reference, at.left - 2, at.top - 2, L + 5, lines) {
+        Some(from) => {
+            quarters::<L, W>(reference.padded_rows(), from, count, beyond, out, to);
+        }
+        None => lay_far::<L, W, PAD, P>(reference, at, beyond, count, out, to),
     }
 }

@@ -1,12 +1,14 @@
 //! Weighted means of four neighbouring samples (8.4.2.2.2).
 
 ghost use Rattle.std.specs.Prelude.{◌≡◌, ℕ, ◌+◌, ◌-◌, ◌*◌, ◌/◌, ◌^◌, ◌<◌, ◌≤◌, length, slice_index};
-ghost use Rattle.avc_plane.specs.Strided.{IsRoom, IsStridedSet};
 ghost use Rattle.avc_inter.specs.Patch.{blend_of, IsWhole};
-ghost use Rattle.avc_inter.specs.SixRows.{place_of, AreLanes, HasPlaces};
+ghost use Rattle.avc_inter.specs.SixRows.{place_of, AreLanes, HasPlaces, AreSixteen};
+ghost use Rattle.avc_inter.specs.Laid.{sample_place, HasRows, IsLaid};
 
 use crate::row::{multiples, sums, widened};
 use crate::rows::{put_rows, sixteen};
+use crate::target::Target;
+use crate::vector::Eighths;
 use avc_plane::RowsPlace;
 
 /// The weights in 64ths of a sample, that right of it, that below it and that across, which are 64
@@ -21,17 +23,15 @@ pub struct BilinearWeights {
 
 impl BilinearWeights {
     /// By the eighths to the right and down.
-    pub fn new(right: u8, down: u8) -> BilinearWeights
-        requires right { right < 8 }
-        requires down { down < 8 }
-        ensures here { result.here ≡ (8 - right) * (8 - down) }
-        ensures right { result.right ≡ right * (8 - down) }
-        ensures below { result.below ≡ (8 - right) * down }
-        ensures across { result.across ≡ right * down }
+    pub fn new(beyond: Eighths) -> BilinearWeights
+        ensures here { result.here ≡ (8 - beyond.right) * (8 - beyond.down) }
+        ensures right { result.right ≡ beyond.right * (8 - beyond.down) }
+        ensures below { result.below ≡ (8 - beyond.right) * beyond.down }
+        ensures across { result.across ≡ beyond.right * beyond.down }
         ensures whole { IsWhole result }
     {
-        let right = u16::from(right);
-        let down = u16::from(down);
+        let right = beyond.right;
+        let down = beyond.down;
         BilinearWeights {
             here: (8 - right) * (8 - down),
             right: right * (8 - down),
@@ -101,7 +101,7 @@ fn blend_row<const L: usize>(p: &[u8], at: usize, stride: usize, w: BilinearWeig
     requires weights { IsWhole w }
     requires lanes { AreLanes L }
     requires samples { HasPlaces L stride 16 (at + stride + 1) p.now }
-    ensures { (k : ℕ) → k < 16 → slice_index result k ≡ blend_of w p.now stride (at + place_of L stride k) }
+    ensures { AreSixteen result (λ k. blend_of w p.now stride (at + place_of L stride k)) }
 {
     let here = sixteen::<L>(p, at, stride);
     let right = sixteen::<L>(p, at + 1, stride);
@@ -114,26 +114,22 @@ fn blend_row<const L: usize>(p: &[u8], at: usize, stride: usize, w: BilinearWeig
 #[inline(always)]
 pub fn blend_rows<const L: usize, const W: usize>(
     p: &[u8],
-    at: usize,
-    stride: usize,
+    from: RowsPlace,
     count: usize,
     w: BilinearWeights,
     out: &mut [u8],
-    to: RowsPlace,
+    to: Target<L, W>,
 )
     requires weights { IsWhole w }
-    requires lanes { AreLanes L }
-    requires narrow { stride < 2 ^ 32 }
-    requires columns { W ≤ L }
-    requires apart { W ≤ to.stride }
-    requires room { IsRoom W (16 / L * count) to.first to.stride (length out.old) }
-    requires samples { HasPlaces L stride (16 * count) (at + stride + 1) p.now }
-    ensures { IsStridedSet W (16 / L * count) to.first to.stride (λ x y. blend_of w p.now stride (at + (y * stride + x))) out.old out.new }
+    requires room { HasRows W (16 / L * count) to.rows out.old }
+    requires samples { HasPlaces L from.stride (16 * count) (from.first + from.stride + 1) p.now }
+    ensures { IsLaid W (16 / L * count) to.entry.rows
+        (λ x y. blend_of w p.now from.stride (sample_place from x y)) out.old out.new }
 {
-    let lines = 16 / L * stride;
-    let rows = 16 / L * to.stride;
+    let lines = 16 / L * from.stride;
+    let rows = 16 / L * to.rows.stride;
     for y in 0..count {
-        let row = blend_row::<L>(p, at + y * lines, stride, w);
-        put_rows::<L, W>(out, to.first + y * rows, to.stride, &row);
+        let row = blend_row::<L>(p, from.first + y * lines, from.stride, w);
+        put_rows::<L, W>(out, to.rows.first + y * rows, to.rows.stride, &row);
     }
 }

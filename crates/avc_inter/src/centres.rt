@@ -1,23 +1,24 @@
 //! The half samples j, in the middle of four samples, and their means with others (8.4.2.2.1).
 //!
 //! Sixteen of them ask for six rows of unrounded sums. These lie one behind the other in a window,
-//! which moves on by sixteen sums at a time: it is small enough for the registers of a processor, so
-//! the sums of a block are stored nowhere. L, W, `stride`, `count` and `to` are as in `rows`; `at` is
-//! the place two rows above the block's first sample and two columns left of it.
+//! which moves on by sixteen sums at a time: it is small enough for the registers of a processor,
+//! so the sums of a block are stored nowhere. L, W, `count` and `to` are as in `rows`; `from`
+//! begins two rows above the block's first sample and two columns left of it.
 
 ghost use Rattle.std.specs.Prelude.{◌≡◌, ℕ, ◌+◌, ◌*◌, ◌/◌, ◌<◌, ◌≤◌, ◌^◌, pos, length, slice_index};
 ghost use Rattle.std.specs.Prelude.{slice_index_or};
 ghost use Rattle.avc_types.specs.Arithmetic.{mean_of_two};
-ghost use Rattle.avc_plane.specs.Strided.{IsRoom, IsStridedSet};
 ghost use Rattle.avc_samples.specs.Bounds.{IsSum};
 ghost use Rattle.avc_samples.specs.Sums.{AreSums};
 ghost use Rattle.avc_inter.specs.Patch.{taps_along, half_along, centre_along, rounded_sum, j_of};
 ghost use Rattle.avc_inter.specs.SixRows.{place_of, HasPlaces, HasRoom, AreLanes, taps_of};
-ghost use Rattle.avc_inter.specs.SixRows.{centre_of, AreSumsOf};
+ghost use Rattle.avc_inter.specs.SixRows.{centre_of, AreSumsOf, AreSixteen, AreSixteenSums};
+ghost use Rattle.avc_inter.specs.Laid.{sample_place, HasRows, IsLaid};
 
 use crate::row::{multiples, narrow_differences, sums, widened};
 use crate::rows::{half_row, means_of, put_rows, sixteen};
 use crate::taps::{centre, rounded_half};
+use crate::target::Target;
 use avc_plane::RowsPlace;
 use avc_samples::{move_on, put_sums, sixteen_sums};
 
@@ -31,7 +32,7 @@ fn sums_of(
     i: &[u8; 16],
     j: &[u8; 16],
 ) -> [i16; 16]
-    ensures value { (k : ℕ) → k < 16 → slice_index_or result k (pos 0) ≡ taps_of e.now f.now g.now h.now i.now j.now k }
+    ensures value { AreSixteenSums result (taps_of e.now f.now g.now h.now i.now j.now) }
     ensures small { (k : ℕ) → k < 16 → IsSum (slice_index_or result k (pos 0)) }
 {
     let outer = sums(widened(e.as_slice(), 0), widened(j.as_slice(), 0));
@@ -45,7 +46,7 @@ fn sums_of(
 fn sum_row<const L: usize>(p: &[u8], at: usize, stride: usize) -> [i16; 16]
     requires lanes { AreLanes L }
     requires samples { HasPlaces L stride 16 (at + 5 * 1) p.now }
-    ensures value { (k : ℕ) → k < 16 → slice_index_or result k (pos 0) ≡ taps_along p.now (at + place_of L stride k) 1 }
+    ensures value { AreSixteenSums result (λ k. taps_along p.now (at + place_of L stride k) 1) }
     ensures small { (k : ℕ) → k < 16 → IsSum (slice_index_or result k (pos 0)) }
 {
     let e = sixteen::<L>(p, at, stride);
@@ -107,7 +108,7 @@ fn centres_of(
     requires h { AreSums 16 h.now }
     requires i { AreSums 16 i.now }
     requires j { AreSums 16 j.now }
-    ensures { (k : ℕ) → k < 16 → slice_index result k ≡ centre_of e.now f.now g.now h.now i.now j.now k }
+    ensures { AreSixteen result (centre_of e.now f.now g.now h.now i.now j.now) }
 {
     let (e, f, g, h, i, j) = (*e, *f, *g, *h, *i, *j);
     let mut out = [0; 16];
@@ -122,7 +123,7 @@ fn centres_of(
 fn centre_row(window: &[i16; 96], at: usize, step: usize) -> [u8; 16]
     requires few { at + 5 * step + 16 ≤ 96 }
     requires small { AreSums (at + 5 * step + 16) window.now }
-    ensures { (k : ℕ) → k < 16 → slice_index result k ≡ centre_along window.now (at + k) step }
+    ensures { AreSixteen result (λ k. centre_along window.now (at + k) step) }
 {
     let e = sixteen_sums(window, at);
     let f = sixteen_sums(window, at + step);
@@ -133,8 +134,8 @@ fn centre_row(window: &[i16; 96], at: usize, step: usize) -> [u8; 16]
     centres_of(&e, &f, &g, &h, &i, &j)
 }
 
-/// Sixteen half samples j, whose first one is at this place. The window has the sums of five rows, and
-/// gets the next sixteen.
+/// Sixteen half samples j, whose first one is at this place. The window has the sums of five rows,
+/// and gets the next sixteen.
 #[inline(always)]
 fn middle_row<const L: usize>(
     p: &[u8],
@@ -146,7 +147,7 @@ fn middle_row<const L: usize>(
     requires narrow { stride < 2 ^ 32 }
     requires samples { HasPlaces L stride (16 * ((5 * L + 15) / 16 + 1)) (at + 5) p.now }
     requires sums { AreSumsOf L stride (16 * ((5 * L + 15) / 16)) at p.now window.old }
-    ensures row { (k : ℕ) → k < 16 → slice_index result k ≡ j_of p.now stride (at + place_of L stride k) }
+    ensures row { AreSixteen result (λ k. j_of p.now stride (at + place_of L stride k)) }
     ensures sums { AreSumsOf L stride (16 * ((5 * L + 15) / 16 + 1)) at p.now window.new }
 {
     put_sum_row::<L>(p, at, stride, window, (5 * L + 15) / 16);
@@ -158,7 +159,7 @@ fn middle_row<const L: usize>(
 fn rounded_row(window: &[i16; 96], at: usize) -> [u8; 16]
     requires few { at + 16 ≤ 96 }
     requires small { AreSums (at + 16) window.now }
-    ensures { (k : ℕ) → k < 16 → slice_index result k ≡ rounded_sum (slice_index_or window.now (at + k) (pos 0)) }
+    ensures { AreSixteen result (λ k. rounded_sum (slice_index_or window.now (at + k) (pos 0))) }
 {
     let sums = sixteen_sums(window, at);
     let mut out = [0; 16];
@@ -172,95 +173,83 @@ fn rounded_row(window: &[i16; 96], at: usize) -> [u8; 16]
 #[inline(always)]
 pub fn centre_rows<const L: usize, const W: usize>(
     p: &[u8],
-    at: usize,
-    stride: usize,
+    from: RowsPlace,
     count: usize,
     out: &mut [u8],
-    to: RowsPlace,
+    to: Target<L, W>,
 )
-    requires lanes { AreLanes L }
-    requires narrow { stride < 2 ^ 32 }
-    requires columns { W ≤ L }
-    requires apart { W ≤ to.stride }
-    requires room { IsRoom W (16 / L * count) to.first to.stride (length out.old) }
-    requires samples { HasRoom L stride count at p.now }
-    ensures { IsStridedSet W (16 / L * count) to.first to.stride (λ x y. j_of p.now stride (at + (y * stride + x))) out.old out.new }
+    requires room { HasRows W (16 / L * count) to.rows out.old }
+    requires samples { HasRoom L from.stride count from.first p.now }
+    ensures { IsLaid W (16 / L * count) to.entry.rows
+        (λ x y. j_of p.now from.stride (sample_place from x y)) out.old out.new }
 {
-    let lines = 16 / L * stride;
-    let rows = 16 / L * to.stride;
+    let lines = 16 / L * from.stride;
+    let rows = 16 / L * to.rows.stride;
     let mut window = [0; 96];
-    begin::<L>(p, at, stride, &mut window);
+    begin::<L>(p, from.first, from.stride, &mut window);
     for y in 0..count {
-        let row = middle_row::<L>(p, at + y * lines, stride, &mut window);
-        put_rows::<L, W>(out, to.first + y * rows, to.stride, &row);
+        let row = middle_row::<L>(p, from.first + y * lines, from.stride, &mut window);
+        put_rows::<L, W>(out, to.rows.first + y * rows, to.rows.stride, &row);
         move_on::<L>(&mut window);
     }
 }
 
-/// The means of j and of b or s, whose samples are `down` rows further down than `at`.
+/// The means of j and of b or s, whose samples are `down` rows further down than its place.
 #[inline(always)]
 pub fn centre_rows_across<const L: usize, const W: usize>(
     p: &[u8],
-    at: usize,
+    from: RowsPlace,
     down: usize,
-    stride: usize,
     count: usize,
     out: &mut [u8],
-    to: RowsPlace,
+    to: Target<L, W>,
 )
-    requires lanes { AreLanes L }
-    requires narrow { stride < 2 ^ 32 }
-    requires columns { W ≤ L }
-    requires apart { W ≤ to.stride }
-    requires room { IsRoom W (16 / L * count) to.first to.stride (length out.old) }
-    requires samples { HasRoom L stride count at p.now }
+    requires room { HasRows W (16 / L * count) to.rows out.old }
+    requires samples { HasRoom L from.stride count from.first p.now }
     requires down { down ≤ 5 }
-    ensures { IsStridedSet W (16 / L * count) to.first to.stride
-        (λ x y. mean_of_two (j_of p.now stride (at + (y * stride + x))) (half_along p.now (down * stride + (at + (y * stride + x))) 1)) out.old out.new }
+    ensures { IsLaid W (16 / L * count) to.entry.rows
+        (λ x y. mean_of_two (j_of p.now from.stride (sample_place from x y))
+        (half_along p.now (down * from.stride + sample_place from x y) 1)) out.old out.new }
 {
-    let lines = 16 / L * stride;
-    let rows = 16 / L * to.stride;
+    let lines = 16 / L * from.stride;
+    let rows = 16 / L * to.rows.stride;
     let mut window = [0; 96];
-    begin::<L>(p, at, stride, &mut window);
+    begin::<L>(p, from.first, from.stride, &mut window);
     for y in 0..count {
-        let middle = middle_row::<L>(p, at + y * lines, stride, &mut window);
+        let middle = middle_row::<L>(p, from.first + y * lines, from.stride, &mut window);
         let half = rounded_row(&window, down * L);
         let row = means_of(&middle, &half);
-        put_rows::<L, W>(out, to.first + y * rows, to.stride, &row);
+        put_rows::<L, W>(out, to.rows.first + y * rows, to.rows.stride, &row);
         move_on::<L>(&mut window);
     }
 }
 
-/// The means of j and of h or m, whose six samples begin `by` behind place `at`.
+/// The means of j and of h or m, whose six samples begin `by` behind its place.
 #[inline(always)]
 pub fn centre_rows_down<const L: usize, const W: usize>(
     p: &[u8],
-    at: usize,
+    from: RowsPlace,
     by: usize,
-    stride: usize,
     count: usize,
     out: &mut [u8],
-    to: RowsPlace,
+    to: Target<L, W>,
 )
-    requires lanes { AreLanes L }
-    requires narrow { stride < 2 ^ 32 }
-    requires columns { W ≤ L }
-    requires apart { W ≤ to.stride }
-    requires room { IsRoom W (16 / L * count) to.first to.stride (length out.old) }
-    requires samples { HasRoom L stride count at p.now }
-    requires down { HasPlaces L stride (16 * count) (at + by + 5 * stride) p.now }
-    ensures { IsStridedSet W (16 / L * count) to.first to.stride
-        (λ x y. mean_of_two (j_of p.now stride (at + (y * stride + x))) (half_along p.now (by + (at + (y * stride + x))) stride)) out.old out.new }
+    requires room { HasRows W (16 / L * count) to.rows out.old }
+    requires samples { HasRoom L from.stride count from.first p.now }
+    requires down { HasPlaces L from.stride (16 * count) (from.first + by + 5 * from.stride) p.now }
+    ensures { IsLaid W (16 / L * count) to.entry.rows
+        (λ x y. mean_of_two (j_of p.now from.stride (sample_place from x y))
+        (half_along p.now (by + sample_place from x y) from.stride)) out.old out.new }
 {
-    let lines = 16 / L * stride;
-    let rows = 16 / L * to.stride;
+    let lines = 16 / L * from.stride;
+    let rows = 16 / L * to.rows.stride;
     let mut window = [0; 96];
-    begin::<L>(p, at, stride, &mut window);
+    begin::<L>(p, from.first, from.stride, &mut window);
     for y in 0..count {
-        let middle = middle_row::<L>(p, at + y * lines, stride, &mut window);
-        let half = half_row::<L>(p, at + by + y * lines, stride, stride);
+        let middle = middle_row::<L>(p, from.first + y * lines, from.stride, &mut window);
+        let half = half_row::<L>(p, from.first + by + y * lines, from.stride, from.stride);
         let row = means_of(&middle, &half);
-        put_rows::<L, W>(out, to.first + y * rows, to.stride, &row);
+        put_rows::<L, W>(out, to.rows.first + y * rows, to.rows.stride, &row);
         move_on::<L>(&mut window);
     }
 }

@@ -4,11 +4,13 @@
 //! once, for the samples above it and for those below it.
 
 ghost use Rattle.std.specs.Prelude.{◌≡◌, ℕ, ◌+◌, ◌*◌, ◌<◌, ◌≤◌, length, slice_index};
-ghost use Rattle.avc_plane.specs.Strided.{IsRoom, IsStridedSet};
-ghost use Rattle.avc_inter.specs.Eighths.{share_of, rounded_share, eighth_at, AreAlong, IsLineSet};
+ghost use Rattle.avc_inter.specs.Eighths.{share_of, rounded_share, eighth_at, AreAlong, AreShares};
+ghost use Rattle.avc_inter.specs.Eighths.{IsLineSet};
+ghost use Rattle.avc_inter.specs.Laid.{sample_place, HasRows, HasRowsAround, IsLaid};
 
+use crate::both::{BothPlaces, BothTargets};
 use crate::rows::{load, put_row};
-use avc_plane::RowsPlace;
+use crate::vector::Eighths;
 
 /// Between two samples, in eighths.
 #[inline(always)]
@@ -49,8 +51,9 @@ fn eight_of_both(cb: &[u8], i: usize, cr: &[u8], j: usize) -> [u8; 16]
 #[inline(always)]
 fn shares_of(by: u16, first: &[u8; 16], second: &[u8; 16]) -> [u16; 16]
     requires { by < 8 }
-    ensures value { (k : ℕ) → k < 16 → slice_index result k ≡ share_of by (slice_index first.now k) (slice_index second.now k) }
-    ensures small { (k : ℕ) → k < 16 → slice_index result k ≤ 2040 }
+    ensures value { (k : ℕ) → k < 16 →
+        slice_index result k ≡ share_of by (slice_index first.now k) (slice_index second.now k) }
+    ensures small { AreShares result }
 {
     let (first, second) = (*first, *second);
     let mut out = [0; 16];
@@ -64,9 +67,11 @@ fn shares_of(by: u16, first: &[u8; 16], second: &[u8; 16]) -> [u16; 16]
 #[inline(always)]
 fn rounded_shares_of(by: u16, first: &[u16; 16], second: &[u16; 16]) -> [u8; 16]
     requires by { by < 8 }
-    requires first { (k : ℕ) → k < 16 → slice_index first.now k ≤ 2040 }
-    requires second { (k : ℕ) → k < 16 → slice_index second.now k ≤ 2040 }
-    ensures { (k : ℕ) → k < 16 → slice_index result k ≡ rounded_share by (slice_index first.now k) (slice_index second.now k) }
+    requires first { AreShares first.now }
+    requires second { AreShares second.now }
+    ensures { (k : ℕ) → k < 16 →
+        slice_index result k
+        ≡ rounded_share by (slice_index first.now k) (slice_index second.now k) }
 {
     let (first, second) = (*first, *second);
     let mut out = [0; 16];
@@ -78,21 +83,15 @@ fn rounded_shares_of(by: u16, first: &[u16; 16], second: &[u16; 16]) -> [u8; 16]
 
 /// Row n of both, blended along itself.
 #[inline(always)]
-fn along_row(
-    cb: &[u8],
-    from_cb: RowsPlace,
-    cr: &[u8],
-    from_cr: RowsPlace,
-    n: usize,
-    right: u16,
-) -> [u16; 16]
+fn along_row(cb: &[u8], cr: &[u8], from: BothPlaces, n: usize, right: u16) -> [u16; 16]
     requires right { right < 8 }
-    requires cb { from_cb.first + n * from_cb.stride + 9 ≤ length cb.now }
-    requires cr { from_cr.first + n * from_cr.stride + 9 ≤ length cr.now }
-    ensures { AreAlong right cb.now (from_cb.first + n * from_cb.stride) cr.now (from_cr.first + n * from_cr.stride) result }
+    requires cb { from.cb.first + n * from.cb.stride + 9 ≤ length cb.now }
+    requires cr { from.cr.first + n * from.cr.stride + 9 ≤ length cr.now }
+    ensures { AreAlong right cb.now (from.cb.first + n * from.cb.stride)
+        cr.now (from.cr.first + n * from.cr.stride) result }
 {
-    let i = from_cb.first + n * from_cb.stride;
-    let j = from_cr.first + n * from_cr.stride;
+    let i = from.cb.first + n * from.cb.stride;
+    let j = from.cr.first + n * from.cr.stride;
     let here = eight_of_both(cb, i, cr, j);
     let next = eight_of_both(cb, i + 1, cr, j + 1);
     shares_of(right, &here, &next)
@@ -106,71 +105,54 @@ fn lay_line<const W: usize>(
     below: &[u16; 16],
     n: usize,
     cb: &mut [u8],
-    to_cb: RowsPlace,
     cr: &mut [u8],
-    to_cr: RowsPlace,
+    to: BothTargets<W>,
 )
-    requires columns { W ≤ 8 }
     requires down { down < 8 }
-    requires above { (k : ℕ) → k < 16 → slice_index above.now k ≤ 2040 }
-    requires below { (k : ℕ) → k < 16 → slice_index below.now k ≤ 2040 }
-    requires cb { to_cb.first + n * to_cb.stride + W ≤ length cb.old }
-    requires cr { to_cr.first + n * to_cr.stride + W ≤ length cr.old }
-    ensures cb { IsLineSet W (to_cb.first + n * to_cb.stride)
-        (λ x. rounded_share down (slice_index above.now x) (slice_index below.now x)) cb.old cb.new }
-    ensures cr { IsLineSet W (to_cr.first + n * to_cr.stride)
-        (λ x. rounded_share down (slice_index above.now (8 + x)) (slice_index below.now (8 + x))) cr.old cr.new }
+    requires above { AreShares above.now }
+    requires below { AreShares below.now }
+    requires cb { to.cb.first + n * to.cb.stride + W ≤ length cb.old }
+    requires cr { to.cr.first + n * to.cr.stride + W ≤ length cr.old }
+    ensures cb { IsLineSet W (to.entry.cb.first + n * to.entry.cb.stride)
+        (λ x. rounded_share down (slice_index above.now x) (slice_index below.now x))
+        cb.old cb.new }
+    ensures cr { IsLineSet W (to.entry.cr.first + n * to.entry.cr.stride)
+        (λ x. rounded_share down (slice_index above.now (8 + x)) (slice_index below.now (8 + x)))
+        cr.old cr.new }
 {
     let row = rounded_shares_of(down, above, below);
-    put_row::<W>(cb, to_cb.first + n * to_cb.stride, &row, 0);
-    put_row::<W>(cr, to_cr.first + n * to_cr.stride, &row, 8);
+    put_row::<W>(cb, to.cb.first + n * to.cb.stride, &row, 0);
+    put_row::<W>(cr, to.cr.first + n * to.cr.stride, &row, 8);
 }
 
 /// Lays the samples of both between whole ones, two rows at a time.
 #[inline(always)]
 pub fn lay_both<const W: usize>(
     cb: &[u8],
-    from_cb: RowsPlace,
     cr: &[u8],
-    from_cr: RowsPlace,
-    right: u16,
-    down: u16,
-    pairs: usize,
+    from: BothPlaces,
+    beyond: Eighths,
     out_cb: &mut [u8],
-    to_cb: RowsPlace,
     out_cr: &mut [u8],
-    to_cr: RowsPlace,
+    to: BothTargets<W>,
 )
-    requires columns { W ≤ 8 }
-    requires right { right < 8 }
-    requires down { down < 8 }
-    requires few { pairs ≤ 4 }
-    requires cb { (n : ℕ) → n < 2 * pairs + 1 → from_cb.first + n * from_cb.stride + 9 ≤ length cb.now }
-    requires cr { (n : ℕ) → n < 2 * pairs + 1 → from_cr.first + n * from_cr.stride + 9 ≤ length cr.now }
-    requires apart_cb { W ≤ to_cb.stride }
-    requires apart_cr { W ≤ to_cr.stride }
-    requires room_cb { IsRoom W (2 * pairs) to_cb.first to_cb.stride (length out_cb.old) }
-    requires room_cr { IsRoom W (2 * pairs) to_cr.first to_cr.stride (length out_cr.old) }
-    ensures cb { IsStridedSet W (2 * pairs) to_cb.first to_cb.stride
-        (λ x y. eighth_at right down from_cb.stride cb.now (from_cb.first + (y * from_cb.stride + x))) out_cb.old out_cb.new }
-    ensures cr { IsStridedSet W (2 * pairs) to_cr.first to_cr.stride
-        (λ x y. eighth_at right down from_cr.stride cr.now (from_cr.first + (y * from_cr.stride + x))) out_cr.old out_cr.new }
+    requires cb { HasRowsAround 8 (2 * to.pairs) from.cb cb.now }
+    requires cr { HasRowsAround 8 (2 * to.pairs) from.cr cr.now }
+    requires room_cb { HasRows W (2 * to.pairs) to.cb out_cb.old }
+    requires room_cr { HasRows W (2 * to.pairs) to.cr out_cr.old }
+    ensures cb { IsLaid W (2 * to.entry.pairs) to.entry.cb
+        (λ x y. eighth_at beyond.right beyond.down from.cb.stride cb.now (sample_place from.cb x y))
+        out_cb.old out_cb.new }
+    ensures cr { IsLaid W (2 * to.entry.pairs) to.entry.cr
+        (λ x y. eighth_at beyond.right beyond.down from.cr.stride cr.now (sample_place from.cr x y))
+        out_cr.old out_cr.new }
 {
-    let mut row = along_row(cb, from_cb, cr, from_cr, 0, right);
-    for y in 0..pairs {
-        let middle = along_row(cb, from_cb, cr, from_cr, 2 * y + 1, right);
-        lay_line::<W>(down, &row, &middle, 2 * y, out_cb, to_cb, out_cr, to_cr);
-        let last = along_row(cb, from_cb, cr, from_cr, 2 * (y + 1), right);
-        lay_line::<W>(
-            down,
-            &middle,
-            &last,
-            2 * y + 1,
-            out_cb,
-            to_cb,
-            out_cr,
-            to_cr,
-        );
+    let mut row = along_row(cb, cr, from, 0, beyond.right);
+    for y in 0..to.pairs {
+        let middle = along_row(cb, cr, from, 2 * y + 1, beyond.right);
+        lay_line::<W>(beyond.down, &row, &middle, 2 * y, out_cb, out_cr, to);
+        let last = along_row(cb, cr, from, 2 * (y + 1), beyond.right);
+        lay_line::<W>(beyond.down, &middle, &last, 2 * y + 1, out_cb, out_cr, to);
         row = last;
     }
 }

@@ -3,6 +3,7 @@
 
 mod between;
 mod bilinear;
+mod both;
 mod centres;
 mod chroma_between;
 mod chroma_both;
@@ -14,6 +15,7 @@ mod positions;
 mod row;
 mod rows;
 mod taps;
+mod target;
 mod vector;
 mod weighting;
 mod whole;

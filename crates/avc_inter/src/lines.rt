@@ -1,7 +1,7 @@
 //! Lines of samples, copied from rows to rows.
 
 ghost use Rattle.std.specs.Prelude.{◌≡◌, ℕ, ◌+◌, ◌*◌, ◌<◌, ◌≤◌, length, slice_index};
-ghost use Rattle.avc_plane.specs.Strided.{IsRoom, IsStridedSet};
+ghost use Rattle.avc_inter.specs.Laid.{sample_in, HasRows, HasRowsApart, IsLaid};
 
 use avc_plane::RowsPlace;
 
@@ -39,10 +39,9 @@ fn copy_each<const W: usize, const H: usize>(
     out: &mut [u8],
     to: RowsPlace,
 )
-    requires source { IsRoom W H from.first from.stride (length p.now) }
-    requires apart { W ≤ to.stride }
-    requires room { IsRoom W H to.first to.stride (length out.old) }
-    ensures { IsStridedSet W H to.first to.stride (λ x y. slice_index p.now (from.first + y * from.stride + x)) out.old out.new }
+    requires source { HasRows W H from p.now }
+    requires room { HasRowsApart W H to out.old }
+    ensures { IsLaid W H to (sample_in from p.now) out.old out.new }
 {
     for y in 0..H {
         let line = line_at::<W>(p, from.first + y * from.stride);
@@ -59,10 +58,9 @@ fn copy_near<const W: usize, const H: usize>(
     to: RowsPlace,
 )
     requires some { 0 < H }
-    requires source { IsRoom W H from.first from.stride (length p.now) }
-    requires apart { W ≤ to.stride }
-    requires room { IsRoom W H to.first to.stride (length out.old) }
-    ensures { IsStridedSet W H to.first to.stride (λ x y. slice_index p.now (from.first + y * from.stride + x)) out.old out.new }
+    requires source { HasRows W H from p.now }
+    requires room { HasRowsApart W H to out.old }
+    ensures { IsLaid W H to (sample_in from p.now) out.old out.new }
 {
     let source = RowsPlace {
         first: 0,
@@ -83,10 +81,9 @@ pub fn copy_lines<const W: usize, const H: usize>(
     out: &mut [u8],
     to: RowsPlace,
 )
-    requires source { IsRoom W H from.first from.stride (length p.now) }
-    requires apart { W ≤ to.stride }
-    requires room { IsRoom W H to.first to.stride (length out.old) }
-    ensures { IsStridedSet W H to.first to.stride (λ x y. slice_index p.now (from.first + y * from.stride + x)) out.old out.new }
+    requires source { HasRows W H from p.now }
+    requires room { HasRowsApart W H to out.old }
+    ensures { IsLaid W H to (sample_in from p.now) out.old out.new }
 {
     if H % 4 != 0 {
         copy_each::<W, H>(p, from, out, to);

@@ -2,14 +2,14 @@
 
 ghost use Rattle.std.specs.Prelude.{◌≡◌, ℕ, ◌+◌, ◌*◌, ◌/◌, ◌%◌, ◌<◌, ◌≤◌, ◌^◌, pos, ◌+ℤ◌, length};
 ghost use Rattle.avc_types.specs.Blocks.{block_of};
-ghost use Rattle.avc_plane.specs.Plane.{sample, clamped, with_block};
-ghost use Rattle.avc_plane.specs.Strided.{IsRoom, IsStridedSet};
-ghost use Rattle.avc_inter.specs.Luma.{inter_luma, quarter};
-ghost use Rattle.avc_inter.specs.Bounds.{IsMoved};
+ghost use Rattle.avc_plane.specs.Plane.{with_block};
+ghost use Rattle.avc_plane.specs.Strided.{IsRoom};
+ghost use Rattle.avc_inter.specs.Moved.{quarters_from, predicted_luma};
 ghost use Rattle.avc_inter.specs.SixRows.{AreLanes};
 
 use crate::between::lay_between;
-use crate::vector::{luma_fraction, luma_place};
+use crate::target::Target;
+use crate::vector::{MovedPlace, Quarters, luma_fraction, luma_place};
 use crate::whole::{predict_in_place, predict_whole, set_whole};
 use avc_plane::{PaddedPlane, Plane, RowsPlace};
 use avc_types::{Block, Mv};
@@ -20,7 +20,8 @@ fn count_of(columns: usize, rows: usize) -> usize
     requires low { rows ≤ 16 }
     ensures value { result ≡ (rows * columns + 15) / 16 }
     ensures few { result ≤ 16 }
-    ensures room { (long : ℕ) → 16 * ((rows * columns + 15) / 16) ≤ long → IsRoom columns (16 / columns * result) 0 columns long }
+    ensures room { (long : ℕ) → 16 * ((rows * columns + 15) / 16) ≤ long →
+        IsRoom columns (16 / columns * result) 0 columns long }
 {
     (rows * columns + 15) / 16
 }
@@ -35,36 +36,24 @@ fn set_between<
     const L: usize,
     const N: usize,
     const P: usize,
->(reference: &PaddedPlane<PAD>, left: i64, top: i64, fx: u8, fy: u8, block: &mut Block<W, H>)
+>(reference: &PaddedPlane<PAD>, at: MovedPlace, beyond: Quarters, block: &mut Block<W, H>)
     requires columns { (1 ≤ W) × (W ≤ L) }
     requires rows { (1 ≤ H) × (H ≤ 16) }
     requires lanes { AreLanes L }
     requires samples { 16 * ((H * L + 15) / 16) ≤ N }
     requires last { H * L + 16 ≤ N + L }
     requires small { N < 65536 }
-    requires left { IsMoved left }
-    requires top { IsMoved top }
-    requires patch { (16 / L * ((H * L + 15) / 16 + (5 * L + 15) / 16) * (L + 5) ≤ P) × (P < 65536) }
-    requires fx { fx < 4 }
-    requires fy { fy < 4 }
-    ensures { block.new ≡ block_of W H
-        (λ i j. quarter (clamped reference.now.width reference.now.height (sample reference.now)) (left +ℤ pos i) (top +ℤ pos j) fx fy) }
+    requires patch { (16 / L * ((H * L + 15) / 16 + (5 * L + 15) / 16) * (L + 5) ≤ P)
+        × (P < 65536) }
+    ensures { block.new ≡ block_of W H (quarters_from reference.now at beyond) }
 {
     let mut samples = [0; N];
     let to = RowsPlace {
         first: 0,
         stride: L,
     };
-    lay_between::<L, L, PAD, P>(
-        reference,
-        left,
-        top,
-        count_of(L, H),
-        fx,
-        fy,
-        &mut samples,
-        to,
-    );
+    let to = Target { rows: to };
+    lay_between::<L, L, PAD, P>(reference, at, beyond, count_of(L, H), &mut samples, to);
     block.set_rows(&samples, 0, L);
 }
 
@@ -83,59 +72,20 @@ pub fn luma<const W: usize, const H: usize, const PAD: usize>(
     requires rows { (1 ≤ H) × (H ≤ 16) }
     requires column { x < reference.now.width }
     requires row { y < reference.now.height }
-    ensures { block.new ≡ block_of W H (λ i j. inter_luma reference.now.width reference.now.height (sample reference.now) mv (x + i) (y + j)) }
+    ensures { block.new ≡ block_of W H (predicted_luma reference.now x y mv) }
 {
     let width = reference.width();
     let height = reference.height();
     prove!(x < width);
     prove!(y < height);
-    let left = luma_place(x, mv.x);
-    let top = luma_place(y, mv.y);
-    let fx = luma_fraction(mv.x);
-    let fy = luma_fraction(mv.y);
-    if fx == 0 && fy == 0 {
-        set_whole(reference, left, top, block)
+    let at = luma_place(x, y, mv);
+    let beyond = luma_fraction(mv);
+    if beyond.right == 0 && beyond.down == 0 {
+        set_whole(reference, at, block)
     } else if W <= 8 {
-        set_between::<W, H, PAD, 8, 144, 286>(reference, left, top, fx, fy, block)
+        set_between::<W, H, PAD, 8, 144, 286>(reference, at, beyond, block)
     } else {
-        set_between::<W, H, PAD, 16, 256, 441>(reference, left, top, fx, fy, block)
-    }
-}
-
-/// Lays the prediction of a luma block into rows, by all samples that one between whole ones needs.
-#[inline(always)]
-fn lay_luma<const W: usize, const H: usize, const PAD: usize>(
-    reference: &PaddedPlane<PAD>,
-    x: usize,
-    y: usize,
-    mv: Mv,
-    out: &mut [u8],
-    to: RowsPlace,
-)
-    requires columns { (1 ≤ W) × (W ≤ 16) }
-    requires rows { (1 ≤ H) × (H ≤ 16) }
-    requires even { H % 2 ≡ 0 }
-    requires column { x < reference.now.width }
-    requires row { y < reference.now.height }
-    requires apart { W ≤ to.stride }
-    requires room { IsRoom W H to.first to.stride (length out.old) }
-    ensures { IsStridedSet W H to.first to.stride
-        (λ i j. inter_luma reference.now.width reference.now.height (sample reference.now) mv (x + i) (y + j)) out.old out.new }
-{
-    let width = reference.width();
-    let height = reference.height();
-    prove!(x < width);
-    prove!(y < height);
-    let left = luma_place(x, mv.x);
-    let top = luma_place(y, mv.y);
-    let fx = luma_fraction(mv.x);
-    let fy = luma_fraction(mv.y);
-    if W <= 4 && H % 4 == 0 {
-        lay_between::<4, W, PAD, 216>(reference, left, top, H / 4, fx, fy, out, to);
-    } else if W <= 8 {
-        lay_between::<8, W, PAD, 286>(reference, left, top, H / 2, fx, fy, out, to);
-    } else {
-        lay_between::<16, W, PAD, 441>(reference, left, top, H, fx, fy, out, to);
+        set_between::<W, H, PAD, 16, 256, 441>(reference, at, beyond, block)
     }
 }
 
@@ -154,12 +104,23 @@ fn predict_between<const W: usize, const H: usize, const PAD: usize>(
     requires even { H % 2 ≡ 0 }
     requires column { x < reference.now.width }
     requires row { y < reference.now.height }
-    ensures { plane.new ≡ with_block plane.old x y W H
-        (λ i j. inter_luma reference.now.width reference.now.height (sample reference.now) mv (x + i) (y + j)) }
+    ensures { plane.new ≡ with_block plane.old x y W H (predicted_luma reference.now x y mv) }
 {
+    let width = reference.width();
+    let height = reference.height();
+    prove!(x < width);
+    prove!(y < height);
+    let at = luma_place(x, y, mv);
+    let beyond = luma_fraction(mv);
     let to = plane.padded_place(x, y);
-    let rows = plane.padded_rows_mut();
-    lay_luma::<W, H, PAD>(reference, x, y, mv, rows, to);
+    let out = plane.padded_rows_mut();
+    if W <= 4 && H % 4 == 0 {
+        lay_between::<4, W, PAD, 216>(reference, at, beyond, H / 4, out, Target { rows: to });
+    } else if W <= 8 {
+        lay_between::<8, W, PAD, 286>(reference, at, beyond, H / 2, out, Target { rows: to });
+    } else {
+        lay_between::<16, W, PAD, 441>(reference, at, beyond, H, out, Target { rows: to });
+    }
 }
 
 /// The prediction of an even number of rows, laid into its place in the luma plane of the picture.
@@ -175,17 +136,16 @@ pub fn predict_luma<const W: usize, const H: usize, const PAD: usize>(
     requires even { H % 2 ≡ 0 }
     requires column { x < reference.now.width }
     requires row { y < reference.now.height }
-    ensures { plane.new ≡ with_block plane.old x y W H
-        (λ i j. inter_luma reference.now.width reference.now.height (sample reference.now) mv (x + i) (y + j)) }
+    ensures { plane.new ≡ with_block plane.old x y W H (predicted_luma reference.now x y mv) }
 {
     let width = reference.width();
     let height = reference.height();
     prove!(x < width);
     prove!(y < height);
-    if luma_fraction(mv.x) == 0 && luma_fraction(mv.y) == 0 {
-        let left = luma_place(x, mv.x);
-        let top = luma_place(y, mv.y);
-        predict_whole::<W, H, PAD>(reference, left, top, x, y, plane);
+    let Quarters { right, down } = luma_fraction(mv);
+    if right == 0 && down == 0 {
+        let at = luma_place(x, y, mv);
+        predict_whole::<W, H, PAD>(reference, at, x, y, plane);
     } else {
         predict_between::<W, H, PAD>(reference, x, y, mv, plane);
     }
@@ -203,7 +163,7 @@ pub fn copy_luma<const W: usize, const H: usize, const PAD: usize>(
     requires columns { (1 ≤ W) × (x + W ≤ plane.old.width) × (x + W ≤ reference.now.width) }
     requires rows { (1 ≤ H) × (y + H ≤ plane.old.height) × (y + H ≤ reference.now.height) }
     ensures { (mv : Mv) → mv.x ≡ pos 0 → mv.y ≡ pos 0 → plane.new ≡ with_block plane.old x y W H
-        (λ i j. inter_luma reference.now.width reference.now.height (sample reference.now) mv (x + i) (y + j)) }
+        (predicted_luma reference.now x y mv) }
 {
     predict_in_place::<W, H, PAD>(reference, x, y, plane);
 }

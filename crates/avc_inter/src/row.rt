@@ -25,7 +25,8 @@ pub fn sums(a: u16x16, b: u16x16) -> u16x16
     requires b_small { Each1 (λ x. x ≤ 16383) b }
     ensures long { length result ≡ 16 }
     ensures at { (k : ℕ) → k < 16 → slice_index result k ≡ slice_index a k + slice_index b k }
-    ensures small { (m n : ℕ) → Each1 (λ x. x ≤ m) a → Each1 (λ y. y ≤ n) b → Each1 (λ z. z ≤ m + n) result }
+    ensures small { (m n : ℕ) → Each1 (λ x. x ≤ m) a → Each1 (λ y. y ≤ n) b →
+        Each1 (λ z. z ≤ m + n) result }
 {
     a.strict_add(b)
 }
@@ -45,7 +46,8 @@ fn differences(a: u16x16, b: u16x16) -> i32x16
     requires a_small { Each1 (λ x. x ≤ 16383) a }
     requires b_small { Each1 (λ x. x ≤ 16383) b }
     ensures long { length result ≡ 16 }
-    ensures at { (k : ℕ) → k < 16 → slice_index_or result k (pos 0) ≡ pos (slice_index a k) -ℤ pos (slice_index b k) }
+    ensures at { (k : ℕ) → k < 16 →
+        slice_index_or result k (pos 0) ≡ pos (slice_index a k) -ℤ pos (slice_index b k) }
     ensures fits { (k : ℕ) → k < 16 → FitsSigned w32 (slice_index_or result k (pos 0)) }
 {
     a.cast::<i32>().strict_sub(b.cast::<i32>())
@@ -57,7 +59,8 @@ pub fn narrow_differences(a: u16x16, b: u16x16) -> i16x16
     requires a_small { Each1 (λ x. x ≤ 16383) a }
     requires b_small { Each1 (λ x. x ≤ 16383) b }
     ensures long { length result ≡ 16 }
-    ensures at { (k : ℕ) → k < 16 → slice_index_or result k (pos 0) ≡ pos (slice_index a k) -ℤ pos (slice_index b k) }
+    ensures at { (k : ℕ) → k < 16 →
+        slice_index_or result k (pos 0) ≡ pos (slice_index a k) -ℤ pos (slice_index b k) }
     ensures fits { (k : ℕ) → k < 16 → FitsSigned w16 (slice_index_or result k (pos 0)) }
 {
     a.cast::<i16>().strict_sub(b.cast::<i16>())

@@ -1,17 +1,18 @@
 //! The six-tap filter over rows of sixteen samples, read where they lie (8.4.2.2.1).
 //!
 //! Sixteen samples are one row of a block of 16 columns or two rows of a block of 8. L is how many
-//! columns the block has, of which W are wanted. Its rows begin `stride` apart in the list that
-//! they are read from, and at the place `to` in the rows that they are written into. `count` is how
-//! many times sixteen samples the block has.
+//! columns the block has, of which W are wanted. Its rows are read from the place `from` on and are
+//! written from the place `to` on. `count` is how many times sixteen samples the block has.
 
 ghost use Rattle.std.specs.Prelude.{◌≡◌, ℕ, ◌+◌, ◌*◌, ◌/◌, ◌<◌, ◌≤◌, ◌^◌, length, slice_index};
 ghost use Rattle.avc_types.specs.Arithmetic.{mean_of_two};
 ghost use Rattle.avc_plane.specs.Strided.{IsRoom, IsStridedSet};
 ghost use Rattle.avc_inter.specs.Patch.{half_along};
-ghost use Rattle.avc_inter.specs.SixRows.{place_of, HasPlaces, AreLanes, half_of};
+ghost use Rattle.avc_inter.specs.SixRows.{place_of, HasPlaces, AreLanes, AreSixteen, half_of};
+ghost use Rattle.avc_inter.specs.Laid.{sample_place, HasRows, IsLaid};
 
 use crate::taps::{half, mean};
+use crate::target::Target;
 use avc_plane::RowsPlace;
 
 /// Reads L samples of a row.
@@ -32,7 +33,7 @@ pub fn load<const L: usize>(p: &[u8], from: usize, out: &mut [u8; 16], to: usize
 pub fn sixteen<const L: usize>(p: &[u8], at: usize, stride: usize) -> [u8; 16]
     requires lanes { AreLanes L }
     requires samples { HasPlaces L stride 16 at p.now }
-    ensures { (k : ℕ) → k < 16 → slice_index result k ≡ slice_index p.now (at + place_of L stride k) }
+    ensures { AreSixteen result (λ k. slice_index p.now (at + place_of L stride k)) }
 {
     let mut out = [0; 16];
     for y in 0..16 / L {
@@ -51,7 +52,7 @@ fn halves_of(
     i: &[u8; 16],
     j: &[u8; 16],
 ) -> [u8; 16]
-    ensures { (k : ℕ) → k < 16 → slice_index result k ≡ half_of e.now f.now g.now h.now i.now j.now k }
+    ensures { AreSixteen result (half_of e.now f.now g.now h.now i.now j.now) }
 {
     let (e, f, g, h, i, j) = (*e, *f, *g, *h, *i, *j);
     let mut out = [0; 16];
@@ -66,7 +67,7 @@ fn halves_of(
 pub fn half_row<const L: usize>(p: &[u8], at: usize, stride: usize, step: usize) -> [u8; 16]
     requires lanes { AreLanes L }
     requires samples { HasPlaces L stride 16 (at + 5 * step) p.now }
-    ensures { (k : ℕ) → k < 16 → slice_index result k ≡ half_along p.now (at + place_of L stride k) step }
+    ensures { AreSixteen result (λ k. half_along p.now (at + place_of L stride k) step) }
 {
     let e = sixteen::<L>(p, at, stride);
     let f = sixteen::<L>(p, at + step, stride);
@@ -82,7 +83,8 @@ pub fn half_row<const L: usize>(p: &[u8], at: usize, stride: usize, step: usize)
 pub fn put_row<const W: usize>(out: &mut [u8], first: usize, r: &[u8; 16], from: usize)
     requires target { first + W ≤ length out.old }
     requires source { from + W ≤ 16 }
-    ensures here { (x : ℕ) → x < W → slice_index out.new (first + x) ≡ slice_index r.now (from + x) }
+    ensures here { (x : ℕ) → x < W →
+        slice_index out.new (first + x) ≡ slice_index r.now (from + x) }
     ensures before { (j : ℕ) → j < first → slice_index out.new j ≡ slice_index out.old j }
     ensures behind { (j : ℕ) → first + W ≤ j → slice_index out.new j ≡ slice_index out.old j }
 {
@@ -103,72 +105,72 @@ pub fn put_rows<const L: usize, const W: usize>(
     requires columns { W ≤ L }
     requires apart { W ≤ stride }
     requires room { IsRoom W (16 / L) first stride (length out.old) }
-    ensures { IsStridedSet W (16 / L) first stride (λ x y. slice_index r.now (L * y + x)) out.old out.new }
+    ensures { IsStridedSet W (16 / L) first stride (λ x y. slice_index r.now (L * y + x))
+        out.old out.new }
 {
     for y in 0..16 / L {
         put_row::<W>(out, first + y * stride, r, L * y);
     }
 }
 
-/// Whole samples, from `by` behind place `at` on.
+/// Whole samples, from `by` behind each place on.
 #[inline(always)]
 pub fn whole_rows<const L: usize, const W: usize>(
     p: &[u8],
-    at: usize,
+    from: RowsPlace,
     by: usize,
-    stride: usize,
     count: usize,
     out: &mut [u8],
-    to: RowsPlace,
+    to: Target<L, W>,
 )
-    requires lanes { AreLanes L }
-    requires narrow { stride < 2 ^ 32 }
-    requires columns { W ≤ L }
-    requires apart { W ≤ to.stride }
-    requires room { IsRoom W (16 / L * count) to.first to.stride (length out.old) }
-    requires samples { HasPlaces L stride (16 * count) (at + by) p.now }
-    ensures { IsStridedSet W (16 / L * count) to.first to.stride (λ x y. slice_index p.now (by + (at + (y * stride + x)))) out.old out.new }
+    requires room { HasRows W (16 / L * count) to.rows out.old }
+    requires samples { HasPlaces L from.stride (16 * count) (from.first + by) p.now }
+    ensures { IsLaid W (16 / L * count) to.entry.rows
+        (λ x y. slice_index p.now (by + sample_place from x y)) out.old out.new }
 {
-    let lines = 16 / L * stride;
-    let rows = 16 / L * to.stride;
+    let lines = 16 / L * from.stride;
+    let rows = 16 / L * to.rows.stride;
     for y in 0..count {
-        let row = sixteen::<L>(p, at + by + y * lines, stride);
-        put_rows::<L, W>(out, to.first + y * rows, to.stride, &row);
+        let row = sixteen::<L>(p, from.first + by + y * lines, from.stride);
+        put_rows::<L, W>(out, to.rows.first + y * rows, to.rows.stride, &row);
     }
 }
 
-/// Half samples: b or s with step 1, h or m with the stride. The first of the six samples is `by`
-/// behind place `at`.
+/// Six samples that are filtered: the first is `by` behind a place, each of the others a step
+/// further.
+#[derive(Clone, Copy)]
+pub struct Taps {
+    pub by: usize,
+    pub step: usize,
+}
+
+/// Half samples: b or s with step 1, h or m with the stride.
 #[inline(always)]
 pub fn half_rows<const L: usize, const W: usize>(
     p: &[u8],
-    at: usize,
-    by: usize,
-    stride: usize,
-    step: usize,
+    from: RowsPlace,
+    taps: Taps,
     count: usize,
     out: &mut [u8],
-    to: RowsPlace,
+    to: Target<L, W>,
 )
-    requires lanes { AreLanes L }
-    requires narrow { stride < 2 ^ 32 }
-    requires columns { W ≤ L }
-    requires apart { W ≤ to.stride }
-    requires room { IsRoom W (16 / L * count) to.first to.stride (length out.old) }
-    requires samples { HasPlaces L stride (16 * count) (at + by + 5 * step) p.now }
-    ensures { IsStridedSet W (16 / L * count) to.first to.stride (λ x y. half_along p.now (by + (at + (y * stride + x))) step) out.old out.new }
+    requires room { HasRows W (16 / L * count) to.rows out.old }
+    requires samples { HasPlaces L from.stride (16 * count)
+        (from.first + taps.by + 5 * taps.step) p.now }
+    ensures { IsLaid W (16 / L * count) to.entry.rows
+        (λ x y. half_along p.now (taps.by + sample_place from x y) taps.step) out.old out.new }
 {
-    let lines = 16 / L * stride;
-    let rows = 16 / L * to.stride;
+    let lines = 16 / L * from.stride;
+    let rows = 16 / L * to.rows.stride;
     for y in 0..count {
-        let row = half_row::<L>(p, at + by + y * lines, stride, step);
-        put_rows::<L, W>(out, to.first + y * rows, to.stride, &row);
+        let row = half_row::<L>(p, from.first + taps.by + y * lines, from.stride, taps.step);
+        put_rows::<L, W>(out, to.rows.first + y * rows, to.rows.stride, &row);
     }
 }
 
 #[inline(always)]
 pub fn means_of(a: &[u8; 16], b: &[u8; 16]) -> [u8; 16]
-    ensures { (k : ℕ) → k < 16 → slice_index result k ≡ mean_of_two (slice_index a.now k) (slice_index b.now k) }
+    ensures { AreSixteen result (λ k. mean_of_two (slice_index a.now k) (slice_index b.now k)) }
 {
     let (a, b) = (*a, *b);
     let mut out = [0; 16];
@@ -189,7 +191,8 @@ fn quarters_of(
     i: &[u8; 16],
     j: &[u8; 16],
 ) -> [u8; 16]
-    ensures { (k : ℕ) → k < 16 → slice_index result k ≡ mean_of_two (slice_index whole.now k) (half_of e.now f.now g.now h.now i.now j.now k) }
+    ensures { AreSixteen result (λ k. mean_of_two (slice_index whole.now k)
+        (half_of e.now f.now g.now h.now i.now j.now k)) }
 {
     let (whole, e, f, g, h, i, j) = (*whole, *e, *f, *g, *h, *i, *j);
     let mut out = [0; 16];
@@ -213,8 +216,9 @@ fn quarter_row<const L: usize>(
     requires lanes { AreLanes L }
     requires samples { HasPlaces L stride 16 (at + 5 * step) p.now }
     requires whole { HasPlaces L stride 16 whole p.now }
-    ensures { (k : ℕ) → k < 16 → slice_index result k
-        ≡ mean_of_two (slice_index p.now (whole + place_of L stride k)) (half_along p.now (at + place_of L stride k) step) }
+    ensures { AreSixteen result
+        (λ k. mean_of_two (slice_index p.now (whole + place_of L stride k))
+        (half_along p.now (at + place_of L stride k) step)) }
 {
     let e = sixteen::<L>(p, at, stride);
     let f = sixteen::<L>(p, at + step, stride);
@@ -226,67 +230,65 @@ fn quarter_row<const L: usize>(
     quarters_of(&whole, &e, &f, &g, &h, &i, &j)
 }
 
-/// Half samples, each with its mean with a whole sample, which is `whole` behind place `at`.
+/// Half samples, each with its mean with a whole sample, which is `whole` behind its place.
 #[inline(always)]
 pub fn quarter_rows<const L: usize, const W: usize>(
     p: &[u8],
-    at: usize,
-    by: usize,
+    from: RowsPlace,
+    taps: Taps,
     whole: usize,
-    stride: usize,
-    step: usize,
     count: usize,
     out: &mut [u8],
-    to: RowsPlace,
+    to: Target<L, W>,
 )
-    requires lanes { AreLanes L }
-    requires narrow { stride < 2 ^ 32 }
-    requires columns { W ≤ L }
-    requires apart { W ≤ to.stride }
-    requires room { IsRoom W (16 / L * count) to.first to.stride (length out.old) }
-    requires samples { HasPlaces L stride (16 * count) (at + by + 5 * step) p.now }
-    requires whole { HasPlaces L stride (16 * count) (at + whole) p.now }
-    ensures { IsStridedSet W (16 / L * count) to.first to.stride
-        (λ x y. mean_of_two (slice_index p.now (whole + (at + (y * stride + x)))) (half_along p.now (by + (at + (y * stride + x))) step)) out.old out.new }
+    requires room { HasRows W (16 / L * count) to.rows out.old }
+    requires samples { HasPlaces L from.stride (16 * count)
+        (from.first + taps.by + 5 * taps.step) p.now }
+    requires whole { HasPlaces L from.stride (16 * count) (from.first + whole) p.now }
+    ensures { IsLaid W (16 / L * count) to.entry.rows
+        (λ x y. mean_of_two (slice_index p.now (whole + sample_place from x y))
+        (half_along p.now (taps.by + sample_place from x y) taps.step)) out.old out.new }
 {
-    let lines = 16 / L * stride;
-    let rows = 16 / L * to.stride;
+    let lines = 16 / L * from.stride;
+    let rows = 16 / L * to.rows.stride;
     for y in 0..count {
-        let row = quarter_row::<L>(p, at + by + y * lines, at + whole + y * lines, stride, step);
-        put_rows::<L, W>(out, to.first + y * rows, to.stride, &row);
+        let row = quarter_row::<L>(
+            p,
+            from.first + taps.by + y * lines,
+            from.first + whole + y * lines,
+            from.stride,
+            taps.step,
+        );
+        put_rows::<L, W>(out, to.rows.first + y * rows, to.rows.stride, &row);
     }
 }
 
-/// The means of two half samples: b or s, whose six samples begin `across` behind place `at`, and h
+/// The means of two half samples: b or s, whose six samples begin `across` behind its place, and h
 /// or m, `down` behind it.
 #[inline(always)]
 pub fn diagonal_rows<const L: usize, const W: usize>(
     p: &[u8],
-    at: usize,
+    from: RowsPlace,
     across: usize,
     down: usize,
-    stride: usize,
     count: usize,
     out: &mut [u8],
-    to: RowsPlace,
+    to: Target<L, W>,
 )
-    requires lanes { AreLanes L }
-    requires narrow { stride < 2 ^ 32 }
-    requires columns { W ≤ L }
-    requires apart { W ≤ to.stride }
-    requires room { IsRoom W (16 / L * count) to.first to.stride (length out.old) }
-    requires across { HasPlaces L stride (16 * count) (at + across + 5 * 1) p.now }
-    requires down { HasPlaces L stride (16 * count) (at + down + 5 * stride) p.now }
-    ensures { IsStridedSet W (16 / L * count) to.first to.stride
-        (λ x y. mean_of_two (half_along p.now (across + (at + (y * stride + x))) 1)
-        (half_along p.now (down + (at + (y * stride + x))) stride)) out.old out.new }
+    requires room { HasRows W (16 / L * count) to.rows out.old }
+    requires across { HasPlaces L from.stride (16 * count) (from.first + across + 5 * 1) p.now }
+    requires down { HasPlaces L from.stride (16 * count)
+        (from.first + down + 5 * from.stride) p.now }
+    ensures { IsLaid W (16 / L * count) to.entry.rows
+        (λ x y. mean_of_two (half_along p.now (across + sample_place from x y) 1)
+        (half_along p.now (down + sample_place from x y) from.stride)) out.old out.new }
 {
-    let lines = 16 / L * stride;
-    let rows = 16 / L * to.stride;
+    let lines = 16 / L * from.stride;
+    let rows = 16 / L * to.rows.stride;
     for y in 0..count {
-        let b = half_row::<L>(p, at + across + y * lines, stride, 1);
-        let h = half_row::<L>(p, at + down + y * lines, stride, stride);
+        let b = half_row::<L>(p, from.first + across + y * lines, from.stride, 1);
+        let h = half_row::<L>(p, from.first + down + y * lines, from.stride, from.stride);
         let row = means_of(&b, &h);
-        put_rows::<L, W>(out, to.first + y * rows, to.stride, &row);
+        put_rows::<L, W>(out, to.rows.first + y * rows, to.rows.stride, &row);
     }
 }

@@ -33,7 +33,8 @@ fn rounded(sum: i16) -> i16
 /// Twice the taps over six samples and what rounds them. To multiply lanes by 10 is one
 /// instruction: 5 times would be taken apart into three.
 fn twice_rounded(e: u8, f: u8, g: u8, h: u8, i: u8, j: u8) -> i16
-    ensures value { result ≡ pos 2 *ℤ (six_taps (pos e) (pos f) (pos g) (pos h) (pos i) (pos j) +ℤ pos 16) }
+    ensures value { result
+        ≡ pos 2 *ℤ (six_taps (pos e) (pos f) (pos g) (pos h) (pos i) (pos j) +ℤ pos 16) }
     ensures low { neg_ℤ (pos 5068) ≤ℤ result }
     ensures high { result ≤ℤ pos 21452 }
 {
@@ -80,7 +81,8 @@ fn sixty_fourth(v: i16) -> i16
 }
 
 pub fn half(e: u8, f: u8, g: u8, h: u8, i: u8, j: u8) -> u8
-    ensures { result ≡ clip1 (six_taps (pos e) (pos f) (pos g) (pos h) (pos i) (pos j) +ℤ pos 16 >>ℤ 5) }
+    ensures { result
+        ≡ clip1 (six_taps (pos e) (pos f) (pos g) (pos h) (pos i) (pos j) +ℤ pos 16 >>ℤ 5) }
 {
     clipped(sixty_fourth(twice_rounded(e, f, g, h, i, j)))
 }

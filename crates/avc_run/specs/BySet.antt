@@ -14,7 +14,9 @@ use Rattle.avc_presentation.specs.declared.presentation.Presentation.{Presentati
 use Rattle.avc_run.specs.Formats.{DecodesAs}
 
 -- A stream is decoded in the format that this set decides.
-pub record DecodesBySet (format : Presentation → Format) (output : Output) (unread left held holds : Option (List ℕ)) (report : Report) (run : Result (Unit {0}) RunFault) : Type 0 where
+pub record DecodesBySet (format : Presentation → Format) (output : Output)
+    (unread left held holds : Option (List ℕ)) (report : Report)
+    (run : Result (Unit {0}) RunFault) : Type 0 where
   pub bytes : List ℕ
   pub middle : Option (List ℕ)
   pub said : Presentation
@@ -22,13 +24,20 @@ pub record DecodesBySet (format : Presentation → Format) (output : Output) (un
   pub decodes : DecodesAs (format said) output bytes unread left held holds report run
 
 -- A stream is decoded so, or its front can't be read, and nothing is written or reported.
-pub data Decodes (format : Presentation → Format) (output : Output) (unread left held holds : Option (List ℕ)) (report : Report) (run : Result (Unit {0}) RunFault) : Type 0 where
-  by_set : DecodesBySet format output unread left held holds report run → Decodes format output unread left held holds report run
-  in_front : (fault : RunFault) → run ≡ Err fault → NoFront fault unread left → Appends held holds [] → report ≡ no_report → Decodes format output unread left held holds report run
+pub data Decodes (format : Presentation → Format) (output : Output)
+    (unread left held holds : Option (List ℕ)) (report : Report)
+    (run : Result (Unit {0}) RunFault) : Type 0 where
+  by_set : DecodesBySet format output unread left held holds report run →
+      Decodes format output unread left held holds report run
+  in_front : (fault : RunFault) → run ≡ Err fault → NoFront fault unread left →
+      Appends held holds [] → report ≡ no_report →
+      Decodes format output unread left held holds report run
 
 -- `decode` in such a format was a run that came to this report, and its exit status and what it
 -- told are those of this run.
-pub record EndsDecodingBySet (names : Names) (explained : Bool) (format : Presentation → Format) (output : Output) (unread left held holds before now : Option (List ℕ)) (ending : Ending) : Type 0 where
+pub record EndsDecodingBySet (names : Names) (explained : Bool) (format : Presentation →
+    Format) (output : Output) (unread left held holds before now : Option (List ℕ))
+    (ending : Ending) : Type 0 where
   pub report : Report
   pub run : Result (Unit {0}) RunFault
   pub decodes : Decodes format output unread left held holds report run

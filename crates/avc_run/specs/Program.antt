@@ -11,7 +11,8 @@ use Rattle.avc_run.specs.Formats.{DecodesAs}
 
 -- `decode` in a format was a run that came to this report, and its exit status and what it told are
 -- those of this run.
-pub record EndsDecodingAs (names : Names) (explained : Bool) (format : Format) (output : Output) (unread left held holds before now : Option (List ℕ)) (ending : Ending) : Type 0 where
+pub record EndsDecodingAs (names : Names) (explained : Bool) (format : Format) (output : Output)
+    (unread left held holds before now : Option (List ℕ)) (ending : Ending) : Type 0 where
   pub report : Report
   pub run : Result (Unit {0}) RunFault
   pub decodes : DecodesAs format output [] unread left held holds report run

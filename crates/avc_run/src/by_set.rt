@@ -27,8 +27,10 @@ pub fn decode_headed<R: Read, W: Write, E: Write, V: Watch>(
     writer: &mut W,
     console: &mut Console<'_, E, V>,
 ) -> Ending
-    ensures { EndsDecodingBySet console.old.names console.old.is_explained (λ said. selected (headed format said) skip limit) output
-        (R.remaining reader.old) (R.remaining reader.new) (W.contents writer.old) (W.contents writer.new)
+    ensures { EndsDecodingBySet console.old.names console.old.is_explained
+        (λ said. selected (headed format said) skip limit) output
+        (R.remaining reader.old) (R.remaining reader.new) (W.contents writer.old)
+        (W.contents writer.new)
         (E.contents console.old.errors) (E.contents console.new.errors) result }
 {
     let mut tally = Tally::new(console.is_explained);
@@ -60,9 +62,11 @@ fn run_headed<T: Reporter, E: Write, V: Watch, R: Read, W: Write>(
     writer: &mut W,
 ) -> Result<(), RunFault>
     requires { (T.reported report.old).report ≡ no_report }
-    ensures decodes { Decodes (λ said. selected (headed format said) skip limit) output (R.remaining reader.old) (R.remaining reader.new)
+    ensures decodes { Decodes (λ said. selected (headed format said) skip limit) output
+        (R.remaining reader.old) (R.remaining reader.new)
         (W.contents writer.old) (W.contents writer.new) (T.reported report.new).report result }
-    ensures told { TellsOn (T.reported report.old) (T.reported report.new) (E.contents errors.old) (E.contents errors.new) }
+    ensures told { TellsOn (T.reported report.old) (T.reported report.new) (E.contents errors.old)
+        (E.contents errors.new) }
 {
     let front = read_front(alloc, reader)?;
     let selected = Selected {

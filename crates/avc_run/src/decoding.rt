@@ -33,7 +33,8 @@ pub fn run<R: Read, W: Write>(
     reader: &mut R,
     writer: &mut W,
 ) -> Result<Report, RunFault>
-    ensures { Decodes output (R.remaining reader.old) (R.remaining reader.new) (W.contents writer.old) (W.contents writer.new) result }
+    ensures { Decodes output (R.remaining reader.old) (R.remaining reader.new)
+        (W.contents writer.old) (W.contents writer.new) result }
 {
     let mut report = Report::new(alloc);
     let run = run_watched(
@@ -66,9 +67,11 @@ pub fn run_watched<F: PictureFormat, T: Reporter, E: Write, V: Watch, R: Read, W
     writer: &mut W,
 ) -> Result<(), RunFault>
     requires { (T.reported report.old).report ≡ no_report }
-    ensures decodes { DecodesAs (F.format format.now) output [] (R.remaining reader.old) (R.remaining reader.new) (W.contents writer.old)
+    ensures decodes { DecodesAs (F.format format.now) output [] (R.remaining reader.old)
+        (R.remaining reader.new) (W.contents writer.old)
         (W.contents writer.new) (T.reported report.new).report result }
-    ensures told { TellsOn (T.reported report.old) (T.reported report.new) (E.contents errors.old) (E.contents errors.new) }
+    ensures told { TellsOn (T.reported report.old) (T.reported report.new) (E.contents errors.old)
+        (E.contents errors.new) }
 {
     run_behind(
         alloc,
@@ -96,9 +99,12 @@ pub fn run_behind<F: PictureFormat, T: Reporter, E: Write, V: Watch, R: Read, W:
     writer: &mut W,
 ) -> Result<(), RunFault>
     requires { (T.reported report.old).report ≡ no_report }
-    ensures decodes { DecodesAs (F.format format.now) output front.now (prepend_known front.now (R.remaining reader.old))
-        (R.remaining reader.new) (W.contents writer.old) (W.contents writer.new) (T.reported report.new).report result }
-    ensures told { TellsOn (T.reported report.old) (T.reported report.new) (E.contents errors.old) (E.contents errors.new) }
+    ensures decodes { DecodesAs (F.format format.now) output front.now
+        (prepend_known front.now (R.remaining reader.old))
+        (R.remaining reader.new) (W.contents writer.old) (W.contents writer.new)
+        (T.reported report.new).report result }
+    ensures told { TellsOn (T.reported report.old) (T.reported report.new) (E.contents errors.old)
+        (E.contents errors.new) }
 {
     let mut decoder = Decoder::<MAX_UNIT, SharedPicture>::sharing(alloc, output);
     let run = decode_by(
@@ -128,9 +134,12 @@ fn decode_by<F: PictureFormat, T: Reporter, E: Write, V: Watch, R: Read, W: Writ
 ) -> Result<(), RunFault>
     requires new { decoder.old ≡ new_machine decoder.old.output }
     requires none { (T.reported report.old).report ≡ no_report }
-    ensures decodes { DecodesAs (F.format format.now) decoder.old.output front.now (prepend_known front.now (R.remaining reader.old))
-        (R.remaining reader.new) (W.contents writer.old) (W.contents writer.new) (T.reported report.new).report result }
-    ensures told { TellsOn (T.reported report.old) (T.reported report.new) (E.contents errors.old) (E.contents errors.new) }
+    ensures decodes { DecodesAs (F.format format.now) decoder.old.output front.now
+        (prepend_known front.now (R.remaining reader.old))
+        (R.remaining reader.new) (W.contents writer.old) (W.contents writer.new)
+        (T.reported report.new).report result }
+    ensures told { TellsOn (T.reported report.old) (T.reported report.new) (E.contents errors.old)
+        (E.contents errors.new) }
 {
     events_only_grow();
     let mut room = [0; ROOM];
@@ -179,11 +188,17 @@ fn take_in<F: PictureFormat, T: Reporter, E: Write, V: Watch, W: Write>(
     watch: &mut V,
 ) -> Result<(), RunFault>
     requires { IsDrained decoder.old }
-    ensures ok { OnOk result (IsHandled (F.format format.now) (after_feed piece.now decoder.old) decoder.new
-        (T.reported report.old).report (T.reported report.new).report (W.contents writer.old) (W.contents writer.new)) }
-    ensures err { IfErr result (λ fault. BreaksOffFrom (F.format format.now) (T.reported report.old).report (T.reported report.new).report fault
-        (W.contents writer.old) (W.contents writer.new) (events_left (after_feed piece.now decoder.old))) }
-    ensures told { TellsOn (T.reported report.old) (T.reported report.new) (E.contents errors.old) (E.contents errors.new) }
+    ensures ok { OnOk result
+        (IsHandled (F.format format.now) (after_feed piece.now decoder.old) decoder.new
+        (T.reported report.old).report (T.reported report.new).report (W.contents writer.old)
+        (W.contents writer.new)) }
+    ensures err { IfErr result
+        (λ fault. BreaksOffFrom (F.format format.now) (T.reported report.old).report
+        (T.reported report.new).report fault
+        (W.contents writer.old) (W.contents writer.new)
+        (events_left (after_feed piece.now decoder.old))) }
+    ensures told { TellsOn (T.reported report.old) (T.reported report.new) (E.contents errors.old)
+        (E.contents errors.new) }
 {
     events_only_grow();
     let mut done = 0;
@@ -216,11 +231,18 @@ fn take_unit<F: PictureFormat, T: Reporter, E: Write, V: Watch, W: Write>(
 ) -> Result<usize, RunFault>
     requires { IsDrained decoder.old }
     ensures unit { IfOk result (λ used. IsUpToUnit max_unit decoder.old.bytes bytes.now used) }
-    ensures ok { IfOk result (λ used. IsHandled (F.format format.now) (after_feed (take used bytes.now) decoder.old) decoder.new
-        (T.reported report.old).report (T.reported report.new).report (W.contents writer.old) (W.contents writer.new)) }
-    ensures err { IfErr result (λ fault. BreaksOffFrom (F.format format.now) (T.reported report.old).report (T.reported report.new).report fault
-        (W.contents writer.old) (W.contents writer.new) (events_left (after_feed bytes.now decoder.old))) }
-    ensures told { TellsOn (T.reported report.old) (T.reported report.new) (E.contents errors.old) (E.contents errors.new) }
+    ensures ok { IfOk result
+        (λ used. IsHandled (F.format format.now) (after_feed (take used bytes.now) decoder.old)
+        decoder.new
+        (T.reported report.old).report (T.reported report.new).report (W.contents writer.old)
+        (W.contents writer.new)) }
+    ensures err { IfErr result
+        (λ fault. BreaksOffFrom (F.format format.now) (T.reported report.old).report
+        (T.reported report.new).report fault
+        (W.contents writer.old) (W.contents writer.new)
+        (events_left (after_feed bytes.now decoder.old))) }
+    ensures told { TellsOn (T.reported report.old) (T.reported report.new) (E.contents errors.old)
+        (E.contents errors.new) }
 {
     events_only_grow();
     let used = feed_unit(decoder, bytes)?;
@@ -239,10 +261,14 @@ fn finish<F: PictureFormat, T: Reporter, E: Write, V: Watch, W: Write>(
     watch: &mut V,
 ) -> Result<(), RunFault>
     ensures ok { OnOk result (IsHandled (F.format format.now) (after_flush decoder.old) decoder.new
-        (T.reported report.old).report (T.reported report.new).report (W.contents writer.old) (W.contents writer.new)) }
-    ensures err { IfErr result (λ fault. BreaksOffFrom (F.format format.now) (T.reported report.old).report (T.reported report.new).report fault
+        (T.reported report.old).report (T.reported report.new).report (W.contents writer.old)
+        (W.contents writer.new)) }
+    ensures err { IfErr result
+        (λ fault. BreaksOffFrom (F.format format.now) (T.reported report.old).report
+        (T.reported report.new).report fault
         (W.contents writer.old) (W.contents writer.new) (events_left (after_flush decoder.old))) }
-    ensures told { TellsOn (T.reported report.old) (T.reported report.new) (E.contents errors.old) (E.contents errors.new) }
+    ensures told { TellsOn (T.reported report.old) (T.reported report.new) (E.contents errors.old)
+        (E.contents errors.new) }
 {
     flush(decoder)?;
     drain(decoder, format, room, writer, report, errors, watch)?;
@@ -259,11 +285,16 @@ fn drain<F: PictureFormat, T: Reporter, E: Write, V: Watch, W: Write>(
     errors: &mut E,
     watch: &mut V,
 ) -> Result<(), RunFault>
-    ensures ok { OnOk result (IsHandled (F.format format.now) decoder.old decoder.new (T.reported report.old).report (T.reported report.new).report
+    ensures ok { OnOk result
+        (IsHandled (F.format format.now) decoder.old decoder.new (T.reported report.old).report
+        (T.reported report.new).report
         (W.contents writer.old) (W.contents writer.new)) }
-    ensures err { IfErr result (λ fault. BreaksOffFrom (F.format format.now) (T.reported report.old).report (T.reported report.new).report fault
+    ensures err { IfErr result
+        (λ fault. BreaksOffFrom (F.format format.now) (T.reported report.old).report
+        (T.reported report.new).report fault
         (W.contents writer.old) (W.contents writer.new) (events_left decoder.old)) }
-    ensures told { TellsOn (T.reported report.old) (T.reported report.new) (E.contents errors.old) (E.contents errors.new) }
+    ensures told { TellsOn (T.reported report.old) (T.reported report.new) (E.contents errors.old)
+        (E.contents errors.new) }
 {
     pictures_are_whole();
     'events: while let Some(event) = next_event(decoder)? {
@@ -282,13 +313,20 @@ fn handle<F: PictureFormat, T: Reporter, E: Write, V: Watch, W: Write>(
     watch: &mut V,
 ) -> Result<(), RunFault>
     requires { IfPicture event IsWhole }
-    ensures report { OnOk result ((T.reported report.new).report ≡ report_with (T.reported report.old).report (event ∷ [])) }
-    ensures written { OnOk result (IsWritten (F.format format.now) (T.reported report.old).report.pictures
+    ensures report { OnOk result ((T.reported report.new).report
+        ≡ report_with (T.reported report.old).report (event ∷ [])) }
+    ensures written { OnOk result
+        (IsWritten (F.format format.now) (T.reported report.old).report.pictures
         (W.contents writer.old) (W.contents writer.new) (event ∷ [])) }
-    ensures err { IfErr result (λ fault. BreaksOffFrom (F.format format.now) (T.reported report.old).report (T.reported report.new).report fault
+    ensures err { IfErr result
+        (λ fault. BreaksOffFrom (F.format format.now) (T.reported report.old).report
+        (T.reported report.new).report fault
         (W.contents writer.old) (W.contents writer.new) (event ∷ [])) }
-    ensures size { IfPicture event (λ p. (F.format format.now).fits (T.reported report.old).report.pictures p ≡ false → result ≡ Err faults.Size) }
-    ensures told { TellsOn (T.reported report.old) (T.reported report.new) (E.contents errors.old) (E.contents errors.new) }
+    ensures size { IfPicture event
+        (λ p. (F.format format.now).fits (T.reported report.old).report.pictures p ≡ false →
+        result ≡ Err faults.Size) }
+    ensures told { TellsOn (T.reported report.old) (T.reported report.new) (E.contents errors.old)
+        (E.contents errors.new) }
 {
     match event {
         Event::Picture(picture) => {

@@ -26,8 +26,10 @@ pub fn decode_md5<F: PictureFormat, R: Read, W: Write, E: Write, V: Watch>(
     writer: &mut W,
     console: &mut Console<'_, E, V>,
 ) -> Ending
-    ensures { EndsDigesting console.old.names console.old.is_explained (F.format format.now) output (R.remaining reader.old) (R.remaining reader.new)
-        (W.contents writer.old) (W.contents writer.new) (E.contents console.old.errors) (E.contents console.new.errors) result }
+    ensures { EndsDigesting console.old.names console.old.is_explained (F.format format.now) output
+        (R.remaining reader.old) (R.remaining reader.new)
+        (W.contents writer.old) (W.contents writer.new) (E.contents console.old.errors)
+        (E.contents console.new.errors) result }
 {
     let mut tally = Tally::new(console.is_explained);
     let run = run_md5(
@@ -55,7 +57,8 @@ pub fn verify<F: PictureFormat, R: Read, E: Write, V: Watch>(
     reader: &mut R,
     console: &mut Console<'_, E, V>,
 ) -> Ending
-    ensures { EndsVerifying console.old.names console.old.is_explained (F.format format.now) output expected (R.remaining reader.old) (R.remaining reader.new)
+    ensures { EndsVerifying console.old.names console.old.is_explained (F.format format.now) output
+        expected (R.remaining reader.old) (R.remaining reader.new)
         (E.contents console.old.errors) (E.contents console.new.errors) result }
 {
     let mut tally = Tally::new(console.is_explained);
@@ -81,9 +84,12 @@ fn end_compared<E: Write>(
     decoded: Ending,
     errors: &mut E,
 ) -> Ending
-    ensures same { digest ≡ expected → (result ≡ decoded) × (E.contents errors.new ≡ E.contents errors.old) }
+    ensures same { digest ≡ expected → (result ≡ decoded) ×
+        (E.contents errors.new ≡ E.contents errors.old) }
     ensures status { (digest ≡ expected → ⊥) → result.status ≡ other_status decoded.status }
-    ensures told { (digest ≡ expected → ⊥) → TellsMore decoded.told (E.contents errors.old) (E.contents errors.new) (other_text run digest) result.told }
+    ensures told { (digest ≡ expected → ⊥) →
+        TellsMore decoded.told (E.contents errors.old) (E.contents errors.new)
+        (other_text run digest) result.told }
 {
     if digest == expected {
         decoded
@@ -100,7 +106,8 @@ fn end_other<E: Write>(
     errors: &mut E,
 ) -> Ending
     ensures status { result.status ≡ other_status decoded.status }
-    ensures told { TellsMore decoded.told (E.contents errors.old) (E.contents errors.new) (other_text run digest) result.told }
+    ensures told { TellsMore decoded.told (E.contents errors.old) (E.contents errors.new)
+        (other_text run digest) result.told }
 {
     Ending {
         status: other_status(decoded.status),
@@ -122,7 +129,8 @@ fn tell_other<E: Write>(
     is_told: bool,
     errors: &mut E,
 ) -> bool
-    ensures { TellsMore is_told (E.contents errors.old) (E.contents errors.new) (other_text run digest) result }
+    ensures { TellsMore is_told (E.contents errors.old) (E.contents errors.new)
+        (other_text run digest) result }
 {
     match run {
         Ok(()) => {
@@ -155,9 +163,11 @@ fn run_md5<F: PictureFormat, T: Reporter, E: Write, V: Watch, R: Read, W: Write>
     writer: &mut W,
 ) -> Result<(), RunFault>
     requires { (T.reported report.old).report ≡ no_report }
-    ensures writes { WritesDigest (F.format format.now) output (R.remaining reader.old) (R.remaining reader.new) (W.contents writer.old)
+    ensures writes { WritesDigest (F.format format.now) output (R.remaining reader.old)
+        (R.remaining reader.new) (W.contents writer.old)
         (W.contents writer.new) (T.reported report.new).report result }
-    ensures told { TellsOn (T.reported report.old) (T.reported report.new) (E.contents errors.old) (E.contents errors.new) }
+    ensures told { TellsOn (T.reported report.old) (T.reported report.new) (E.contents errors.old)
+        (E.contents errors.new) }
 {
     let (run, digest) = sum(alloc, output, format, report, errors, watch, reader);
     run?;
@@ -175,8 +185,10 @@ fn sum<F: PictureFormat, T: Reporter, E: Write, V: Watch, R: Read>(
     reader: &mut R,
 ) -> (Result<(), RunFault>, [u8; 16])
     requires { (T.reported report.old).report ≡ no_report }
-    ensures sums { Sums (F.format format.now) output (R.remaining reader.old) (R.remaining reader.new) (T.reported report.new).report result.0 result.1 }
-    ensures told { TellsOn (T.reported report.old) (T.reported report.new) (E.contents errors.old) (E.contents errors.new) }
+    ensures sums { Sums (F.format format.now) output (R.remaining reader.old)
+        (R.remaining reader.new) (T.reported report.new).report result.0 result.1 }
+    ensures told { TellsOn (T.reported report.old) (T.reported report.new) (E.contents errors.old)
+        (E.contents errors.new) }
 {
     let mut writer = Md5Writer::new();
     let run = run_watched(

@@ -1,4 +1,5 @@
-//! What the program does with a byte stream: its pictures decoded and written in a format, all or those asked for, and how that ends.
+//! What the program does with a byte stream: its pictures decoded and written in a format, all or
+//! those asked for, and how that ends.
 #![tactic(auto)]
 
 mod by_set;

@@ -20,8 +20,10 @@ pub fn decode<R: Read, W: Write, E: Write, V: Watch>(
     writer: &mut W,
     console: &mut Console<'_, E, V>,
 ) -> Ending
-    ensures { EndsDecodingAs console.old.names console.old.is_explained plain output (R.remaining reader.old) (R.remaining reader.new)
-        (W.contents writer.old) (W.contents writer.new) (E.contents console.old.errors) (E.contents console.new.errors) result }
+    ensures { EndsDecodingAs console.old.names console.old.is_explained plain output
+        (R.remaining reader.old) (R.remaining reader.new)
+        (W.contents writer.old) (W.contents writer.new) (E.contents console.old.errors)
+        (E.contents console.new.errors) result }
 {
     decode_as(alloc, output, &I420, reader, writer, console)
 }
@@ -37,8 +39,10 @@ pub fn decode_as<F: PictureFormat, R: Read, W: Write, E: Write, V: Watch>(
     writer: &mut W,
     console: &mut Console<'_, E, V>,
 ) -> Ending
-    ensures { EndsDecodingAs console.old.names console.old.is_explained (F.format format.now) output (R.remaining reader.old) (R.remaining reader.new)
-        (W.contents writer.old) (W.contents writer.new) (E.contents console.old.errors) (E.contents console.new.errors) result }
+    ensures { EndsDecodingAs console.old.names console.old.is_explained (F.format format.now) output
+        (R.remaining reader.old) (R.remaining reader.new)
+        (W.contents writer.old) (W.contents writer.new) (E.contents console.old.errors)
+        (E.contents console.new.errors) result }
 {
     let mut tally = Tally::new(console.is_explained);
     let run = run_watched(

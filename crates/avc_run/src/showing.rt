@@ -25,8 +25,10 @@ pub fn show<R: Read, W: Write, E: Write, V: Watch>(
     writer: &mut W,
     console: &mut Console<'_, E, V>,
 ) -> Ending
-    ensures { EndsShowing showing.form showing is_each_alone console.old.names console.old.is_explained
-        (R.remaining reader.old) (R.remaining reader.new) (W.contents writer.old) (W.contents writer.new)
+    ensures { EndsShowing showing.form showing is_each_alone console.old.names
+        console.old.is_explained
+        (R.remaining reader.old) (R.remaining reader.new) (W.contents writer.old)
+        (W.contents writer.new)
         (E.contents console.old.errors) (E.contents console.new.errors) result }
 {
     let mode = showing.mode;
@@ -101,8 +103,10 @@ fn show_headed<R: Read, W: Write, E: Write, V: Watch>(
     writer: &mut W,
     console: &mut Console<'_, E, V>,
 ) -> Ending
-    ensures { EndsDecodingBySet console.old.names console.old.is_explained (λ said. selection_of showing (headed format said)) showing.mode
-        (R.remaining reader.old) (R.remaining reader.new) (W.contents writer.old) (W.contents writer.new)
+    ensures { EndsDecodingBySet console.old.names console.old.is_explained
+        (λ said. selection_of showing (headed format said)) showing.mode
+        (R.remaining reader.old) (R.remaining reader.new) (W.contents writer.old)
+        (W.contents writer.new)
         (E.contents console.old.errors) (E.contents console.new.errors) result }
 {
     decode_headed(

@@ -130,6 +130,13 @@ same_strengths column row n f g luma chroma s same v =
     ∙ three _ _ _ _ _ _ (luma_same column row n f g luma same v s.luma) (chroma_same column row n f g chroma same v s.cb) (chroma_same column row n f g chroma same v s.cr)
     ∙ sym (in_parts v column row n g luma chroma s)
 
+-- three planes after the lines of an edge
+pub in_three : (v : Bool) (column row n : ℕ) (f g : ℕ → ℕ) (luma chroma : EdgeQp) (s : Planes) (l b r : Plane) → ((k : ℕ) → k < 4 → f k ≡ g k) →
+    l ≡ luma_of_edge v column row n f luma s.luma → b ≡ chroma_of_edge v column row n f chroma s.cb → r ≡ chroma_of_edge v column row n f chroma s.cr →
+    (let t : Planes = record { luma = l; cb = b; cr = r } in t) ≡ lines_of_edge v column row n g luma chroma s
+in_three true column row n f g luma chroma s l b r same e h i = three _ _ _ _ _ _ e h i ∙ same_strengths column row n f g luma chroma s same true
+in_three false column row n f g luma chroma s l b r same e h i = three _ _ _ _ _ _ e h i ∙ same_strengths column row n f g luma chroma s same false
+
 -- ---- the edge of a picture
 
 -- chroma samples, and the luma samples that they stand for

@@ -36,7 +36,7 @@ pub use Rattle.avc_deblock.specs.FilterInfo.{has_bit, HasMotion, HaveOneMotion, 
 pub use Rattle.avc_edges.specs.Line.{Setting, setting_of}
 pub use Rattle.avc_deblock.specs.Locality.{AgreesAbove, ChangesWithin, AgreesToRow, ChangesInRow, HasRow}
 pub use Rattle.avc_edges.specs.OneEdge.{strength_along, lines_filtered, chroma_setting, luma_setting}
-pub use Rattle.avc_deblock.specs.OneEdge.{component_edge, planes_edge, lines_of_edge, HasRoom, planes_edges, planes_mb, chroma_of_edge}
+pub use Rattle.avc_deblock.specs.OneEdge.{component_edge, planes_edge, lines_of_edge, HasRoom, planes_edges, planes_mb, chroma_of_edge, luma_of_edge}
 unfoldable pub use Rattle.avc_edges.specs.OneEdge.{edge_filtered}
 pub use Rattle.avc_deblock.specs.declared.mb_info.MbInfo.{MbInfo}
 pub use Rattle.avc_edges.specs.declared.strengths.Strengths.TheVariants.{BelowFour}

@@ -4,16 +4,8 @@ use Rattle.avc_deblock.proofs.filter.row.Goals as goal
 
 pub macroblock-requires : goal.macroblock-requires
 macroblock-requires g c =
-    let h = c.requires.room c.loop-column.column c.loop-column-test.true in (
-      omega arith,
-      (
-        omega (arith, h.luma_columns, c.width-columns.ensures, c.width-columns.type_inv),
-        (
-          omega (arith, h.luma_rows, c.height-rows.ensures, c.height-rows.type_inv),
-          (c.loop-column.invariant.room c.loop-column.column c.args.row h, c.loop-column.invariant.kept),
-        ),
-      ),
-    )
+    let h = c.requires.room c.loop-column.column c.loop-column-test.true in
+    (omega arith, (c.loop-column.invariant.room c.loop-column.column c.args.row h, c.loop-column.invariant.kept))
 
 -- the same info, by any number for the place and any default
 same_mb : (offset other : ℤ) (column row : ℕ) (l l' u u' f f' : MbInfo) (s t r : Planes) → other ≡ offset → l ≡ l' → u ≡ u' → f ≡ f' → t ≡ r →

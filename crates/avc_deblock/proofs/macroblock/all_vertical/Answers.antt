@@ -4,7 +4,7 @@ use Rattle.avc_deblock.proofs.macroblock.all_vertical.Goals as goal
 pub inner_vertical-requires : goal.inner_vertical-requires
 inner_vertical-requires g c =
     let room = c.outer_edge.ensures.room c.args.place.column c.args.place.row c.requires.room in
-    (omega arith, (c.requires.motion, (c.requires.columns_fit, (c.requires.rows_fit, (room, c.requires.inner_limits)))))
+    (omega arith, (c.requires.motion, (room, c.requires.inside)))
 
 pub returns-else-outer-clause-room : goal.returns-else-outer-clause-room
 returns-else-outer-clause-room g c column row h = c.inner_vertical.ensures.room column row (c.outer_edge.ensures.room column row h)

@@ -18,13 +18,13 @@ pub outer_edge-requires : goal.outer_edge-requires
 outer_edge-requires g c =
     let room = c.all_vertical.ensures.room c.args.place.column c.args.place.row c.requires.room in
     let some_row : c.edge_to-from_above.result.is_filtered ≡ true → 1 ≤ c.args.place.row = λ e. some_coded (filters_between c.args.mb.now c.args.above.now) c.args.place.row (c.edge_to-from_above.ensures.on e) in
-    (omega arith, ((λ e f. absurd (cc)), ((λ e f. some_row e), (c.requires.columns_fit, (c.requires.rows_fit, (room, ((λ e. search rules), (c.edge_to-from_above.ensures.low, c.edge_to-from_above.ensures.strengths))))))))
+    (omega arith, ((λ e f. absurd (cc)), ((λ e f. some_row e), (room, ((λ e. search rules), c.edge_to-from_above.ensures.strengths)))))
 
 pub inner_horizontal-requires : goal.inner_horizontal-requires
 inner_horizontal-requires g c =
     let before = c.all_vertical.ensures.room c.args.place.column c.args.place.row c.requires.room in
     let room = c.outer_edge.ensures.room c.args.place.column c.args.place.row before in
-    (omega arith, (c.inner_motion.ensures, (c.requires.columns_fit, (c.requires.rows_fit, (room, c.fit.ensures.inside)))))
+    (omega arith, (c.inner_motion.ensures, (room, c.fit.ensures.inside)))
 
 pub returns-clause-room : goal.returns-clause-room
 returns-clause-room g c column row h =

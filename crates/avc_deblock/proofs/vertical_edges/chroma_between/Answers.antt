@@ -2,20 +2,20 @@ use Rattle.avc_deblock.proofs.FilteredPictures.{arith, nat_tests, ◌∙◌, tru
 use Rattle.avc_deblock.proofs.vertical_edges.chroma_between.Goals as goal
 
 pub returns-then-are_zero-clause-cb : goal.returns-then-are_zero-clause-cb
-returns-then-are_zero-clause-cb g c = grind (arith, nat_tests, edge_none)
+returns-then-are_zero-clause-cb g c = grind (arith, nat_tests, edge_none, c.requires.settings.value)
 
 pub returns-clause-cb : goal.returns-clause-cb
 returns-clause-cb g c =
     let qp = chroma_qp_of c.args.place.chroma_qp_index_offset c.args.p.now c.args.q.now in
-    c.vertical_chroma_of.ensures.cb qp c.requires.limits ∙ chroma_same c.args.place.column c.args.place.row c.args.n _ _ qp c.requires.value true c.args.cb.now
+    c.chroma_of.ensures.cb qp c.requires.settings.limits ∙ chroma_same c.args.place.column c.args.place.row c.args.n _ _ qp c.requires.settings.value true c.args.cb.now
 
 pub returns-then-are_zero-clause-cr : goal.returns-then-are_zero-clause-cr
-returns-then-are_zero-clause-cr g c = grind (arith, nat_tests, edge_none)
+returns-then-are_zero-clause-cr g c = grind (arith, nat_tests, edge_none, c.requires.settings.value)
 
 pub returns-clause-cr : goal.returns-clause-cr
 returns-clause-cr g c =
     let qp = chroma_qp_of c.args.place.chroma_qp_index_offset c.args.p.now c.args.q.now in
-    c.vertical_chroma_of.ensures.cr qp c.requires.limits ∙ chroma_same c.args.place.column c.args.place.row c.args.n _ _ qp c.requires.value true c.args.cr.now
+    c.chroma_of.ensures.cr qp c.requires.settings.limits ∙ chroma_same c.args.place.column c.args.place.row c.args.n _ _ qp c.requires.settings.value true c.args.cr.now
 
 pub returns-clause-cb_width : goal.returns-clause-cb_width
 returns-clause-cb_width g c = grind (arith, edge_width, returns-clause-cb g c)

@@ -5,7 +5,7 @@ use Rattle.avc_deblock.proofs.vertical_edges.inner_luma.Goals as goal
 pub returns-then-q : goal.returns-then-q
 returns-then-q g c =
     intra_lines c.args.place.column c.args.place.row c.args.q.now true (3 ∷ 3 ∷ 3 ∷ 3 ∷ []) c.args.luma.now c.three_vertical_luma.new.plane c.if-q.true threes
-    (c.three_vertical_luma.ensures (luma_qp_of c.args.q.now c.args.q.now) c.requires.limits)
+    (c.three_vertical_luma.ensures (luma_qp_of c.args.q.now c.args.q.now) c.requires.middle.limits)
 
 pub returns : goal.returns
 returns g c =
@@ -14,8 +14,8 @@ returns g c =
     λ (n : ℕ) (s : Plane). edge_filtered (luma_setting (strength_of q q true n) (luma_qp_of q q)) true (16 * c.args.place.column + 4 * n) (16 * c.args.place.row) 16 s in
     c.luma_between-3.ensures.lines ∙ ap (next 3) (c.luma_between-2.ensures.lines ∙ ap (next 2) c.luma_between.ensures.lines)
 
-pub inner_strengths-second-requires-clause-still : goal.inner_strengths-second-requires-clause-still
-inner_strengths-second-requires-clause-still g c t = c.requires.motion.first t true
+pub inner_strengths-second-requires : goal.inner_strengths-second-requires
+inner_strengths-second-requires g c t = c.requires.motion.first t true
 
-pub inner_strengths-last-requires-clause-still : goal.inner_strengths-last-requires-clause-still
-inner_strengths-last-requires-clause-still g c t = c.requires.motion.last t true
+pub inner_strengths-last-requires : goal.inner_strengths-last-requires
+inner_strengths-last-requires g c t = c.requires.motion.last t true

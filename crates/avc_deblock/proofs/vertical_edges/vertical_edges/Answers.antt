@@ -16,5 +16,5 @@ returns-clause-room g c =
     let new : Planes = record { luma = c.inner_luma.new.luma; cb = c.chroma_edges.new.cb; cr = c.chroma_edges.new.cr } in
     edges_room c.args.place.column c.args.place.row c.args.place.chroma_qp_index_offset c.args.p.now c.args.q.now (planes_of c.args.planes.now) new (returns-clause-lines g c)
 
-pub inner_strengths-middle-requires-clause-still : goal.inner_strengths-middle-requires-clause-still
-inner_strengths-middle-requires-clause-still g c t = c.requires.motion.middle t true
+pub inner_strengths-strengths-requires : goal.inner_strengths-strengths-requires
+inner_strengths-strengths-requires g c t = c.requires.motion.middle t true

@@ -2,28 +2,28 @@ use Rattle.avc_inter.proofs.SixRows.{ap, ◌∙◌, blend_of, row_there, ◌+◌
 use Rattle.avc_inter.proofs.bilinear.blend_rows.Goals as goal
 
 pub overflow_mul-y : goal.overflow_mul-y
-overflow_mul-y g c = omega (arith, row_begins _ _ c.requires.lanes _ (c.args.at + c.args.stride + 1) _ _ c.requires.samples c.loop-y-test.true)
+overflow_mul-y g c = omega (arith, row_begins _ _ c.args.to.lanes _ (c.args.from.first + c.args.from.stride + 1) _ _ c.requires.samples c.loop-y-test.true)
 
-pub overflow_add-at : goal.overflow_add-at
-overflow_add-at g c = omega (arith, row_begins _ _ c.requires.lanes _ (c.args.at + c.args.stride + 1) _ _ c.requires.samples c.loop-y-test.true)
+pub overflow_add-from : goal.overflow_add-from
+overflow_add-from g c = omega (arith, row_begins _ _ c.args.to.lanes _ (c.args.from.first + c.args.from.stride + 1) _ _ c.requires.samples c.loop-y-test.true)
 
 pub blend_row-row-requires-clause-samples : goal.blend_row-row-requires-clause-samples
-blend_row-row-requires-clause-samples g c k low = omega (arith, row_there _ _ c.requires.lanes _ (c.args.at + c.args.stride + 1) _ k _ c.requires.samples c.loop-y-test.true low)
+blend_row-row-requires-clause-samples g c k low = omega (arith, row_there _ _ c.args.to.lanes _ (c.args.from.first + c.args.from.stride + 1) _ k _ c.requires.samples c.loop-y-test.true low)
 
 pub overflow_mul-y-in-loop-y : goal.overflow_mul-y-in-loop-y
-overflow_mul-y-in-loop-y g c = omega (arith, row_first _ _ _ c.requires.lanes c.loop-y-test.true c.requires.room c.loop-y.invariant)
+overflow_mul-y-in-loop-y g c = omega (arith, row_first _ _ _ c.args.to.lanes c.loop-y-test.true c.requires.room c.loop-y.invariant)
 
 pub overflow_add-to : goal.overflow_add-to
-overflow_add-to g c = omega (arith, row_first _ _ _ c.requires.lanes c.loop-y-test.true c.requires.room c.loop-y.invariant)
+overflow_add-to g c = omega (arith, row_first _ _ _ c.args.to.lanes c.loop-y-test.true c.requires.room c.loop-y.invariant)
 
 pub put_rows-requires-clause-room : goal.put_rows-requires-clause-room
-put_rows-requires-clause-room g c r low = row_room _ _ _ _ c.requires.lanes c.loop-y-test.true c.requires.room c.loop-y.invariant low
+put_rows-requires-clause-room g c r low = row_room _ _ _ _ c.args.to.lanes c.loop-y-test.true c.requires.room c.loop-y.invariant low
 
 pub loop-y-preserved : goal.loop-y-preserved
 loop-y-preserved g c =
-    sixteen_more c.loop-y.y c.blend_row-row.result c.requires.lanes c.requires.columns c.requires.apart c.loop-y.invariant c.put_rows.ensures
+    sixteen_more c.loop-y.y c.blend_row-row.result c.args.to.lanes c.args.to.columns c.args.to.apart c.loop-y.invariant c.put_rows.ensures
     (λ r x low column. c.blend_row-row.ensures (g.row.L * r + x) low
-    ∙ ap (blend_of c.args.w c.args.p.now c.args.stride) (omega (arith, place_in _ c.args.stride c.requires.lanes c.args.at 0 c.loop-y.y r x column)))
+    ∙ ap (blend_of c.args.w c.args.p.now c.args.from.stride) (omega (arith, place_in _ c.args.from.stride c.args.to.lanes c.args.from.first 0 c.loop-y.y r x column)))
 
 pub returns : goal.returns
 returns g c = rows_done _ _ _ c.loop-y.invariant c.loop-y-test.false c.loop-y.auto.y-end

@@ -1,19 +1,19 @@
-use Rattle.avc_inter.proofs.SixRows.{to_z, of_z, w64, ◌+ℤ◌, pos, ◌≡◌, arith, ints, sym, ◌∙◌, wide_of, vector_at, bilinear, block_of_same, whole_at}
+use Rattle.avc_inter.proofs.SixRows.{◌+ℤ◌, pos, ◌≡◌, arith, sym, ◌∙◌, wide_of, vector_at, bilinear, block_of_same, whole_at}
 use Rattle.avc_inter.proofs.chroma_prediction.chroma.Goals as goal
 
-pub returns-then-down-eq0 : goal.returns-then-down-eq0
-returns-then-down-eq0 g c =
-    let left = c.chroma_place-left.ensures in
-    let top = c.chroma_place-top.ensures in
-    let still : c.chroma_fraction-right.result ≡ 0 = omega arith in
-    let level : c.chroma_fraction-down.result ≡ 0 = omega arith in
-    c.set_whole.ensures ∙ block_of_same g.row.W g.row.H _ _ (λ i j column row. whole_at (wide_of c.args.reference.now) (to_z w64 (of_z w64 c.chroma_place-left.result) +ℤ pos i) (to_z w64 (of_z w64 c.chroma_place-top.result) +ℤ pos j)
-    ∙ vector_at 3 (bilinear (wide_of c.args.reference.now)) c.args.mv _ _ 0 0 _ _ _ _
-    left.small top.small left.value top.value (sym still ∙ c.chroma_fraction-right.ensures.value) (sym level ∙ c.chroma_fraction-down.ensures.value) (omega (arith, ints)) (omega (arith, ints)) i j)
+pub returns-then-beyond-eq0-2 : goal.returns-then-beyond-eq0-2
+returns-then-beyond-eq0-2 g c =
+    let at = c.chroma_place-at in
+    let beyond = c.chroma_fraction-beyond in
+    let still : beyond.result.right ≡ 0 = omega arith in
+    let level : beyond.result.down ≡ 0 = omega arith in
+    c.set_whole.ensures ∙ block_of_same g.row.W g.row.H _ _ (λ i j column row. whole_at (wide_of c.args.reference.now) (at.result.left +ℤ pos i) (at.result.top +ℤ pos j)
+    ∙ vector_at 3 (bilinear (wide_of c.args.reference.now)) c.args.mv _ _ 0 0 _ _
+    at.ensures.left at.ensures.top (sym still ∙ beyond.ensures.right) (sym level ∙ beyond.ensures.down) i j)
 
-pub returns-else-right-eq0 : goal.returns-else-right-eq0
-returns-else-right-eq0 g c =
-    let left = c.chroma_place-left.ensures in
-    let top = c.chroma_place-top.ensures in
-    c.set_between.ensures ∙ block_of_same g.row.W g.row.H _ _ (λ i j column row. vector_at 3 (bilinear (wide_of c.args.reference.now)) c.args.mv _ _ _ _ _ _ _ _
-    left.small top.small left.value top.value c.chroma_fraction-right.ensures.value c.chroma_fraction-down.ensures.value (omega (arith, ints)) (omega (arith, ints)) i j)
+pub returns-else-beyond-eq0 : goal.returns-else-beyond-eq0
+returns-else-beyond-eq0 g c =
+    let at = c.chroma_place-at.ensures in
+    let beyond = c.chroma_fraction-beyond.ensures in
+    c.set_between.ensures ∙ block_of_same g.row.W g.row.H _ _ (λ i j column row. vector_at 3 (bilinear (wide_of c.args.reference.now)) c.args.mv _ _ _ _ _ _
+    at.left at.top beyond.right beyond.down i j)

@@ -1,12 +1,34 @@
-use Rattle.avc_inter.proofs.SixRows.{below_half, rows_apart, room_lent, block_lent}
+use Rattle.avc_inter.proofs.SixRows.{arith, wide_of, strided_as, vector_at, bilinear, below_half, two_words, room_lent, block_lent}
 use Rattle.avc_inter.proofs.chroma_prediction.predict_between.Goals as goal
 
-pub lay_chroma-requires : goal.lay_chroma-requires
-lay_chroma-requires g c =
+pub lay_eighths-requires : goal.lay_eighths-requires
+lay_eighths-requires g c =
     let r = c.requires in
     let to = c.padded_place-to.ensures in
-    let room = room_lent _ _ c.args.x c.args.y g.row.W g.row.H _ _ _ c.padded_rows_mut-rows.ensures.rows r.columns.2 r.rows.2 to.first to.stride in
-    (below_half, ((r.columns.0, r.columns.1), ((r.rows.0, r.rows.1), (r.even, (r.column, (r.row, (rows_apart c.args.x g.row.W _ g.row.PAD _ r.columns.2 to.wide, room)))))))
+    let room = room_lent _ _ c.args.x c.args.y g.row.W g.row.H _ _ _ c.padded_rows_mut-out.ensures.rows r.columns.2 r.rows.2 to.first to.stride in
+    (below_half, (two_words, (omega arith, (omega arith, λ y low. room y (omega arith)))))
 
-pub returns : goal.returns
-returns g c = block_lent _ _ _ _ _ _ _ _ _ c.padded_rows_mut-rows.ensures.rows c.requires.columns.2 c.requires.rows.2 c.padded_place-to.ensures.first c.padded_place-to.ensures.stride _ _ c.lay_chroma.ensures
+pub lay_eighths-requires-else-this-le4 : goal.lay_eighths-requires-else-this-le4
+lay_eighths-requires-else-this-le4 g c =
+    let r = c.requires in
+    let to = c.padded_place-to.ensures in
+    let room = room_lent _ _ c.args.x c.args.y g.row.W g.row.H _ _ _ c.padded_rows_mut-out.ensures.rows r.columns.2 r.rows.2 to.first to.stride in
+    (below_half, (two_words, (omega arith, (omega arith, λ y low. room y (omega arith)))))
+
+pub returns-then-this-eq0 : goal.returns-then-this-eq0
+returns-then-this-eq0 g c =
+    let to = c.padded_place-to.ensures in
+    let at = c.chroma_place-at.ensures in
+    let beyond = c.chroma_fraction-beyond.ensures in
+    block_lent _ _ _ _ _ _ _ _ _ c.padded_rows_mut-out.ensures.rows c.requires.columns.2 c.requires.rows.2 to.first to.stride _ _
+    (strided_as c.lay_eighths.ensures (omega arith) (λ i j column row. vector_at 3 (bilinear (wide_of c.args.reference.now)) c.args.mv _ _ _ _ _ _
+    at.left at.top beyond.right beyond.down i j))
+
+pub returns-else-this-le4 : goal.returns-else-this-le4
+returns-else-this-le4 g c =
+    let to = c.padded_place-to.ensures in
+    let at = c.chroma_place-at.ensures in
+    let beyond = c.chroma_fraction-beyond.ensures in
+    block_lent _ _ _ _ _ _ _ _ _ c.padded_rows_mut-out.ensures.rows c.requires.columns.2 c.requires.rows.2 to.first to.stride _ _
+    (strided_as c.lay_eighths-else-this-le4.ensures (omega arith) (λ i j column row. vector_at 3 (bilinear (wide_of c.args.reference.now)) c.args.mv _ _ _ _ _ _
+    at.left at.top beyond.right beyond.down i j))

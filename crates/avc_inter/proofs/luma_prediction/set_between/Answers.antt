@@ -1,5 +1,4 @@
-use Rattle.avc_inter.proofs.SixRows.{◌+◌, ◌*◌, ◌≤◌, arith, ◌∙◌, mul-le-mul_right, block_of_same, wide_of, quarter}
-use Rattle.avc_inter.proofs.SixRows.{moved_at, rows_cover}
+use Rattle.avc_inter.proofs.SixRows.{◌+◌, ◌*◌, ◌≤◌, arith, ◌∙◌, mul-le-mul_right, block_of_same, rows_cover}
 use Rattle.avc_inter.proofs.luma_prediction.set_between.Goals as goal
 
 pub set_rows-requires : goal.set_rows-requires
@@ -14,5 +13,4 @@ pub returns : goal.returns
 returns g c =
     let r = c.requires in
     c.set_rows.ensures ∙ block_of_same g.row.W g.row.H _ _ (λ i j column row. c.lay_between.ensures.inside j
-    (omega (arith, row, rows_cover g.row.L r.lanes c.count_of.result g.row.H (omega (arith, c.count_of.ensures.value)))) i (omega (arith, column, r.columns.1))
-    ∙ moved_at (λ u v. quarter (wide_of c.args.reference.now) u v c.args.fx c.args.fy) c.args.left c.args.top i j r.left r.top)
+    (omega (arith, row, rows_cover g.row.L r.lanes c.count_of.result g.row.H (omega (arith, c.count_of.ensures.value)))) i (omega (arith, column, r.columns.1)))

@@ -1,17 +1,17 @@
-use Rattle.avc_inter.proofs.SixRows.{◌≡◌, arith}
+use Rattle.avc_inter.proofs.SixRows.{◌≡◌, arith, two_words}
 use Rattle.avc_inter.proofs.positions.quarters.Goals as goal
 
-pub row_0-requires-clause-room : goal.row_0-requires-clause-room
-row_0-requires-clause-room g c = c.requires.room
+pub row_0-requires : goal.row_0-requires
+row_0-requires g c = (two_words, (c.requires.out, c.requires.room))
 
-pub row_1-requires-clause-room : goal.row_1-requires-clause-room
-row_1-requires-clause-room g c = c.requires.room
+pub row_1-requires : goal.row_1-requires
+row_1-requires g c = (two_words, (c.requires.out, c.requires.room))
 
-pub row_2-requires-clause-room : goal.row_2-requires-clause-room
-row_2-requires-clause-room g c = c.requires.room
+pub row_2-requires : goal.row_2-requires
+row_2-requires g c = (two_words, (c.requires.out, c.requires.room))
 
-pub row_3-requires-clause-room : goal.row_3-requires-clause-room
-row_3-requires-clause-room g c = c.requires.room
+pub row_3-requires : goal.row_3-requires
+row_3-requires g c = (two_words, (c.requires.out, c.requires.room))
 
 pub returns-in-0 : goal.returns-in-0
 returns-in-0 g c = rw (c.in-0.is) c.row_0.ensures
@@ -24,5 +24,5 @@ returns-in-2 g c = rw (c.in-2.is) c.row_2.ensures
 
 pub returns-in_default : goal.returns-in_default
 returns-in_default g c =
-    let three : c.args.fy ≡ 3 = omega (arith, c.requires.fy, c.in_default) in
+    let three : c.args.beyond.down ≡ 3 = omega (arith, c.args.beyond.low, c.in_default) in
     rw three c.row_3.ensures

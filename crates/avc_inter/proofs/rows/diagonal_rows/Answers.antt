@@ -2,47 +2,47 @@ use Rattle.avc_inter.proofs.SixRows.{◌+◌, ◌*◌, arith, row_first, row_roo
 use Rattle.avc_inter.proofs.rows.diagonal_rows.Goals as goal
 
 pub overflow_mul-y : goal.overflow_mul-y
-overflow_mul-y g c = omega (arith, row_begins _ _ c.requires.lanes _ (c.args.at + c.args.across + 5) _ _ c.requires.across c.loop-y-test.true)
+overflow_mul-y g c = omega (arith, row_begins _ _ c.args.to.lanes _ (c.args.from.first + c.args.across + 5) _ _ c.requires.across c.loop-y-test.true)
 
-pub overflow_add-at-in-loop-y : goal.overflow_add-at-in-loop-y
-overflow_add-at-in-loop-y g c = omega (arith, row_begins _ _ c.requires.lanes _ (c.args.at + c.args.across + 5) _ _ c.requires.across c.loop-y-test.true)
+pub overflow_add-from-in-loop-y : goal.overflow_add-from-in-loop-y
+overflow_add-from-in-loop-y g c = omega (arith, row_begins _ _ c.args.to.lanes _ (c.args.from.first + c.args.across + 5) _ _ c.requires.across c.loop-y-test.true)
 
 pub overflow_mul-y-in-loop-y : goal.overflow_mul-y-in-loop-y
-overflow_mul-y-in-loop-y g c = omega (arith, row_begins _ _ c.requires.lanes _ (c.args.at + c.args.down + 5 * c.args.stride) _ _ c.requires.down c.loop-y-test.true)
+overflow_mul-y-in-loop-y g c = omega (arith, row_begins _ _ c.args.to.lanes _ (c.args.from.first + c.args.down + 5 * c.args.from.stride) _ _ c.requires.down c.loop-y-test.true)
 
-pub overflow_add-at-in-loop-y-3 : goal.overflow_add-at-in-loop-y-3
-overflow_add-at-in-loop-y-3 g c = omega (arith, row_begins _ _ c.requires.lanes _ (c.args.at + c.args.down + 5 * c.args.stride) _ _ c.requires.down c.loop-y-test.true)
+pub overflow_add-from-in-loop-y-3 : goal.overflow_add-from-in-loop-y-3
+overflow_add-from-in-loop-y-3 g c = omega (arith, row_begins _ _ c.args.to.lanes _ (c.args.from.first + c.args.down + 5 * c.args.from.stride) _ _ c.requires.down c.loop-y-test.true)
 
 pub half_row-b-requires-clause-samples : goal.half_row-b-requires-clause-samples
-half_row-b-requires-clause-samples g c k low = row_within _ _ c.requires.lanes _ (c.args.at + c.args.across) (5) _ k _ c.requires.across c.loop-y-test.true low
+half_row-b-requires-clause-samples g c k low = row_within _ _ c.args.to.lanes _ (c.args.from.first + c.args.across) (5) _ k _ c.requires.across c.loop-y-test.true low
 
 pub half_row-h-requires-clause-samples : goal.half_row-h-requires-clause-samples
-half_row-h-requires-clause-samples g c k low = row_within _ _ c.requires.lanes _ (c.args.at + c.args.down) (5 * c.args.stride) _ k _ c.requires.down c.loop-y-test.true low
+half_row-h-requires-clause-samples g c k low = row_within _ _ c.args.to.lanes _ (c.args.from.first + c.args.down) (5 * c.args.from.stride) _ k _ c.requires.down c.loop-y-test.true low
 
 pub overflow_mul-y-in-loop-y-2 : goal.overflow_mul-y-in-loop-y-2
-overflow_mul-y-in-loop-y-2 g c = omega (arith, row_first _ _ _ c.requires.lanes c.loop-y-test.true c.requires.room c.loop-y.invariant)
+overflow_mul-y-in-loop-y-2 g c = omega (arith, row_first _ _ _ c.args.to.lanes c.loop-y-test.true c.requires.room c.loop-y.invariant)
 
 pub overflow_add-to : goal.overflow_add-to
-overflow_add-to g c = omega (arith, row_first _ _ _ c.requires.lanes c.loop-y-test.true c.requires.room c.loop-y.invariant)
+overflow_add-to g c = omega (arith, row_first _ _ _ c.args.to.lanes c.loop-y-test.true c.requires.room c.loop-y.invariant)
 
 pub put_rows-requires-clause-room : goal.put_rows-requires-clause-room
-put_rows-requires-clause-room g c r low = row_room _ _ _ _ c.requires.lanes c.loop-y-test.true c.requires.room c.loop-y.invariant low
+put_rows-requires-clause-room g c r low = row_room _ _ _ _ c.args.to.lanes c.loop-y-test.true c.requires.room c.loop-y.invariant low
 
-pub overflow_add-at : goal.overflow_add-at
-overflow_add-at g c = omega (arith, row_begins _ _ c.requires.lanes _ (c.args.at + c.args.across + 5) _ _ c.requires.across c.loop-y-test.true)
+pub overflow_add-from : goal.overflow_add-from
+overflow_add-from g c = omega (arith, row_begins _ _ c.args.to.lanes _ (c.args.from.first + c.args.across + 5) _ _ c.requires.across c.loop-y-test.true)
 
-pub overflow_add-at-in-loop-y-2 : goal.overflow_add-at-in-loop-y-2
-overflow_add-at-in-loop-y-2 g c = omega (arith, row_begins _ _ c.requires.lanes _ (c.args.at + c.args.down + 5 * c.args.stride) _ _ c.requires.down c.loop-y-test.true)
+pub overflow_add-from-in-loop-y-2 : goal.overflow_add-from-in-loop-y-2
+overflow_add-from-in-loop-y-2 g c = omega (arith, row_begins _ _ c.args.to.lanes _ (c.args.from.first + c.args.down + 5 * c.args.from.stride) _ _ c.requires.down c.loop-y-test.true)
 
 pub loop-y-preserved : goal.loop-y-preserved
 loop-y-preserved g c =
-    sixteen_more c.loop-y.y c.means_of-row.result c.requires.lanes c.requires.columns c.requires.apart c.loop-y.invariant c.put_rows.ensures
+    sixteen_more c.loop-y.y c.means_of-row.result c.args.to.lanes c.args.to.columns c.args.to.apart c.loop-y.invariant c.put_rows.ensures
     (λ r x low column. cc (
       c.means_of-row.ensures (g.row.L * r + x) low,
       c.half_row-b.ensures (g.row.L * r + x) low,
       c.half_row-h.ensures (g.row.L * r + x) low,
-      place_in _ c.args.stride c.requires.lanes c.args.at c.args.across c.loop-y.y r x column,
-      place_in _ c.args.stride c.requires.lanes c.args.at c.args.down c.loop-y.y r x column,
+      place_in _ c.args.from.stride c.args.to.lanes c.args.from.first c.args.across c.loop-y.y r x column,
+      place_in _ c.args.from.stride c.args.to.lanes c.args.from.first c.args.down c.loop-y.y r x column,
     ))
 
 pub returns : goal.returns

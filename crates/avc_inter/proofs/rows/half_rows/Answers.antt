@@ -2,30 +2,30 @@ use Rattle.avc_inter.proofs.SixRows.{◌+◌, ◌*◌, arith, row_first, row_roo
 use Rattle.avc_inter.proofs.rows.half_rows.Goals as goal
 
 pub overflow_mul-y : goal.overflow_mul-y
-overflow_mul-y g c = omega (arith, row_begins _ _ c.requires.lanes _ (c.args.at + c.args.by + 5 * c.args.step) _ _ c.requires.samples c.loop-y-test.true)
+overflow_mul-y g c = omega (arith, row_begins _ _ c.args.to.lanes _ (c.args.from.first + c.args.taps.by + 5 * c.args.taps.step) _ _ c.requires.samples c.loop-y-test.true)
 
-pub overflow_add-at-in-loop-y : goal.overflow_add-at-in-loop-y
-overflow_add-at-in-loop-y g c = omega (arith, row_begins _ _ c.requires.lanes _ (c.args.at + c.args.by + 5 * c.args.step) _ _ c.requires.samples c.loop-y-test.true)
+pub overflow_add-from-in-loop-y : goal.overflow_add-from-in-loop-y
+overflow_add-from-in-loop-y g c = omega (arith, row_begins _ _ c.args.to.lanes _ (c.args.from.first + c.args.taps.by + 5 * c.args.taps.step) _ _ c.requires.samples c.loop-y-test.true)
 
 pub half_row-row-requires-clause-samples : goal.half_row-row-requires-clause-samples
-half_row-row-requires-clause-samples g c k low = row_within _ _ c.requires.lanes _ (c.args.at + c.args.by) (5 * c.args.step) _ k _ c.requires.samples c.loop-y-test.true low
+half_row-row-requires-clause-samples g c k low = row_within _ _ c.args.to.lanes _ (c.args.from.first + c.args.taps.by) (5 * c.args.taps.step) _ k _ c.requires.samples c.loop-y-test.true low
 
 pub overflow_mul-y-in-loop-y : goal.overflow_mul-y-in-loop-y
-overflow_mul-y-in-loop-y g c = omega (arith, row_first _ _ _ c.requires.lanes c.loop-y-test.true c.requires.room c.loop-y.invariant)
+overflow_mul-y-in-loop-y g c = omega (arith, row_first _ _ _ c.args.to.lanes c.loop-y-test.true c.requires.room c.loop-y.invariant)
 
 pub overflow_add-to : goal.overflow_add-to
-overflow_add-to g c = omega (arith, row_first _ _ _ c.requires.lanes c.loop-y-test.true c.requires.room c.loop-y.invariant)
+overflow_add-to g c = omega (arith, row_first _ _ _ c.args.to.lanes c.loop-y-test.true c.requires.room c.loop-y.invariant)
 
 pub put_rows-requires-clause-room : goal.put_rows-requires-clause-room
-put_rows-requires-clause-room g c r low = row_room _ _ _ _ c.requires.lanes c.loop-y-test.true c.requires.room c.loop-y.invariant low
+put_rows-requires-clause-room g c r low = row_room _ _ _ _ c.args.to.lanes c.loop-y-test.true c.requires.room c.loop-y.invariant low
 
-pub overflow_add-at : goal.overflow_add-at
-overflow_add-at g c = omega (arith, row_begins _ _ c.requires.lanes _ (c.args.at + c.args.by + 5 * c.args.step) _ _ c.requires.samples c.loop-y-test.true)
+pub overflow_add-from : goal.overflow_add-from
+overflow_add-from g c = omega (arith, row_begins _ _ c.args.to.lanes _ (c.args.from.first + c.args.taps.by + 5 * c.args.taps.step) _ _ c.requires.samples c.loop-y-test.true)
 
 pub loop-y-preserved : goal.loop-y-preserved
 loop-y-preserved g c =
-    sixteen_more c.loop-y.y c.half_row-row.result c.requires.lanes c.requires.columns c.requires.apart c.loop-y.invariant c.put_rows.ensures
-    (λ r x low column. cc (c.half_row-row.ensures (g.row.L * r + x) low, place_in _ c.args.stride c.requires.lanes c.args.at c.args.by c.loop-y.y r x column))
+    sixteen_more c.loop-y.y c.half_row-row.result c.args.to.lanes c.args.to.columns c.args.to.apart c.loop-y.invariant c.put_rows.ensures
+    (λ r x low column. cc (c.half_row-row.ensures (g.row.L * r + x) low, place_in _ c.args.from.stride c.args.to.lanes c.args.from.first c.args.taps.by c.loop-y.y r x column))
 
 pub returns : goal.returns
 returns g c = rows_done _ _ _ c.loop-y.invariant c.loop-y-test.false c.loop-y.auto.y-end

@@ -2,45 +2,45 @@ use Rattle.avc_inter.proofs.SixRows.{row_there, ◌+◌, ◌*◌, arith, row_fir
 use Rattle.avc_inter.proofs.rows.quarter_rows.Goals as goal
 
 pub overflow_mul-y : goal.overflow_mul-y
-overflow_mul-y g c = omega (arith, row_begins _ _ c.requires.lanes _ (c.args.at + c.args.by + 5 * c.args.step) _ _ c.requires.samples c.loop-y-test.true)
+overflow_mul-y g c = omega (arith, row_begins _ _ c.args.to.lanes _ (c.args.from.first + c.args.taps.by + 5 * c.args.taps.step) _ _ c.requires.samples c.loop-y-test.true)
 
-pub overflow_add-at-in-loop-y : goal.overflow_add-at-in-loop-y
-overflow_add-at-in-loop-y g c = omega (arith, row_begins _ _ c.requires.lanes _ (c.args.at + c.args.by + 5 * c.args.step) _ _ c.requires.samples c.loop-y-test.true)
+pub overflow_add-from-in-loop-y : goal.overflow_add-from-in-loop-y
+overflow_add-from-in-loop-y g c = omega (arith, row_begins _ _ c.args.to.lanes _ (c.args.from.first + c.args.taps.by + 5 * c.args.taps.step) _ _ c.requires.samples c.loop-y-test.true)
 
 pub overflow_mul-y-in-loop-y : goal.overflow_mul-y-in-loop-y
-overflow_mul-y-in-loop-y g c = omega (arith, row_begins _ _ c.requires.lanes _ (c.args.at + c.args.whole) _ _ c.requires.whole c.loop-y-test.true)
+overflow_mul-y-in-loop-y g c = omega (arith, row_begins _ _ c.args.to.lanes _ (c.args.from.first + c.args.whole) _ _ c.requires.whole c.loop-y-test.true)
 
-pub overflow_add-at-in-loop-y-3 : goal.overflow_add-at-in-loop-y-3
-overflow_add-at-in-loop-y-3 g c = omega (arith, row_begins _ _ c.requires.lanes _ (c.args.at + c.args.whole) _ _ c.requires.whole c.loop-y-test.true)
+pub overflow_add-from-in-loop-y-3 : goal.overflow_add-from-in-loop-y-3
+overflow_add-from-in-loop-y-3 g c = omega (arith, row_begins _ _ c.args.to.lanes _ (c.args.from.first + c.args.whole) _ _ c.requires.whole c.loop-y-test.true)
 
 pub quarter_row-row-requires-clause-samples : goal.quarter_row-row-requires-clause-samples
-quarter_row-row-requires-clause-samples g c k low = row_within _ _ c.requires.lanes _ (c.args.at + c.args.by) (5 * c.args.step) _ k _ c.requires.samples c.loop-y-test.true low
+quarter_row-row-requires-clause-samples g c k low = row_within _ _ c.args.to.lanes _ (c.args.from.first + c.args.taps.by) (5 * c.args.taps.step) _ k _ c.requires.samples c.loop-y-test.true low
 
 pub quarter_row-row-requires-clause-whole : goal.quarter_row-row-requires-clause-whole
-quarter_row-row-requires-clause-whole g c k low = row_there _ _ c.requires.lanes _ (c.args.at + c.args.whole) _ k _ c.requires.whole c.loop-y-test.true low
+quarter_row-row-requires-clause-whole g c k low = row_there _ _ c.args.to.lanes _ (c.args.from.first + c.args.whole) _ k _ c.requires.whole c.loop-y-test.true low
 
 pub overflow_mul-y-in-loop-y-2 : goal.overflow_mul-y-in-loop-y-2
-overflow_mul-y-in-loop-y-2 g c = omega (arith, row_first _ _ _ c.requires.lanes c.loop-y-test.true c.requires.room c.loop-y.invariant)
+overflow_mul-y-in-loop-y-2 g c = omega (arith, row_first _ _ _ c.args.to.lanes c.loop-y-test.true c.requires.room c.loop-y.invariant)
 
 pub overflow_add-to : goal.overflow_add-to
-overflow_add-to g c = omega (arith, row_first _ _ _ c.requires.lanes c.loop-y-test.true c.requires.room c.loop-y.invariant)
+overflow_add-to g c = omega (arith, row_first _ _ _ c.args.to.lanes c.loop-y-test.true c.requires.room c.loop-y.invariant)
 
 pub put_rows-requires-clause-room : goal.put_rows-requires-clause-room
-put_rows-requires-clause-room g c r low = row_room _ _ _ _ c.requires.lanes c.loop-y-test.true c.requires.room c.loop-y.invariant low
+put_rows-requires-clause-room g c r low = row_room _ _ _ _ c.args.to.lanes c.loop-y-test.true c.requires.room c.loop-y.invariant low
 
-pub overflow_add-at : goal.overflow_add-at
-overflow_add-at g c = omega (arith, row_begins _ _ c.requires.lanes _ (c.args.at + c.args.by + 5 * c.args.step) _ _ c.requires.samples c.loop-y-test.true)
+pub overflow_add-from : goal.overflow_add-from
+overflow_add-from g c = omega (arith, row_begins _ _ c.args.to.lanes _ (c.args.from.first + c.args.taps.by + 5 * c.args.taps.step) _ _ c.requires.samples c.loop-y-test.true)
 
-pub overflow_add-at-in-loop-y-2 : goal.overflow_add-at-in-loop-y-2
-overflow_add-at-in-loop-y-2 g c = omega (arith, row_begins _ _ c.requires.lanes _ (c.args.at + c.args.whole) _ _ c.requires.whole c.loop-y-test.true)
+pub overflow_add-from-in-loop-y-2 : goal.overflow_add-from-in-loop-y-2
+overflow_add-from-in-loop-y-2 g c = omega (arith, row_begins _ _ c.args.to.lanes _ (c.args.from.first + c.args.whole) _ _ c.requires.whole c.loop-y-test.true)
 
 pub loop-y-preserved : goal.loop-y-preserved
 loop-y-preserved g c =
-    sixteen_more c.loop-y.y c.quarter_row-row.result c.requires.lanes c.requires.columns c.requires.apart c.loop-y.invariant c.put_rows.ensures
+    sixteen_more c.loop-y.y c.quarter_row-row.result c.args.to.lanes c.args.to.columns c.args.to.apart c.loop-y.invariant c.put_rows.ensures
     (λ r x low column. cc (
       c.quarter_row-row.ensures (g.row.L * r + x) low,
-      place_in _ c.args.stride c.requires.lanes c.args.at c.args.whole c.loop-y.y r x column,
-      place_in _ c.args.stride c.requires.lanes c.args.at c.args.by c.loop-y.y r x column,
+      place_in _ c.args.from.stride c.args.to.lanes c.args.from.first c.args.whole c.loop-y.y r x column,
+      place_in _ c.args.from.stride c.args.to.lanes c.args.from.first c.args.taps.by c.loop-y.y r x column,
     ))
 
 pub returns : goal.returns

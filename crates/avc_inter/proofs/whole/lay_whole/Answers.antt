@@ -8,9 +8,4 @@ pub returns-in-Some : goal.returns-in-Some
 returns-in-Some g c =
     let there = there_in _ _ c.in-Some.is c.find_within.ensures _ c.padded_rows.ensures in
     strided_as c.copy_lines.ensures refl (λ i j column row. there.at i j column row
-    ∙ moved_at (wide_of c.args.plane.now) c.args.left c.args.top i j c.requires.left c.requires.top)
-
-pub returns-in-None : goal.returns-in-None
-returns-in-None g c =
-    strided_as c.lay_held.ensures refl (λ i j column row.
-    moved_at (wide_of c.args.plane.now) c.args.left c.args.top i j c.requires.left c.requires.top)
+    ∙ moved_at (wide_of c.args.plane.now) c.args.at.left c.args.at.top i j c.args.at.column c.args.at.row)

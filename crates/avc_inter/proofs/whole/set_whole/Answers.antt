@@ -7,10 +7,5 @@ set_rows-requires g c = (omega arith, (there_in _ _ c.in-Some.is c.find_within.e
 pub returns-in-Some : goal.returns-in-Some
 returns-in-Some g c =
     let there = there_in _ _ c.in-Some.is c.find_within.ensures _ c.padded_rows.ensures in
-    c.set_rows.ensures ∙ block_of_same g.row.W g.row.H _ _ (λ i j column row. there.at i j (omega (arith, c.requires.columns)) row
-    ∙ moved_at (wide_of c.args.plane.now) c.args.left c.args.top i j c.requires.left c.requires.top)
-
-pub returns-in-None : goal.returns-in-None
-returns-in-None g c =
-    c.set_held.ensures ∙ block_of_same g.row.W g.row.H _ _ (λ i j column row.
-    moved_at (wide_of c.args.plane.now) c.args.left c.args.top i j c.requires.left c.requires.top)
+    c.set_rows.ensures ∙ block_of_same g.row.W g.row.H _ _ (λ i j column row. there.at i j (omega (arith, c.requires.small.0)) row
+    ∙ moved_at (wide_of c.args.plane.now) c.args.at.left c.args.at.top i j c.args.at.column c.args.at.row)

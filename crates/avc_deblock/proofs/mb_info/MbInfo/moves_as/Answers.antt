@@ -18,6 +18,6 @@ returns-clause-vector c all =
 
 pub returns-clause-found : goal.returns-clause-found
 returns-clause-found c one =
-    let v : Mv = slice_index_or c.args.q.now.vectors c.args.q_block zero_vector in
-    let picture = slice_index c.args.q.now.pictures (c.args.q_block / 4) in
+    let v : Mv = slice_index_or c.args.q.now.vectors c.args.blocks.q zero_vector in
+    let picture = slice_index c.args.q.now.pictures (c.args.blocks.q / 4) in
     c.all_three.ensures ∙ rw (one.vector, one.picture, one_picture (of_z w16 v.x), one_picture (of_z w16 v.y), one_picture picture) refl

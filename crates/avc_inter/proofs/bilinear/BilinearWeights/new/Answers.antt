@@ -9,4 +9,4 @@ all_shares r d p q =
     omega (arith, upper, lower)
 
 pub returns-clause-whole : goal.returns-clause-whole
-returns-clause-whole c = record { whole = all_shares c.from-right.result c.from-down.result (omega arith) (omega arith) }
+returns-clause-whole c = record { whole = all_shares c.args.beyond.right c.args.beyond.down (omega arith) (omega arith) }
