@@ -54,6 +54,30 @@ module _ (pad : ℕ) (from : Plane) (rows : List ℕ) (all : IsSurrounded pad fr
       ∙ rw (held_back pad from.width (left + x) (omega (arith, low, columns)), held_back pad from.height y row) refl
       )
 
+-- no piece, and a piece behind another
+pub no_piece : (from : List ℕ) (start : ℕ) (old : List ℕ) → IsPieceOf from start 0 old old
+no_piece from start old = record {
+  long = refl;
+  before = λ k low. refl;
+  inside = λ k none. absurd (omega (arith, none));
+  behind = λ k high. refl;
+}
+
+pub piece_more : (from : List ℕ) (start n m : ℕ) (old mid new : List ℕ) → IsPieceOf from start n old mid → IsPieceOf from (start + n) m mid new
+    → IsPieceOf from start (n + m) old new
+piece_more from start n m old mid new first more = record {
+  long = more.long ∙ first.long;
+  before = λ k low. more.before k (omega (arith, low)) ∙ first.before k low;
+  inside = λ k few.
+      ⊎_elim
+      (λ early. more.before (start + k) (omega (arith, early)) ∙ first.inside k early)
+      (λ late.
+      let is : start + n + (k - n) ≡ start + k = omega (arith, late) in
+      ap (slice_index new) (sym is) ∙ more.inside (k - n) (omega (arith, late, few)) ∙ ap (slice_index from) is)
+      (cases_lt k n);
+  behind = λ k high. more.behind k (omega (arith, high)) ∙ first.behind k (omega (arith, high));
+}
+
 -- rows that are copied as one piece
 module _ (pad : ℕ) (from p : Plane) (rows old : List ℕ) (all : IsSurrounded pad from rows) (have : HaveSamples pad p old) (top height start stride : ℕ)
     (same_width : p.width ≡ from.width) (inner : top + height ≤ from.height) (low : top + height ≤ p.height)

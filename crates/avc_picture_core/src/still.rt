@@ -34,7 +34,11 @@ fn line_of<const PAD: usize>(from: &PaddedPlane<PAD>, left: usize, y: usize, wid
     &from.padded_rows()[start..start + width]
 }
 
-/// Copies `count` samples to the same place of other rows.
+/// How many samples are copied at once: where they are more, the C library takes an instruction
+/// that goes from byte to byte.
+const PIECE: usize = 4032;
+
+/// Copies `count` samples to the same place of other rows, at once.
 fn copy_piece(from: &[u8], start: usize, count: usize, rows: &mut [u8])
     requires source { start + count ≤ length from.now }
     requires target { start + count ≤ length rows.old }
@@ -43,8 +47,21 @@ fn copy_piece(from: &[u8], start: usize, count: usize, rows: &mut [u8])
     rows[start..start + count].copy_from_slice(&from[start..start + count]);
 }
 
-/// Copies rows of a plane to the same place of another of its width, as one piece of memory with
-/// the padding between them: what is so long is copied without being read first where it goes.
+/// Copies `count` samples to the same place of other rows, piece by piece.
+fn copy_pieces(from: &[u8], start: usize, count: usize, rows: &mut [u8])
+    requires source { start + count ≤ length from.now }
+    requires target { start + count ≤ length rows.old }
+    ensures { IsPieceOf from.now start count rows.old rows.new }
+{
+    let pieces = count / PIECE;
+    for piece in 0..pieces {
+        copy_piece(from, start + piece * PIECE, PIECE, rows);
+    }
+    let copied = pieces * PIECE;
+    copy_piece(from, start + copied, count - copied, rows);
+}
+
+/// Copies rows of a plane to the same place of another of its width, with the padding between them.
 fn copy_rows<const PAD: usize>(
     from: &PaddedPlane<PAD>,
     top: usize,
@@ -60,7 +77,7 @@ fn copy_rows<const PAD: usize>(
     let _lines = from.height();
     let start = (top + PAD) * stride;
     let rows = plane.padded_rows_mut();
-    copy_piece(from.padded_rows(), start, height * stride, rows);
+    copy_pieces(from.padded_rows(), start, height * stride, rows);
 }
 
 /// Copies a rectangle of a plane to the same place of another, row by row, or all at once where it
