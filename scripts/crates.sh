@@ -1,6 +1,6 @@
 #!/bin/sh
-# Writes docs/CRATES.md to standard output: the crates by storey, from crates.txt, with what each is about, from the first line of its
-# root file. A crate's storey is one above the highest of those that it stands on. What no line of its code names is marked as there for
+# Writes docs/CRATES.md to standard output: the crates by storey, from crates.txt, with what each is about, from the first sentence of
+# its root file. A crate's storey is one above the highest of those that it stands on. What no line of its code names is marked as there for
 # contracts and proofs alone.
 set -eu
 export LC_ALL=C
@@ -40,7 +40,9 @@ storeys() {
 about() {
     root=crates/$1/src/lib.rt
     [ -f "$root" ] || root=crates/$1/src/main.rt
-    sed -n '1s/^\/\/! //p' "$root"
+    awk '!/^\/\/! / { exit }
+        { text = text (NR > 1 ? " " : "") substr($0, 5) }
+        END { sub(/\. [A-Z`].*/, ".", text); print text }' "$root"
 }
 
 # whether some line of the crate $1 that is compiled names the crate $2

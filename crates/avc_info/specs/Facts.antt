@@ -80,7 +80,5 @@ after_refusal unit fault f = record f {
 
 -- with a sequence parameter set: what it says, or what it begins with where it is refused
 abbrev pub with_set : Option SequenceFacts → Option SetHead → StreamFacts → StreamFacts
-with_set said refused f = record f {
-  first_set = first_of f.first_set said;
-  refused_set = first_of f.refused_set refused;
-}
+with_set said refused f =
+    record f { first_set = first_of f.first_set said; refused_set = first_of f.refused_set refused }

@@ -14,8 +14,8 @@ abbrev pub facts_so_far : List ℕ → (ended : Bool) → StreamFacts
 facts_so_far bytes ended = facts_after [] (units max_unit bytes ended) no_facts
 
 -- the facts of the whole stream, and its length, in a form, once it has ended
-abbrev pub info_so_far : (form : StreamFacts → (bytes : ℕ) → List ℕ) → List ℕ → (ended : Bool) →
-    List ℕ
+abbrev pub info_so_far : (form : StreamFacts → (bytes : ℕ) → List ℕ)
+    → List ℕ → (ended : Bool) → List ℕ
 info_so_far form bytes ended =
     if ended then form (facts_of bytes) (saturated (length bytes)) else []
 

@@ -6,5 +6,5 @@ use Rattle.avc_info.specs.Info.{facts_so_far}
 -- What they say of the sequence is what the search for the first slice's set finds.
 abbrev pub SequenceIsFirst : Type 0
 SequenceIsFirst =
-    (bytes : List ℕ) (ended : Bool) → (facts_so_far bytes ended).sequence
-    ≡ first_sequence bytes ended
+    (bytes : List ℕ) (ended : Bool)
+    → (facts_so_far bytes ended).sequence ≡ first_sequence bytes ended

@@ -1,3 +1,4 @@
+pub mod Adding
 pub mod Sizes
 pub mod RefusedSet
 pub mod Refusals

@@ -24,8 +24,7 @@ coded_text s = codes "coded " ++ decimal s.width ++ codes "x" ++ decimal s.heigh
 abbrev pub crop_text : Crop → List ℕ
 crop_text c =
     codes ", crop left " ++ decimal c.left ++ codes ", right " ++ decimal c.right ++ codes ", top "
-    ++ decimal c.top
-    ++ codes ", bottom " ++ decimal c.bottom
+    ++ decimal c.top ++ codes ", bottom " ++ decimal c.bottom
 
 -- both
 abbrev pub coded_line : SequenceFacts → List ℕ
@@ -55,8 +54,7 @@ abbrev pub colour_text : Option Colour → List ℕ
 colour_text None = codes "colour primaries not given, transfer not given, matrix not given"
 colour_text (Some c) =
     codes "colour primaries " ++ decimal c.colour_primaries ++ codes ", transfer "
-    ++ decimal c.transfer_characteristics
-    ++ codes ", matrix " ++ decimal c.matrix_coefficients
+    ++ decimal c.transfer_characteristics ++ codes ", matrix " ++ decimal c.matrix_coefficients
 
 -- the same as a line
 abbrev pub colour_line : SequenceFacts → List ℕ

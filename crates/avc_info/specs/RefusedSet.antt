@@ -75,8 +75,8 @@ before_size = do
 
 -- the size before cropping, in luma samples; a map unit is two macroblocks high where there are
 -- fields (7.4.2.1.1)
-abbrev pub size_of : (pic_width_in_mbs_minus1 pic_height_in_map_units_minus1 : ℕ) →
-    (frame_mbs_only_flag : Bool) → Size
+abbrev pub size_of : (pic_width_in_mbs_minus1 pic_height_in_map_units_minus1 : ℕ)
+    → (frame_mbs_only_flag : Bool) → Size
 size_of pic_width_in_mbs_minus1 pic_height_in_map_units_minus1 frame_mbs_only_flag = record {
   width = 16 * (pic_width_in_mbs_minus1 + 1);
   height = 16 * (pic_height_in_map_units_minus1 + 1) * (if frame_mbs_only_flag then 1 else 2);

@@ -49,5 +49,5 @@ others_text others = if others then codes " and others" else []
 -- a line, where there are more than one
 abbrev pub sizes_line : Sizes → List ℕ
 sizes_line s =
-    if nat_lt (length s.first) 2 then [] else codes "sizes" ++ flat_map size_word s.first
-    ++ others_text s.others ++ newline
+    if nat_lt (length s.first) 2 then []
+    else codes "sizes" ++ flat_map size_word s.first ++ others_text s.others ++ newline

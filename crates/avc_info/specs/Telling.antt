@@ -23,38 +23,31 @@ Text = List ℕ → (ended : Bool) → List ℕ
 -- How a listing of these macroblocks ends.
 abbrev pub ListingEnding : Type 1
 ListingEnding =
-    MacroblockChoice → Names → (unread left held holds before now : Option (List ℕ)) → Ending →
-    Type 0
+    MacroblockChoice → Names → (unread left held holds before now : Option (List ℕ)) → Ending
+    → Type 0
 
 -- One of four texts is written, or the macroblocks that are asked for are listed: what this subject
 -- wants.
-abbrev pub EndsTellingOf : Subject → (of_units of_headers of_pieces of_all : Text) →
-    (EndsMacroblocks : ListingEnding) → Names →
-    (unread left held holds before now : Option (List ℕ)) → Ending → Type 0
-EndsTellingOf Units of_units of_headers of_pieces of_all EndsMacroblocks names unread left held
-    holds before now ending =
-    EndsListing names of_units unread left held holds before now ending
-EndsTellingOf Headers of_units of_headers of_pieces of_all EndsMacroblocks names unread left held
-    holds before now ending =
-    EndsListing names of_headers unread left held holds before now ending
-EndsTellingOf Pieces of_units of_headers of_pieces of_all EndsMacroblocks names unread left held
-    holds before now ending =
-    EndsListing names of_pieces unread left held holds before now ending
-EndsTellingOf (Macroblocks choice) of_units of_headers of_pieces of_all EndsMacroblocks names unread
-    left held holds before now ending =
-    EndsMacroblocks choice names unread left held holds before now ending
-EndsTellingOf Info of_units of_headers of_pieces of_all EndsMacroblocks names unread left held holds
-    before now ending =
-    EndsListing names of_all unread left held holds before now ending
+abbrev pub EndsTellingOf : Subject → (of_units of_headers of_pieces of_all : Text)
+    → (EndsMacroblocks : ListingEnding) → Names
+    → (unread left held holds before now : Option (List ℕ)) → Ending → Type 0
+EndsTellingOf Units of_units of_headers of_pieces of_all EndsMacroblocks names =
+    EndsListing names of_units
+EndsTellingOf Headers of_units of_headers of_pieces of_all EndsMacroblocks names =
+    EndsListing names of_headers
+EndsTellingOf Pieces of_units of_headers of_pieces of_all EndsMacroblocks names =
+    EndsListing names of_pieces
+EndsTellingOf (Macroblocks choice) of_units of_headers of_pieces of_all EndsMacroblocks names =
+    EndsMacroblocks choice names
+EndsTellingOf Info of_units of_headers of_pieces of_all EndsMacroblocks names =
+    EndsListing names of_all
 
 -- in a wording
-abbrev pub EndsTelling : (EndsMacroblocks : Wording → ListingEnding) → Wording → Subject → Names →
-    (unread left held holds before now : Option (List ℕ)) → Ending → Type 0
+abbrev pub EndsTelling : (EndsMacroblocks : Wording → ListingEnding) → Wording → Subject → Names
+    → (unread left held holds before now : Option (List ℕ)) → Ending → Type 0
 EndsTelling EndsMacroblocks Plain subject =
     EndsTellingOf subject (unit_lines_so_far unit_line) (header_lines_so_far header_line)
-    (cut_point_lines_so_far cut_point_line)
-    (info_so_far info_text) (EndsMacroblocks Plain)
+    (cut_point_lines_so_far cut_point_line) (info_so_far info_text) (EndsMacroblocks Plain)
 EndsTelling EndsMacroblocks Json subject =
     EndsTellingOf subject (unit_lines_so_far unit_json) (header_lines_so_far header_json)
-    (cut_point_lines_so_far piece_json)
-    (info_so_far json_line) (EndsMacroblocks Json)
+    (cut_point_lines_so_far piece_json) (info_so_far json_line) (EndsMacroblocks Json)

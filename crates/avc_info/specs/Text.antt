@@ -32,8 +32,8 @@ is_level_1b s = s.level_idc == 9 || (s.level_idc == 11 && s.constraint_set3_flag
 -- the level's number (A.3.1)
 abbrev pub level_name : SequenceFacts → List ℕ
 level_name s =
-    if is_level_1b s then codes "1b" else decimal (s.level_idc / 10) ++ codes "."
-    ++ decimal (s.level_idc % 10)
+    if is_level_1b s then codes "1b"
+    else decimal (s.level_idc / 10) ++ codes "." ++ decimal (s.level_idc % 10)
 
 -- the level
 abbrev pub level_text : SequenceFacts → List ℕ
@@ -113,8 +113,7 @@ refused_line f = refused_text f.refused ++ refusal_text f.first_refusal ++ newli
 abbrev pub kind_line : RefusalKind → List ℕ
 kind_line k =
     codes "refused as " ++ decimal (number_of k.fault) ++ codes " " ++ name_of k.fault ++ codes ": "
-    ++ decimal k.count
-    ++ codes ", the first unit " ++ decimal k.first_unit ++ newline
+    ++ decimal k.count ++ codes ", the first unit " ++ decimal k.first_unit ++ newline
 
 -- a line for each kind, where there are more than one: of one alone the line before says it all
 abbrev pub kind_lines : List RefusalKind → List ℕ
@@ -123,8 +122,8 @@ kind_lines kinds = if nat_lt (length kinds) 2 then [] else flat_map kind_line ki
 -- profile_idc and level_idc of a sequence parameter set that is refused
 abbrev pub set_head_text : SetHead → List ℕ
 set_head_text h =
-    codes "refused sequence: profile_idc " ++ decimal h.profile_idc ++ codes ", level_idc "
-    ++ decimal h.level_idc
+    codes "refused sequence: profile_idc " ++ decimal h.profile_idc
+    ++ codes ", level_idc " ++ decimal h.level_idc
 
 -- its size before cropping, where it can be read
 abbrev pub set_size_text : Option Size → List ℕ
@@ -149,5 +148,4 @@ sequence_of f = elim f.sequence [ Some s ↦ Some s | None ↦ f.first_set ]
 abbrev pub stream_text : StreamFacts → List ℕ
 stream_text f =
     sequence_text (sequence_of f) ++ counts_line f.counts ++ refused_line f
-    ++ kind_lines (kinds_of f.refusals)
-    ++ refused_set_line f.refused_set
+    ++ kind_lines (kinds_of f.refusals) ++ refused_set_line f.refused_set

@@ -41,13 +41,11 @@ impl<F> Model for InfoLines<F> {
 
     ghost Value = { StreamSoFar };
 
-    ghost view = { λ l. record {
-      bytes = l.splitter.bytes;
-      ended = l.splitter.ended;
-      failed = l.failed;
-    } };
+    ghost view = { λ l.
+        record { bytes = l.splitter.bytes; ended = l.splitter.ended; failed = l.failed } };
 
-    ghost invariant = { λ l. l.failed ≡ false → AreNoted max_unit l.splitter l.ended l.reader l.facts l.bytes };
+    ghost invariant = { λ l. l.failed ≡ false
+        → AreNoted max_unit l.splitter l.ended l.reader l.facts l.bytes };
 }
 
 impl<F> InfoLines<F> {
@@ -73,8 +71,8 @@ impl<F> InfoLines<F> {
     /// What the sequence parameter set of the first slice says, once the end of that slice has
     /// come.
     pub fn sequence(&self) -> &Option<SequenceFacts>
-        ensures { self.now.failed ≡ false →
-            result.now ≡ (facts_so_far self.now.bytes self.now.ended).sequence }
+        ensures { self.now.failed ≡ false
+            → result.now ≡ (facts_so_far self.now.bytes self.now.ended).sequence }
     {
         &self.facts.sequence
     }
@@ -146,10 +144,10 @@ fn note_units_left(
     facts: &mut StreamFacts,
 ) -> Result<(), OutOfMemory>
     requires { splitter.old.failed ≡ false }
-    ensures sets { OnOk result (reader.new ≡ reader.old
-        ++ set_units (units_left max_unit splitter.old)) }
-    ensures facts { OnOk result (facts.new
-        ≡ facts_after reader.old (units_left max_unit splitter.old) facts.old) }
+    ensures sets { OnOk result
+        (reader.new ≡ reader.old ++ set_units (units_left max_unit splitter.old)) }
+    ensures facts { OnOk result
+        (facts.new ≡ facts_after reader.old (units_left max_unit splitter.old) facts.old) }
     ensures taken { OnOk result (splitter.new ≡ after_units_left max_unit splitter.old) }
 {
     while let Some(unit) = splitter.next_unit() {

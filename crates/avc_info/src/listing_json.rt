@@ -1,12 +1,13 @@
 //! Units, headers and pieces as lines of JSON.
 
-ghost use Rattle.std.specs.Prelude.{◌≡◌, ◌++◌, ◌∷◌, [], false, IfOk, OnOk, codes, string_bytes};
+ghost use Rattle.std.specs.Prelude.{◌≡◌, [], false, IfOk, OnOk, codes};
 ghost use Rattle.avc_params.specs.Tables.{sets_after};
 ghost use Rattle.avc_units.specs.Grouping.{set_units};
 ghost use Rattle.serde_json.specs.Data.{number, put as with_member};
 ghost use Rattle.serde_json.specs.Find.{of_integer};
 ghost use Rattle.serde_json.specs.View.{members_view, view};
 ghost use Rattle.serde_json.specs.Written.{has_float};
+ghost use Rattle.avc_info.specs.Adding.{AddsText};
 ghost use Rattle.avc_info.specs.Json.{count};
 ghost use Rattle.avc_info.specs.ListingJson.{header_data, header_json, line_of_data};
 ghost use Rattle.avc_info.specs.ListingJson.{line_of_data_if, piece_data, piece_json};
@@ -67,8 +68,7 @@ impl ListingForm for ForPrograms {
 // Adds a value in a line of its own.
 fn add_value(alloc: Global, text: &mut String, value: &Value) -> Result<(), OutOfMemory>
     requires { has_float (view value.now) ≡ false }
-    ensures { OnOk result (string_bytes text.new ≡ string_bytes text.old
-        ++ line_of_data (view value.now)) }
+    ensures { OnOk result (AddsText text.old text.new (line_of_data (view value.now))) }
 {
     let line = value.to_string(alloc)?;
     text.push_str(&line)?;
@@ -108,8 +108,8 @@ fn add_brought(
     unit: u64,
     brought: &Brought,
 ) -> Result<(), OutOfMemory>
-    ensures { OnOk result (string_bytes text.new ≡ string_bytes text.old
-        ++ line_of_data_if (header_data unit (sets_after reader.now) brought.now)) }
+    ensures { OnOk result (AddsText text.old text.new
+        (line_of_data_if (header_data unit (sets_after reader.now) brought.now))) }
 {
     match brought {
         Brought::Nothing => Ok(()),
@@ -203,8 +203,7 @@ fn pps_value(alloc: Global, unit: u64, pps: &Pps) -> Result<Value, OutOfMemory>
 }
 
 fn put_initial_qp(map: &mut Map<String, Value>, alloc: Global, pps: &Pps) -> Result<(), OutOfMemory>
-    ensures { OnOk result (members_view map.new.entries
-        ≡ with_member (codes "pic_init_qp_minus26")
+    ensures { OnOk result (members_view map.new.entries ≡ with_member (codes "pic_init_qp_minus26")
         (number (of_integer pps.now.pic_init_qp_minus26)) (members_view map.old.entries)) }
 {
     put(
@@ -235,8 +234,8 @@ fn slice_value(
     reader: &HeaderReader,
     header: &Header,
 ) -> Result<Value, OutOfMemory>
-    ensures { IfOk result (λ value. view value
-        ≡ slice_data unit (sets_after reader.now) header.now) }
+    ensures { IfOk result
+        (λ value. view value ≡ slice_data unit (sets_after reader.now) header.now) }
 {
     let mut map = Map::new(alloc);
     put_byte(&mut map, alloc, "IdrPicFlag", flag_number(header.is_idr()))?;

@@ -21,8 +21,8 @@ pub(crate) fn note_unit(
     reader: &mut HeaderReader,
     unit: &Unit,
 ) -> Result<(), OutOfMemory>
-    ensures facts { OnOk result (facts.new
-        ≡ after_unit (sets_after reader.old) unit.now facts.old) }
+    ensures facts { OnOk result
+        (facts.new ≡ after_unit (sets_after reader.old) unit.now facts.old) }
     ensures sets { OnOk result (reader.new ≡ reader.old ++ set_units (unit.now ∷ [])) }
 {
     let brought = reader.read(unit)?;

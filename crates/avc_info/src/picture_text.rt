@@ -1,7 +1,8 @@
 //! The text that tells people how a stream's pictures are coded and shown, and how many bits and
 //! seconds they take.
 
-ghost use Rattle.std.specs.Prelude.{◌≡◌, ◌++◌, OnOk, string_bytes};
+ghost use Rattle.std.specs.Prelude.{◌≡◌, OnOk};
+ghost use Rattle.avc_info.specs.Adding.{AddsText};
 ghost use Rattle.avc_info.specs.PictureText.{aspect_text, coded_line, coded_text, colour_line};
 ghost use Rattle.avc_info.specs.PictureText.{colour_text, crop_text};
 ghost use Rattle.avc_info.specs.PictureText.{picture_text, range_text, rates_line, samples_line};
@@ -19,8 +20,7 @@ pub(crate) fn add_picture(
     pictures: u64,
     sequence: &Option<SequenceFacts>,
 ) -> Result<(), OutOfMemory>
-    ensures { OnOk result (string_bytes text.new ≡ string_bytes text.old
-        ++ picture_text bytes pictures sequence.now) }
+    ensures { OnOk result (AddsText text.old text.new (picture_text bytes pictures sequence.now)) }
 {
     match sequence {
         Some(sequence) => {
@@ -34,8 +34,7 @@ pub(crate) fn add_picture(
 }
 
 fn add_coded(text: &mut String, sequence: &SequenceFacts) -> Result<(), OutOfMemory>
-    ensures { OnOk result (string_bytes text.new ≡ string_bytes text.old
-        ++ coded_line sequence.now) }
+    ensures { OnOk result (AddsText text.old text.new (coded_line sequence.now)) }
 {
     add_coded_size(text, sequence.coded)?;
     add_crop(text, sequence.crop)?;
@@ -43,7 +42,7 @@ fn add_coded(text: &mut String, sequence: &SequenceFacts) -> Result<(), OutOfMem
 }
 
 fn add_coded_size(text: &mut String, size: Size) -> Result<(), OutOfMemory>
-    ensures { OnOk result (string_bytes text.new ≡ string_bytes text.old ++ coded_text size) }
+    ensures { OnOk result (AddsText text.old text.new (coded_text size)) }
 {
     let width = size.width;
     let height = size.height;
@@ -52,7 +51,7 @@ fn add_coded_size(text: &mut String, size: Size) -> Result<(), OutOfMemory>
 }
 
 fn add_crop(text: &mut String, crop: Crop) -> Result<(), OutOfMemory>
-    ensures { OnOk result (string_bytes text.new ≡ string_bytes text.old ++ crop_text crop) }
+    ensures { OnOk result (AddsText text.old text.new (crop_text crop)) }
 {
     let left = crop.left;
     let right = crop.right;
@@ -66,8 +65,7 @@ fn add_crop(text: &mut String, crop: Crop) -> Result<(), OutOfMemory>
 }
 
 fn add_samples(text: &mut String, sequence: &SequenceFacts) -> Result<(), OutOfMemory>
-    ensures { OnOk result (string_bytes text.new ≡ string_bytes text.old
-        ++ samples_line sequence.now) }
+    ensures { OnOk result (AddsText text.old text.new (samples_line sequence.now)) }
 {
     add_aspect(text, sequence.sample_aspect)?;
     text.push_str(range_text(sequence.full_range))?;
@@ -76,7 +74,7 @@ fn add_samples(text: &mut String, sequence: &SequenceFacts) -> Result<(), OutOfM
 }
 
 fn add_aspect(text: &mut String, aspect: Option<Ratio>) -> Result<(), OutOfMemory>
-    ensures { OnOk result (string_bytes text.new ≡ string_bytes text.old ++ aspect_text aspect) }
+    ensures { OnOk result (AddsText text.old text.new (aspect_text aspect)) }
 {
     match aspect {
         Some(ratio) => {
@@ -103,15 +101,14 @@ fn range_text(full_range: Option<bool>) -> &'static str
 }
 
 fn add_colour(text: &mut String, sequence: &SequenceFacts) -> Result<(), OutOfMemory>
-    ensures { OnOk result (string_bytes text.new ≡ string_bytes text.old
-        ++ colour_line sequence.now) }
+    ensures { OnOk result (AddsText text.old text.new (colour_line sequence.now)) }
 {
     add_colour_numbers(text, sequence.colour)?;
     end_line(text)
 }
 
 fn add_colour_numbers(text: &mut String, colour: Option<Colour>) -> Result<(), OutOfMemory>
-    ensures { OnOk result (string_bytes text.new ≡ string_bytes text.old ++ colour_text colour) }
+    ensures { OnOk result (AddsText text.old text.new (colour_text colour)) }
 {
     match colour {
         Some(colour) => {
@@ -137,8 +134,7 @@ fn add_rates(
     bytes: u64,
     pictures: u64,
 ) -> Result<(), OutOfMemory>
-    ensures { OnOk result (string_bytes text.new ≡ string_bytes text.old
-        ++ rates_line timing bytes pictures) }
+    ensures { OnOk result (AddsText text.old text.new (rates_line timing bytes pictures)) }
 {
     add_if_given(text, "bit rate", bit_rate(timing, bytes, pictures))?;
     add_thousandths_if_given(text, ", duration", duration(timing, pictures))?;

@@ -21,9 +21,8 @@ pub fn info<F: InfoForm + Drop, R: Read, W: Write, E: Write, V>(
     console: &mut Console<'_, E, V>,
 ) -> Ending
     ensures { EndsListing console.old.names (info_so_far F.text) (R.remaining reader.old)
-        (R.remaining reader.new) (W.contents writer.old)
-        (W.contents writer.new) (E.contents console.old.errors) (E.contents console.new.errors)
-        result }
+        (R.remaining reader.new) (W.contents writer.old) (W.contents writer.new)
+        (E.contents console.old.errors) (E.contents console.new.errors) result }
 {
     let run = run_info(alloc, form, reader, writer);
     end_listing(run, &console.names, &mut console.errors)

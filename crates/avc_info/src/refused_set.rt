@@ -112,8 +112,8 @@ fn pass_scaling_matrix_if(
     present: bool,
     chroma_format_idc: u32,
 ) -> Result<(), Fault>
-    ensures read { Reads result (if_present present (scaling_matrix chroma_format_idc)) reader.old
-        reader.new }
+    ensures read { Reads result
+        (if_present present (scaling_matrix chroma_format_idc)) reader.old reader.new }
 {
     if present {
         pass_scaling_matrix(reader, chroma_format_idc)
@@ -151,8 +151,8 @@ fn pass_scaling_lists(reader: &mut BitReader, count: u32, entries: u32) -> Resul
 }
 
 fn pass_scaling_list_if(reader: &mut BitReader, present: bool, entries: u32) -> Result<(), Fault>
-    ensures read { Reads result (if_present present (scaling_list entries 8)) reader.old
-        reader.new }
+    ensures read { Reads result
+        (if_present present (scaling_list entries 8)) reader.old reader.new }
 {
     if present {
         pass_scaling_list(reader, entries)

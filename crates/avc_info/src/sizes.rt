@@ -1,7 +1,8 @@
 //! The sizes of a stream's pictures, after cropping.
 
-ghost use Rattle.std.specs.Prelude.{◌≡◌, ◌++◌, OnOk, string_bytes};
+ghost use Rattle.std.specs.Prelude.{◌≡◌, OnOk};
 ghost use Rattle.std.specs.List.{flat_map};
+ghost use Rattle.avc_info.specs.Adding.{AddsText};
 ghost use Rattle.avc_info.specs.Sizes.{no_sizes, others_text, size_word, sizes_line, with_size};
 ghost use Rattle.avc_info.specs.Sizes.{with_size_if};
 
@@ -58,7 +59,7 @@ impl Sizes {
 
 /// Adds them in a line, where there are more than one.
 pub(crate) fn add_sizes(text: &mut String, sizes: &Sizes) -> Result<(), OutOfMemory>
-    ensures { OnOk result (string_bytes text.new ≡ string_bytes text.old ++ sizes_line sizes.now) }
+    ensures { OnOk result (AddsText text.old text.new (sizes_line sizes.now)) }
 {
     let first = sizes.first.as_slice();
     if first.len() < 2 {
@@ -71,8 +72,7 @@ pub(crate) fn add_sizes(text: &mut String, sizes: &Sizes) -> Result<(), OutOfMem
 }
 
 fn add_words(text: &mut String, sizes: &[Size]) -> Result<(), OutOfMemory>
-    ensures { OnOk result (string_bytes text.new ≡ string_bytes text.old
-        ++ flat_map size_word sizes.now) }
+    ensures { OnOk result (AddsText text.old text.new (flat_map size_word sizes.now)) }
 {
     for size in sizes {
         add_word(text, *size)?;
@@ -81,7 +81,7 @@ fn add_words(text: &mut String, sizes: &[Size]) -> Result<(), OutOfMemory>
 }
 
 fn add_word(text: &mut String, size: Size) -> Result<(), OutOfMemory>
-    ensures { OnOk result (string_bytes text.new ≡ string_bytes text.old ++ size_word size) }
+    ensures { OnOk result (AddsText text.old text.new (size_word size)) }
 {
     let width = size.width;
     let height = size.height;

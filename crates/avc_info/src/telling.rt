@@ -14,6 +14,13 @@ use avc_tools::{ForPeople, ListingForm};
 use std::alloc::Global;
 use std::io::{Read, Write};
 
+// What is told of a stream, and in which wording.
+#[derive(Clone, Copy)]
+struct Asked {
+    subject: Subject,
+    wording: Wording,
+}
+
 /// What a program does where it is to tell of macroblocks.
 pub trait MacroblockCommand {
     /// How that ends, in a wording.
@@ -30,8 +37,8 @@ pub trait MacroblockCommand {
         console: &mut Console<'_, E, V>,
     ) -> Ending
         ensures { ends wording choice console.old.names
-            (R.remaining reader.old) (R.remaining reader.new) (W.contents writer.old)
-            (W.contents writer.new)
+            (R.remaining reader.old) (R.remaining reader.new)
+            (W.contents writer.old) (W.contents writer.new)
             (E.contents console.old.errors) (E.contents console.new.errors) result };
 }
 
@@ -46,24 +53,14 @@ pub fn tell<C: MacroblockCommand, R: Read, W: Write, E: Write, V: Watch>(
     console: &mut Console<'_, E, V>,
 ) -> Ending
     ensures { EndsTelling C.ends wording subject console.old.names
-        (R.remaining reader.old) (R.remaining reader.new) (W.contents writer.old)
-        (W.contents writer.new)
+        (R.remaining reader.old) (R.remaining reader.new)
+        (W.contents writer.old) (W.contents writer.new)
         (E.contents console.old.errors) (E.contents console.new.errors) result }
 {
+    let asked = Asked { subject, wording };
     match wording {
-        Wording::Plain => tell_in(
-            alloc, command, subject, wording, ForPeople, reader, writer, console,
-        ),
-        Wording::Json => tell_in(
-            alloc,
-            command,
-            subject,
-            wording,
-            ForPrograms,
-            reader,
-            writer,
-            console,
-        ),
+        Wording::Plain => tell_in(alloc, command, asked, ForPeople, reader, writer, console),
+        Wording::Json => tell_in(alloc, command, asked, ForPrograms, reader, writer, console),
     }
 }
 
@@ -78,26 +75,25 @@ fn tell_in<
 >(
     alloc: Global,
     command: &C,
-    subject: Subject,
-    wording: Wording,
+    asked: Asked,
     form: F,
     reader: &mut R,
     writer: &mut W,
     console: &mut Console<'_, E, V>,
 ) -> Ending
-    ensures { EndsTellingOf subject (unit_lines_so_far F.of_unit) (header_lines_so_far F.of_header)
-        (cut_point_lines_so_far F.of_piece)
-        (info_so_far F.text) (C.ends wording) console.old.names
-        (R.remaining reader.old) (R.remaining reader.new) (W.contents writer.old)
-        (W.contents writer.new)
+    ensures { EndsTellingOf asked.subject (unit_lines_so_far F.of_unit)
+        (header_lines_so_far F.of_header) (cut_point_lines_so_far F.of_piece) (info_so_far F.text)
+        (C.ends asked.wording) console.old.names
+        (R.remaining reader.old) (R.remaining reader.new)
+        (W.contents writer.old) (W.contents writer.new)
         (E.contents console.old.errors) (E.contents console.new.errors) result }
 {
-    match subject {
+    match asked.subject {
         Subject::Units => units(alloc, form, reader, writer, console),
         Subject::Headers => headers(alloc, form, reader, writer, console),
         Subject::Pieces => pieces(alloc, form, reader, writer, console),
         Subject::Macroblocks(choice) => {
-            command.list_macroblocks(alloc, choice, wording, reader, writer, console)
+            command.list_macroblocks(alloc, choice, asked.wording, reader, writer, console)
         }
         Subject::Info => info(alloc, form, reader, writer, console),
     }

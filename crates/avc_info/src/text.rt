@@ -2,6 +2,7 @@
 
 ghost use Rattle.std.specs.Prelude.{◌≡◌, ◌++◌, IfOk, OnOk, codes, string_bytes};
 ghost use Rattle.std.specs.List.{flat_map};
+ghost use Rattle.avc_info.specs.Adding.{AddsText};
 ghost use Rattle.avc_info.specs.PictureText.{info_text};
 ghost use Rattle.avc_info.specs.Text.{clock_text, counts_line, frames_line, if_given};
 ghost use Rattle.avc_info.specs.Text.{is_level_1b, kind_line, kind_lines};
@@ -33,7 +34,7 @@ pub fn info_text(alloc: Global, facts: &StreamFacts, bytes: u64) -> Result<Strin
 }
 
 fn add_stream(text: &mut String, facts: &StreamFacts) -> Result<(), OutOfMemory>
-    ensures { OnOk result (string_bytes text.new ≡ string_bytes text.old ++ stream_text facts.now) }
+    ensures { OnOk result (AddsText text.old text.new (stream_text facts.now)) }
 {
     add_sequence(text, facts.sequence())?;
     add_counts(text, &facts.counts)?;
@@ -43,8 +44,7 @@ fn add_stream(text: &mut String, facts: &StreamFacts) -> Result<(), OutOfMemory>
 }
 
 fn add_sequence(text: &mut String, sequence: &Option<SequenceFacts>) -> Result<(), OutOfMemory>
-    ensures { OnOk result (string_bytes text.new ≡ string_bytes text.old
-        ++ sequence_text sequence.now) }
+    ensures { OnOk result (AddsText text.old text.new (sequence_text sequence.now)) }
 {
     match sequence {
         Some(sequence) => {
@@ -57,8 +57,7 @@ fn add_sequence(text: &mut String, sequence: &Option<SequenceFacts>) -> Result<(
 }
 
 fn add_shape(text: &mut String, sequence: &SequenceFacts) -> Result<(), OutOfMemory>
-    ensures { OnOk result (string_bytes text.new ≡ string_bytes text.old
-        ++ shape_line sequence.now) }
+    ensures { OnOk result (AddsText text.old text.new (shape_line sequence.now)) }
 {
     add_size(text, sequence)?;
     add_profile(text, sequence)?;
@@ -69,8 +68,7 @@ fn add_shape(text: &mut String, sequence: &SequenceFacts) -> Result<(), OutOfMem
 }
 
 fn add_size(text: &mut String, sequence: &SequenceFacts) -> Result<(), OutOfMemory>
-    ensures { OnOk result (string_bytes text.new ≡ string_bytes text.old
-        ++ size_text sequence.now) }
+    ensures { OnOk result (AddsText text.old text.new (size_text sequence.now)) }
 {
     let width = sequence.width;
     let height = sequence.height;
@@ -79,8 +77,7 @@ fn add_size(text: &mut String, sequence: &SequenceFacts) -> Result<(), OutOfMemo
 }
 
 fn add_profile(text: &mut String, sequence: &SequenceFacts) -> Result<(), OutOfMemory>
-    ensures { OnOk result (string_bytes text.new ≡ string_bytes text.old
-        ++ profile_text sequence.now) }
+    ensures { OnOk result (AddsText text.old text.new (profile_text sequence.now)) }
 {
     let name = profile_name(sequence);
     write!(text, ", profile {name}")?;
@@ -105,8 +102,7 @@ pub fn profile_name(sequence: &SequenceFacts) -> &'static str
 }
 
 fn add_level(text: &mut String, sequence: &SequenceFacts) -> Result<(), OutOfMemory>
-    ensures { OnOk result (string_bytes text.new ≡ string_bytes text.old
-        ++ level_text sequence.now) }
+    ensures { OnOk result (AddsText text.old text.new (level_text sequence.now)) }
 {
     text.push_str(", level ")?;
     add_level_name(text, sequence)
@@ -114,8 +110,7 @@ fn add_level(text: &mut String, sequence: &SequenceFacts) -> Result<(), OutOfMem
 
 /// Adds the level's number (A.3.1).
 pub(crate) fn add_level_name(text: &mut String, sequence: &SequenceFacts) -> Result<(), OutOfMemory>
-    ensures { OnOk result (string_bytes text.new ≡ string_bytes text.old
-        ++ level_name sequence.now) }
+    ensures { OnOk result (AddsText text.old text.new (level_name sequence.now)) }
 {
     if is_level_1b(sequence) {
         text.push_str("1b")?;
@@ -135,8 +130,7 @@ fn is_level_1b(sequence: &SequenceFacts) -> bool
 }
 
 fn add_clock(text: &mut String, sequence: &SequenceFacts) -> Result<(), OutOfMemory>
-    ensures { OnOk result (string_bytes text.new ≡ string_bytes text.old
-        ++ clock_text sequence.now) }
+    ensures { OnOk result (AddsText text.old text.new (clock_text sequence.now)) }
 {
     add_thousandths_if_given(text, ", frame rate", frame_rate(sequence.timing))
 }
@@ -147,8 +141,7 @@ pub(crate) fn add_if_given(
     name: &str,
     number: Option<u64>,
 ) -> Result<(), OutOfMemory>
-    ensures { OnOk result (string_bytes text.new ≡ string_bytes text.old
-        ++ if_given name.now number) }
+    ensures { OnOk result (AddsText text.old text.new (if_given name.now number)) }
 {
     text.push_str(name)?;
     match number {
@@ -164,8 +157,7 @@ pub(crate) fn add_thousandths_if_given(
     name: &str,
     number: Option<u64>,
 ) -> Result<(), OutOfMemory>
-    ensures { OnOk result (string_bytes text.new ≡ string_bytes text.old
-        ++ thousandths_if_given name.now number) }
+    ensures { OnOk result (AddsText text.old text.new (thousandths_if_given name.now number)) }
 {
     text.push_str(name)?;
     match number {
@@ -178,8 +170,7 @@ pub(crate) fn add_thousandths_if_given(
 }
 
 fn add_thousandths(text: &mut String, number: u64) -> Result<(), OutOfMemory>
-    ensures { OnOk result (string_bytes text.new ≡ string_bytes text.old ++ codes " "
-        ++ thousandths number) }
+    ensures { OnOk result (AddsText text.old text.new (codes " " ++ thousandths number)) }
 {
     let whole = number / 1000;
     let tenth = number / 100 % 10;
@@ -190,8 +181,7 @@ fn add_thousandths(text: &mut String, number: u64) -> Result<(), OutOfMemory>
 }
 
 fn add_frames(text: &mut String, sequence: &SequenceFacts) -> Result<(), OutOfMemory>
-    ensures { OnOk result (string_bytes text.new ≡ string_bytes text.old
-        ++ frames_line sequence.now) }
+    ensures { OnOk result (AddsText text.old text.new (frames_line sequence.now)) }
 {
     add_references(text, sequence)?;
     add_if_given(text, ", reorder number", sequence.max_num_reorder_frames)?;
@@ -200,8 +190,7 @@ fn add_frames(text: &mut String, sequence: &SequenceFacts) -> Result<(), OutOfMe
 }
 
 fn add_references(text: &mut String, sequence: &SequenceFacts) -> Result<(), OutOfMemory>
-    ensures { OnOk result (string_bytes text.new ≡ string_bytes text.old
-        ++ references_text sequence.now) }
+    ensures { OnOk result (AddsText text.old text.new (references_text sequence.now)) }
 {
     let references = sequence.max_num_ref_frames;
     write!(text, "reference frames {references}")?;
@@ -209,8 +198,7 @@ fn add_references(text: &mut String, sequence: &SequenceFacts) -> Result<(), Out
 }
 
 fn add_counts(text: &mut String, counts: &SliceCounts) -> Result<(), OutOfMemory>
-    ensures { OnOk result (string_bytes text.new ≡ string_bytes text.old
-        ++ counts_line counts.now) }
+    ensures { OnOk result (AddsText text.old text.new (counts_line counts.now)) }
 {
     let pictures = counts.pictures;
     let sequences = counts.sequences;
@@ -223,8 +211,7 @@ fn add_counts(text: &mut String, counts: &SliceCounts) -> Result<(), OutOfMemory
 }
 
 fn add_refused(text: &mut String, facts: &StreamFacts) -> Result<(), OutOfMemory>
-    ensures { OnOk result (string_bytes text.new ≡ string_bytes text.old
-        ++ refused_line facts.now) }
+    ensures { OnOk result (AddsText text.old text.new (refused_line facts.now)) }
 {
     add_refused_count(text, facts.refused)?;
     add_first_refusal(text, facts.first_refusal)?;
@@ -233,14 +220,14 @@ fn add_refused(text: &mut String, facts: &StreamFacts) -> Result<(), OutOfMemory
 }
 
 fn add_refused_count(text: &mut String, refused: u64) -> Result<(), OutOfMemory>
-    ensures { OnOk result (string_bytes text.new ≡ string_bytes text.old ++ refused_text refused) }
+    ensures { OnOk result (AddsText text.old text.new (refused_text refused)) }
 {
     write!(text, "refused {refused}")?;
     Ok(())
 }
 
 fn add_first_refusal(text: &mut String, refusal: Option<Refusal>) -> Result<(), OutOfMemory>
-    ensures { OnOk result (string_bytes text.new ≡ string_bytes text.old ++ refusal_text refusal) }
+    ensures { OnOk result (AddsText text.old text.new (refusal_text refusal)) }
 {
     match refusal {
         Some(refusal) => {
@@ -256,7 +243,7 @@ fn add_first_refusal(text: &mut String, refusal: Option<Refusal>) -> Result<(), 
 
 // Where there are more than one.
 fn add_kinds(text: &mut String, kinds: &[RefusalKind]) -> Result<(), OutOfMemory>
-    ensures { OnOk result (string_bytes text.new ≡ string_bytes text.old ++ kind_lines kinds.now) }
+    ensures { OnOk result (AddsText text.old text.new (kind_lines kinds.now)) }
 {
     if kinds.len() < 2 {
         return Ok(());
@@ -265,8 +252,7 @@ fn add_kinds(text: &mut String, kinds: &[RefusalKind]) -> Result<(), OutOfMemory
 }
 
 fn add_kind_lines(text: &mut String, kinds: &[RefusalKind]) -> Result<(), OutOfMemory>
-    ensures { OnOk result (string_bytes text.new ≡ string_bytes text.old
-        ++ flat_map kind_line kinds.now) }
+    ensures { OnOk result (AddsText text.old text.new (flat_map kind_line kinds.now)) }
 {
     for kind in kinds {
         add_kind_line(text, *kind)?;
@@ -275,7 +261,7 @@ fn add_kind_lines(text: &mut String, kinds: &[RefusalKind]) -> Result<(), OutOfM
 }
 
 fn add_kind_line(text: &mut String, kind: RefusalKind) -> Result<(), OutOfMemory>
-    ensures { OnOk result (string_bytes text.new ≡ string_bytes text.old ++ kind_line kind) }
+    ensures { OnOk result (AddsText text.old text.new (kind_line kind)) }
 {
     let number = kind.fault.number();
     let name = kind.fault.name();
@@ -290,7 +276,7 @@ fn add_kind_line(text: &mut String, kind: RefusalKind) -> Result<(), OutOfMemory
 
 // What the first sequence parameter set begins with that is refused.
 fn add_refused_set(text: &mut String, head: Option<SetHead>) -> Result<(), OutOfMemory>
-    ensures { OnOk result (string_bytes text.new ≡ string_bytes text.old ++ refused_set_line head) }
+    ensures { OnOk result (AddsText text.old text.new (refused_set_line head)) }
 {
     match head {
         Some(head) => add_set_head(text, head),
@@ -299,7 +285,7 @@ fn add_refused_set(text: &mut String, head: Option<SetHead>) -> Result<(), OutOf
 }
 
 fn add_set_head(text: &mut String, head: SetHead) -> Result<(), OutOfMemory>
-    ensures { OnOk result (string_bytes text.new ≡ string_bytes text.old ++ set_head_line head) }
+    ensures { OnOk result (AddsText text.old text.new (set_head_line head)) }
 {
     add_set_identity(text, head)?;
     add_set_size(text, head.coded)?;
@@ -307,7 +293,7 @@ fn add_set_head(text: &mut String, head: SetHead) -> Result<(), OutOfMemory>
 }
 
 fn add_set_identity(text: &mut String, head: SetHead) -> Result<(), OutOfMemory>
-    ensures { OnOk result (string_bytes text.new ≡ string_bytes text.old ++ set_head_text head) }
+    ensures { OnOk result (AddsText text.old text.new (set_head_text head)) }
 {
     let profile_idc = head.profile_idc;
     let level_idc = head.level_idc;
@@ -319,7 +305,7 @@ fn add_set_identity(text: &mut String, head: SetHead) -> Result<(), OutOfMemory>
 }
 
 fn add_set_size(text: &mut String, size: Option<Size>) -> Result<(), OutOfMemory>
-    ensures { OnOk result (string_bytes text.new ≡ string_bytes text.old ++ set_size_text size) }
+    ensures { OnOk result (AddsText text.old text.new (set_size_text size)) }
 {
     match size {
         Some(size) => {
@@ -333,7 +319,7 @@ fn add_set_size(text: &mut String, size: Option<Size>) -> Result<(), OutOfMemory
 }
 
 pub(crate) fn end_line(text: &mut String) -> Result<(), OutOfMemory>
-    ensures { OnOk result (string_bytes text.new ≡ string_bytes text.old ++ newline) }
+    ensures { OnOk result (AddsText text.old text.new newline) }
 {
     text.push_str("\n")?;
     Ok(())
