@@ -2,6 +2,14 @@
 pub mod Streams
 unfoldable pub use Streams.*
 
+-- ---- what is lent
+
+pub still_lent : {T E : Type 0} → (r : Reporting T E) → LendsTheSame r r
+still_lent r = (refl, refl)
+
+pub lent_then : {T E : Type 0} → (a b c : Reporting T E) → LendsTheSame a b → LendsTheSame b c → LendsTheSame a c
+lent_then a b c before more = (more.0 ∙ before.0, more.1 ∙ before.1)
+
 -- ---- samples of pictures one behind another
 
 in_first : (xs ys : List ℕ) (k : ℕ) → k < length xs → get_or (xs ++ ys) k 0 ≡ get_or xs k 0

@@ -52,10 +52,9 @@ is_same_size ours theirs = theirs.width == ours.width && theirs.height == ours.h
 -- The size that the other's file says, where it is not that of this picture, beside it.
 abbrev pub other_size : Option PictureSize → Decoded → Option Sizes
 other_size None p = None
-other_size (Some theirs) p = if is_same_size (size_of p) theirs then None else Some (record {
-  ours = size_of p;
-  theirs = theirs;
-})
+other_size (Some theirs) p =
+    if is_same_size (size_of p) theirs then None
+    else Some (record { ours = size_of p; theirs = theirs })
 
 -- The line on how near a picture is to the other's bytes beside it, if such lines are told.
 abbrev pub IsLine : (told : Bool) → (number : ℕ) → Decoded → (here line : List ℕ) → Type 0
@@ -79,8 +78,8 @@ pub record IsBeside (how : Comparison) (number : ℕ) (p : Decoded)
 abbrev pub AreLines : (how : Comparison) → Report → List Event → (theirs text : List ℕ) → Type 0
 AreLines how r [] theirs text = (theirs ≡ []) × (text ≡ [])
 AreLines how r (Picture p ∷ events) theirs text =
-    (rest more : List ℕ) × IsBeside how r.pictures p theirs text rest more ×
-    AreLines how (report_with r (Picture p ∷ [])) events rest more
+    (rest more : List ℕ) × IsBeside how r.pictures p theirs text rest more
+    × AreLines how (report_with r (Picture p ∷ [])) events rest more
 AreLines how r (Refused unit f ∷ events) theirs text =
     AreLines how (report_with r (Refused unit f ∷ [])) events theirs text
 
@@ -110,20 +109,19 @@ compared_picture number p = record { number = number; info = p.info; shape = sha
 -- What becomes of the comparison of the events that a stream defines, all or so far, with the
 -- other's bytes, all or so far, and which lines are told, where no picture differs. A picture's
 -- number is that of the pictures before it (the greatest number, once there).
-abbrev pub Finds : (how : Comparison) → List Event → (all : Bool) → (theirs : List ℕ) →
-    (over : Bool) → Report → (text : List ℕ) → Verdict → Type 0
+abbrev pub Finds : (how : Comparison) → List Event → (all : Bool) → (theirs : List ℕ)
+    → (over : Bool) → Report → (text : List ℕ) → Verdict → Type 0
 Finds how events all theirs over report text Same =
     (all ≡ true) × (over ≡ true) × IsAlike how events theirs report text
 Finds how events all theirs over report text (More number) =
-    (before : List ℕ) × (next : ℕ) × (all ≡ true) × (theirs ≡ before ++ next ∷ []) ×
-    IsAlike how events before report text × (number ≡ report.pictures)
+    (before : List ℕ) × (next : ℕ) × (all ≡ true) × (theirs ≡ before ++ next ∷ [])
+    × IsAlike how events before report text × (number ≡ report.pictures)
 Finds how events all theirs over report text (Fewer number) =
-    (p : Decoded) × (here : List ℕ) × IsReached how events p theirs here report text ×
-    (over ≡ true) × (length here < length (i420 p)) × (number ≡ report.pictures)
-    × (other_size how.size p ≡ None)
+    (p : Decoded) × (here : List ℕ) × IsReached how events p theirs here report text × (over ≡ true)
+    × (length here < length (i420 p)) × (number ≡ report.pictures) × (other_size how.size p ≡ None)
 Finds how events all theirs over report text (OtherSize sizes) =
-    (p : Decoded) × IsReached how events p theirs [] report text ×
-    (other_size how.size p ≡ Some sizes)
+    (p : Decoded) × IsReached how events p theirs [] report text
+    × (other_size how.size p ≡ Some sizes)
 Finds how events all theirs over report text (Differs d) = ⊥
 
 -- The picture of this number differs from the other's bytes beside it.
@@ -156,8 +154,8 @@ pub record BreaksLine (told : Bool) (number : ℕ) (p : Decoded) (here : List �
 
 -- What was written beside whole lines: after a write fault a part of the line on the next picture,
 -- and else nothing.
-abbrev pub WritesPart : CompareFault → (told : Bool) → (number : ℕ) → (rest : List Event) →
-    (here : List ℕ) → (old new : Option (List ℕ)) → Type 0
+abbrev pub WritesPart : CompareFault → (told : Bool) → (number : ℕ) → (rest : List Event)
+    → (here : List ℕ) → (old new : Option (List ℕ)) → Type 0
 WritesPart (Ours Write) told number (Picture p ∷ rest) here old new =
     BreaksLine told number p here old new
 WritesPart (Ours Write) told number _ here old new = ⊥
@@ -187,11 +185,10 @@ Lacks (Some sizes) over part p = part ≡ []
 
 -- Where looking on ends behind these events: after so many pictures, if no lines are told, or with
 -- the stream; or at the next picture, beside which the other lacks one.
-abbrev pub EndsLooking : (how : Comparison) → (all over : Bool) → (looked others : List Event) →
-    (part : List ℕ) → (last : Option Decoded) → Type 0
+abbrev pub EndsLooking : (how : Comparison) → (all over : Bool) → (looked others : List Event)
+    → (part : List ℕ) → (last : Option Decoded) → Type 0
 EndsLooking how all over looked others part None =
-    (part ≡ []) ×
-    (((how.has_psnr ≡ false) × (most_sought ≤ length (pictures_in looked) + 1))
+    (part ≡ []) × (((how.has_psnr ≡ false) × (most_sought ≤ length (pictures_in looked) + 1))
     ⊎ ((all ≡ true) × (others ≡ [])))
 EndsLooking how all over looked others part (Some p) =
     (next : List Event) × (others ≡ Picture p ∷ next) × Lacks (other_size how.size p) over part p
@@ -199,17 +196,17 @@ EndsLooking how all over looked others part (Some p) =
 -- Behind the first picture that differs, which has these MD5s, the pictures were looked at of these
 -- events, beside the other's next bytes: their MD5s and that of the picture at which it ended; or
 -- the fault that broke it off.
-abbrev pub Sees : (how : Comparison) → (ours theirs : List ℕ) → (bytes : List ℕ) →
-    (all over : Bool) → (done looked others : List Event) → (more part : List ℕ) → (number : ℕ) →
-    (wrote holds : Option (List ℕ)) → Result Digested CompareFault → Type 0
+abbrev pub Sees : (how : Comparison) → (ours theirs : List ℕ) → (bytes : List ℕ)
+    → (all over : Bool) → (done looked others : List Event) → (more part : List ℕ) → (number : ℕ)
+    → (wrote holds : Option (List ℕ)) → Result Digested CompareFault → Type 0
 Sees how ours theirs bytes all over done looked others more part number wrote holds (Ok d) =
-    (last : Option Decoded) × EndsLooking how all over looked others part last ×
-    Appends wrote holds []
+    (last : Option Decoded) × EndsLooking how all over looked others part last
+    × Appends wrote holds []
     × (d.ours ≡ take most_sought (ours ∷ digests_of (pictures_in looked ++ cons_option last [])))
     × (d.theirs ≡ take most_sought (theirs ∷ map md5 (pictures_beside (pictures_in looked) more)))
 Sees how ours theirs bytes all over done looked others more part number wrote holds (Err fault) =
-    BreaksOffFor fault bytes (done ++ looked) others ×
-    WritesPart fault how.has_psnr number others part wrote holds
+    BreaksOffFor fault bytes (done ++ looked) others
+    × WritesPart fault how.has_psnr number others part wrote holds
 
 -- Behind these events of a stream, beside which these bytes of the other stand, others were looked
 -- at: the report and the lines are on all of them.
@@ -232,40 +229,40 @@ pub record IsLookedOn (how : Comparison) (unread left other rest held holds : Op
   pub lines : AreLines how no_report (done ++ looked) (before ++ more) text
   pub written : Appends held wrote text
   pub few : how.has_psnr ≡ false → length (pictures_in looked) < most_sought
-  pub sees : Sees how ours theirs bytes all over done looked others more part report.pictures wrote
-      holds result
+  pub sees : Sees how ours theirs bytes all over done looked others more part
+      report.pictures wrote holds result
 
 -- The other's pictures that are ours of another number, by these MD5s; or why they are not known:
 -- the fault that broke looking on off, or want of memory.
-abbrev pub IsDisplaced : (first : ℕ) → Result Digested CompareFault →
-    Result (List Displaced) CompareFault → Type 0
+abbrev pub IsDisplaced : (first : ℕ) → Result Digested CompareFault
+    → Result (List Displaced) CompareFault → Type 0
 IsDisplaced first (Ok d) (Ok displaced) = displaced ≡ displaced_pictures first d
 IsDisplaced first (Ok d) (Err fault) = fault ≡ Ours Memory
 IsDisplaced first (Err fault) (Ok displaced) = ⊥
 IsDisplaced first (Err fault) (Err told) = told ≡ fault
 
 -- What a comparison finds. The pictures before the first that differs are the other's.
-abbrev pub FindsAll : (how : Comparison) → (unread left other rest held holds : Option (List ℕ)) →
-    Report → Verdict → Result (List Displaced) CompareFault → Type 0
+abbrev pub FindsAll : (how : Comparison) → (unread left other rest held holds : Option (List ℕ))
+    → Report → Verdict → Result (List Displaced) CompareFault → Type 0
 FindsAll how unread left other rest held holds report (Differs d) displaced =
-    (front : List Event) × (p : Decoded) × (before here : List ℕ) ×
-    (seen : Result Digested CompareFault)
-    × IsSame how.most front before × IsDiffering how (report_of front).pictures p here d
-    × IsLookedOn how unread left other rest held holds report (front ++ Picture p ∷ []) (before
-    ++ here) d.our_digest d.their_digest seen
+    (front : List Event) × (p : Decoded) × (before here : List ℕ)
+    × (seen : Result Digested CompareFault) × IsSame how.most front before
+    × IsDiffering how (report_of front).pictures p here d
+    × IsLookedOn how unread left other rest held holds report (front ++ Picture p ∷ [])
+    (before ++ here) d.our_digest d.their_digest seen
     × IsDisplaced d.picture.number seen displaced
 FindsAll how unread left other rest held holds report verdict displaced =
-    (bytes theirs text : List ℕ) × (all over : Bool) × HasRead unread left bytes all ×
-    HasRead other rest theirs over × Appends held holds text
-    × Finds how (events how.output max_unit bytes all) all theirs over report text verdict ×
-    (displaced ≡ Ok [])
+    (bytes theirs text : List ℕ) × (all over : Bool) × HasRead unread left bytes all
+    × HasRead other rest theirs over × Appends held holds text
+    × Finds how (events how.output max_unit bytes all) all theirs over report text verdict
+    × (displaced ≡ Ok [])
 
 -- A stream, of which these bytes were read, was compared with the other's bytes that were read.
-abbrev pub Compares : (how : Comparison) → (unread left other rest held holds : Option (List ℕ)) →
-    Report → Result Findings CompareFault → Type 0
+abbrev pub Compares : (how : Comparison) → (unread left other rest held holds : Option (List ℕ))
+    → Report → Result Findings CompareFault → Type 0
 Compares how unread left other rest held holds report (Ok findings) =
     FindsAll how unread left other rest held holds report findings.verdict findings.displaced
 Compares how unread left other rest held holds report (Err fault) =
-    (bytes theirs : List ℕ) × (all : Bool) × HasRead unread left bytes all ×
-    Consumes other rest theirs
+    (bytes theirs : List ℕ) × (all : Bool)
+    × HasRead unread left bytes all × Consumes other rest theirs
     × IsBrokenOff how fault bytes (events how.output max_unit bytes all) theirs held holds report

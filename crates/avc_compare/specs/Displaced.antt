@@ -32,8 +32,8 @@ digests_of ps = map (λ p. md5 (i420 p)) ps
 unfoldable pub pictures_beside : List Decoded → (theirs : List ℕ) → List (List ℕ)
 pictures_beside [] theirs = []
 pictures_beside (p ∷ ps) theirs =
-    if nat_lt (length theirs) (length (i420 p)) then []
-    else take (length (i420 p)) theirs ∷ pictures_beside ps (drop (length (i420 p)) theirs)
+    if nat_lt (length theirs) (length (i420 p)) then [] else take (length (i420 p)) theirs
+    ∷ pictures_beside ps (drop (length (i420 p)) theirs)
 
 -- two MD5s are the same
 abbrev pub is_digest : (own digest : List ℕ) → Bool
@@ -46,14 +46,13 @@ is_at (Some own) digest = is_digest own digest
 
 -- The other's picture at this place, counted from the picture of this number: the first of ours
 -- that has its MD5, where ours at the same place has another.
-abbrev pub displaced_at : (first : ℕ) → (ours : List (List ℕ)) → (digest : List ℕ) → (place : ℕ) →
-    Option Displaced
+abbrev pub displaced_at : (first : ℕ) → (ours : List (List ℕ)) → (digest : List ℕ)
+    → (place : ℕ) → Option Displaced
 displaced_at first ours digest place =
     if is_at (slice_get ours place) digest then None
-    else option_map (λ own. record {
-      number = saturated (first + place);
-      ours = saturated (first + own);
-    }) (position (λ own. is_digest own digest) ours)
+    else option_map
+    (λ own. record { number = saturated (first + place); ours = saturated (first + own) })
+    (position (λ own. is_digest own digest) ours)
 
 -- the other's pictures that are ours of another number, where the first of both have this one
 abbrev pub displaced_pictures : (first : ℕ) → Digested → List Displaced

@@ -1,8 +1,10 @@
+pub mod Adding
 pub mod Kept
 pub mod Reading
 pub mod Displaced
 pub mod Samples
 pub mod Meeting
 pub mod Comparing
+pub mod Reporting
 pub mod Running
 pub mod Told

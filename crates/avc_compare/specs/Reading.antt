@@ -13,6 +13,10 @@ use Rattle.avc_console.specs.declared.fault.RunFault.TheVariants.{Read, Endless,
 use Rattle.avc_events.specs.EventReports.{events_defined, IfPicture}
 use Rattle.avc_compare.specs.Kept.{Waiting}
 
+-- These were read, or none.
+abbrev pub ReadsSome : (old new : Option (List ℕ)) → Type 0
+ReadsSome old new = (here : List ℕ) × Consumes old new here
+
 -- Of the bytes that were read some were fed, and the rest wait; of the events that the fed ones
 -- define these were taken.
 pub record IsReading (output : Output) (unread left : Option (List ℕ)) (m : Machine) (a : Waiting)
@@ -28,8 +32,8 @@ pub record IsReading (output : Output) (unread left : Option (List ℕ)) (m : Ma
 -- Reading went on, and no event was taken.
 pub record ReadsOn (old_left new_left : Option (List ℕ)) (old new : Machine)
     (before now : Waiting) : Type 0 where
-  pub on : (output : Output) (unread : Option (List ℕ)) (done : List Event) →
-      IsReading output unread old_left old before done
+  pub on : (output : Output) (unread : Option (List ℕ)) (done : List Event)
+      → IsReading output unread old_left old before done
       → IsReading output unread new_left new now done
 
 -- why it broke off: a read failed, when no event was left; there were so many bytes; or memory was
@@ -53,13 +57,13 @@ pub record IsReadOff (output : Output) (unread left : Option (List ℕ)) (done :
 -- A fault came while reading went on.
 pub record BreaksReading (old_left new_left : Option (List ℕ)) (old : Machine) (before : Waiting)
     (fault : RunFault) : Type 0 where
-  pub on : (output : Output) (unread : Option (List ℕ)) (done : List Event) →
-      IsReading output unread old_left old before done
+  pub on : (output : Output) (unread : Option (List ℕ)) (done : List Event)
+      → IsReading output unread old_left old before done
       → IsReadOff output unread new_left done fault
 
 -- The next event was taken; or there is none, since the stream has ended.
-abbrev pub IsNext : Output → (unread left : Option (List ℕ)) → Machine → Waiting →
-    (done : List Event) → Option Event → Type 0
+abbrev pub IsNext : Output → (unread left : Option (List ℕ)) → Machine → Waiting
+    → (done : List Event) → Option Event → Type 0
 IsNext output unread left m a done (Some event) =
     IsReading output unread left m a (done ++ event ∷ [])
 IsNext output unread left m a done None =
@@ -68,8 +72,8 @@ IsNext output unread left m a done None =
 -- Reading went on to the next event, or to the end.
 pub record TakesNext (old_left new_left : Option (List ℕ)) (old new : Machine)
     (before now : Waiting) (event : Option Event) : Type 0 where
-  pub on : (output : Output) (unread : Option (List ℕ)) (done : List Event) →
-      IsReading output unread old_left old before done
+  pub on : (output : Output) (unread : Option (List ℕ)) (done : List Event)
+      → IsReading output unread old_left old before done
       → IsNext output unread new_left new now done event
 
 -- where it is a picture, this is whole

@@ -39,28 +39,28 @@ use Rattle.avc_compare.specs.declared.verdict.Verdict.TheVariants.{Differs, Fewe
 use Rattle.avc_compare.specs.declared.verdict.Verdict.TheVariants.{Same}
 
 -- The comparison ends at the picture of this number, beside which these bytes of the other stand.
-abbrev pub EndsAt : (how : Comparison) → (number : ℕ) → Decoded → (here : List ℕ) →
-    (left held holds : Option (List ℕ)) → Verdict → Type 0
+abbrev pub EndsAt : (how : Comparison) → (number : ℕ) → Decoded → (here : List ℕ)
+    → (left held holds : Option (List ℕ)) → Verdict → Type 0
 EndsAt how number p here left held holds (Fewer n) =
-    (length here < length (i420 p)) × IsAtEnd left × (n ≡ number) × Appends held holds [] ×
-    (other_size how.size p ≡ None)
+    (length here < length (i420 p)) × IsAtEnd left × (n ≡ number) × Appends held holds []
+    × (other_size how.size p ≡ None)
 EndsAt how number p here left held holds (OtherSize sizes) =
     (here ≡ []) × (other_size how.size p ≡ Some sizes) × Appends held holds []
 EndsAt how number p here left held holds (Differs d) =
-    (line : List ℕ) × IsDiffering how number p here d × IsLine how.has_psnr number p here line ×
-    Appends held holds line
+    (line : List ℕ) × IsDiffering how number p here d
+    × IsLine how.has_psnr number p here line × Appends held holds line
 EndsAt how number p here left held holds _ = ⊥
 
 -- the same of an event: at a refusal it doesn't end
-abbrev pub EndsAtEvent : (how : Comparison) → (number : ℕ) → Event → (here : List ℕ) →
-    (left held holds : Option (List ℕ)) → Verdict → Type 0
+abbrev pub EndsAtEvent : (how : Comparison) → (number : ℕ) → Event → (here : List ℕ)
+    → (left held holds : Option (List ℕ)) → Verdict → Type 0
 EndsAtEvent how number (Picture p) here left held holds verdict =
     EndsAt how number p here left held holds verdict
 EndsAtEvent how number _ here left held holds verdict = ⊥
 
 -- memory was refused, or the other can't be read, or the line on an event could not be written
-abbrev pub StopsAt : CompareFault → (how : Comparison) → (number : ℕ) → Event → (here : List ℕ) →
-    (held holds : Option (List ℕ)) → Type 0
+abbrev pub StopsAt : CompareFault → (how : Comparison) → (number : ℕ) → Event → (here : List ℕ)
+    → (held holds : Option (List ℕ)) → Type 0
 StopsAt (Ours Memory) how number event here held holds = Appends held holds []
 StopsAt (Ours Write) how number (Picture p) here held holds =
     BreaksLine how.has_psnr number p here held holds
@@ -68,31 +68,30 @@ StopsAt (Ours _) how number event here held holds = ⊥
 StopsAt Theirs how number event here held holds = Appends held holds []
 
 -- The picture of this number was compared with the other's next bytes, if there are as many.
-abbrev pub ComparesPicture : (how : Comparison) → (number : ℕ) → Decoded →
-    (old new held holds : Option (List ℕ)) → Result (Option Verdict) CompareFault → Type 0
+abbrev pub ComparesPicture : (how : Comparison) → (number : ℕ) → Decoded
+    → (old new held holds : Option (List ℕ)) → Result (Option Verdict) CompareFault → Type 0
 ComparesPicture how number p old new held holds (Ok None) =
-    (here line : List ℕ) × Consumes old new here × (length here ≡ length (i420 p)) ×
-    AreSame how.most (i420 p) here
-    × IsLine how.has_psnr number p here line × Appends held holds line ×
-    (other_size how.size p ≡ None)
+    (here line : List ℕ) × Consumes old new here × (length here ≡ length (i420 p))
+    × AreSame how.most (i420 p) here × IsLine how.has_psnr number p here line
+    × Appends held holds line × (other_size how.size p ≡ None)
 ComparesPicture how number p old new held holds (Ok (Some verdict)) =
     (here : List ℕ) × Consumes old new here × EndsAt how number p here new held holds verdict
 ComparesPicture how number p old new held holds (Err fault) =
     (here : List ℕ) × Consumes old new here × StopsAt fault how number (Picture p) here held holds
 
 -- The same of an event, which is reported where the comparison goes on.
-abbrev pub ComparesEvent : (how : Comparison) → Event → (old new held holds : Option (List ℕ)) →
-    (before now : Report) → Result (Option Verdict) CompareFault → Type 0
+abbrev pub ComparesEvent : (how : Comparison) → Event → (old new held holds : Option (List ℕ))
+    → (before now : Report) → Result (Option Verdict) CompareFault → Type 0
 ComparesEvent how event old new held holds before now (Ok None) =
-    (here line : List ℕ) × Consumes old new here × Appends held holds line ×
-    IsSame how.most (event ∷ []) here × AreLines how before (event ∷ []) here line
+    (here line : List ℕ) × Consumes old new here × Appends held holds line
+    × IsSame how.most (event ∷ []) here × AreLines how before (event ∷ []) here line
     × (now ≡ report_with before (event ∷ []))
 ComparesEvent how event old new held holds before now (Ok (Some verdict)) =
-    (here : List ℕ) × Consumes old new here ×
-    EndsAtEvent how before.pictures event here new held holds verdict × (now ≡ before)
+    (here : List ℕ) × Consumes old new here
+    × EndsAtEvent how before.pictures event here new held holds verdict × (now ≡ before)
 ComparesEvent how event old new held holds before now (Err fault) =
-    (here : List ℕ) × Consumes old new here ×
-    StopsAt fault how before.pictures event here held holds × (now ≡ before)
+    (here : List ℕ) × Consumes old new here
+    × StopsAt fault how before.pictures event here held holds × (now ≡ before)
 
 -- So many events were taken, and their pictures are the other's.
 pub record IsComparing (how : Comparison) (count : ℕ)
@@ -111,8 +110,8 @@ pub record IsComparing (how : Comparison) (count : ℕ)
 abbrev pub FindsIn : (most : ℕ) → ComparedPicture → (ours theirs : List ℕ) → Option Verdict → Type 0
 FindsIn most picture ours theirs None = AreSame most ours theirs
 FindsIn most picture ours theirs (Some (Differs d)) =
-    (d.picture ≡ picture) × IsDifference picture.shape most ours theirs d.difference ×
-    (d.our_digest ≡ md5 ours) × (d.their_digest ≡ md5 theirs)
+    (d.picture ≡ picture) × IsDifference picture.shape most ours theirs d.difference
+    × (d.our_digest ≡ md5 ours) × (d.their_digest ≡ md5 theirs)
 FindsIn most picture ours theirs (Some _) = ⊥
 
 -- The line on these samples, if such lines are told.
@@ -122,8 +121,8 @@ IsLineOf true picture ours theirs line =
     (psnr : Psnr) × IsPsnr picture.shape ours theirs psnr × (line ≡ psnr_line picture.number psnr)
 
 -- It was written; after a write fault less than all of it, and after want of memory none of it.
-abbrev pub TellsLine : (told : Bool) → ComparedPicture → (ours theirs : List ℕ) →
-    (held holds : Option (List ℕ)) → Result (Unit {0}) RunFault → Type 0
+abbrev pub TellsLine : (told : Bool) → ComparedPicture → (ours theirs : List ℕ)
+    → (held holds : Option (List ℕ)) → Result (Unit {0}) RunFault → Type 0
 TellsLine told picture ours theirs held holds (Ok _) =
     (line : List ℕ) × IsLineOf told picture ours theirs line × Appends held holds line
 TellsLine told picture ours theirs held holds (Err Write) =
@@ -132,8 +131,8 @@ TellsLine told picture ours theirs held holds (Err Memory) = Appends held holds 
 TellsLine told picture ours theirs held holds (Err _) = ⊥
 
 -- Behind all pictures: no byte of the other is left, or one is read.
-abbrev pub EndsAll : (number : ℕ) → (old new : Option (List ℕ)) → Result Verdict CompareFault →
-    Type 0
+abbrev pub EndsAll : (number : ℕ) → (old new : Option (List ℕ))
+    → Result Verdict CompareFault → Type 0
 EndsAll number old new (Ok Same) = Consumes old new [] × IsAtEnd new
 EndsAll number old new (Ok (More n)) = (next : ℕ) × Consumes old new (next ∷ []) × (n ≡ number)
 EndsAll number old new (Ok _) = ⊥
@@ -162,23 +161,23 @@ LacksLeft None left here p = IsAtEnd left × (length here < length (i420 p))
 LacksLeft (Some sizes) left here p = here ≡ []
 
 -- The picture of this number was looked at beside the other's next bytes, if there are as many.
-abbrev pub LooksAt : (how : Comparison) → (number : ℕ) → Decoded →
-    (old new held holds : Option (List ℕ)) → (before now : Digested) → Result Bool CompareFault →
-    Type 0
+abbrev pub LooksAt : (how : Comparison) → (number : ℕ) → Decoded
+    → (old new held holds : Option (List ℕ)) → (before now : Digested)
+    → Result Bool CompareFault → Type 0
 LooksAt how number p old new held holds before now (Ok true) =
-    (here line : List ℕ) × Consumes old new here × (length here ≡ length (i420 p)) ×
-    IsLine how.has_psnr number p here line × Appends held holds line
-    × (other_size how.size p ≡ None) ×
-    (now ≡ with_theirs (md5 here) (with_ours (md5 (i420 p)) before))
+    (here line : List ℕ) × Consumes old new here
+    × (length here ≡ length (i420 p)) × IsLine how.has_psnr number p here line
+    × Appends held holds line × (other_size how.size p ≡ None)
+    × (now ≡ with_theirs (md5 here) (with_ours (md5 (i420 p)) before))
 LooksAt how number p old new held holds before now (Ok false) =
-    (here : List ℕ) × Consumes old new here × LacksLeft (other_size how.size p) new here p ×
-    Appends held holds [] × (now ≡ with_ours (md5 (i420 p)) before)
+    (here : List ℕ) × Consumes old new here × LacksLeft (other_size how.size p) new here p
+    × Appends held holds [] × (now ≡ with_ours (md5 (i420 p)) before)
 LooksAt how number p old new held holds before now (Err fault) =
     (here : List ℕ) × Consumes old new here × StopsAt fault how number (Picture p) here held holds
 
 -- A refusal was reported, and nothing else done; after want of memory it was not.
-abbrev pub PassesRefusal : (before now : Report) → (unit : ℕ) → Fault → Result Bool CompareFault →
-    Type 0
+abbrev pub PassesRefusal : (before now : Report) → (unit : ℕ) → Fault
+    → Result Bool CompareFault → Type 0
 PassesRefusal before now unit f (Ok true) = now ≡ report_with before (Refused unit f ∷ [])
 PassesRefusal before now unit f (Ok false) = ⊥
 PassesRefusal before now unit f (Err fault) = (fault ≡ Ours Memory) × (now ≡ before)
@@ -190,8 +189,8 @@ IsCounted before now p (Ok false) = now ≡ before
 IsCounted before now p (Err fault) = now ≡ before
 
 -- The same of an event.
-abbrev pub LooksAtEvent : (how : Comparison) → Event → (old new held holds : Option (List ℕ)) →
-    (before now : Report) → (d e : Digested) → Result Bool CompareFault → Type 0
+abbrev pub LooksAtEvent : (how : Comparison) → Event → (old new held holds : Option (List ℕ))
+    → (before now : Report) → (d e : Digested) → Result Bool CompareFault → Type 0
 LooksAtEvent how (Picture p) old new held holds before now d e result =
     LooksAt how before.pictures p old new held holds d e result × IsCounted before now p result
 LooksAtEvent how (Refused unit f) old new held holds before now d e result =
@@ -208,14 +207,8 @@ pub record Stand : Type 0 where
   pub report : Report
 
 abbrev pub stand : (left rest holds : Option (List ℕ)) → Machine → Waiting → Report → Stand
-stand left rest holds m a report = record {
-  left = left;
-  rest = rest;
-  holds = holds;
-  machine = m;
-  waiting = a;
-  report = report;
-}
+stand left rest holds m a report =
+    record { left = left; rest = rest; holds = holds; machine = m; waiting = a; report = report }
 
 -- These events were taken, and beside their pictures these bytes of the other; the lines on them
 -- are written.
@@ -243,35 +236,34 @@ pub record IsFurther (how : Comparison) (count : ℕ) (unread other held : Optio
       ≡ take most_sought (theirs ∷ map md5 (pictures_beside (pictures_in looked) more))
 
 -- Looking went on.
-pub record GoesOn (how : Comparison) (count : ℕ) (ours theirs : List ℕ) (old new : Stand)
-    (d : Digested) : Type 0 where
-  pub on : (unread other held : Option (List ℕ)) (done : List Event) (before text : List ℕ) →
-      IsLooking how unread other held old done before text
+pub record GoesOn (how : Comparison) (count : ℕ) (ours theirs : List ℕ)
+    (old new : Stand) (d : Digested) : Type 0 where
+  pub on : (unread other held : Option (List ℕ)) (done : List Event) (before text : List ℕ)
+      → IsLooking how unread other held old done before text
       → IsFurther how count unread other held ours theirs new d done before text
 
 -- Looking went on to its end.
 pub record LooksOn (how : Comparison) (ours theirs : List ℕ) (old new : Stand)
     (result : Result Digested CompareFault) : Type 0 where
-  pub on : (unread other held : Option (List ℕ)) (done : List Event) (before text : List ℕ) →
-      IsLooking how unread other held old done before text
-      → IsLookedOn how unread new.left other new.rest held new.holds new.report done before ours
-      theirs result
+  pub on : (unread other held : Option (List ℕ)) (done : List Event) (before text : List ℕ)
+      → IsLooking how unread other held old done before text
+      → IsLookedOn how unread new.left other new.rest held new.holds new.report
+      done before ours theirs result
 
 -- The other's pictures were sought from the first that differs on.
 pub record Seeks (how : Comparison) (d : Differing) (old new : Stand)
     (result : Result (List Displaced) CompareFault) : Type 0 where
   pub on : (unread other held : Option (List ℕ)) (p : Decoded) (done : List Event)
-      (before text : List ℕ)
-      → IsLooking how unread other held
+      (before text : List ℕ) → IsLooking how unread other held
       (record old { report = report_with old.report (Picture p ∷ []) }) done before text
-      → (seen : Result Digested CompareFault) ×
-      IsLookedOn how unread new.left other new.rest held new.holds new.report done before
-      d.our_digest d.their_digest seen
+      → (seen : Result Digested CompareFault)
+      × IsLookedOn how unread new.left other new.rest held new.holds new.report
+      done before d.our_digest d.their_digest seen
       × IsDisplaced d.picture.number seen result
 
 -- Behind an event at which a comparison ended the other's pictures were sought, where a picture
 -- differs; and else nothing was done.
-abbrev pub FindsBehind : (how : Comparison) → Verdict → (old new : Stand) →
-    Result (List Displaced) CompareFault → Type 0
+abbrev pub FindsBehind : (how : Comparison) → Verdict → (old new : Stand)
+    → Result (List Displaced) CompareFault → Type 0
 FindsBehind how (Differs d) old new displaced = Seeks how d old new displaced
 FindsBehind how verdict old new displaced = (new ≡ old) × (displaced ≡ Ok [])

@@ -26,8 +26,8 @@ IsUnread Theirs = Unit {0}
 
 -- As many of the other's next bytes were read as the picture has as I420; or all that were left,
 -- which are fewer.
-abbrev pub ReadsBeside : Decoded → (old new : Option (List ℕ)) → (theirs : List ℕ) →
-    Result Bool CompareFault → Type 0
+abbrev pub ReadsBeside : Decoded → (old new : Option (List ℕ)) → (theirs : List ℕ)
+    → Result Bool CompareFault → Type 0
 ReadsBeside p old new theirs (Ok true) = Consumes old new theirs × (length theirs ≡ length (i420 p))
 ReadsBeside p old new theirs (Ok false) =
     (here : List ℕ) × Consumes old new here × IsAtEnd new × (length here < length (i420 p))
@@ -35,12 +35,12 @@ ReadsBeside p old new theirs (Err fault) = (here : List ℕ) × Consumes old new
 
 -- Behind these first bytes of the other the next were read, until there were so many; or all that
 -- were left, which are fewer.
-abbrev pub ReadsRest : (first : List ℕ) → (old new : Option (List ℕ)) → (theirs : List ℕ) →
-    Result Bool CompareFault → Type 0
+abbrev pub ReadsRest : (first : List ℕ) → (old new : Option (List ℕ)) → (theirs : List ℕ)
+    → Result Bool CompareFault → Type 0
 ReadsRest first old new theirs (Ok true) =
     (more : List ℕ) × Consumes old new more × (theirs ≡ first ++ more)
 ReadsRest first old new theirs (Ok false) =
-    (more : List ℕ) × Consumes old new more × IsAtEnd new ×
-    (length first + length more < length theirs)
+    (more : List ℕ) × Consumes old new more × IsAtEnd new
+    × (length first + length more < length theirs)
 ReadsRest first old new theirs (Err fault) =
     (more : List ℕ) × Consumes old new more × IsUnread fault

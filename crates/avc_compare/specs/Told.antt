@@ -50,8 +50,8 @@ info_line p =
 abbrev pub sizes_line : Sizes → List ℕ
 sizes_line s =
     codes "the other's pictures have " ++ decimal s.theirs.width ++ codes "x"
-    ++ decimal s.theirs.height ++ codes " samples, and ours "
-    ++ decimal s.ours.width ++ codes "x" ++ decimal s.ours.height ++ newline
+    ++ decimal s.theirs.height ++ codes " samples, and ours " ++ decimal s.ours.width ++ codes "x"
+    ++ decimal s.ours.height ++ newline
 
 -- what is written of a comparison
 abbrev pub verdict_text : Verdict → List ℕ
@@ -84,8 +84,8 @@ HasMarks _ = Unit {0}
 
 -- This text was written; after a write fault less than all of it, and after want of memory none of
 -- it.
-abbrev pub WritesText : List ℕ → (held holds : Option (List ℕ)) → Result (Unit {0}) RunFault →
-    Type 0
+abbrev pub WritesText : List ℕ → (held holds : Option (List ℕ))
+    → Result (Unit {0}) RunFault → Type 0
 WritesText text held holds (Ok _) = Appends held holds text
 WritesText text held holds (Err fault) = StopsPicture fault true held holds text
 
@@ -120,15 +120,15 @@ abbrev pub run_of : Result (Unit {0}) CompareFault → Result (Unit {0}) RunFaul
 run_of (Ok done) = Ok done
 run_of (Err fault) = Err (run_fault fault)
 
-abbrev pub names_of : Names → (other : Option (Bor (List ℕ))) → Result (Unit {0}) CompareFault →
-    Names
+abbrev pub names_of : Names → (other : Option (Bor (List ℕ)))
+    → Result (Unit {0}) CompareFault → Names
 names_of names other (Ok done) = names
 names_of names other (Err fault) = fault_names names other fault
 
 -- how a comparison ended whose findings were written so: as the writing did, or by the fault that
 -- broke looking on off
-abbrev pub ended_by : (written : Result (Unit {0}) RunFault) →
-    Result (List Displaced) CompareFault → Result (Unit {0}) CompareFault
+abbrev pub ended_by : (written : Result (Unit {0}) RunFault) → Result (List Displaced) CompareFault
+    → Result (Unit {0}) CompareFault
 ended_by (Err fault) displaced = Err (Ours fault)
 ended_by (Ok done) (Ok displaced) = Ok done
 ended_by (Ok done) (Err fault) = Err fault
@@ -136,18 +136,18 @@ ended_by (Ok done) (Err fault) = Err fault
 -- Findings are written, and the exit status and what is told are those of a run that ended so.
 -- Where the run was broken off they are those of its fault, which names the other's file where that
 -- can't be read.
-abbrev pub TellsVerdict : Names → (other : Option (Bor (List ℕ))) → (explained : Bool) → Report →
-    Result Findings CompareFault → (held holds before now : Option (List ℕ)) → Ending → Type 0
+abbrev pub TellsVerdict : Names → (other : Option (Bor (List ℕ))) → (explained : Bool) → Report
+    → Result Findings CompareFault → (held holds before now : Option (List ℕ)) → Ending → Type 0
 TellsVerdict names other explained report (Ok findings) held holds before now ending =
-    (written : Result (Unit {0}) RunFault) × (decoded : Ending) ×
-    WritesText (findings_text findings) held holds written
+    (written : Result (Unit {0}) RunFault) × (decoded : Ending)
+    × WritesText (findings_text findings) held holds written
     × TellsRun (names_of names other (ended_by written findings.displaced)) explained report
     (run_of (ended_by written findings.displaced)) before now decoded
-    × (ending.told ≡ decoded.told) ×
-    (ending.status ≡ verdict_status findings.verdict decoded.status)
+    × (ending.told ≡ decoded.told)
+    × (ending.status ≡ verdict_status findings.verdict decoded.status)
 TellsVerdict names other explained report (Err fault) held holds before now ending =
-    Appends held holds [] ×
-    TellsRun (fault_names names other fault) explained report (Err (run_fault fault)) before now
+    Appends held holds []
+    × TellsRun (fault_names names other fault) explained report (Err (run_fault fault)) before now
     ending
 
 -- `compare` was such a comparison, which came to this report. Its lines come before what is written

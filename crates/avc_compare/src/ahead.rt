@@ -27,10 +27,8 @@ impl Model for Ahead {
 
     ghost Value = { Waiting };
 
-    ghost view = { λ a. record {
-      bytes = slice_range a.piece.items a.start a.end;
-      ended = a.has_ended;
-    } };
+    ghost view = { λ a.
+        record { bytes = slice_range a.piece.items a.start a.end; ended = a.has_ended } };
 
     ghost invariant = { λ a. IsKept a.piece.items a.start a.end };
 }
@@ -113,8 +111,8 @@ fn read_front<R: Read>(piece: &mut [u8], most: u128, reader: &mut R) -> Result<u
     ensures few { IfOk result (λ len. len ≤ most) }
     ensures bytes { IfOk result
         (λ len. Consumes (R.remaining reader.old) (R.remaining reader.new) (take len piece.new)) }
-    ensures last { IfOk result (λ len. len ≡ 0 → 0 < length piece.old → 0 < most →
-        IsAtEnd (R.remaining reader.new)) }
+    ensures last { IfOk result
+        (λ len. len ≡ 0 → 0 < length piece.old → 0 < most → IsAtEnd (R.remaining reader.new)) }
     ensures fault { IfErr result (λ fault. fault ≡ faults.Read) }
     ensures err { OnErr result (Keeps (R.remaining reader.old) (R.remaining reader.new)) }
 {

@@ -5,14 +5,16 @@ ghost use Rattle.avc_types.specs.Whole.{IsWhole};
 ghost use Rattle.avc_console.specs.Reporting.{no_report, TellsOn};
 ghost use Rattle.avc_events.specs.EventReports.{IfPicture};
 ghost use Rattle.avc_compare.specs.Comparing.{Compares};
+ghost use Rattle.avc_compare.specs.Reporting.{LendsTheSame, ReportsOn};
 ghost use Rattle.avc_compare.specs.Running.{stand, ComparesEvent, EndsAll, FindsBehind};
 
 use crate::ahead::Ahead;
 use crate::displaced::DisplacedPictures;
 use crate::looking::seek_displaced;
 use crate::picture::compare_picture;
+use crate::reporting::Reporting;
 use crate::samples::{Samples, read_other};
-use crate::stream::next_of;
+use crate::stream::{Stream, next_of};
 use crate::verdict::{CompareFault, PictureSize, Verdict};
 use avc_console::{MAX_UNIT, PIECE, Reporter, RunFault};
 use avc_decoder::laws::events_only_grow;
@@ -35,6 +37,13 @@ pub struct Comparison {
 
     /// The size of the other's pictures, where their file says it.
     pub size: Option<PictureSize>,
+}
+
+/// How a stream is compared, and where memory for that comes from.
+#[derive(Clone, Copy)]
+pub(crate) struct Setting {
+    pub(crate) alloc: Global,
+    pub(crate) how: Comparison,
 }
 
 /// What a comparison found.
@@ -67,39 +76,49 @@ pub fn run_comparison<T: Reporter, E: Write, R: Read, O: Read, W: Write>(
 ) -> Result<Findings, CompareFault>
     requires { (T.reported report.old).report ≡ no_report }
     ensures compares { Compares how (R.remaining reader.old) (R.remaining reader.new)
-        (O.remaining other.old) (O.remaining other.new)
-        (W.contents writer.old) (W.contents writer.new) (T.reported report.new).report result }
-    ensures told { TellsOn (T.reported report.old) (T.reported report.new) (E.contents errors.old)
-        (E.contents errors.new) }
+        (O.remaining other.old) (O.remaining other.new) (W.contents writer.old)
+        (W.contents writer.new) (T.reported report.new).report result }
+    ensures told { TellsOn (T.reported report.old) (T.reported report.new)
+        (E.contents errors.old) (E.contents errors.new) }
+{
+    let setting = Setting { alloc, how };
+    let mut reporting = Reporting { report, errors };
+    compare_events(setting, &mut reporting, reader, other, writer)
+}
+
+// Compares event after event, and seeks behind the first picture that differs.
+fn compare_events<T: Reporter, E: Write, R: Read, O: Read, W: Write>(
+    setting: Setting,
+    reporting: &mut Reporting<'_, '_, T, E>,
+    reader: &mut R,
+    other: &mut O,
+    writer: &mut W,
+) -> Result<Findings, CompareFault>
+    requires { (T.reported reporting.old.report.now).report ≡ no_report }
+    ensures compares { Compares setting.how (R.remaining reader.old) (R.remaining reader.new)
+        (O.remaining other.old) (O.remaining other.new) (W.contents writer.old)
+        (W.contents writer.new) (T.reported reporting.new.report.now).report result }
+    ensures told { ReportsOn T.reported E.contents reporting.old reporting.new }
+    ensures lent { LendsTheSame reporting.old reporting.new }
 {
     events_only_grow();
-    let mut decoder = Decoder::<MAX_UNIT, SharedPicture>::sharing(alloc, how.output);
-    let mut ahead = Ahead::new(alloc, PIECE)?;
+    let alloc = setting.alloc;
+    let decoder = Decoder::<MAX_UNIT, SharedPicture>::sharing(alloc, setting.how.output);
+    let ahead = Ahead::new(alloc, PIECE)?;
+    let mut stream = Stream { decoder, ahead };
     let mut samples = Samples::new(alloc)?;
     'events: for _event in 0..EVENTS {
-        match next_of(&mut decoder, &mut ahead, reader)? {
+        match next_of(&mut stream.decoder, &mut stream.ahead, reader)? {
             Some(event) => {
-                let ended = compare_event(
-                    alloc,
-                    how,
-                    event,
-                    &mut samples,
-                    report,
-                    errors,
-                    other,
-                    writer,
-                )?;
+                let ended = compare_event(setting, event, &mut samples, reporting, other, writer)?;
                 if let Some(verdict) = ended {
                     // looking on has its own
                     drop(samples);
                     return Ok(find_behind(
-                        alloc,
-                        how,
+                        setting,
                         verdict,
-                        &mut decoder,
-                        &mut ahead,
-                        report,
-                        errors,
+                        &mut stream,
+                        reporting,
                         reader,
                         other,
                         writer,
@@ -107,7 +126,7 @@ pub fn run_comparison<T: Reporter, E: Write, R: Read, O: Read, W: Write>(
                 }
             }
             None => {
-                let verdict = end(report.counts().pictures, other)?;
+                let verdict = end(reporting.report.counts().pictures, other)?;
                 return Ok(Findings {
                     verdict,
                     displaced: Ok(DisplacedPictures::new(alloc)),
@@ -120,95 +139,85 @@ pub fn run_comparison<T: Reporter, E: Write, R: Read, O: Read, W: Write>(
 
 // Seeks the other's pictures among ours, where a picture differs.
 fn find_behind<T: Reporter, E: Write, R: Read, O: Read, W: Write>(
-    alloc: Global,
-    how: Comparison,
+    setting: Setting,
     verdict: Verdict,
-    decoder: &mut Decoder<MAX_UNIT, SharedPicture>,
-    ahead: &mut Ahead,
-    report: &mut T,
-    errors: &mut E,
+    stream: &mut Stream,
+    reporting: &mut Reporting<'_, '_, T, E>,
     reader: &mut R,
     other: &mut O,
     writer: &mut W,
 ) -> Findings
     ensures same { result.verdict ≡ verdict }
-    ensures finds { FindsBehind how verdict
-        (stand (R.remaining reader.old) (O.remaining other.old) (W.contents writer.old) decoder.old
-        ahead.old (T.reported report.old).report)
-        (stand (R.remaining reader.new) (O.remaining other.new) (W.contents writer.new) decoder.new
-        ahead.new (T.reported report.new).report)
+    ensures finds { FindsBehind setting.how verdict
+        (stand (R.remaining reader.old) (O.remaining other.old) (W.contents writer.old)
+        stream.old.decoder stream.old.ahead (T.reported reporting.old.report.now).report)
+        (stand (R.remaining reader.new) (O.remaining other.new) (W.contents writer.new)
+        stream.new.decoder stream.new.ahead (T.reported reporting.new.report.now).report)
         result.displaced }
-    ensures told { TellsOn (T.reported report.old) (T.reported report.new) (E.contents errors.old)
-        (E.contents errors.new) }
+    ensures told { ReportsOn T.reported E.contents reporting.old reporting.new }
+    ensures lent { LendsTheSame reporting.old reporting.new }
 {
-    let displaced = displaced_behind(
-        alloc, how, &verdict, decoder, ahead, report, errors, reader, other, writer,
-    );
+    let displaced = displaced_behind(setting, &verdict, stream, reporting, reader, other, writer);
     Findings { verdict, displaced }
 }
 
 fn displaced_behind<T: Reporter, E: Write, R: Read, O: Read, W: Write>(
-    alloc: Global,
-    how: Comparison,
+    setting: Setting,
     verdict: &Verdict,
-    decoder: &mut Decoder<MAX_UNIT, SharedPicture>,
-    ahead: &mut Ahead,
-    report: &mut T,
-    errors: &mut E,
+    stream: &mut Stream,
+    reporting: &mut Reporting<'_, '_, T, E>,
     reader: &mut R,
     other: &mut O,
     writer: &mut W,
 ) -> Result<DisplacedPictures, CompareFault>
-    ensures finds { FindsBehind how verdict.now
-        (stand (R.remaining reader.old) (O.remaining other.old) (W.contents writer.old) decoder.old
-        ahead.old (T.reported report.old).report)
-        (stand (R.remaining reader.new) (O.remaining other.new) (W.contents writer.new) decoder.new
-        ahead.new (T.reported report.new).report)
-        result }
-    ensures told { TellsOn (T.reported report.old) (T.reported report.new) (E.contents errors.old)
-        (E.contents errors.new) }
+    ensures finds { FindsBehind setting.how verdict.now
+        (stand (R.remaining reader.old) (O.remaining other.old) (W.contents writer.old)
+        stream.old.decoder stream.old.ahead (T.reported reporting.old.report.now).report)
+        (stand (R.remaining reader.new) (O.remaining other.new) (W.contents writer.new)
+        stream.new.decoder stream.new.ahead (T.reported reporting.new.report.now).report) result }
+    ensures told { ReportsOn T.reported E.contents reporting.old reporting.new }
+    ensures lent { LendsTheSame reporting.old reporting.new }
 {
     match verdict {
         Verdict::Differs(differing) => seek_displaced(
-            alloc, how, differing, decoder, ahead, report, errors, reader, other, writer,
+            setting, differing, stream, reporting, reader, other, writer,
         ),
         Verdict::Same | Verdict::Fewer(_) | Verdict::More(_) | Verdict::OtherSize(_) => {
-            Ok(DisplacedPictures::new(alloc))
+            Ok(DisplacedPictures::new(setting.alloc))
         }
     }
 }
 
 // Compares a picture, or reports a refusal. Answers None where the comparison goes on.
 fn compare_event<T: Reporter, E: Write, O: Read, W: Write>(
-    alloc: Global,
-    how: Comparison,
+    setting: Setting,
     event: Event<SharedPicture>,
     samples: &mut Samples,
-    report: &mut T,
-    errors: &mut E,
+    reporting: &mut Reporting<'_, '_, T, E>,
     other: &mut O,
     writer: &mut W,
 ) -> Result<Option<Verdict>, CompareFault>
     requires { IfPicture event IsWhole }
-    ensures compares { ComparesEvent how event (O.remaining other.old) (O.remaining other.new)
-        (W.contents writer.old) (W.contents writer.new)
-        (T.reported report.old).report (T.reported report.new).report result }
-    ensures told { TellsOn (T.reported report.old) (T.reported report.new) (E.contents errors.old)
-        (E.contents errors.new) }
+    ensures compares { ComparesEvent setting.how event (O.remaining other.old)
+        (O.remaining other.new) (W.contents writer.old)
+        (W.contents writer.new) (T.reported reporting.old.report.now).report
+        (T.reported reporting.new.report.now).report result }
+    ensures told { ReportsOn T.reported E.contents reporting.old reporting.new }
+    ensures lent { LendsTheSame reporting.old reporting.new }
 {
     match event {
         Event::Picture(picture) => {
-            let number = report.counts().pictures;
-            match compare_picture(alloc, how, number, &picture, samples, other, writer)? {
+            let number = reporting.report.counts().pictures;
+            match compare_picture(setting, number, &picture, samples, other, writer)? {
                 Some(verdict) => Ok(Some(verdict)),
                 None => {
-                    report.count_picture();
+                    reporting.report.count_picture();
                     Ok(None)
                 }
             }
         }
         Event::Refused { unit, fault } => {
-            report.refuse(unit, fault, errors)?;
+            reporting.report.refuse(unit, fault, reporting.errors)?;
             Ok(None)
         }
     }

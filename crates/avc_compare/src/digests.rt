@@ -38,10 +38,8 @@ impl Digests {
         ours: [u8; 16],
         theirs: [u8; 16],
     ) -> Result<Digests, RunFault>
-        ensures ok { IfOk result (λ digests. digests ≡ record {
-          ours = ours ∷ [];
-          theirs = theirs ∷ [];
-        }) }
+        ensures ok { IfOk result
+            (λ digests. digests ≡ record { ours = ours ∷ []; theirs = theirs ∷ [] }) }
         ensures err { IfErr result (λ fault. fault ≡ faults.Memory) }
     {
         Ok(Digests {

@@ -1,5 +1,4 @@
-//! A stream's pictures beside another decoder's: whether they are the same, and where they differ
-//! first.
+//! A stream's pictures beside another decoder's: whether they differ, and where they do first.
 #![tactic(auto)]
 
 mod ahead;
@@ -10,6 +9,7 @@ mod looking;
 mod meeting;
 mod picture;
 mod program;
+mod reporting;
 mod samples;
 mod stream;
 mod text;

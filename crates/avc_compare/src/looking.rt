@@ -2,107 +2,84 @@
 
 ghost use Rattle.std.specs.Prelude.{◌≡◌, IfErr, IfOk};
 ghost use Rattle.avc_types.specs.Whole.{IsWhole};
-ghost use Rattle.avc_console.specs.Reporting.{TellsOn};
 ghost use Rattle.avc_events.specs.EventReports.{IfPicture};
+ghost use Rattle.avc_compare.specs.Reporting.{LendsTheSame, ReportsOn};
 ghost use Rattle.avc_compare.specs.Running.{is_enough, stand, LooksAtEvent, LooksOn, Seeks};
 
-use crate::ahead::Ahead;
-use crate::comparison::{Comparison, EVENTS};
+use crate::comparison::{Comparison, EVENTS, Setting};
 use crate::digests::{Digests, MOST_SOUGHT};
 use crate::displaced::{DisplacedPictures, find_displaced};
 use crate::picture::look_at_picture;
+use crate::reporting::Reporting;
 use crate::samples::Samples;
-use crate::stream::next_of;
+use crate::stream::{Stream, next_of};
 use crate::verdict::{CompareFault, Differing};
-use avc_console::{MAX_UNIT, Reporter, RunFault};
+use avc_console::{Reporter, RunFault};
+use avc_decoder::Event;
 use avc_decoder::laws::events_only_grow;
-use avc_decoder::{Decoder, Event};
 use avc_plane::SharedPicture;
-use std::alloc::Global;
 use std::io::{Read, Write};
 
 /// Which of the other's pictures from the first that differs on, which is counted here, are ours of
 /// another number.
 pub(crate) fn seek_displaced<T: Reporter, E: Write, R: Read, O: Read, W: Write>(
-    alloc: Global,
-    how: Comparison,
+    setting: Setting,
     differing: &Differing,
-    decoder: &mut Decoder<MAX_UNIT, SharedPicture>,
-    ahead: &mut Ahead,
-    report: &mut T,
-    errors: &mut E,
+    stream: &mut Stream,
+    reporting: &mut Reporting<'_, '_, T, E>,
     reader: &mut R,
     other: &mut O,
     writer: &mut W,
 ) -> Result<DisplacedPictures, CompareFault>
-    ensures seeks { Seeks how differing.now
-        (stand (R.remaining reader.old) (O.remaining other.old) (W.contents writer.old) decoder.old
-        ahead.old (T.reported report.old).report)
-        (stand (R.remaining reader.new) (O.remaining other.new) (W.contents writer.new) decoder.new
-        ahead.new (T.reported report.new).report)
-        result }
-    ensures told { TellsOn (T.reported report.old) (T.reported report.new) (E.contents errors.old)
-        (E.contents errors.new) }
+    ensures seeks { Seeks setting.how differing.now
+        (stand (R.remaining reader.old) (O.remaining other.old) (W.contents writer.old)
+        stream.old.decoder stream.old.ahead (T.reported reporting.old.report.now).report)
+        (stand (R.remaining reader.new) (O.remaining other.new) (W.contents writer.new)
+        stream.new.decoder stream.new.ahead (T.reported reporting.new.report.now).report) result }
+    ensures told { ReportsOn T.reported E.contents reporting.old reporting.new }
+    ensures lent { LendsTheSame reporting.old reporting.new }
 {
-    report.count_picture();
-    let digests = look_on(
-        alloc,
-        how,
-        differing.our_digest,
-        differing.their_digest,
-        decoder,
-        ahead,
-        report,
-        errors,
-        reader,
-        other,
-        writer,
-    )?;
-    Ok(find_displaced(alloc, differing.picture.number, &digests)?)
+    reporting.report.count_picture();
+    let digests = look_on(setting, differing, stream, reporting, reader, other, writer)?;
+    Ok(find_displaced(setting.alloc, differing.picture.number, &digests)?)
 }
 
-/// Looks at the pictures behind the first that differs, whose MD5s are these, beside the other's
-/// next bytes: at 16, or where lines are told on each at all, to the end of one of both. Each
-/// refusal is reported as it comes.
+/// Looks at the pictures behind this one, the first that differs, beside the other's next bytes: at
+/// 16, or where lines are told on each at all, to the end of one of both. Each refusal is reported
+/// as it comes.
 fn look_on<T: Reporter, E: Write, R: Read, O: Read, W: Write>(
-    alloc: Global,
-    how: Comparison,
-    ours: [u8; 16],
-    theirs: [u8; 16],
-    decoder: &mut Decoder<MAX_UNIT, SharedPicture>,
-    ahead: &mut Ahead,
-    report: &mut T,
-    errors: &mut E,
+    setting: Setting,
+    differing: &Differing,
+    stream: &mut Stream,
+    reporting: &mut Reporting<'_, '_, T, E>,
     reader: &mut R,
     other: &mut O,
     writer: &mut W,
 ) -> Result<Digests, CompareFault>
-    ensures looks { LooksOn how ours theirs
-        (stand (R.remaining reader.old) (O.remaining other.old) (W.contents writer.old) decoder.old
-        ahead.old (T.reported report.old).report)
-        (stand (R.remaining reader.new) (O.remaining other.new) (W.contents writer.new) decoder.new
-        ahead.new (T.reported report.new).report)
-        result }
-    ensures told { TellsOn (T.reported report.old) (T.reported report.new) (E.contents errors.old)
-        (E.contents errors.new) }
+    ensures looks { LooksOn setting.how differing.now.our_digest differing.now.their_digest
+        (stand (R.remaining reader.old) (O.remaining other.old) (W.contents writer.old)
+        stream.old.decoder stream.old.ahead (T.reported reporting.old.report.now).report)
+        (stand (R.remaining reader.new) (O.remaining other.new) (W.contents writer.new)
+        stream.new.decoder stream.new.ahead (T.reported reporting.new.report.now).report) result }
+    ensures told { ReportsOn T.reported E.contents reporting.old reporting.new }
+    ensures lent { LendsTheSame reporting.old reporting.new }
 {
     events_only_grow();
-    let mut digests = Digests::of_both(alloc, ours, theirs)?;
+    let alloc = setting.alloc;
+    let mut digests = Digests::of_both(alloc, differing.our_digest, differing.their_digest)?;
     let mut samples = Samples::new(alloc)?;
     'events: for _event in 0..EVENTS {
-        if is_enough(how, digests.ours().len()) {
+        if is_enough(setting.how, digests.ours().len()) {
             return Ok(digests);
         }
-        match next_of(decoder, ahead, reader)? {
+        match next_of(&mut stream.decoder, &mut stream.ahead, reader)? {
             Some(event) => {
                 let more = look_at_event(
-                    alloc,
-                    how,
+                    setting,
                     event,
                     &mut samples,
                     &mut digests,
-                    report,
-                    errors,
+                    reporting,
                     other,
                     writer,
                 )?;
@@ -125,38 +102,33 @@ fn is_enough(how: Comparison, count: usize) -> bool
 
 // Looks at a picture, or reports a refusal. Answers whether looking goes on.
 fn look_at_event<T: Reporter, E: Write, O: Read, W: Write>(
-    alloc: Global,
-    how: Comparison,
+    setting: Setting,
     event: Event<SharedPicture>,
     samples: &mut Samples,
     digests: &mut Digests,
-    report: &mut T,
-    errors: &mut E,
+    reporting: &mut Reporting<'_, '_, T, E>,
     other: &mut O,
     writer: &mut W,
 ) -> Result<bool, CompareFault>
     requires { IfPicture event IsWhole }
-    ensures looks { LooksAtEvent how event (O.remaining other.old) (O.remaining other.new)
-        (W.contents writer.old) (W.contents writer.new)
-        (T.reported report.old).report (T.reported report.new).report digests.old digests.new
-        result }
-    ensures told { TellsOn (T.reported report.old) (T.reported report.new) (E.contents errors.old)
-        (E.contents errors.new) }
+    ensures looks { LooksAtEvent setting.how event (O.remaining other.old) (O.remaining other.new)
+        (W.contents writer.old) (W.contents writer.new) (T.reported reporting.old.report.now).report
+        (T.reported reporting.new.report.now).report digests.old digests.new result }
+    ensures told { ReportsOn T.reported E.contents reporting.old reporting.new }
+    ensures lent { LendsTheSame reporting.old reporting.new }
 {
     match event {
         Event::Picture(picture) => {
-            let number = report.counts().pictures;
-            if look_at_picture(
-                alloc, how, number, &picture, samples, digests, other, writer,
-            )? {
-                report.count_picture();
+            let number = reporting.report.counts().pictures;
+            if look_at_picture(setting, number, &picture, samples, digests, other, writer)? {
+                reporting.report.count_picture();
                 Ok(true)
             } else {
                 Ok(false)
             }
         }
         Event::Refused { unit, fault } => {
-            report.refuse(unit, fault, errors)?;
+            reporting.report.refuse(unit, fault, reporting.errors)?;
             Ok(true)
         }
     }

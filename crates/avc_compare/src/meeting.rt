@@ -1,13 +1,12 @@
 //! The other's bytes, read as long as they are what is shown of a picture.
 
-ghost use Rattle.std.specs.Prelude.{◌≡◌, ℕ, ◌<◌, ◌≤◌, List, [], length, take, IfErr, IfOk, OnErr};
-ghost use Rattle.std.specs.Prelude.{OnOk};
-ghost use Rattle.std.specs.Io.KnownBytes.{Consumes, IsAtEnd, Keeps};
+ghost use Rattle.std.specs.Prelude.{◌≡◌, ◌<◌, ◌≤◌, [], length, take, IfErr, IfOk, OnErr, OnOk};
+ghost use Rattle.std.specs.Io.KnownBytes.{IsAtEnd, Keeps};
 ghost use Rattle.avc_types.specs.Whole.{IsWhole};
 ghost use Rattle.avc_yuv.specs.Copying.{shown_of};
 ghost use Rattle.avc_yuv.specs.I420.{i420};
 ghost use Rattle.avc_compare.specs.Meeting.{Meets};
-ghost use Rattle.avc_compare.specs.Reading.{Fills};
+ghost use Rattle.avc_compare.specs.Reading.{Fills, ReadsSome};
 ghost use Rattle.avc_compare.specs.declared.verdict.CompareFault.TheVariants as ends;
 
 use crate::ahead::Ahead;
@@ -28,14 +27,12 @@ pub(crate) fn meet_picture<O: Read>(
     requires whole { IsWhole picture.now }
     requires left { left ≡ length (i420 picture.now) }
     requires few { length ahead.old.bytes ≤ left }
-    ensures ok { IfOk result
-        (λ met. Meets (i420 picture.now) left met ahead.old.bytes ahead.new.bytes
-        (O.remaining other.old) (O.remaining other.new)) }
-    ensures over { IfOk result (λ met. met < length (i420 picture.now) → ahead.new.bytes ≡ [] →
-        IsAtEnd (O.remaining other.new)) }
+    ensures ok { IfOk result (λ met. Meets (i420 picture.now) left met ahead.old.bytes
+        ahead.new.bytes (O.remaining other.old) (O.remaining other.new)) }
+    ensures over { IfOk result (λ met. met < length (i420 picture.now) → ahead.new.bytes ≡ []
+        → IsAtEnd (O.remaining other.new)) }
     ensures fault { IfErr result (λ fault. fault ≡ ends.Theirs) }
-    ensures err { OnErr result ((here : List ℕ) ×
-        Consumes (O.remaining other.old) (O.remaining other.new) here) }
+    ensures err { OnErr result (ReadsSome (O.remaining other.old) (O.remaining other.new)) }
 {
     let chroma = samples_of(picture, Component::Cb);
     let luma = meet_component(picture, Component::Luma, left, ahead, other)?;
@@ -70,14 +67,12 @@ fn meet_component<O: Read>(
     requires whole { IsWhole picture.now }
     requires within { length (shown_of picture.now component) ≤ left }
     requires few { length ahead.old.bytes ≤ left }
-    ensures ok { IfOk result
-        (λ met. Meets (shown_of picture.now component) left met ahead.old.bytes ahead.new.bytes
-        (O.remaining other.old) (O.remaining other.new)) }
-    ensures over { IfOk result (λ met. met < length (shown_of picture.now component) →
-        ahead.new.bytes ≡ [] → IsAtEnd (O.remaining other.new)) }
+    ensures ok { IfOk result (λ met. Meets (shown_of picture.now component) left met ahead.old.bytes
+        ahead.new.bytes (O.remaining other.old) (O.remaining other.new)) }
+    ensures over { IfOk result (λ met. met < length (shown_of picture.now component)
+        → ahead.new.bytes ≡ [] → IsAtEnd (O.remaining other.new)) }
     ensures fault { IfErr result (λ fault. fault ≡ ends.Theirs) }
-    ensures err { OnErr result ((here : List ℕ) ×
-        Consumes (O.remaining other.old) (O.remaining other.new) here) }
+    ensures err { OnErr result (ReadsSome (O.remaining other.old) (O.remaining other.new)) }
 {
     let of = window_of(picture, component);
     let mut met = 0;
@@ -103,11 +98,10 @@ fn meet_row<O: Read>(
     requires few { length ahead.old.bytes ≤ left }
     ensures ok { IfOk result (λ met. Meets row.now left met ahead.old.bytes ahead.new.bytes
         (O.remaining other.old) (O.remaining other.new)) }
-    ensures over { IfOk result (λ met. met < length row.now → ahead.new.bytes ≡ [] →
-        IsAtEnd (O.remaining other.new)) }
+    ensures over { IfOk result
+        (λ met. met < length row.now → ahead.new.bytes ≡ [] → IsAtEnd (O.remaining other.new)) }
     ensures fault { IfErr result (λ fault. fault ≡ ends.Theirs) }
-    ensures err { OnErr result ((here : List ℕ) ×
-        Consumes (O.remaining other.old) (O.remaining other.new) here) }
+    ensures err { OnErr result (ReadsSome (O.remaining other.old) (O.remaining other.new)) }
 {
     let mut met = 0;
     'parts: while met < row.len() {

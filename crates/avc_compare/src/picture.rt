@@ -8,7 +8,7 @@ ghost use Rattle.avc_console.specs.declared.fault.RunFault.TheVariants as faults
 ghost use Rattle.avc_compare.specs.Comparing.{compared_picture, other_size, size_of};
 ghost use Rattle.avc_compare.specs.Running.{ComparesPicture, FindsIn, LooksAt, TellsLine};
 
-use crate::comparison::Comparison;
+use crate::comparison::{Comparison, Setting};
 use crate::digests::{Digests, digest_of};
 use crate::samples::Samples;
 use crate::verdict::{CompareFault, ComparedPicture, Differing, PictureSize, Sizes, Verdict};
@@ -23,8 +23,7 @@ use std::io::{Read, Write};
 /// Compares a picture with the other's next bytes, as many as it has as I420. Answers None where it
 /// is the same, and else how the comparison ends. Writes the line on it, if that is wanted.
 pub(crate) fn compare_picture<O: Read, W: Write>(
-    alloc: Global,
-    how: Comparison,
+    setting: Setting,
     number: u64,
     picture: &SharedPicture,
     samples: &mut Samples,
@@ -32,9 +31,10 @@ pub(crate) fn compare_picture<O: Read, W: Write>(
     writer: &mut W,
 ) -> Result<Option<Verdict>, CompareFault>
     requires { IsWhole picture.now }
-    ensures { ComparesPicture how number picture.now (O.remaining other.old) (O.remaining other.new)
-        (W.contents writer.old) (W.contents writer.new) result }
+    ensures { ComparesPicture setting.how number picture.now (O.remaining other.old)
+        (O.remaining other.new) (W.contents writer.old) (W.contents writer.new) result }
 {
+    let Setting { alloc, how } = setting;
     if let Some(sizes) = other_size(how.size, picture) {
         return Ok(Some(Verdict::OtherSize(sizes)));
     }
@@ -67,8 +67,7 @@ fn is_passed(how: Comparison, picture: &SharedPicture, met: u128) -> bool
 /// has as I420: adds the MD5s of both, and writes the line on it, if that is wanted. Answers
 /// whether the other has so many.
 pub(crate) fn look_at_picture<O: Read, W: Write>(
-    alloc: Global,
-    how: Comparison,
+    setting: Setting,
     number: u64,
     picture: &SharedPicture,
     samples: &mut Samples,
@@ -77,10 +76,10 @@ pub(crate) fn look_at_picture<O: Read, W: Write>(
     writer: &mut W,
 ) -> Result<bool, CompareFault>
     requires { IsWhole picture.now }
-    ensures { LooksAt how number picture.now (O.remaining other.old) (O.remaining other.new)
-        (W.contents writer.old) (W.contents writer.new)
-        digests.old digests.new result }
+    ensures { LooksAt setting.how number picture.now (O.remaining other.old) (O.remaining other.new)
+        (W.contents writer.old) (W.contents writer.new) digests.old digests.new result }
 {
+    let Setting { alloc, how } = setting;
     samples.copy(alloc, picture)?;
     digests.add_ours(digest_of(samples.ours()))?;
     if let Some(_sizes) = other_size(how.size, picture) {

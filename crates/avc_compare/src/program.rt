@@ -35,10 +35,9 @@ pub fn compare<R: Read, O: Read, W: Write, E: Write, V: Watch>(
     writer: &mut W,
     console: &mut Console<'_, E, V>,
 ) -> Ending
-    ensures { EndsComparing console.old.names other_name.entry console.old.is_explained how
-        (R.remaining reader.old) (R.remaining reader.new)
-        (O.remaining other.old) (O.remaining other.new) (W.contents writer.old)
-        (W.contents writer.new)
+    ensures { EndsComparing console.old.names other_name.entry console.old.is_explained
+        how (R.remaining reader.old) (R.remaining reader.new) (O.remaining other.old)
+        (O.remaining other.new) (W.contents writer.old) (W.contents writer.new)
         (E.contents console.old.errors) (E.contents console.new.errors) result }
 {
     let mut tally = Tally::new(console.is_explained);
@@ -113,11 +112,10 @@ fn tell_end<E: Write>(
     names: &Names<'_>,
     errors: &mut E,
 ) -> Ending
-    ensures { (start : Option (List ℕ)) →
-        IsTold start (E.contents errors.old) (reported_by tally.now)
+    ensures { (start : Option (List ℕ))
+        → IsTold start (E.contents errors.old) (reported_by tally.now)
         → TellsRun (names_of names.now other_name.entry ended) tally.now.explained
-        (report_in tally.now) (run_of ended)
-        start (E.contents errors.new) result }
+        (report_in tally.now) (run_of ended) start (E.contents errors.new) result }
 {
     match ended {
         Ok(()) => tell(Ok(()), tally, names, errors),
@@ -133,11 +131,10 @@ fn tell_fault<E: Write>(
     names: &Names<'_>,
     errors: &mut E,
 ) -> Ending
-    ensures { (start : Option (List ℕ)) →
-        IsTold start (E.contents errors.old) (reported_by tally.now)
+    ensures { (start : Option (List ℕ))
+        → IsTold start (E.contents errors.old) (reported_by tally.now)
         → TellsRun (fault_names names.now other_name.entry fault) tally.now.explained
-        (report_in tally.now) (Err (run_fault fault))
-        start (E.contents errors.new) result }
+        (report_in tally.now) (Err (run_fault fault)) start (E.contents errors.new) result }
 {
     match fault {
         CompareFault::Ours(fault) => tell(Err(fault), tally, names, errors),
@@ -160,9 +157,8 @@ fn write_findings<W: Write>(
     requires { HasMarks findings.now.verdict }
     ensures ok { OnOk result
         (Appends (W.contents writer.old) (W.contents writer.new) (findings_text findings.now)) }
-    ensures err { IfErr result
-        (λ fault. StopsPicture fault true (W.contents writer.old) (W.contents writer.new)
-        (findings_text findings.now)) }
+    ensures err { IfErr result (λ fault. StopsPicture fault true (W.contents writer.old)
+        (W.contents writer.new) (findings_text findings.now)) }
 {
     let mut text = String::new(alloc);
     add_findings(&mut text, findings)?;

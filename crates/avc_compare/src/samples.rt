@@ -1,12 +1,13 @@
 //! The samples of a picture of ours, and the other's beside them.
 
-ghost use Rattle.std.specs.Prelude.{◌≡◌, ℕ, ◌+◌, ◌<◌, ◌≤◌, List, [], ◌++◌, length, take, IfErr};
-ghost use Rattle.std.specs.Prelude.{IfOk, OnErr, OnOk};
+ghost use Rattle.std.specs.Prelude.{◌≡◌, ◌+◌, ◌<◌, ◌≤◌, [], ◌++◌, length, take, IfErr, IfOk, OnErr};
+ghost use Rattle.std.specs.Prelude.{OnOk};
 ghost use Rattle.std.specs.Io.KnownBytes.{Consumes, IsAtEnd};
 ghost use Rattle.avc_types.specs.Whole.{IsWhole};
 ghost use Rattle.avc_yuv.specs.I420.{i420};
 ghost use Rattle.avc_console.specs.declared.fault.RunFault.TheVariants as faults;
 ghost use Rattle.avc_compare.specs.Meeting.{Meets};
+ghost use Rattle.avc_compare.specs.Reading.{ReadsSome};
 ghost use Rattle.avc_compare.specs.Samples.{no_samples, ReadsBeside, ReadsRest};
 ghost use Rattle.avc_compare.specs.declared.verdict.CompareFault.TheVariants as ends;
 
@@ -38,11 +39,8 @@ impl Model for Samples {
 
     ghost Value = { Sampled };
 
-    ghost view = { λ s. record {
-      ours = s.ours.items;
-      theirs = s.theirs.items;
-      waiting = s.ahead.bytes;
-    } };
+    ghost view = { λ s.
+        record { ours = s.ours.items; theirs = s.theirs.items; waiting = s.ahead.bytes } };
 }
 
 impl Samples {
@@ -89,14 +87,12 @@ impl Samples {
         other: &mut O,
     ) -> Result<u128, CompareFault>
         requires { IsWhole picture.now }
-        ensures ok { IfOk result
-            (λ met. Meets (i420 picture.now) (length (i420 picture.now)) met [] self.new.waiting
-            (O.remaining other.old) (O.remaining other.new)) }
-        ensures over { IfOk result (λ met. met < length (i420 picture.now) → self.new.waiting ≡ [] →
-            IsAtEnd (O.remaining other.new)) }
+        ensures ok { IfOk result (λ met. Meets (i420 picture.now) (length (i420 picture.now)) met []
+            self.new.waiting (O.remaining other.old) (O.remaining other.new)) }
+        ensures over { IfOk result (λ met. met < length (i420 picture.now) → self.new.waiting ≡ []
+            → IsAtEnd (O.remaining other.new)) }
         ensures fault { IfErr result (λ fault. fault ≡ ends.Theirs) }
-        ensures err { OnErr result ((here : List ℕ) ×
-            Consumes (O.remaining other.old) (O.remaining other.new) here) }
+        ensures err { OnErr result (ReadsSome (O.remaining other.old) (O.remaining other.new)) }
     {
         self.ahead.clear();
         meet_picture(picture, i420_len(picture), &mut self.ahead, other)
@@ -113,8 +109,8 @@ impl Samples {
     ) -> Result<bool, CompareFault>
         requires whole { IsWhole picture.now }
         requires few { met + length self.old.waiting ≤ length (i420 picture.now) }
-        requires over { met < length (i420 picture.now) → self.old.waiting ≡ [] →
-            IsAtEnd (O.remaining other.old) }
+        requires over { met < length (i420 picture.now) → self.old.waiting ≡ []
+            → IsAtEnd (O.remaining other.old) }
         ensures ours { OnOk result (self.new.ours ≡ i420 picture.now) }
         ensures long { OnOk result (length self.new.theirs ≡ length (i420 picture.now)) }
         ensures reads { ReadsRest (take met (i420 picture.now) ++ self.old.waiting)
@@ -140,8 +136,8 @@ impl Samples {
     ) -> Result<bool, CompareFault>
         requires { IsWhole picture.now }
         ensures ours { self.new.ours ≡ self.old.ours }
-        ensures reads { ReadsBeside picture.now (O.remaining other.old) (O.remaining other.new)
-            self.new.theirs result }
+        ensures reads { ReadsBeside picture.now (O.remaining other.old)
+            (O.remaining other.new) self.new.theirs result }
     {
         make_room(alloc, &mut self.theirs, picture)?;
         read_rest(&mut self.theirs, &[], &[], other)
@@ -201,11 +197,10 @@ pub(crate) fn read_other<O: Read>(bytes: &mut [u8], other: &mut O) -> Result<usi
     ensures within { IfOk result (λ count. count ≤ length bytes.new) }
     ensures ok { IfOk result
         (λ count. Consumes (O.remaining other.old) (O.remaining other.new) (take count bytes.new)) }
-    ensures last { IfOk result (λ count. count < length bytes.new →
-        IsAtEnd (O.remaining other.new)) }
+    ensures last { IfOk result
+        (λ count. count < length bytes.new → IsAtEnd (O.remaining other.new)) }
     ensures fault { IfErr result (λ fault. fault ≡ ends.Theirs) }
-    ensures err { OnErr result ((here : List ℕ) ×
-        Consumes (O.remaining other.old) (O.remaining other.new) here) }
+    ensures err { OnErr result (ReadsSome (O.remaining other.old) (O.remaining other.new)) }
 {
     let mut count = 0;
     'reads: while count < bytes.len() {

@@ -16,6 +16,14 @@ use avc_events::{feed_unit, flush, next_event};
 use avc_plane::SharedPicture;
 use std::io::Read;
 
+/// A stream that is decoded event by event: its decoder, and the bytes that were read and not yet
+/// fed.
+#[derive(Drop)]
+pub(crate) struct Stream {
+    pub(crate) decoder: Decoder<MAX_UNIT, SharedPicture>,
+    pub(crate) ahead: Ahead,
+}
+
 /// Takes the next event of a stream. It reads and feeds only what that needs, a unit at a time, so
 /// that few pictures wait.
 pub(crate) fn next_of<R: Read>(
@@ -25,9 +33,8 @@ pub(crate) fn next_of<R: Read>(
 ) -> Result<Option<Event<SharedPicture>>, RunFault>
     ensures ok { IfOk result (λ event. TakesNext (R.remaining reader.old) (R.remaining reader.new)
         decoder.old decoder.new ahead.old ahead.new event) }
-    ensures err { IfErr result
-        (λ fault. BreaksReading (R.remaining reader.old) (R.remaining reader.new) decoder.old
-        ahead.old fault) }
+    ensures err { IfErr result (λ fault. BreaksReading (R.remaining reader.old)
+        (R.remaining reader.new) decoder.old ahead.old fault) }
     ensures whole { IfOk result (λ event. IsWholeIfAny event) }
 {
     events_only_grow();
@@ -56,12 +63,11 @@ fn go_on<R: Read>(
     requires none { next_event max_unit decoder.old ≡ None }
     ensures ok { OnOk result (ReadsOn (R.remaining reader.old) (R.remaining reader.new) decoder.old
         decoder.new ahead.old ahead.new) }
-    ensures fed { IfOk result (λ fed. fed ≡ true →
-        length decoder.old.bytes < length decoder.new.bytes) }
+    ensures fed { IfOk result
+        (λ fed. fed ≡ true → length decoder.old.bytes < length decoder.new.bytes) }
     ensures ended { IfOk result (λ fed. fed ≡ false → ahead.new.ended ≡ true) }
-    ensures err { IfErr result
-        (λ fault. BreaksReading (R.remaining reader.old) (R.remaining reader.new) decoder.old
-        ahead.old fault) }
+    ensures err { IfErr result (λ fault. BreaksReading (R.remaining reader.old)
+        (R.remaining reader.new) decoder.old ahead.old fault) }
 {
     events_only_grow();
     fill(ahead, reader)?;

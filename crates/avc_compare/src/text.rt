@@ -1,10 +1,10 @@
 //! What is told of a comparison.
 
-ghost use Rattle.std.specs.Prelude.{◌≡◌, ◌++◌, OnOk, string_bytes};
+ghost use Rattle.std.specs.Prelude.{OnOk};
 ghost use Rattle.std.specs.List.{flat_map};
+ghost use Rattle.avc_compare.specs.Adding.{AddsText};
 ghost use Rattle.avc_compare.specs.Told.{displaced_line, fewer_line, findings_text, info_line};
-ghost use Rattle.avc_compare.specs.Told.{more_line};
-ghost use Rattle.avc_compare.specs.Told.{sizes_line, verdict_text, HasMarks};
+ghost use Rattle.avc_compare.specs.Told.{more_line, sizes_line, verdict_text, HasMarks};
 
 use crate::comparison::Findings;
 use crate::displaced::Displaced;
@@ -17,8 +17,7 @@ use avc_types::OutOfMemory;
 /// behind a line that could not be written.
 pub fn add_findings(text: &mut String, findings: &Findings) -> Result<(), OutOfMemory>
     requires { HasMarks findings.now.verdict }
-    ensures { OnOk result (string_bytes text.new ≡ string_bytes text.old
-        ++ findings_text findings.now) }
+    ensures { OnOk result (AddsText text.old text.new (findings_text findings.now)) }
 {
     match &findings.displaced {
         Ok(displaced) => {
@@ -32,8 +31,7 @@ pub fn add_findings(text: &mut String, findings: &Findings) -> Result<(), OutOfM
 
 // A line for each picture that is ours of another number.
 fn add_displaced(text: &mut String, pictures: &[Displaced]) -> Result<(), OutOfMemory>
-    ensures { OnOk result (string_bytes text.new ≡ string_bytes text.old
-        ++ flat_map displaced_line pictures.now) }
+    ensures { OnOk result (AddsText text.old text.new (flat_map displaced_line pictures.now)) }
 {
     'pictures: for picture in pictures {
         add_picture(text, *picture)?;
@@ -42,8 +40,7 @@ fn add_displaced(text: &mut String, pictures: &[Displaced]) -> Result<(), OutOfM
 }
 
 fn add_picture(text: &mut String, picture: Displaced) -> Result<(), OutOfMemory>
-    ensures { OnOk result (string_bytes text.new ≡ string_bytes text.old
-        ++ displaced_line picture) }
+    ensures { OnOk result (AddsText text.old text.new (displaced_line picture)) }
 {
     let Displaced { number, ours } = picture;
     writeln!(text, "picture {number} is our picture {ours}")?;
@@ -53,8 +50,7 @@ fn add_picture(text: &mut String, picture: Displaced) -> Result<(), OutOfMemory>
 // What is written of the verdict.
 fn add_verdict(text: &mut String, verdict: &Verdict) -> Result<(), OutOfMemory>
     requires { HasMarks verdict.now }
-    ensures { OnOk result (string_bytes text.new ≡ string_bytes text.old
-        ++ verdict_text verdict.now) }
+    ensures { OnOk result (AddsText text.old text.new (verdict_text verdict.now)) }
 {
     match verdict {
         Verdict::Same => Ok(()),
@@ -70,7 +66,7 @@ fn add_verdict(text: &mut String, verdict: &Verdict) -> Result<(), OutOfMemory>
 }
 
 fn add_info(text: &mut String, picture: ComparedPicture) -> Result<(), OutOfMemory>
-    ensures { OnOk result (string_bytes text.new ≡ string_bytes text.old ++ info_line picture) }
+    ensures { OnOk result (AddsText text.old text.new (info_line picture)) }
 {
     let ComparedPicture { number, info, .. } = picture;
     writeln!(
@@ -82,7 +78,7 @@ fn add_info(text: &mut String, picture: ComparedPicture) -> Result<(), OutOfMemo
 }
 
 fn add_fewer(text: &mut String, number: u64) -> Result<(), OutOfMemory>
-    ensures { OnOk result (string_bytes text.new ≡ string_bytes text.old ++ fewer_line number) }
+    ensures { OnOk result (AddsText text.old text.new (fewer_line number)) }
 {
     writeln!(
         text,
@@ -92,7 +88,7 @@ fn add_fewer(text: &mut String, number: u64) -> Result<(), OutOfMemory>
 }
 
 fn add_more(text: &mut String, number: u64) -> Result<(), OutOfMemory>
-    ensures { OnOk result (string_bytes text.new ≡ string_bytes text.old ++ more_line number) }
+    ensures { OnOk result (AddsText text.old text.new (more_line number)) }
 {
     writeln!(
         text,
@@ -102,7 +98,7 @@ fn add_more(text: &mut String, number: u64) -> Result<(), OutOfMemory>
 }
 
 fn add_sizes(text: &mut String, sizes: Sizes) -> Result<(), OutOfMemory>
-    ensures { OnOk result (string_bytes text.new ≡ string_bytes text.old ++ sizes_line sizes) }
+    ensures { OnOk result (AddsText text.old text.new (sizes_line sizes)) }
 {
     let Sizes { ours, theirs } = sizes;
     writeln!(

@@ -2,6 +2,14 @@
 pub mod Events
 unfoldable pub use Events.*
 
+-- ---- what is lent
+
+pub still_lent : {T E V : Type 0} → (r : Reporting T E V) → LendsTheSame r r
+still_lent r = (refl, refl, refl)
+
+pub lent_then : {T E V : Type 0} → (a b c : Reporting T E V) → LendsTheSame a b → LendsTheSame b c → LendsTheSame a c
+lent_then a b c before more = (more.0 ∙ before.0, more.1 ∙ before.1, more.2 ∙ before.2)
+
 -- ---- reports
 
 -- a report's number of pictures, as they are counted from 0

@@ -9,9 +9,17 @@ use Rattle.avc_console.specs.declared.exit.Ending.{Ending}
 use Rattle.avc_console.specs.declared.fault.RunFault.{RunFault}
 use Rattle.avc_console.specs.declared.report.Report.{Report}
 use Rattle.avc_formats.specs.Formats.{Format}
+use Rattle.avc_formats.specs.Headed.{headed}
+use Rattle.avc_formats.specs.Selecting.{selected}
+use Rattle.avc_formats.specs.declared.headed.HeadedFormat.{HeadedFormat}
+use Rattle.avc_formats.specs.declared.selected.Selected.{Selected}
 use Rattle.avc_formats.specs.Front.{IsFront, NoFront}
 use Rattle.avc_presentation.specs.declared.presentation.Presentation.{Presentation}
 use Rattle.avc_run.specs.Formats.{DecodesAs}
+
+-- the pictures that are asked for, in a format with a head that says this
+abbrev pub selected_by : Selected HeadedFormat → Presentation → Format
+selected_by asked said = selected (headed asked.format said) asked.skip asked.limit
 
 -- A stream is decoded in the format that this set decides.
 pub record DecodesBySet (format : Presentation → Format) (output : Output)
@@ -27,16 +35,16 @@ pub record DecodesBySet (format : Presentation → Format) (output : Output)
 pub data Decodes (format : Presentation → Format) (output : Output)
     (unread left held holds : Option (List ℕ)) (report : Report)
     (run : Result (Unit {0}) RunFault) : Type 0 where
-  by_set : DecodesBySet format output unread left held holds report run →
-      Decodes format output unread left held holds report run
-  in_front : (fault : RunFault) → run ≡ Err fault → NoFront fault unread left →
-      Appends held holds [] → report ≡ no_report →
-      Decodes format output unread left held holds report run
+  by_set : DecodesBySet format output unread left held holds report run
+      → Decodes format output unread left held holds report run
+  in_front : (fault : RunFault) → run ≡ Err fault → NoFront fault unread left
+      → Appends held holds [] → report ≡ no_report
+      → Decodes format output unread left held holds report run
 
 -- `decode` in such a format was a run that came to this report, and its exit status and what it
 -- told are those of this run.
-pub record EndsDecodingBySet (names : Names) (explained : Bool) (format : Presentation →
-    Format) (output : Output) (unread left held holds before now : Option (List ℕ))
+pub record EndsDecodingBySet (names : Names) (explained : Bool) (format : Presentation → Format)
+    (output : Output) (unread left held holds before now : Option (List ℕ))
     (ending : Ending) : Type 0 where
   pub report : Report
   pub run : Result (Unit {0}) RunFault

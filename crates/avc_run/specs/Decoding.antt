@@ -28,22 +28,22 @@ pub record WritesPictures (old new : Option (List ℕ)) (events : List Event) : 
 -- define, and also where there were more reads than a run may take, each of some bytes; after a
 -- write fault fewer than all of their bytes, and after want of memory the first of these pictures.
 -- No size is another one.
-abbrev pub Decodes : Output → (unread left held holds : Option (List ℕ)) → Result Report RunFault →
-    Type 0
+abbrev pub Decodes : Output → (unread left held holds : Option (List ℕ))
+    → Result Report RunFault → Type 0
 Decodes output unread left held holds (Ok report) =
-    (bytes : List ℕ) × HasRead unread left bytes true ×
-    Appends held holds (shown (defined output bytes)) ×
-    (report ≡ report_of (defined output bytes))
+    (bytes : List ℕ) × HasRead unread left bytes true
+    × Appends held holds (shown (defined output bytes))
+    × (report ≡ report_of (defined output bytes))
 Decodes output unread left held holds (Err Read) =
-    (bytes : List ℕ) × HasRead unread left bytes false ×
-    Appends held holds (shown (events output max_unit bytes false))
+    (bytes : List ℕ) × HasRead unread left bytes false
+    × Appends held holds (shown (events output max_unit bytes false))
 Decodes output unread left held holds (Err Endless) =
-    (bytes : List ℕ) × HasRead unread left bytes false ×
-    Appends held holds (shown (events output max_unit bytes false)) × (2 ^ 32 ≤ length bytes)
+    (bytes : List ℕ) × HasRead unread left bytes false
+    × Appends held holds (shown (events output max_unit bytes false)) × (2 ^ 32 ≤ length bytes)
 Decodes output unread left held holds (Err Write) =
-    (bytes : List ℕ) × (all : Bool) × HasRead unread left bytes all ×
-    WritesFirst held holds (shown (events output max_unit bytes all))
+    (bytes : List ℕ) × (all : Bool) × HasRead unread left bytes all
+    × WritesFirst held holds (shown (events output max_unit bytes all))
 Decodes output unread left held holds (Err Memory) =
-    (bytes : List ℕ) × (all : Bool) × HasRead unread left bytes all ×
-    WritesPictures held holds (events output max_unit bytes all)
+    (bytes : List ℕ) × (all : Bool) × HasRead unread left bytes all
+    × WritesPictures held holds (events output max_unit bytes all)
 Decodes output unread left held holds (Err Size) = ⊥

@@ -26,8 +26,8 @@ pub record Sums (format : Format) (output : Output) (unread left : Option (List 
 
 -- This line was written after a run without a fault; after a write fault less than all of it, and
 -- where the run or memory failed none of it.
-abbrev pub Prints : (run result : Result (Unit {0}) RunFault) → (held holds : Option (List ℕ)) →
-    List ℕ → Type 0
+abbrev pub Prints : (run result : Result (Unit {0}) RunFault)
+    → (held holds : Option (List ℕ)) → List ℕ → Type 0
 Prints (Ok _) (Ok told) held holds line = Appends held holds line
 Prints (Ok _) (Err fault) held holds line = StopsPicture fault true held holds line
 Prints (Err fault) (Ok told) held holds line = ⊥
@@ -65,8 +65,8 @@ pub record TellsOther (names : Names) (explained : Bool) (report : Report)
     (run : Result (Unit {0}) RunFault) (digest : List ℕ) (before now : Option (List ℕ))
     (ending : Ending) : Type 0 where
   pub status_is : ending.status ≡ other_status (run_status report run)
-  pub told : Tells before now (run_text names explained report run ++ other_text run digest)
-      ending.told
+  pub told : Tells before now
+      (run_text names explained report run ++ other_text run digest) ending.told
 
 -- The digest of what would be written is compared.
 pub record EndsVerifying (names : Names) (explained : Bool) (format : Format) (output : Output)
@@ -76,5 +76,5 @@ pub record EndsVerifying (names : Names) (explained : Bool) (format : Format) (o
   pub digest : List ℕ
   pub sums : Sums format output unread left report run digest
   pub same : digest ≡ expected → TellsRun names explained report run before now ending
-  pub other : (digest ≡ expected → ⊥) →
-      TellsOther names explained report run digest before now ending
+  pub other : (digest ≡ expected → ⊥)
+      → TellsOther names explained report run digest before now ending

@@ -52,8 +52,8 @@ pub record WritesWithin (old new : Option (List ℕ)) (text more : List ℕ) : T
 -- whole, when this text had been written: want of memory, or in the writing of the first of them, a
 -- picture, that the writer took no more of it, or that it has another size. None comes from reading
 -- here.
-abbrev pub StopsAt : Format → (number : ℕ) → RunFault → (old new : Option (List ℕ)) →
-    (text : List ℕ) → List Event → Type 0
+abbrev pub StopsAt : Format → (number : ℕ) → RunFault → (old new : Option (List ℕ))
+    → (text : List ℕ) → List Event → Type 0
 StopsAt format n Memory old new text events = Appends old new text
 StopsAt format n Write old new text (Picture p ∷ events) =
     (format.fits n p ≡ true) × WritesWithin old new text (format.text n p)
@@ -70,21 +70,21 @@ pub record BreaksOff (format : Format) (report : Report) (fault : RunFault)
   pub parts : events ≡ front ++ rest
   pub fit : AllFit format 0 front
   pub reported : report ≡ report_of front
-  pub stops : StopsAt format (pictures_after 0 front) fault old new (written_from format 0 front)
-      rest
+  pub stops : StopsAt format (pictures_after 0 front) fault old new
+      (written_from format 0 front) rest
 
 -- These bytes were read: a front, and what the reads behind it gave. The last of these gave at most
 -- 65,536 bytes, and none where it is said to be empty. It was wanted: it was the first, or the
 -- pictures that had come were not yet all that are wanted.
-pub record ReadsWanted (format : Format) (output : Output) (front bytes : List ℕ)
-    (empty : Bool) : Type 0 where
+pub record ReadsWanted (format : Format) (output : Output)
+    (front bytes : List ℕ) (empty : Bool) : Type 0 where
   pub before : List ℕ
   pub last : List ℕ
   pub parts : bytes ≡ (front ++ before) ++ last
   pub short : length last ≤ max_read
   pub none : empty ≡ true → last ≡ []
-  pub wanted : (before ≡ [] → ⊥) →
-      format.enough (report_of (events output max_unit (front ++ before) false)).pictures ≡ false
+  pub wanted : (before ≡ [] → ⊥)
+      → format.enough (report_of (events output max_unit (front ++ before) false)).pictures ≡ false
 
 -- Of all bytes that the reader had, a front among them that had been read, or of the first of them
 -- where these bring as many pictures as are wanted, the defined pictures fit and are written, and
@@ -92,25 +92,25 @@ pub record ReadsWanted (format : Format) (output : Output) (front bytes : List �
 -- far define fit and are written, and reported is what these define, and also where there were more
 -- reads than a run may take, each of some bytes. After other faults the events before it are. No
 -- read came that was not wanted.
-abbrev pub DecodesAs : Format → Output → (front : List ℕ) →
-    (unread left held holds : Option (List ℕ)) → Report → Result (Unit {0}) RunFault → Type 0
+abbrev pub DecodesAs : Format → Output → (front : List ℕ)
+    → (unread left held holds : Option (List ℕ)) → Report → Result (Unit {0}) RunFault → Type 0
 DecodesAs format output front unread left held holds report (Ok _) =
-    (bytes : List ℕ) × (all : Bool) × HasRead unread left bytes all ×
-    IsWritten format 0 held holds (events output max_unit bytes all)
-    × (report ≡ report_of (events output max_unit bytes all)) ×
-    (all ≡ false → format.enough report.pictures ≡ true)
+    (bytes : List ℕ) × (all : Bool) × HasRead unread left bytes all
+    × IsWritten format 0 held holds (events output max_unit bytes all)
+    × (report ≡ report_of (events output max_unit bytes all))
+    × (all ≡ false → format.enough report.pictures ≡ true)
     × ReadsWanted format output front bytes all
 DecodesAs format output front unread left held holds report (Err Read) =
-    (bytes : List ℕ) × HasRead unread left bytes false ×
-    IsWritten format 0 held holds (events output max_unit bytes false)
-    × (report ≡ report_of (events output max_unit bytes false)) ×
-    ReadsWanted format output front bytes true
+    (bytes : List ℕ) × HasRead unread left bytes false
+    × IsWritten format 0 held holds (events output max_unit bytes false)
+    × (report ≡ report_of (events output max_unit bytes false))
+    × ReadsWanted format output front bytes true
 DecodesAs format output front unread left held holds report (Err Endless) =
-    (bytes : List ℕ) × HasRead unread left bytes false ×
-    IsWritten format 0 held holds (events output max_unit bytes false)
-    × (report ≡ report_of (events output max_unit bytes false)) ×
-    ReadsWanted format output front bytes true × (2 ^ 32 ≤ length bytes)
+    (bytes : List ℕ) × HasRead unread left bytes false
+    × IsWritten format 0 held holds (events output max_unit bytes false)
+    × (report ≡ report_of (events output max_unit bytes false))
+    × ReadsWanted format output front bytes true × (2 ^ 32 ≤ length bytes)
 DecodesAs format output front unread left held holds report (Err fault) =
-    (bytes : List ℕ) × (all : Bool) × HasRead unread left bytes all ×
-    BreaksOff format report fault held holds (events output max_unit bytes all)
+    (bytes : List ℕ) × (all : Bool) × HasRead unread left bytes all
+    × BreaksOff format report fault held holds (events output max_unit bytes all)
     × ReadsWanted format output front bytes all

@@ -4,5 +4,6 @@ pub mod Program
 pub mod BySet
 pub mod Digesting
 pub mod Draining
+pub mod Reporting
 pub mod Showing
 pub use Rattle.avc_decoder.specs.Output

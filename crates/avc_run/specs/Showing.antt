@@ -26,18 +26,17 @@ y4m_of false = Y4m
 
 -- The pictures that are asked for become this: they, or their MD5, are written; or nothing is, and
 -- they are decoded, or their MD5 compared.
-abbrev pub EndsShowing : Form → Showing → (is_each_alone : Bool) → Names → (explained : Bool) →
-    (unread left held holds before now : Option (List ℕ)) → Ending → Type 0
+abbrev pub EndsShowing : Form → Showing → (is_each_alone : Bool) → Names → (explained : Bool)
+    → (unread left held holds before now : Option (List ℕ)) → Ending → Type 0
 EndsShowing forms.I420 s alone names explained unread left held holds before now ending =
-    EndsDecodingAs names explained (selection_of s plain) s.mode unread left held holds before now
-    ending
+    EndsDecodingAs names explained (selection_of s plain) s.mode unread
+    left held holds before now ending
 EndsShowing forms.Null s alone names explained unread left held holds before now ending =
-    (holds ≡ held) ×
-    EndsDecodingAs names explained (selection_of s plain) s.mode unread left None None before
-    now ending
+    (holds ≡ held) × EndsDecodingAs names explained (selection_of s plain) s.mode unread
+    left None None before now ending
 EndsShowing forms.Md5 s alone names explained unread left held holds before now ending =
-    EndsDigesting names explained (selection_of s plain) s.mode unread left held holds before now
-    ending
+    EndsDigesting names explained (selection_of s plain) s.mode unread
+    left held holds before now ending
 EndsShowing forms.Y4m s alone names explained unread left held holds before now ending =
     EndsDecodingBySet names explained (λ said. selection_of s (headed (y4m_of alone) said)) s.mode
     unread left held holds before now ending
@@ -45,12 +44,11 @@ EndsShowing forms.FrameMd5 s alone names explained unread left held holds before
     EndsDecodingBySet names explained (λ said. selection_of s (headed FrameMd5 said)) s.mode unread
     left held holds before now ending
 EndsShowing forms.Png s alone names explained unread left held holds before now ending =
-    EndsDecodingAs names explained (selection_of s png) s.mode unread left held holds before now
-    ending
+    EndsDecodingAs names explained (selection_of s png) s.mode unread
+    left held holds before now ending
 EndsShowing (forms.Verify digest) s alone names explained unread left held holds before now ending =
-    (holds ≡ held) ×
-    EndsVerifying names explained (selection_of s plain) s.mode digest unread left before now
-    ending
+    (holds ≡ held) × EndsVerifying names explained (selection_of s plain) s.mode
+    digest unread left before now ending
 
 -- the picture of this number in output order, as PNG
 abbrev pub drawing_of : (number : ℕ) → Showing

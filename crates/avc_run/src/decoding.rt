@@ -5,13 +5,15 @@ ghost use Rattle.std.specs.Io.KnownBytes.{prepend_known};
 ghost use Rattle.avc_types.specs.Whole.{IsWhole};
 ghost use Rattle.avc_console.specs.Reading.{max_unit};
 ghost use Rattle.avc_console.specs.declared.fault.RunFault.TheVariants as faults;
-ghost use Rattle.avc_console.specs.Reporting.{no_report, TellsOn};
+ghost use Rattle.avc_console.specs.Reporting.{no_report};
 ghost use Rattle.avc_events.specs.EventReports.{report_with, IfPicture};
 ghost use Rattle.avc_run.specs.Decoding.{Decodes};
 ghost use Rattle.avc_run.specs.Formats.{DecodesAs, IsWritten};
 ghost use Rattle.avc_run.specs.Draining.{events_left, BreaksOffFrom, IsDrained, IsHandled};
+ghost use Rattle.avc_run.specs.Reporting.{LendsTheSame, ReportsOn};
 ghost use Rattle.avc_decoder.specs.Machine.{after_feed, after_flush, new_machine, IsUpToUnit};
 
+use crate::reporting::Reporting;
 use avc_console::{
     MAX_UNIT, PIECE, READS, Report, Reporter, RunFault, Unwatched, Watch, read_once,
 };
@@ -37,16 +39,12 @@ pub fn run<R: Read, W: Write>(
         (W.contents writer.old) (W.contents writer.new) result }
 {
     let mut report = Report::new(alloc);
-    let run = run_watched(
-        alloc,
-        output,
-        &I420,
-        &mut report,
-        &mut io::sink(),
-        &mut Unwatched,
-        reader,
-        writer,
-    );
+    let mut reporting = Reporting {
+        report: &mut report,
+        errors: &mut io::sink(),
+        watch: &mut Unwatched,
+    };
+    let run = run_watched(alloc, output, &I420, &mut reporting, reader, writer);
     match run {
         Ok(()) => Ok(report),
         Err(fault) => Err(fault),
@@ -60,30 +58,18 @@ pub fn run_watched<F: PictureFormat, T: Reporter, E: Write, V: Watch, R: Read, W
     alloc: Global,
     output: Output,
     format: &F,
-    report: &mut T,
-    errors: &mut E,
-    watch: &mut V,
+    reporting: &mut Reporting<'_, '_, '_, T, E, V>,
     reader: &mut R,
     writer: &mut W,
 ) -> Result<(), RunFault>
-    requires { (T.reported report.old).report ≡ no_report }
+    requires { (T.reported reporting.old.report.now).report ≡ no_report }
     ensures decodes { DecodesAs (F.format format.now) output [] (R.remaining reader.old)
-        (R.remaining reader.new) (W.contents writer.old)
-        (W.contents writer.new) (T.reported report.new).report result }
-    ensures told { TellsOn (T.reported report.old) (T.reported report.new) (E.contents errors.old)
-        (E.contents errors.new) }
+        (R.remaining reader.new) (W.contents writer.old) (W.contents writer.new)
+        (T.reported reporting.new.report.now).report result }
+    ensures told { ReportsOn T.reported E.contents reporting.old reporting.new }
+    ensures lent { LendsTheSame reporting.old reporting.new }
 {
-    run_behind(
-        alloc,
-        output,
-        format,
-        report,
-        errors,
-        watch,
-        &[],
-        reader,
-        writer,
-    )
+    run_behind(alloc, output, format, reporting, &[], reader, writer)
 }
 
 /// Decodes a byte stream of which the front was read before.
@@ -91,33 +77,22 @@ pub fn run_behind<F: PictureFormat, T: Reporter, E: Write, V: Watch, R: Read, W:
     alloc: Global,
     output: Output,
     format: &F,
-    report: &mut T,
-    errors: &mut E,
-    watch: &mut V,
+    reporting: &mut Reporting<'_, '_, '_, T, E, V>,
     front: &[u8],
     reader: &mut R,
     writer: &mut W,
 ) -> Result<(), RunFault>
-    requires { (T.reported report.old).report ≡ no_report }
-    ensures decodes { DecodesAs (F.format format.now) output front.now
-        (prepend_known front.now (R.remaining reader.old))
+    requires { (T.reported reporting.old.report.now).report ≡ no_report }
+    ensures decodes { DecodesAs (F.format format.now) output
+        front.now (prepend_known front.now (R.remaining reader.old))
         (R.remaining reader.new) (W.contents writer.old) (W.contents writer.new)
-        (T.reported report.new).report result }
-    ensures told { TellsOn (T.reported report.old) (T.reported report.new) (E.contents errors.old)
-        (E.contents errors.new) }
+        (T.reported reporting.new.report.now).report result }
+    ensures told { ReportsOn T.reported E.contents reporting.old reporting.new }
+    ensures lent { LendsTheSame reporting.old reporting.new }
 {
     let mut decoder = Decoder::<MAX_UNIT, SharedPicture>::sharing(alloc, output);
-    let run = decode_by(
-        &mut decoder,
-        format,
-        report,
-        errors,
-        watch,
-        front,
-        reader,
-        writer,
-    );
-    watch.end(report.counts(), run);
+    let run = decode_by(&mut decoder, format, reporting, front, reader, writer);
+    reporting.watch.end(reporting.report.counts(), run);
     run
 }
 
@@ -125,49 +100,36 @@ pub fn run_behind<F: PictureFormat, T: Reporter, E: Write, V: Watch, R: Read, W:
 fn decode_by<F: PictureFormat, T: Reporter, E: Write, V: Watch, R: Read, W: Write>(
     decoder: &mut Decoder<MAX_UNIT, SharedPicture>,
     format: &F,
-    report: &mut T,
-    errors: &mut E,
-    watch: &mut V,
+    reporting: &mut Reporting<'_, '_, '_, T, E, V>,
     front: &[u8],
     reader: &mut R,
     writer: &mut W,
 ) -> Result<(), RunFault>
     requires new { decoder.old ≡ new_machine decoder.old.output }
-    requires none { (T.reported report.old).report ≡ no_report }
-    ensures decodes { DecodesAs (F.format format.now) decoder.old.output front.now
-        (prepend_known front.now (R.remaining reader.old))
+    requires none { (T.reported reporting.old.report.now).report ≡ no_report }
+    ensures decodes { DecodesAs (F.format format.now) decoder.old.output
+        front.now (prepend_known front.now (R.remaining reader.old))
         (R.remaining reader.new) (W.contents writer.old) (W.contents writer.new)
-        (T.reported report.new).report result }
-    ensures told { TellsOn (T.reported report.old) (T.reported report.new) (E.contents errors.old)
-        (E.contents errors.new) }
+        (T.reported reporting.new.report.now).report result }
+    ensures told { ReportsOn T.reported E.contents reporting.old reporting.new }
+    ensures lent { LendsTheSame reporting.old reporting.new }
 {
     events_only_grow();
     let mut room = [0; ROOM];
-    watch.note_bytes(front);
-    take_in(
-        decoder, front, format, &mut room, writer, report, errors, watch,
-    )?;
-    watch.look(front, report.counts());
+    reporting.watch.note_bytes(front);
+    take_in(decoder, front, format, &mut room, writer, reporting)?;
+    reporting.watch.look(front, reporting.report.counts());
     let mut piece = [0; PIECE];
     'pieces: for _read in 0..READS {
         let len = read_once(reader, &mut piece)?;
         if len == 0 {
-            watch.note_end();
-            return finish(decoder, format, &mut room, writer, report, errors, watch);
+            reporting.watch.note_end();
+            return finish(decoder, format, &mut room, writer, reporting);
         }
-        watch.note_bytes(&piece[..len]);
-        take_in(
-            decoder,
-            &piece[..len],
-            format,
-            &mut room,
-            writer,
-            report,
-            errors,
-            watch,
-        )?;
-        let counts = report.counts();
-        watch.look(&piece[..len], counts);
+        reporting.watch.note_bytes(&piece[..len]);
+        take_in(decoder, &piece[..len], format, &mut room, writer, reporting)?;
+        let counts = reporting.report.counts();
+        reporting.watch.look(&piece[..len], counts);
         if format.is_enough(counts.pictures) {
             return Ok(());
         }
@@ -183,36 +145,24 @@ fn take_in<F: PictureFormat, T: Reporter, E: Write, V: Watch, W: Write>(
     format: &F,
     room: &mut [u8],
     writer: &mut W,
-    report: &mut T,
-    errors: &mut E,
-    watch: &mut V,
+    reporting: &mut Reporting<'_, '_, '_, T, E, V>,
 ) -> Result<(), RunFault>
     requires { IsDrained decoder.old }
     ensures ok { OnOk result
         (IsHandled (F.format format.now) (after_feed piece.now decoder.old) decoder.new
-        (T.reported report.old).report (T.reported report.new).report (W.contents writer.old)
-        (W.contents writer.new)) }
+        (T.reported reporting.old.report.now).report (T.reported reporting.new.report.now).report
+        (W.contents writer.old) (W.contents writer.new)) }
     ensures err { IfErr result
-        (λ fault. BreaksOffFrom (F.format format.now) (T.reported report.old).report
-        (T.reported report.new).report fault
-        (W.contents writer.old) (W.contents writer.new)
-        (events_left (after_feed piece.now decoder.old))) }
-    ensures told { TellsOn (T.reported report.old) (T.reported report.new) (E.contents errors.old)
-        (E.contents errors.new) }
+        (λ fault. BreaksOffFrom (F.format format.now) (T.reported reporting.old.report.now).report
+        (T.reported reporting.new.report.now).report fault (W.contents writer.old)
+        (W.contents writer.new) (events_left (after_feed piece.now decoder.old))) }
+    ensures told { ReportsOn T.reported E.contents reporting.old reporting.new }
+    ensures lent { LendsTheSame reporting.old reporting.new }
 {
     events_only_grow();
     let mut done = 0;
     'units: while done < piece.len() {
-        let used = take_unit(
-            decoder,
-            &piece[done..],
-            format,
-            room,
-            writer,
-            report,
-            errors,
-            watch,
-        )?;
+        let used = take_unit(decoder, &piece[done..], format, room, writer, reporting)?;
         done += used;
     }
     Ok(())
@@ -225,28 +175,24 @@ fn take_unit<F: PictureFormat, T: Reporter, E: Write, V: Watch, W: Write>(
     format: &F,
     room: &mut [u8],
     writer: &mut W,
-    report: &mut T,
-    errors: &mut E,
-    watch: &mut V,
+    reporting: &mut Reporting<'_, '_, '_, T, E, V>,
 ) -> Result<usize, RunFault>
     requires { IsDrained decoder.old }
     ensures unit { IfOk result (λ used. IsUpToUnit max_unit decoder.old.bytes bytes.now used) }
-    ensures ok { IfOk result
-        (λ used. IsHandled (F.format format.now) (after_feed (take used bytes.now) decoder.old)
-        decoder.new
-        (T.reported report.old).report (T.reported report.new).report (W.contents writer.old)
-        (W.contents writer.new)) }
+    ensures ok { IfOk result (λ used. IsHandled (F.format format.now)
+        (after_feed (take used bytes.now) decoder.old) decoder.new
+        (T.reported reporting.old.report.now).report (T.reported reporting.new.report.now).report
+        (W.contents writer.old) (W.contents writer.new)) }
     ensures err { IfErr result
-        (λ fault. BreaksOffFrom (F.format format.now) (T.reported report.old).report
-        (T.reported report.new).report fault
-        (W.contents writer.old) (W.contents writer.new)
-        (events_left (after_feed bytes.now decoder.old))) }
-    ensures told { TellsOn (T.reported report.old) (T.reported report.new) (E.contents errors.old)
-        (E.contents errors.new) }
+        (λ fault. BreaksOffFrom (F.format format.now) (T.reported reporting.old.report.now).report
+        (T.reported reporting.new.report.now).report fault (W.contents writer.old)
+        (W.contents writer.new) (events_left (after_feed bytes.now decoder.old))) }
+    ensures told { ReportsOn T.reported E.contents reporting.old reporting.new }
+    ensures lent { LendsTheSame reporting.old reporting.new }
 {
     events_only_grow();
     let used = feed_unit(decoder, bytes)?;
-    drain(decoder, format, room, writer, report, errors, watch)?;
+    drain(decoder, format, room, writer, reporting)?;
     Ok(used)
 }
 
@@ -256,22 +202,20 @@ fn finish<F: PictureFormat, T: Reporter, E: Write, V: Watch, W: Write>(
     format: &F,
     room: &mut [u8],
     writer: &mut W,
-    report: &mut T,
-    errors: &mut E,
-    watch: &mut V,
+    reporting: &mut Reporting<'_, '_, '_, T, E, V>,
 ) -> Result<(), RunFault>
     ensures ok { OnOk result (IsHandled (F.format format.now) (after_flush decoder.old) decoder.new
-        (T.reported report.old).report (T.reported report.new).report (W.contents writer.old)
-        (W.contents writer.new)) }
+        (T.reported reporting.old.report.now).report (T.reported reporting.new.report.now).report
+        (W.contents writer.old) (W.contents writer.new)) }
     ensures err { IfErr result
-        (λ fault. BreaksOffFrom (F.format format.now) (T.reported report.old).report
-        (T.reported report.new).report fault
-        (W.contents writer.old) (W.contents writer.new) (events_left (after_flush decoder.old))) }
-    ensures told { TellsOn (T.reported report.old) (T.reported report.new) (E.contents errors.old)
-        (E.contents errors.new) }
+        (λ fault. BreaksOffFrom (F.format format.now) (T.reported reporting.old.report.now).report
+        (T.reported reporting.new.report.now).report fault (W.contents writer.old)
+        (W.contents writer.new) (events_left (after_flush decoder.old))) }
+    ensures told { ReportsOn T.reported E.contents reporting.old reporting.new }
+    ensures lent { LendsTheSame reporting.old reporting.new }
 {
     flush(decoder)?;
-    drain(decoder, format, room, writer, report, errors, watch)?;
+    drain(decoder, format, room, writer, reporting)?;
     Ok(())
 }
 
@@ -281,24 +225,20 @@ fn drain<F: PictureFormat, T: Reporter, E: Write, V: Watch, W: Write>(
     format: &F,
     room: &mut [u8],
     writer: &mut W,
-    report: &mut T,
-    errors: &mut E,
-    watch: &mut V,
+    reporting: &mut Reporting<'_, '_, '_, T, E, V>,
 ) -> Result<(), RunFault>
-    ensures ok { OnOk result
-        (IsHandled (F.format format.now) decoder.old decoder.new (T.reported report.old).report
-        (T.reported report.new).report
+    ensures ok { OnOk result (IsHandled (F.format format.now) decoder.old decoder.new
+        (T.reported reporting.old.report.now).report (T.reported reporting.new.report.now).report
         (W.contents writer.old) (W.contents writer.new)) }
-    ensures err { IfErr result
-        (λ fault. BreaksOffFrom (F.format format.now) (T.reported report.old).report
-        (T.reported report.new).report fault
-        (W.contents writer.old) (W.contents writer.new) (events_left decoder.old)) }
-    ensures told { TellsOn (T.reported report.old) (T.reported report.new) (E.contents errors.old)
-        (E.contents errors.new) }
+    ensures err { IfErr result (λ fault. BreaksOffFrom (F.format format.now)
+        (T.reported reporting.old.report.now).report (T.reported reporting.new.report.now).report
+        fault (W.contents writer.old) (W.contents writer.new) (events_left decoder.old)) }
+    ensures told { ReportsOn T.reported E.contents reporting.old reporting.new }
+    ensures lent { LendsTheSame reporting.old reporting.new }
 {
     pictures_are_whole();
     'events: while let Some(event) = next_event(decoder)? {
-        handle(event, format, room, writer, report, errors, watch)?;
+        handle(event, format, room, writer, reporting)?;
     }
     Ok(())
 }
@@ -308,36 +248,33 @@ fn handle<F: PictureFormat, T: Reporter, E: Write, V: Watch, W: Write>(
     format: &F,
     room: &mut [u8],
     writer: &mut W,
-    report: &mut T,
-    errors: &mut E,
-    watch: &mut V,
+    reporting: &mut Reporting<'_, '_, '_, T, E, V>,
 ) -> Result<(), RunFault>
     requires { IfPicture event IsWhole }
-    ensures report { OnOk result ((T.reported report.new).report
-        ≡ report_with (T.reported report.old).report (event ∷ [])) }
+    ensures report { OnOk result ((T.reported reporting.new.report.now).report
+        ≡ report_with (T.reported reporting.old.report.now).report (event ∷ [])) }
     ensures written { OnOk result
-        (IsWritten (F.format format.now) (T.reported report.old).report.pictures
+        (IsWritten (F.format format.now) (T.reported reporting.old.report.now).report.pictures
         (W.contents writer.old) (W.contents writer.new) (event ∷ [])) }
-    ensures err { IfErr result
-        (λ fault. BreaksOffFrom (F.format format.now) (T.reported report.old).report
-        (T.reported report.new).report fault
-        (W.contents writer.old) (W.contents writer.new) (event ∷ [])) }
+    ensures err { IfErr result (λ fault. BreaksOffFrom (F.format format.now)
+        (T.reported reporting.old.report.now).report (T.reported reporting.new.report.now).report
+        fault (W.contents writer.old) (W.contents writer.new) (event ∷ [])) }
     ensures size { IfPicture event
-        (λ p. (F.format format.now).fits (T.reported report.old).report.pictures p ≡ false →
-        result ≡ Err faults.Size) }
-    ensures told { TellsOn (T.reported report.old) (T.reported report.new) (E.contents errors.old)
-        (E.contents errors.new) }
+        (λ p. (F.format format.now).fits (T.reported reporting.old.report.now).report.pictures p
+        ≡ false → result ≡ Err faults.Size) }
+    ensures told { ReportsOn T.reported E.contents reporting.old reporting.new }
+    ensures lent { LendsTheSame reporting.old reporting.new }
 {
     match event {
         Event::Picture(picture) => {
-            format.write(report.counts().pictures, &picture, room, writer)?;
-            report.count_picture();
-            watch.note_picture();
+            format.write(reporting.report.counts().pictures, &picture, room, writer)?;
+            reporting.report.count_picture();
+            reporting.watch.note_picture();
             Ok(())
         }
         Event::Refused { unit, fault } => {
-            report.refuse(unit, fault, errors)?;
-            watch.note_refusal(unit, fault);
+            reporting.report.refuse(unit, fault, reporting.errors)?;
+            reporting.watch.note_refusal(unit, fault);
             Ok(())
         }
     }

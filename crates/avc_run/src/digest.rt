@@ -1,14 +1,16 @@
 //! The commands `decode --format md5` and `decode --verify`.
 
 ghost use Rattle.std.specs.Prelude.{◌≡◌, ◌==◌, if◌then◌else◌};
-ghost use Rattle.avc_console.specs.Reporting.{no_report, TellsOn};
+ghost use Rattle.avc_console.specs.Reporting.{no_report};
 ghost use Rattle.avc_console.specs.Status.{other_status};
 ghost use Rattle.avc_console.specs.Telling.{TellsMore};
 ghost use Rattle.avc_run.specs.Digesting.{other_text, EndsDigesting, EndsVerifying, Sums};
 ghost use Rattle.avc_run.specs.Digesting.{WritesDigest};
+ghost use Rattle.avc_run.specs.Reporting.{LendsTheSame, ReportsOn};
 ghost use Rattle.hex.specs.Hex.{encode_lower};
 
 use crate::decoding::run_watched;
+use crate::reporting::Reporting;
 use avc_console::{Console, Ending, Reporter, RunFault, Tally, Watch, tell, tell_more};
 use avc_decoder::Output;
 use avc_formats::{Md5Writer, PictureFormat, write_digest};
@@ -26,22 +28,18 @@ pub fn decode_md5<F: PictureFormat, R: Read, W: Write, E: Write, V: Watch>(
     writer: &mut W,
     console: &mut Console<'_, E, V>,
 ) -> Ending
-    ensures { EndsDigesting console.old.names console.old.is_explained (F.format format.now) output
-        (R.remaining reader.old) (R.remaining reader.new)
+    ensures { EndsDigesting console.old.names console.old.is_explained
+        (F.format format.now) output (R.remaining reader.old) (R.remaining reader.new)
         (W.contents writer.old) (W.contents writer.new) (E.contents console.old.errors)
         (E.contents console.new.errors) result }
 {
     let mut tally = Tally::new(console.is_explained);
-    let run = run_md5(
-        alloc,
-        output,
-        format,
-        &mut tally,
-        &mut console.errors,
-        &mut console.watch,
-        reader,
-        writer,
-    );
+    let mut reporting = Reporting {
+        report: &mut tally,
+        errors: &mut console.errors,
+        watch: &mut console.watch,
+    };
+    let run = run_md5(alloc, output, format, &mut reporting, reader, writer);
     tell(run, &tally, &console.names, &mut console.errors)
 }
 
@@ -58,19 +56,16 @@ pub fn verify<F: PictureFormat, R: Read, E: Write, V: Watch>(
     console: &mut Console<'_, E, V>,
 ) -> Ending
     ensures { EndsVerifying console.old.names console.old.is_explained (F.format format.now) output
-        expected (R.remaining reader.old) (R.remaining reader.new)
-        (E.contents console.old.errors) (E.contents console.new.errors) result }
+        expected (R.remaining reader.old) (R.remaining reader.new) (E.contents console.old.errors)
+        (E.contents console.new.errors) result }
 {
     let mut tally = Tally::new(console.is_explained);
-    let (run, digest) = sum(
-        alloc,
-        output,
-        format,
-        &mut tally,
-        &mut console.errors,
-        &mut console.watch,
-        reader,
-    );
+    let mut reporting = Reporting {
+        report: &mut tally,
+        errors: &mut console.errors,
+        watch: &mut console.watch,
+    };
+    let (run, digest) = sum(alloc, output, format, &mut reporting, reader);
     let decoded = tell(run, &tally, &console.names, &mut console.errors);
     end_compared(run, digest, expected, decoded, &mut console.errors)
 }
@@ -84,12 +79,11 @@ fn end_compared<E: Write>(
     decoded: Ending,
     errors: &mut E,
 ) -> Ending
-    ensures same { digest ≡ expected → (result ≡ decoded) ×
-        (E.contents errors.new ≡ E.contents errors.old) }
+    ensures same { digest ≡ expected → (result ≡ decoded)
+        × (E.contents errors.new ≡ E.contents errors.old) }
     ensures status { (digest ≡ expected → ⊥) → result.status ≡ other_status decoded.status }
-    ensures told { (digest ≡ expected → ⊥) →
-        TellsMore decoded.told (E.contents errors.old) (E.contents errors.new)
-        (other_text run digest) result.told }
+    ensures told { (digest ≡ expected → ⊥) → TellsMore decoded.told (E.contents errors.old)
+        (E.contents errors.new) (other_text run digest) result.told }
 {
     if digest == expected {
         decoded
@@ -156,20 +150,18 @@ fn run_md5<F: PictureFormat, T: Reporter, E: Write, V: Watch, R: Read, W: Write>
     alloc: Global,
     output: Output,
     format: &F,
-    report: &mut T,
-    errors: &mut E,
-    watch: &mut V,
+    reporting: &mut Reporting<'_, '_, '_, T, E, V>,
     reader: &mut R,
     writer: &mut W,
 ) -> Result<(), RunFault>
-    requires { (T.reported report.old).report ≡ no_report }
+    requires { (T.reported reporting.old.report.now).report ≡ no_report }
     ensures writes { WritesDigest (F.format format.now) output (R.remaining reader.old)
-        (R.remaining reader.new) (W.contents writer.old)
-        (W.contents writer.new) (T.reported report.new).report result }
-    ensures told { TellsOn (T.reported report.old) (T.reported report.new) (E.contents errors.old)
-        (E.contents errors.new) }
+        (R.remaining reader.new) (W.contents writer.old) (W.contents writer.new)
+        (T.reported reporting.new.report.now).report result }
+    ensures told { ReportsOn T.reported E.contents reporting.old reporting.new }
+    ensures lent { LendsTheSame reporting.old reporting.new }
 {
-    let (run, digest) = sum(alloc, output, format, report, errors, watch, reader);
+    let (run, digest) = sum(alloc, output, format, reporting, reader);
     run?;
     write_digest(alloc, digest, writer)
 }
@@ -179,27 +171,16 @@ fn sum<F: PictureFormat, T: Reporter, E: Write, V: Watch, R: Read>(
     alloc: Global,
     output: Output,
     format: &F,
-    report: &mut T,
-    errors: &mut E,
-    watch: &mut V,
+    reporting: &mut Reporting<'_, '_, '_, T, E, V>,
     reader: &mut R,
 ) -> (Result<(), RunFault>, [u8; 16])
-    requires { (T.reported report.old).report ≡ no_report }
+    requires { (T.reported reporting.old.report.now).report ≡ no_report }
     ensures sums { Sums (F.format format.now) output (R.remaining reader.old)
-        (R.remaining reader.new) (T.reported report.new).report result.0 result.1 }
-    ensures told { TellsOn (T.reported report.old) (T.reported report.new) (E.contents errors.old)
-        (E.contents errors.new) }
+        (R.remaining reader.new) (T.reported reporting.new.report.now).report result.0 result.1 }
+    ensures told { ReportsOn T.reported E.contents reporting.old reporting.new }
+    ensures lent { LendsTheSame reporting.old reporting.new }
 {
     let mut writer = Md5Writer::new();
-    let run = run_watched(
-        alloc,
-        output,
-        format,
-        report,
-        errors,
-        watch,
-        reader,
-        &mut writer,
-    );
+    let run = run_watched(alloc, output, format, reporting, reader, &mut writer);
     (run, writer.digest())
 }

@@ -1,11 +1,11 @@
-//! What the program does with a byte stream: its pictures decoded and written in a format, all or
-//! those asked for, and how that ends.
+//! What the program does with a byte stream: its pictures decoded and written, and how that ends.
 #![tactic(auto)]
 
 mod by_set;
 mod decoding;
 mod digest;
 mod program;
+mod reporting;
 mod showing;
 
 pub use avc_console::{
@@ -21,4 +21,5 @@ pub use by_set::decode_headed;
 pub use decoding::{run, run_behind, run_watched};
 pub use digest::{decode_md5, verify};
 pub use program::{decode, decode_as};
+pub use reporting::Reporting;
 pub use showing::{drawing_of, show};

@@ -4,6 +4,7 @@ ghost use Rattle.avc_formats.specs.Formats.{plain};
 ghost use Rattle.avc_run.specs.Program.{EndsDecodingAs};
 
 use crate::decoding::run_watched;
+use crate::reporting::Reporting;
 use avc_console::{Console, Ending, Tally, Watch, tell};
 use avc_decoder::Output;
 use avc_formats::{I420, PictureFormat};
@@ -20,8 +21,8 @@ pub fn decode<R: Read, W: Write, E: Write, V: Watch>(
     writer: &mut W,
     console: &mut Console<'_, E, V>,
 ) -> Ending
-    ensures { EndsDecodingAs console.old.names console.old.is_explained plain output
-        (R.remaining reader.old) (R.remaining reader.new)
+    ensures { EndsDecodingAs console.old.names console.old.is_explained
+        plain output (R.remaining reader.old) (R.remaining reader.new)
         (W.contents writer.old) (W.contents writer.new) (E.contents console.old.errors)
         (E.contents console.new.errors) result }
 {
@@ -39,21 +40,17 @@ pub fn decode_as<F: PictureFormat, R: Read, W: Write, E: Write, V: Watch>(
     writer: &mut W,
     console: &mut Console<'_, E, V>,
 ) -> Ending
-    ensures { EndsDecodingAs console.old.names console.old.is_explained (F.format format.now) output
-        (R.remaining reader.old) (R.remaining reader.new)
+    ensures { EndsDecodingAs console.old.names console.old.is_explained
+        (F.format format.now) output (R.remaining reader.old) (R.remaining reader.new)
         (W.contents writer.old) (W.contents writer.new) (E.contents console.old.errors)
         (E.contents console.new.errors) result }
 {
     let mut tally = Tally::new(console.is_explained);
-    let run = run_watched(
-        alloc,
-        output,
-        format,
-        &mut tally,
-        &mut console.errors,
-        &mut console.watch,
-        reader,
-        writer,
-    );
+    let mut reporting = Reporting {
+        report: &mut tally,
+        errors: &mut console.errors,
+        watch: &mut console.watch,
+    };
+    let run = run_watched(alloc, output, format, &mut reporting, reader, writer);
     tell(run, &tally, &console.names, &mut console.errors)
 }

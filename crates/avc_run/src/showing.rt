@@ -26,10 +26,9 @@ pub fn show<R: Read, W: Write, E: Write, V: Watch>(
     console: &mut Console<'_, E, V>,
 ) -> Ending
     ensures { EndsShowing showing.form showing is_each_alone console.old.names
-        console.old.is_explained
-        (R.remaining reader.old) (R.remaining reader.new) (W.contents writer.old)
-        (W.contents writer.new)
-        (E.contents console.old.errors) (E.contents console.new.errors) result }
+        console.old.is_explained (R.remaining reader.old) (R.remaining reader.new)
+        (W.contents writer.old) (W.contents writer.new) (E.contents console.old.errors)
+        (E.contents console.new.errors) result }
 {
     let mode = showing.mode;
     let skip = showing.skip;
@@ -104,19 +103,14 @@ fn show_headed<R: Read, W: Write, E: Write, V: Watch>(
     console: &mut Console<'_, E, V>,
 ) -> Ending
     ensures { EndsDecodingBySet console.old.names console.old.is_explained
-        (λ said. selection_of showing (headed format said)) showing.mode
-        (R.remaining reader.old) (R.remaining reader.new) (W.contents writer.old)
-        (W.contents writer.new)
+        (λ said. selection_of showing (headed format said)) showing.mode (R.remaining reader.old)
+        (R.remaining reader.new) (W.contents writer.old) (W.contents writer.new)
         (E.contents console.old.errors) (E.contents console.new.errors) result }
 {
-    decode_headed(
-        alloc,
+    let asked = Selected {
         format,
-        showing.mode,
-        showing.skip,
-        showing.limit,
-        reader,
-        writer,
-        console,
-    )
+        skip: showing.skip,
+        limit: showing.limit,
+    };
+    decode_headed(alloc, showing.mode, asked, reader, writer, console)
 }

@@ -146,12 +146,15 @@ fn a_read_that_fails_is_the_last(rt: HostRuntime) -> Result<(), Fail> {
 fn framed(alloc: Global, reader: &mut CountingReader<'_>) -> (u8, bool, usize, usize) {
     let mut writer = writer_failing(None, Refusal::Error);
     let mut console = console_of(writer_failing(None, Refusal::Error));
+    let asked = Selected {
+        format: HeadedFormat::FrameMd5,
+        skip: 0,
+        limit: u64::MAX,
+    };
     let ending = decode_headed(
         alloc,
-        HeadedFormat::FrameMd5,
         Output::Full,
-        0,
-        u64::MAX,
+        asked,
         reader,
         &mut writer,
         &mut console,

@@ -201,6 +201,15 @@ none_handled f r r' fault w events memory same = record {
 
 -- ---- what is told meanwhile
 
+-- of a run from its start on, by a tally that was lent to it, and then of its end
+pub lent_run_told : (names : Names) (explained : Bool) (t0 t1 t2 : Tallied) (run : Result (Unit {0}) RunFault) (b0 b1 b2 : Option (List ℕ)) (ending : Ending) → t0 ≡ new_tally explained
+    → TellsOn (reported_by t0) (reported_by t1) b0 b1
+    → ((start : Option (List ℕ)) → IsTold start b1 (reported_by t2) → TellsRun names t2.explained (report_in t2) run start b2 ending)
+    → t2 ≡ t1 → TellsRun names explained (report_in t1) run b0 b2 ending
+lent_run_told names explained t0 t1 t2 run b0 b1 b2 ending new on tells back =
+    let on_tally = subst (λ t. TellsOn (reported_by t0) (reported_by t) b0 b1) (sym back) on in
+    subst (λ t. TellsRun names explained (report_in t) run b0 b2 ending) back (run_told names explained t0 t2 run b0 b1 b2 ending new on_tally tells)
+
 -- of a digest that was compared, behind a run
 pub verified : (names : Names) (explained : Bool) (format : Format) (output : Output) (expected digest : List ℕ) (unread left : Option (List ℕ)) (report : Report) (run : Result (Unit {0}) RunFault)
     (b0 b2 b3 : Option (List ℕ)) (decoded ending : Ending) → Sums format output unread left report run digest → TellsRun names explained report run b0 b2 decoded
@@ -435,10 +444,11 @@ plainly_off output unread left held holds report Size (bytes, all, read, off, as
     absurd (no_other_size held holds (pictures_after 0 off.front) (written_from plain 0 off.front) off.rest off.stops)
 
 -- by how it ended
-pub plainly_ok : (output : Output) (unread left held holds : Option (List ℕ)) (report : Report) (run : Result (Unit {0}) RunFault) (done : Unit {0}) → run ≡ Ok done
-    → DecodesAs plain output [] unread left held holds report run → Decodes output unread left held holds (Ok report)
-plainly_ok output unread left held holds report run done is d =
-    plainly output unread left held holds report (subst (DecodesAs plain output [] unread left held holds report) is d)
+pub plainly_ok : (output : Output) (unread left held holds : Option (List ℕ)) (report now : Report) (run : Result (Unit {0}) RunFault) (done : Unit {0}) → run ≡ Ok done
+    → DecodesAs plain output [] unread left held holds now run → report ≡ now → Decodes output unread left held holds (Ok report)
+plainly_ok output unread left held holds report now run done is d back =
+    let decodes = subst (DecodesAs plain output [] unread left held holds now) is d in
+    subst (λ r. Decodes output unread left held holds (Ok r)) (sym back) (plainly output unread left held holds now decodes)
 
 pub plainly_err : (output : Output) (unread left held holds : Option (List ℕ)) (report : Report) (run : Result (Unit {0}) RunFault) (fault : RunFault) → run ≡ Err fault
     → DecodesAs plain output [] unread left held holds report run → Decodes output unread left held holds (Err fault)

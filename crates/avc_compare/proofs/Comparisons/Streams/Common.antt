@@ -38,6 +38,8 @@ pub use Rattle.avc_formats.specs.Formats.{StopsPicture}
 pub use Rattle.avc_events.proofs.EventReports.{is_none, report_more, run_told, stays_told, told_then}
 pub use Rattle.avc_events.specs.EventReports.{events_defined, report_of, report_with, shown, IfPicture}
 pub use Rattle.avc_types.specs.Whole.{IsWhole}
+pub use Rattle.avc_compare.specs.Reporting.{LendsTheSame, ReportsOn}
+pub use Rattle.avc_compare.specs.declared.reporting.Reporting.{Reporting}
 pub use Rattle.avc_types.specs.declared.fault.Fault.{Fault}
 pub use Rattle.avc_types.specs.declared.picture.Picture.{Picture as Decoded}
 pub use Rattle.avc_yuv.proofs.Windows.{length-window}

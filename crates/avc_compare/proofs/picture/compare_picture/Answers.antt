@@ -5,23 +5,23 @@ use Rattle.avc_compare.proofs.picture.compare_picture.Goals as goal
 
 pub returns-in_err-met : goal.returns-in_err-met
 returns-in_err-met g c =
-    not_met c.args.how c.args.number c.args.picture.now _ _ _ c.in_err-met.field-0.0 c.from_residual.result c.from_residual.ensures.1 c.in_err-met.ensures.fault c.in_err-met.ensures.err
+    not_met c.args.setting.how c.args.number c.args.picture.now _ _ _ c.in_err-met.field-0.0 c.from_residual.result c.from_residual.ensures.1 c.in_err-met.ensures.fault c.in_err-met.ensures.err
 
 pub returns-then-is_passed : goal.returns-then-is_passed
 returns-then-is_passed g c =
-    passed c.args.how c.args.number c.args.picture.now _ _ _ (i420 c.args.picture.now) refl (c.is_passed.ensures.lineless c.if-is_passed.true)
+    passed c.args.setting.how c.args.number c.args.picture.now _ _ _ (i420 c.args.picture.now) refl (c.is_passed.ensures.lineless c.if-is_passed.true)
     (all_met c.args.picture.now c.in_ok-met.met _ _ _ (c.is_passed.ensures.all c.if-is_passed.true) c.in_ok-met.ensures.ok) (sym c.other_size.ensures ∙ is_none c.other_size.result c.in_default.not-Some)
 
 pub returns-in_err-complete : goal.returns-in_err-complete
 returns-in_err-complete g c =
-    not_read c.args.how c.args.number c.args.picture.now _ _ _ c.complete.new.self.theirs c.in_err-complete.field-0.0 c.from_residual-in_err-complete.result c.from_residual-in_err-complete.ensures.1
+    not_read c.args.setting.how c.args.number c.args.picture.now _ _ _ c.complete.new.self.theirs c.in_err-complete.field-0.0 c.from_residual-in_err-complete.result c.from_residual-in_err-complete.ensures.1
     (completed c.args.picture.now c.in_ok-met.met c.meet.new.self.waiting c.complete.new.self.theirs _ _ _ (Err c.in_err-complete.field-0.0) c.in_ok-met.ensures.ok c.in_err-complete.ensures.reads c.in_err-complete.ensures.long)
 
 pub returns-then-not-branch : goal.returns-then-not-branch
 returns-then-not-branch g c =
     let less : c.in_ok-complete.field-0 ≡ false = search rules in
     let read = completed c.args.picture.now c.in_ok-met.met c.meet.new.self.waiting c.complete.new.self.theirs _ _ _ (Ok c.in_ok-complete.field-0) c.in_ok-met.ensures.ok c.in_ok-complete.ensures.reads c.in_ok-complete.ensures.long in
-    lacking c.args.how c.args.number c.args.picture.now _ _ _ c.complete.new.self.theirs (subst (λ b. ReadsBeside c.args.picture.now (g.O.Read.remaining c.args.other.now) (g.O.Read.remaining c.complete.new.other) c.complete.new.self.theirs (Ok b)) less read)
+    lacking c.args.setting.how c.args.number c.args.picture.now _ _ _ c.complete.new.self.theirs (subst (λ b. ReadsBeside c.args.picture.now (g.O.Read.remaining c.args.other.now) (g.O.Read.remaining c.complete.new.other) c.complete.new.self.theirs (Ok b)) less read)
     (sym c.other_size.ensures ∙ is_none c.other_size.result c.in_default.not-Some)
 
 pub judge-requires-clause-same : goal.judge-requires-clause-same
@@ -37,7 +37,7 @@ returns-in_err-found g c =
     let all : c.in_ok-complete.field-0 ≡ true = search rules in
     let read = subst (λ b. ReadsBeside c.args.picture.now (g.O.Read.remaining c.args.other.now) (g.O.Read.remaining c.complete.new.other) c.complete.new.self.theirs (Ok b)) all
     (completed c.args.picture.now c.in_ok-met.met c.meet.new.self.waiting c.complete.new.self.theirs _ _ _ (Ok c.in_ok-complete.field-0) c.in_ok-met.ensures.ok c.in_ok-complete.ensures.reads c.in_ok-complete.ensures.long) in
-    not_judged c.args.how c.args.number c.args.picture.now _ _ _ c.complete.new.self.theirs c.in_err-found.field-0.0 c.from_residual-in_err-found.result c.from_residual-in_err-found.ensures.1 c.in_err-found.ensures.err read.0
+    not_judged c.args.setting.how c.args.number c.args.picture.now _ _ _ c.complete.new.self.theirs c.in_err-found.field-0.0 c.from_residual-in_err-found.result c.from_residual-in_err-found.ensures.1 c.in_err-found.ensures.err read.0
 
 pub tell_line-requires-clause-whole : goal.tell_line-requires-clause-whole
 tell_line-requires-clause-whole g c =
@@ -48,7 +48,7 @@ returns-in_err-tell_line g c =
     let all : c.in_ok-complete.field-0 ≡ true = search rules in
     let read = subst (λ b. ReadsBeside c.args.picture.now (g.O.Read.remaining c.args.other.now) (g.O.Read.remaining c.complete.new.other) c.complete.new.self.theirs (Ok b)) all
     (completed c.args.picture.now c.in_ok-met.met c.meet.new.self.waiting c.complete.new.self.theirs _ _ _ (Ok c.in_ok-complete.field-0) c.in_ok-met.ensures.ok c.in_ok-complete.ensures.reads c.in_ok-complete.ensures.long) in
-    untold c.args.how c.args.number c.args.picture.now _ _ _ _ c.compared_picture-compared.result c.ours-ours.result.now c.theirs-theirs.result.now c.complete.new.self.theirs
+    untold c.args.setting.how c.args.number c.args.picture.now _ _ _ _ c.compared_picture-compared.result c.ours-ours.result.now c.theirs-theirs.result.now c.complete.new.self.theirs
     c.in_err-tell_line.field-0.0 c.from_residual-in_err-tell_line.result c.from_residual-in_err-tell_line.ensures.1 c.compared_picture-compared.ensures
     (c.ours-ours.ensures ∙ c.in_ok-complete.ensures.ours) c.theirs-theirs.ensures read.0 c.in_err-tell_line.ensures
 
@@ -57,6 +57,6 @@ returns g c =
     let all : c.in_ok-complete.field-0 ≡ true = search rules in
     let read = subst (λ b. ReadsBeside c.args.picture.now (g.O.Read.remaining c.args.other.now) (g.O.Read.remaining c.complete.new.other) c.complete.new.self.theirs (Ok b)) all
     (completed c.args.picture.now c.in_ok-met.met c.meet.new.self.waiting c.complete.new.self.theirs _ _ _ (Ok c.in_ok-complete.field-0) c.in_ok-met.ensures.ok c.in_ok-complete.ensures.reads c.in_ok-complete.ensures.long) in
-    judged c.args.how c.args.number c.args.picture.now _ _ _ _ c.compared_picture-compared.result c.ours-ours.result.now c.theirs-theirs.result.now c.complete.new.self.theirs c.in_ok-found.found
+    judged c.args.setting.how c.args.number c.args.picture.now _ _ _ _ c.compared_picture-compared.result c.ours-ours.result.now c.theirs-theirs.result.now c.complete.new.self.theirs c.in_ok-found.found
     c.compared_picture-compared.ensures (c.ours-ours.ensures ∙ c.in_ok-complete.ensures.ours) c.theirs-theirs.ensures read.0 read.1
     (sym c.other_size.ensures ∙ is_none c.other_size.result c.in_default.not-Some) c.in_ok-found.ensures.ok c.in_ok-tell_line.ensures

@@ -32,6 +32,8 @@ pub use Rattle.avc_events.specs.EventReports.{events_defined, report_of, report_
 pub use Rattle.avc_run.specs.Decoding.{Decodes, defined}
 pub use Rattle.avc_run.specs.Draining.{events_left, count_left, BreaksOffFrom, IsDraining, IsHandled, IsDrained}
 pub use Rattle.avc_run.specs.Draining.{after_draining, IsRunning}
+pub use Rattle.avc_run.specs.Reporting.{LendsTheSame, ReportsOn}
+pub use Rattle.avc_run.specs.declared.reporting.Reporting.{Reporting}
 pub use Rattle.avc_run.specs.Formats.{pictures_after, written_from, AllFit, BreaksOff, DecodesAs, IsWritten, ReadsWanted, StopsAt}
 pub use Rattle.avc_formats.specs.Formats.{Format, StopsPicture, plain}
 pub use Rattle.avc_console.specs.Reading.{WritesFirst, HasRead}
@@ -41,7 +43,5 @@ pub use Rattle.avc_console.specs.declared.report.Report.{Report}
 pub use Rattle.avc_console.proofs.Texts.{nothing_more}
 pub use Rattle.avc_console.proofs.Texts.Telling.{by_fault, err_is, told_both}
 pub use Rattle.avc_formats.specs.Front.{IsFront, NoFront}
-pub use Rattle.avc_formats.specs.Headed.{headed}
-pub use Rattle.avc_formats.specs.Selecting.{selected}
 pub use Rattle.avc_presentation.specs.declared.presentation.Presentation.{Presentation}
-pub use Rattle.avc_run.specs.BySet.{Decodes as DecodesBySetOrNot, by_set, in_front}
+pub use Rattle.avc_run.specs.BySet.{selected_by, Decodes as DecodesBySetOrNot, by_set, in_front}
