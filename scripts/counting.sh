@@ -3,15 +3,15 @@
 
 # holds WHAT COMMAND..: counts a test by its name, where the command says so. Where there are parts, $in_part is the one that goes on.
 holds() {
-    what=$1
+    this_test=$1
     shift
     if "$@"; then
         passed=$((passed + 1))
     else
         failed=$((failed + 1))
-        echo "failed: ${in_part:+$in_part: }$what"
+        echo "failed: ${in_part:+$in_part: }$this_test"
     fi
-    reached "$what"
+    reached "$this_test"
 }
 
 has() {
