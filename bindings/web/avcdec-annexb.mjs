@@ -3,6 +3,9 @@
 
 export const SLICE = 1, IDR = 5, SPS = 7, PPS = 8;
 
+// profile_idc whose sequence parameter sets are read here
+const PROFILES = [66, 77, 88];
+
 /** The NAL units of a byte stream, without their start codes: yields { start, from, to }: where the start code, the unit and what follows begin. */
 export function* unitsOf(bytes) {
     let found = startCode(bytes, 0);
@@ -59,6 +62,30 @@ export class ParameterSets {
         const name = `${type}:${reader.ue()}`;
         this.#sets.delete(name); // so that the one that came last stands last
         this.#sets.set(name, unit.slice());
+    }
+
+    /** Whether the IDR picture of an access unit, whose sets were noted, drops the pictures before it that wait (no_output_of_prior_pics_flag of its
+     * first slice, 7.3.3). Where that can't be read: true. */
+    dropsPictures(bytes) {
+        const idr = [...unitsOf(bytes)].find(it => it.type === IDR);
+        if (!idr) return true;
+        const bits = new Bits(bytes.subarray(idr.from, idr.to), 1);
+        bits.ue(); // first_mb_in_slice
+        const isIntra = bits.ue() % 5 === 2, picture = this.#numbersOf(`${PPS}:${bits.ue()}`, pictureNumbers);
+        const sequence = picture && this.#numbersOf(`${SPS}:${picture.sequence}`, sequenceNumbers);
+        if (!isIntra || !sequence?.framesOnly) return true;
+        bits.skip(sequence.frameNumBits);
+        bits.ue(); // idr_pic_id
+        bits.skip(sequence.orderBits);
+        const deltas = sequence.hasDeltas ? 1 : 0, hasOrder = sequence.orderBits > 0 || sequence.hasDeltas;
+        for (let left = deltas + (hasOrder && picture.hasBottomDelta ? 1 : 0); left > 0; left--) bits.ue();
+        if (picture.isRedundant) bits.ue();
+        return bits.u(1) === 1;
+    }
+
+    #numbersOf(name, read) {
+        const unit = this.#sets.get(name);
+        return unit && read(unit);
     }
 
     /** All of them as a byte stream. */
@@ -163,6 +190,44 @@ const MATRICES = { 1: 'bt709', 5: 'bt470bg', 6: 'smpte170m', 9: 'bt2020-ncl' };
 const PRIMARIES = { 1: 'bt709', 5: 'bt470bg', 6: 'smpte170m', 9: 'bt2020' };
 const TRANSFERS = { 1: 'bt709', 6: 'smpte170m', 13: 'iec61966-2-1' };
 
+/** What a slice header asks of a sequence parameter set (7.3.2.1.1), which is read from behind seq_parameter_set_id up to frame_cropping_flag. */
+function sliceNumbers(bits) {
+    const frameNumBits = bits.ue() + 4, orderKind = bits.ue();
+    let orderBits = 0, hasDeltas = false;
+    if (orderKind === 0) orderBits = bits.ue() + 4;
+    if (orderKind === 1) {
+        hasDeltas = bits.u(1) === 0;
+        bits.ue(), bits.ue();
+        for (let left = Math.min(bits.ue(), 255); left > 0; left--) bits.ue();
+    }
+    bits.ue(), bits.skip(1), bits.ue(), bits.ue(); // max_num_ref_frames, gaps, width, height
+    const framesOnly = bits.u(1) === 1;
+    if (!framesOnly) bits.skip(1);
+    bits.skip(1); // direct_8x8_inference_flag
+    return { frameNumBits, orderBits, hasDeltas, framesOnly };
+}
+
+/** The same of a whole unit; undefined where its profile is not 66, 77 or 88. */
+function sequenceNumbers(unit) {
+    const bits = new Bits(unit, 1), profile = bits.u(8);
+    bits.skip(16);
+    bits.ue(); // seq_parameter_set_id
+    return PROFILES.includes(profile) ? sliceNumbers(bits) : undefined;
+}
+
+/** What a slice header asks of a picture parameter set (7.3.2.2); undefined where it has slice groups. */
+function pictureNumbers(unit) {
+    const bits = new Bits(unit, 1);
+    bits.ue();
+    const sequence = bits.ue();
+    bits.skip(1); // entropy_coding_mode_flag
+    const hasBottomDelta = bits.u(1) === 1;
+    if (bits.ue() > 0) return undefined;
+    bits.ue(), bits.ue(), bits.skip(3); // reference indices, weights
+    bits.ue(), bits.ue(), bits.ue(), bits.skip(2); // QP, deblocking, intra prediction
+    return { sequence, hasBottomDelta, isRedundant: bits.u(1) === 1 };
+}
+
 /** What a sequence parameter set (7.3.2.1.1, of profiles 66, 77 and 88) and its VUI (E.1.1) tell of profile, level, rate (pictures a second; undefined
  * where it is not told), the sample aspect ratio, the colour space as WebCodecs has it, and chroma_sample_loc_type (Figure E-1; 0 where it is not told). */
 export function sequenceInfo(unit) {
@@ -171,18 +236,8 @@ export function sequenceInfo(unit) {
     bits.skip(8);
     const info = { profile, level: bits.u(8), rate: undefined, aspect: [1, 1], colorSpace: undefined, chromaLocation: 0 };
     bits.ue(); // seq_parameter_set_id
-    if (![66, 77, 88].includes(profile)) return info;
-    bits.ue(); // log2_max_frame_num_minus4
-    const kind = bits.ue(); // pic_order_cnt_type
-    if (kind === 0) bits.ue();
-    if (kind === 1) {
-        bits.skip(1);
-        bits.ue(), bits.ue();
-        for (let left = Math.min(bits.ue(), 255); left > 0; left--) bits.ue();
-    }
-    bits.ue(), bits.skip(1), bits.ue(), bits.ue(); // frames, gaps, width, height
-    if (!bits.u(1)) bits.skip(1);
-    bits.skip(1);
+    if (!PROFILES.includes(profile)) return info;
+    sliceNumbers(bits);
     if (bits.u(1)) bits.ue(), bits.ue(), bits.ue(), bits.ue();
     if (!bits.u(1)) return info;
     if (bits.u(1)) {

@@ -18,6 +18,9 @@ export interface AvcVideoDecoderInit extends VideoDecoderInit {
     module?: URL | string | WebAssembly.Module;
     /** Whether it decodes in a worker. */
     worker?: boolean;
+    /** In how many workers (1) coded video sequences, each from an IDR picture to the next, are decoded side by side. Up to 256 MiB of their pictures
+     * wait for those before them. */
+    workers?: number;
 }
 
 /** The decoder in the shape of WebCodecs' VideoDecoder. */

@@ -5,10 +5,11 @@
 //     decoder.decode(new EncodedVideoChunk({ type: 'key', timestamp: 0, data }));
 //     await decoder.flush();
 //
-// It decodes in a worker, or in this thread where there is none or `library` is given.
+// It decodes in a worker, or in this thread where there is none or `library` is given; with `workers: N` in as many, sequence by sequence.
 import { Decoder, load } from './avcdec.mjs';
 import { Avcc, bytesOf, ParameterSets, sequenceInfo } from './avcdec-annexb.mjs';
 import { WorkerDecoder } from './avcdec-client.mjs';
+import { Sequences } from './avcdec-sequences.mjs';
 
 const soon = typeof setImmediate === 'function' ? setImmediate : taskBy(new MessageChannel());
 
@@ -18,50 +19,28 @@ function taskBy({ port1, port2 }) {
     return task => { tasks.push(task); port2.postMessage(0); };
 }
 
-/** What decodes here: each call gives its events to `take` one by one. */
+/** What decodes here. */
 class Here {
-    constructor(decoder) {
-        this.decoder = decoder;
+    #decoder;
+    #take;
+
+    constructor(decoder, { take }) {
+        this.#decoder = decoder;
+        this.#take = take;
     }
 
-    async decode(bytes, value, take) {
-        for (const event of this.decoder.decode(bytes, { endsUnit: true, value })) take(event);
+    async decode(bytes, value) {
+        for (const event of this.#decoder.decode(bytes, { endsUnit: true, value })) this.#take(event);
     }
 
-    async flush(take) {
-        this.decoder.flush();
-        for (const event of this.decoder.events()) take(event);
-    }
-
-    async reset() {
-        this.decoder.reset();
-    }
-
-    close() {
-        this.decoder.close();
-    }
-}
-
-/** What decodes in a worker. */
-class There {
-    constructor(decoder) {
-        this.decoder = decoder;
-    }
-
-    async decode(bytes, value, take) {
-        (await this.decoder.decode(bytes, { endsUnit: true, value, transfer: true })).forEach(take);
-    }
-
-    async flush(take) {
-        (await this.decoder.flush()).forEach(take);
-    }
-
-    reset() {
-        return this.decoder.reset();
+    async flush() {
+        this.#decoder.flush();
+        for (const event of this.#decoder.events()) this.#take(event);
+        this.#decoder.reset();
     }
 
     close() {
-        this.decoder.close();
+        this.#decoder.close();
     }
 }
 
@@ -112,6 +91,7 @@ export class AvcVideoDecoder extends EventTarget {
     #output;
     #error;
     #refused;
+    #isSeveral;
     #engineOf;
     #engine;
     #state = 'unconfigured';
@@ -126,14 +106,17 @@ export class AvcVideoDecoder extends EventTarget {
 
     /** `output` and `error` as WebCodecs has them. With `refused`, a refusal goes there, with its chunk's timestamp, and decoding goes on at the
      * next key picture; without, it is an error and closes the decoder, as WebCodecs has it. `library`: decodes in this thread, in this
-     * library. `module`: where avcdec.wasm is. `worker: false`: decodes in this thread. */
-    constructor({ output, error, refused, library, module, worker = library === undefined && typeof Worker !== 'undefined' }) {
+     * library. `module`: where avcdec.wasm is. `worker: false`: decodes in this thread. `workers`: in how many workers coded video sequences, each
+     * from an IDR picture to the next, are decoded side by side; up to 256 MiB of their pictures wait for those before them. */
+    constructor({ output, error, refused, library, module, workers = 1, worker = library === undefined && typeof Worker !== 'undefined' }) {
         super();
         if (typeof output !== 'function' || typeof error !== 'function') throw new TypeError('avcdec: output and error are wanted');
         this.#output = output;
         this.#error = error;
         this.#refused = refused;
-        this.#engineOf = async early => worker ? new There(new WorkerDecoder({ early, module })) : new Here(new Decoder(await (library ?? (library = load(module))), { early }));
+        this.#isSeveral = worker && workers > 1;
+        this.#engineOf = async (early, told) => worker ? new Sequences(Array.from({ length: workers }, () => new WorkerDecoder({ early, module })), told)
+            : new Here(new Decoder(await (library ?? (library = load(module))), { early }), told);
     }
 
     static async isConfigSupported(config) {
@@ -246,10 +229,13 @@ export class AvcVideoDecoder extends EventTarget {
     async #begin(isSupported, config) {
         if (!isSupported) throw fault('NotSupportedError', 'this profile is not decoded: Constrained Baseline is');
         const round = this.#round;
-        if (this.#engine) await this.#drain();
+        await this.#engine?.flush();
         this.#engine?.close();
         this.#engine = undefined;
-        const engine = await this.#engineOf(config.early);
+        const engine = await this.#engineOf(config.early, {
+            take: event => round === this.#round && this.#take(event),
+            failed: thrown => round === this.#round && this.#fail(thrown),
+        });
         if (round !== this.#round) return engine.close();
         this.#engine = engine;
         this.#config = config;
@@ -265,23 +251,15 @@ export class AvcVideoDecoder extends EventTarget {
 
     async #decode(sample, chunk) {
         const bytes = this.#config.avcc ? this.#config.avcc.annexB(sample) : sample;
-        // a stream that begins anew has no parameter sets: it is given those that came last
-        const before = this.#isFresh ? this.#sets.bytes : new Uint8Array(0);
-        this.#sets.note(bytes);
+        // a stream or sequence that begins anew has no parameter sets: it is given those that came last
+        const before = this.#sets.bytes, { idr } = this.#sets.note(bytes);
+        const begins = this.#isFresh || (this.#isSeveral && idr && !this.#sets.dropsPictures(bytes));
         this.#isFresh = false;
-        const given = before.length > 0 ? joined(before, bytes) : bytes;
-        const round = this.#round;
-        await this.#engine.decode(given, this.#waiting.begin(chunk), event => round === this.#round && this.#take(event));
-    }
-
-    async #drain() {
-        const round = this.#round;
-        await this.#engine.flush(event => round === this.#round && this.#take(event));
+        await this.#engine.decode(begins && before.length > 0 ? joined(before, bytes) : bytes, this.#waiting.begin(chunk), begins);
     }
 
     async #flush() {
-        await this.#drain();
-        await this.#engine?.reset();
+        await this.#engine.flush();
         this.#restart();
     }
 

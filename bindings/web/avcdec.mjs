@@ -61,10 +61,16 @@ export class Library {
         return this.#wide ? Number(view.getBigUint64(at, true)) : view.getUint32(at, true);
     }
 
-    allocate(size) {
+    /** The address of so many bytes of the module's memory; 0 where there are none. */
+    find(size) {
         const at = Number(this.calls.avcdec_allocate(BigInt(size)));
-        if (at === 0) throw new OutOfMemory();
         return this.#wide ? at : at >>> 0;
+    }
+
+    allocate(size) {
+        const at = this.find(size);
+        if (at === 0) throw new OutOfMemory();
+        return at;
     }
 
     release(at) {
@@ -194,21 +200,24 @@ class Handle {
     place(number, picture) {
         const columns = number ? picture.width / 2 : picture.width, rows = number ? picture.height / 2 : picture.height;
         if (!this.library.lendsPlanes) {
-            const luma = picture.width * picture.height;
-            return { at: this.copied(picture) + (number && luma + (number - 1) * columns * rows), stride: columns, columns, rows };
+            const luma = picture.width * picture.height, at = this.copied(picture);
+            if (at === 0) throw new OutOfMemory();
+            return { at: at + (number && luma + (number - 1) * columns * rows), stride: columns, columns, rows };
         }
         check(this.library.calls.avcdec_lend_plane(this.self, number, this.library.address(this.rows)));
         const view = this.library.view(this.rows, ROWS_SIZE);
         return { at: this.library.addressAt(view, 0), stride: Number(view.getBigUint64(16, true)), columns, rows };
     }
 
-    /** The address of the picture as I420 without gaps, for a library that lends no planes. */
+    /** The address of the picture as I420 without gaps; 0 where the module finds no memory for it. */
     copied(picture) {
         if (this.copyOf !== this.taken) {
             if (!this.copy || this.copy.size < picture.size) {
                 if (this.copy) this.library.release(this.copy.at);
                 this.copy = undefined;
-                this.copy = { at: this.library.allocate(picture.size), size: picture.size };
+                const at = this.library.find(picture.size);
+                if (at === 0) return 0;
+                this.copy = { at, size: picture.size };
             }
             check(this.library.calls.avcdec_copy_i420(this.self, this.library.address(this.copy.at), BigInt(picture.size)));
             this.copyOf = this.taken;
@@ -259,8 +268,12 @@ export class Picture {
         this.size = this.width * this.height * 3 / 2;
     }
 
-    #places() {
+    #check() {
         if (this.#taken !== this.#handle.taken) throw new DecoderError('this picture is over: another event was taken');
+    }
+
+    #places() {
+        this.#check();
         return [0, 1, 2].map(number => this.#handle.place(number, this));
     }
 
@@ -274,13 +287,21 @@ export class Picture {
     /** Copies what is shown as I420 without gaps: luma, Cb, Cr, each row by row. */
     copy(to = new Uint8Array(this.size)) {
         if (to.length < this.size) throw new RangeError(`avcdec: ${this.size} bytes are wanted`);
+        this.#check();
+        // the module joins the rows sooner than a call for each does
+        const at = this.#handle.copied(this);
+        if (at !== 0) to.set(this.#handle.library.bytes(at, this.size));
+        else this.#copyRows(to);
+        return to;
+    }
+
+    #copyRows(to) {
         let put = 0;
         for (const { samples, stride, columns, rows } of this.planes) {
             if (stride === columns) to.set(samples, put);
             else for (let y = 0; y < rows; y++) to.set(samples.subarray(y * stride, y * stride + columns), put + y * columns);
             put += columns * rows;
         }
-        return to;
     }
 
     /** A VideoFrame of its own. `init`: timestamp, in microseconds, and what else a VideoFrame of samples takes. */

@@ -2,7 +2,8 @@
 # bench.sh [SECONDS]: pictures a second of the library on this machine, of the module in Node and in Chromium (wasm32 and wasm64), and of Chromium's own
 # VideoDecoder in software, on the streams of vectors/speed, as a table: the best run in so many seconds (3), early output, whole access units. In each place
 # stands what comes where each picture's planes are looked at where they lie, and where each is copied as I420 (by copyTo, of VideoDecoder). The columns
-# before the last divide pictures in a second of the processor (of the thread that decodes, looked at, taken in turns) by the library's. Then the
+# before the last divide pictures in a second of the processor (of the thread that decodes, looked at, taken in turns) by the library's. Then a table
+# of each stream eight times as one, through AvcVideoDecoder in one worker and in as many as there are processors, beside VideoDecoder. Then the
 # module's size. Wants a machine without other work, and about ten minutes beside building.
 set -eu
 here=$(cd "$(dirname "$0")" && pwd)
@@ -39,6 +40,14 @@ END {
         line = "| " names[i] " |"
         for (j = 1; j <= ways; j++) line = line " " both(way[j], names[i]) " |"
         print line " " part("chromium-wasm32", "native", names[i], "read") " | " part("node-wasm32", "native", names[i], "cpu") " | " part("chromium-wasm32", "native", names[i], "cpu") " | " part("chromium-wasm32", "chromium-WebCodecs", names[i], "copied") " |"
+    }
+    print ""
+    print "| Stream, eight times | one worker | all workers | VideoDecoder | one of VideoDecoder, copied | all |"
+    print "|---|---|---|---|---|---|"
+    for (i = 1; i <= count; i++) {
+        name = names[i]
+        print "| " name " | " both("chromium-file-one", name) " | " both("chromium-file-all", name) " | " both("chromium-file-WebCodecs", name) " | " \
+            part("chromium-file-one", "chromium-file-WebCodecs", name, "copied") " | " part("chromium-file-all", "chromium-file-WebCodecs", name, "copied") " |"
     }
 }' "$work/told"
 for kind in wasm32 wasm64; do

@@ -269,7 +269,7 @@ async function calls() {
     });
     for (const name of ['encoder/pub_x_aud', 'encoder/pub_x_keyint3', 'speed/cif']) {
         const units = accessUnits(bytesOf(name)), md5s = pictures(library, bytesOf(name)), avcc = avccOf(units);
-        for (const [way, init] of [['here', { library }], ['in a worker', { module, worker: true }]]) {
+        for (const [way, init] of [['here', { library }], ['in a worker', { module, worker: true }], ['in three workers', { module, worker: true, workers: 3 }]]) {
             await test(`${name} as VideoDecoder ${way}`, async () => {
                 const { frames, errors } = await shaped(units, init);
                 same(errors, []);
@@ -290,6 +290,26 @@ async function calls() {
             same(decode(library, read.annexB(avcc.sample(units[0].bytes, true))).pictures, 1);
         });
     }
+    // IDR pictures that drop those before them, among others; pictures that go out in another order than they are decoded in
+    for (const name of ['cases/idr_drops_held', 'generated/pubgen_31', 'pcm/pcm_11', 'weighted/pubwgt_44', 'encoder/pub_o_idr_listing', 'encoder/pub_x_allintra']) {
+        await test(`${name}: sequences side by side`, async () => {
+            const units = accessUnits(bytesOf(name)), here = await shaped(units, { library }), there = await shaped(units, { module, worker: true, workers: 3 });
+            same(there.errors, []);
+            same(there.frames.map(it => it.md5), pictures(library, bytesOf(name)));
+            same(there.frames.map(it => it.timestamp), here.frames.map(it => it.timestamp));
+        });
+    }
+    await test('workers whose module is no module close the decoder', async () => {
+        const { errors, decoder } = await shaped(accessUnits(bytes), { module: new URL('md5.mjs', import.meta.url), worker: true, workers: 2 });
+        same([errors.map(it => it.name), decoder.state], [['EncodingError', 'EncodingError'], 'closed']);
+    });
+    await test('IDR pictures that drop those before them are found', () => {
+        // as ffmpeg's trace_headers tells no_output_of_prior_pics_flag of the first slices
+        for (const [name, flags] of [['cases/idr_drops_held', '01'], ['generated/pubgen_12', '110'], ['generated/pubgen_31', '001'], ['pcm/pcm_11', '1011'], ['weighted/pubwgt_44', '111'], ['encoder/pub_x_keyint3', '00000']]) {
+            const sets = new ParameterSets();
+            same(accessUnits(bytesOf(name)).filter(it => sets.note(it.bytes).idr).map(it => Number(sets.dropsPictures(it.bytes))).join(''), flags);
+        }
+    });
     await test('flush, then a key chunk without parameter sets', async () => {
         const units = accessUnits(bytesOf('encoder/pub_x_keyint3')), { decoder, frames } = await shaped(units, { library });
         const bare = [...unitsOf(units[0].bytes)].filter(it => it.type === 5).map(it => units[0].bytes.subarray(it.start, it.to));

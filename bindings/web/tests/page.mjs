@@ -6,7 +6,7 @@ import { AvcVideoDecoder } from '../avcdec-video.mjs';
 import { check } from './check.mjs';
 import { Md5 } from './md5.mjs';
 
-export { ours, speedOfOurs, speedOfTheirs } from './speed.mjs';
+export { ours, speedOfFile, speedOfOurs, speedOfTheirs } from './speed.mjs';
 
 export const module = '/module.wasm';
 const bytesOf = async name => new Uint8Array(await (await fetch(`/vectors/${name}.264`)).arrayBuffer());
@@ -103,7 +103,7 @@ function plane(md5, samples, { offset, stride }, columns, rows, step, first) {
 export async function besides(name, words = {}) {
     const units = accessUnits(await bytesOf(name));
     const theirs = await frames(VideoDecoder, units, {});
-    const ours = await frames(AvcVideoDecoder, units, words.here ? { library: inPage } : { module }, words.avcc && (await import('./avcc.mjs')).avccOf(units));
+    const ours = await frames(AvcVideoDecoder, units, words.here ? { library: inPage } : { module, workers: words.workers }, words.avcc && (await import('./avcc.mjs')).avccOf(units));
     if (theirs.failed || ours.failed) return `theirs: ${theirs.failed}, ours: ${ours.failed}`;
     const told = it => ({ ...it, format: undefined });
     if (theirs.out.length !== ours.out.length) return `theirs has ${theirs.out.length} pictures, ours ${ours.out.length}`;

@@ -145,6 +145,7 @@ try {
         if (await page.evaluate("typeof VideoDecoder === 'function' && VideoDecoder.isConfigSupported({ codec: 'avc1.42E028', hardwareAcceleration: 'prefer-software' }).then(it => it.supported)")) {
             for (const name of there) await test(`${name} beside VideoDecoder`, () => inPage(page, 'besides', name));
             for (const name of there) await test(`${name} beside VideoDecoder, in the page's thread`, () => inPage(page, 'besides', name, { here: true }));
+            for (const name of there) await test(`${name} beside VideoDecoder, in three workers`, () => inPage(page, 'besides', name, { workers: 3 }));
             await test(`${there[1]} beside VideoDecoder, from avcC`, () => inPage(page, 'besides', there[1], { avcc: true }));
             told("beside Chromium's VideoDecoder");
         } else {

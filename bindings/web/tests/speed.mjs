@@ -1,6 +1,7 @@
 // speed.mjs: pictures a second, in a page or in Node.
 import { Decoder, load } from '../avcdec.mjs';
 import { accessUnits } from '../avcdec-annexb.mjs';
+import { AvcVideoDecoder } from '../avcdec-video.mjs';
 
 const bytesOf = async name => new Uint8Array(await (await fetch(`/vectors/${name}.264`)).arrayBuffer());
 const WAYS = { read: false, copied: true };
@@ -52,26 +53,50 @@ export async function speedOfOurs(name, module, { seconds = 3, warm = 3 } = {}) 
     return told;
 }
 
-/** The same of the browser's own VideoDecoder, in software; `copied` by copyTo. */
-export async function speedOfTheirs(name, { seconds = 3, warm = 2 } = {}) {
-    const units = accessUnits(await bytesOf(name)), room = new Uint8Array(1920 * 1088 * 2);
+/** How a decoder in the shape of VideoDecoder decodes access units: `run(copies)` does it once and answers how many pictures there were, each copied by
+ * copyTo where asked. `times`: so often one behind another, as one stream. */
+function shaped(Kind, units, config, more, times) {
+    const room = new Uint8Array(1920 * 1088 * 2);
     let pictures = 0, made = 0, failed, copies = false, waits = [];
-    const decoder = new VideoDecoder({
+    const decoder = new Kind({
         output: frame => { pictures++; if (copies) waits.push(frame.copyTo(room).then(() => frame.close())); else frame.close(); },
         error: thrown => { failed = thrown; },
+        ...more,
     });
-    const told = await bestOf(async way => {
+    decoder.configure({ codec: 'avc1.42E028', hardwareAcceleration: 'prefer-software', ...config });
+    const run = async way => {
         pictures = 0;
         copies = way;
-        const start = performance.now();
-        decoder.configure({ codec: 'avc1.42E028', hardwareAcceleration: 'prefer-software', optimizeForLatency: true });
-        for (const unit of units) decoder.decode(new EncodedVideoChunk({ type: unit.key ? 'key' : 'delta', timestamp: made++ * 33333, data: unit.bytes }));
+        for (let time = 0; time < times; time++)
+            for (const unit of units) decoder.decode(new EncodedVideoChunk({ type: unit.key ? 'key' : 'delta', timestamp: made++ * 33333, data: unit.bytes }));
         await decoder.flush();
         await Promise.all(waits);
         waits = [];
         if (failed) throw failed;
-        return pictures * 1000 / (performance.now() - start);
+        return pictures;
+    };
+    return { run, close: () => decoder.close() };
+}
+
+async function speedOfShape(Kind, name, { seconds = 3, warm = 2, config, more, times = 1 }) {
+    const { run, close } = shaped(Kind, accessUnits(await bytesOf(name)), config, more, times);
+    const told = await bestOf(async copies => {
+        const start = performance.now();
+        return await run(copies) * 1000 / (performance.now() - start);
     }, seconds, warm);
-    decoder.close();
+    close();
     return told;
+}
+
+/** The same of the browser's own VideoDecoder, in software, each picture at once; `copied` by copyTo. */
+export async function speedOfTheirs(name, words = {}) {
+    return speedOfShape(VideoDecoder, name, { config: { optimizeForLatency: true }, ...words });
+}
+
+// a stream as a page gets it from a file: with an IDR picture now and then
+const SEQUENCES = 8;
+
+/** Of the stream eight times as one, without a wish for early pictures: the browser's VideoDecoder, or AvcVideoDecoder in so many workers. */
+export async function speedOfFile(name, workers, module, words = {}) {
+    return speedOfShape(workers ? AvcVideoDecoder : VideoDecoder, name, { more: workers && { workers, module }, times: SEQUENCES, ...words });
 }
