@@ -65,15 +65,14 @@ export class ParameterSets {
     }
 
     /** Whether the IDR picture of an access unit, whose sets were noted, drops the pictures before it that wait (no_output_of_prior_pics_flag of its
-     * first slice, 7.3.3). Where that can't be read: true. */
+     * first slice, 7.3.3). Where that can't be read, or it is not the slice of the first macroblock: true. */
     dropsPictures(bytes) {
         const idr = [...unitsOf(bytes)].find(it => it.type === IDR);
         if (!idr) return true;
         const bits = new Bits(bytes.subarray(idr.from, idr.to), 1);
-        bits.ue(); // first_mb_in_slice
-        const isIntra = bits.ue() % 5 === 2, picture = this.#numbersOf(`${PPS}:${bits.ue()}`, pictureNumbers);
+        const isFirst = bits.ue() === 0, isIntra = bits.ue() % 5 === 2, picture = this.#numbersOf(`${PPS}:${bits.ue()}`, pictureNumbers);
         const sequence = picture && this.#numbersOf(`${SPS}:${picture.sequence}`, sequenceNumbers);
-        if (!isIntra || !sequence?.framesOnly) return true;
+        if (!isFirst || !isIntra || !sequence?.framesOnly) return true;
         bits.skip(sequence.frameNumBits);
         bits.ue(); // idr_pic_id
         bits.skip(sequence.orderBits);
@@ -88,14 +87,19 @@ export class ParameterSets {
         return unit && read(unit);
     }
 
+    /** All of them, those that came last behind. */
+    get units() {
+        return [...this.#sets.values()];
+    }
+
     /** All of them as a byte stream. */
     get bytes() {
-        return byteStream([...this.#sets.values()]);
+        return byteStream(this.units);
     }
 
     /** The sequence parameter set that came last. */
     get sequence() {
-        return [...this.#sets.values()].findLast(unit => (unit[0] & 31) === SPS);
+        return this.units.findLast(unit => (unit[0] & 31) === SPS);
     }
 
     copy() {
@@ -103,6 +107,14 @@ export class ParameterSets {
         made.#sets = new Map(this.#sets);
         return made;
     }
+}
+
+/** Two lists of bytes as one. */
+export function joined(first, second) {
+    const both = new Uint8Array(first.length + second.length);
+    both.set(first);
+    both.set(second, first.length);
+    return both;
 }
 
 /** Units with a start code before each. */

@@ -19,6 +19,8 @@ export class OwnPicture {
     copy(to?: Uint8Array): Uint8Array;
     /** Takes the samples over. */
     frame(init: FrameInit): VideoFrame;
+    /** Gives the samples back to the decoder for later pictures. */
+    giveBack(): void;
 }
 
 export type OwnEvent = OwnPicture | Pick<Refusal, 'kind' | 'unit' | 'fault' | 'name' | 'value'>;

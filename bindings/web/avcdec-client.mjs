@@ -1,11 +1,22 @@
 // avcdec-client.mjs: WorkerDecoder, a decoder in a worker of its own, so that the thread of a page stays free.
 import { DecoderError, frameOf, OutOfMemory } from './avcdec.mjs';
 
+// as many as a worker keeps
+const SPARE_BUFFERS = 16;
+
 /** A picture with samples of its own, as I420 without gaps: luma, Cb, Cr. */
 export class OwnPicture {
-    constructor(fields) {
+    #owner;
+
+    constructor(fields, owner) {
         Object.assign(this, fields);
         this.size = this.samples.length;
+        this.#owner = owner;
+    }
+
+    /** Gives its samples back to the decoder for later pictures. */
+    giveBack() {
+        this.#owner.giveBack(this);
     }
 
     /** Luma, Cb, Cr. */
@@ -43,16 +54,17 @@ export class WorkerDecoder {
 
     async #begin(early, module) {
         // the URL stands in the call, where bundlers look for it
-        const worker = typeof Worker === 'undefined'
-            ? new (await import('node:worker_threads')).Worker(new URL('avcdec-worker.mjs', import.meta.url))
-            : new Worker(new URL('avcdec-worker.mjs', import.meta.url), { type: 'module' });
+        const threads = typeof Worker === 'undefined' ? await import('node:worker_threads') : undefined;
+        if (this.#closed) throw this.#closed;
+        const worker = threads ? new threads.Worker(new URL('avcdec-worker.mjs', import.meta.url)) : new Worker(new URL('avcdec-worker.mjs', import.meta.url), { type: 'module' });
         this.#worker = worker;
         const fail = message => this.#end(new DecoderError(`the worker failed: ${message}`));
-        if (worker.on) worker.on('message', it => this.#told(it)).on('error', it => fail(it.message));
-        else worker.onmessage = event => this.#told(event.data), worker.onerror = event => fail(event.message);
-        if (this.#closed) worker.terminate();
+        // a worker that is ended while it loads can take the process with it, so one that is closed sooner ends with its first answer
+        const told = message => this.#closed ? worker.terminate() : this.#told(message);
+        if (worker.on) worker.on('message', told).on('error', it => fail(it.message));
+        else worker.onmessage = event => told(event.data), worker.onerror = event => fail(event.message);
         if (module instanceof URL) module = module.href;
-        return this.#ask('open', { module, early });
+        return this.#put('open', { module, early });
     }
 
     #told({ id, told, error }) {
@@ -62,13 +74,16 @@ export class WorkerDecoder {
         else {
             if (told.memory) this.memory = told.memory, this.turns = told.turns;
             if (told.version) this.version = told.version;
-            told.events = told.events?.map(it => it.kind === 'picture' ? new OwnPicture(it) : it);
+            told.events = told.events?.map(it => it.kind === 'picture' ? new OwnPicture(it, this) : it);
             done(told);
         }
     }
 
-    #ask(call, words, transfer = []) {
-        if (this.#closed) return Promise.reject(this.#closed);
+    #ask(call, words, transfer) {
+        return this.#closed ? Promise.reject(this.#closed) : this.#put(call, words, transfer);
+    }
+
+    #put(call, words, transfer = []) {
         return new Promise((done, failed) => {
             const id = this.#calls++, buffers = this.#buffers.splice(0);
             this.#waiting.set(id, { done, failed });
@@ -107,13 +122,13 @@ export class WorkerDecoder {
 
     /** Takes the samples of a picture that is done with, for later pictures. */
     giveBack(picture) {
-        if (picture.samples.length > 0 && this.#buffers.length < 8) this.#buffers.push(picture.samples.buffer);
+        if (picture.samples.length > 0 && this.#buffers.length < SPARE_BUFFERS) this.#buffers.push(picture.samples.buffer);
         picture.samples = new Uint8Array(0);
     }
 
     #end(why) {
         this.#closed ??= why;
-        this.#worker?.terminate();
+        if (this.version) this.#worker.terminate();
         for (const { failed } of this.#waiting.values()) failed(why);
         this.#waiting.clear();
     }

@@ -1,6 +1,12 @@
-// avcdec-sequences.mjs: workers that decode the coded video sequences of a stream side by side, for AvcVideoDecoder of avcdec-video.mjs. A
-// sequence begins with an IDR picture and asks for nothing before it: the pictures of a stream are those of its sequences, joined in order
+// avcdec-sequences.mjs: workers that decode the coded video sequences of a file side by side:
+//
+//     for await (const event of decodeSequences(bytes, { workers: 4 }))
+//         if (event.kind === 'picture') draw(event.planes, event.width, event.height);
+//
+// A sequence begins with an IDR picture and asks for nothing before it: the pictures of a stream are those of its sequences, joined in order
 // (pieces_decode_alike of avc_pieces is the law: of streams without a refusal, where no IDR picture but the first drops pictures before it).
+import { accessUnits, byteStream, joined, ParameterSets, unitsOf } from './avcdec-annexb.mjs';
+import { WorkerDecoder } from './avcdec-client.mjs';
 
 // Chunks that may be on their way to one worker, and to several; decoded pictures, in bytes, that may wait for those before them.
 const CHUNKS_OF_ONE = 4, CHUNKS_OF_SEVERAL = 512, BYTES_WAITING = 2 ** 28;
@@ -11,13 +17,16 @@ class Sequence {
     unanswered = 0;
     hasEnded = false;
 
-    constructor(worker) {
+    constructor(worker, begins) {
         this.worker = worker;
+        this.begins = begins;
     }
 }
 
 export class Sequences {
-    #workers;
+    #make;
+    #most;
+    #workers = [];
     #take;
     #failed;
     #open = []; // the sequences that are not all out, in the stream's order
@@ -26,18 +35,21 @@ export class Sequences {
     #waiting = []; // what goes on once something is out
     #isClosed = false;
 
-    /** `workers`: each a WorkerDecoder. `take` is given the events in the stream's order, `failed` why there are no more: what a worker or `take` threw. */
-    constructor(workers, { take, failed }) {
-        this.#workers = workers;
+    /** `make` makes a WorkerDecoder; `most` are made, each when it is needed. `take` is given the events in the stream's order, `failed` why there are
+     * no more: what a worker or `take` threw. */
+    constructor({ make, most, take, failed }) {
+        this.#make = make;
+        this.#most = most;
         this.#take = take;
         this.#failed = failed;
     }
 
-    /** Gives a chunk, of a new sequence where it `begins`. Resolves once another may be given. */
-    async decode(bytes, value, begins) {
-        if (begins) this.#begin();
-        this.#ask(worker => worker.decode(bytes, { endsUnit: true, value, transfer: true }));
-        await this.#until(() => this.#chunks < this.#most);
+    /** Gives a chunk with the words of WorkerDecoder.decode. Where `begins` stands, a new sequence begins: with `begins.sets` parameter sets, whose
+     * refusals were told when they came first. `take` is given `begins` with its events. Resolves once another may be given. */
+    async decode(bytes, words, begins) {
+        if (begins) this.#begin(begins);
+        this.#ask(worker => worker.decode(bytes, { ...words, transfer: true }));
+        await this.#until(() => this.#chunks < this.#mostChunks);
     }
 
     /** Ends the stream. Resolves once all is out. */
@@ -52,16 +64,23 @@ export class Sequences {
         this.#told();
     }
 
-    get #most() {
-        if (this.#workers.length === 1) return CHUNKS_OF_ONE;
-        return Math.min(CHUNKS_OF_SEVERAL, Math.max(CHUNKS_OF_ONE * this.#workers.length, BYTES_WAITING / this.#pictureSize));
+    get #mostChunks() {
+        if (this.#most === 1) return CHUNKS_OF_ONE;
+        return Math.min(CHUNKS_OF_SEVERAL, Math.max(CHUNKS_OF_ONE * this.#most, BYTES_WAITING / this.#pictureSize));
     }
 
-    /** The worker that has the least to do gets the next sequence. */
-    #begin() {
+    #begin(begins) {
         this.#end();
-        const load = worker => this.#open.filter(it => it.worker === worker).reduce((sum, it) => sum + it.unanswered, 0);
-        this.#open.push(new Sequence(this.#workers.reduce((least, it) => load(it) < load(least) ? it : least)));
+        this.#open.push(new Sequence(this.#idle(), begins));
+    }
+
+    /** The worker that has the least to do: a new one before one that is busy. */
+    #idle() {
+        const loads = this.#workers.map(worker => this.#open.filter(it => it.worker === worker).reduce((sum, it) => sum + it.unanswered, 0));
+        const least = Math.min(...loads); // Infinity where there is none yet
+        if (least === 0 || this.#workers.length === this.#most) return this.#workers[loads.indexOf(least)];
+        this.#workers.push(this.#make());
+        return this.#workers.at(-1);
     }
 
     #end() {
@@ -90,7 +109,7 @@ export class Sequences {
     #emit() {
         try {
             for (let first; (first = this.#open[0]) && !this.#isClosed; this.#open.shift()) {
-                while (first.answers.length > 0 && (first.answers[0].events || first.answers[0].thrown)) this.#out(first.answers.shift());
+                while (first.answers.length > 0 && (first.answers[0].events || first.answers[0].thrown)) this.#out(first.answers.shift(), first.begins);
                 if (first.answers.length > 0 || !first.hasEnded) break;
             }
         } catch (thrown) {
@@ -99,10 +118,10 @@ export class Sequences {
         this.#told();
     }
 
-    #out({ events, thrown }) {
+    #out({ events, thrown }, begins) {
         this.#chunks--;
         if (thrown) throw thrown;
-        for (const event of events) if (!this.#isClosed) this.#take(event);
+        for (const event of events) if (!this.#isClosed && event.unit >= begins.sets) this.#take(event, begins);
     }
 
     #told() {
@@ -112,5 +131,66 @@ export class Sequences {
     /** Until this holds, or all is over. */
     async #until(holds) {
         while (!holds() && !this.#isClosed) await new Promise(done => this.#waiting.push(done));
+    }
+}
+
+// Access units, and their bytes, that go to a worker together.
+const UNITS_TOGETHER = 8, BYTES_TOGETHER = 65536;
+
+/** The parts of a byte stream that are given one after another: { bytes, begins }. `begins` stands where a sequence begins that any worker may decode:
+ * the bytes then begin with the parameter sets before it, of which there are `begins.sets`, and `begins.first` is the number of its first unit. */
+function* partsOf(stream) {
+    const sets = new ParameterSets();
+    let units = 0, part;
+    for (const { bytes } of accessUnits(stream)) {
+        const before = sets.units, { idr } = sets.note(bytes);
+        const begins = units === 0 || (idr && !sets.dropsPictures(bytes)) ? { first: units, sets: before.length } : undefined;
+        if (part && (begins || part.count === UNITS_TOGETHER || part.bytes.length + bytes.length > BYTES_TOGETHER)) {
+            yield part;
+            part = undefined;
+        }
+        part = { begins: part?.begins ?? begins, count: (part?.count ?? 0) + 1, bytes: joined(part?.bytes ?? byteStream(begins ? before : []), bytes) };
+        for (const _ of unitsOf(bytes)) units++;
+    }
+    if (part) yield part;
+}
+
+/** Yields the events of a byte stream (Annex B) in their order, as Decoder does, each picture with samples of its own; `giveBack` of a picture that is
+ * done with lets them be used again. `workers`: how many sequences are decoded side by side, as many as there are processors unless named; up to
+ * 256 MiB of their pictures wait for those before them. Of a stream with a refusal a later sequence may be decoded that Decoder refuses. */
+export async function* decodeSequences(stream, { workers = globalThis.navigator?.hardwareConcurrency ?? 4, early = false, module } = {}) {
+    const events = [];
+    let thrown, wake = () => {};
+    const sequences = new Sequences({
+        make: () => new WorkerDecoder({ early, module }),
+        most: workers,
+        take: (event, { first, sets }) => {
+            event.unit += first - sets;
+            events.push(event);
+            wake();
+        },
+        failed: why => {
+            thrown = why;
+            wake();
+        },
+    });
+    async function* until(given) {
+        let isOver = false;
+        given.then(() => {
+            isOver = true;
+            wake();
+        });
+        while (!isOver || events.length > 0) {
+            if (events.length > 0) yield events.shift();
+            else if (thrown) throw thrown;
+            else await new Promise(done => { wake = done; });
+        }
+    }
+    try {
+        for (const { bytes, begins } of partsOf(stream)) yield* until(sequences.decode(bytes, {}, begins));
+        yield* until(sequences.flush());
+        if (thrown) throw thrown;
+    } finally {
+        sequences.close();
     }
 }

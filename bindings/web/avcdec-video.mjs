@@ -7,7 +7,7 @@
 //
 // It decodes in a worker, or in this thread where there is none or `library` is given; with `workers: N` in as many, sequence by sequence.
 import { Decoder, load } from './avcdec.mjs';
-import { Avcc, bytesOf, ParameterSets, sequenceInfo } from './avcdec-annexb.mjs';
+import { Avcc, byteStream, joined, ParameterSets, sequenceInfo } from './avcdec-annexb.mjs';
 import { WorkerDecoder } from './avcdec-client.mjs';
 import { Sequences } from './avcdec-sequences.mjs';
 
@@ -23,14 +23,16 @@ function taskBy({ port1, port2 }) {
 class Here {
     #decoder;
     #take;
+    #sets = 0; // so many units were given first, whose refusals were told when they came first
 
     constructor(decoder, { take }) {
         this.#decoder = decoder;
         this.#take = take;
     }
 
-    async decode(bytes, value) {
-        for (const event of this.#decoder.decode(bytes, { endsUnit: true, value })) this.#take(event);
+    async decode(bytes, words, begins) {
+        if (begins) this.#sets = begins.sets;
+        for (const event of this.#decoder.decode(bytes, words)) if (event.unit >= this.#sets) this.#take(event);
     }
 
     async flush() {
@@ -115,7 +117,7 @@ export class AvcVideoDecoder extends EventTarget {
         this.#error = error;
         this.#refused = refused;
         this.#isSeveral = worker && workers > 1;
-        this.#engineOf = async (early, told) => worker ? new Sequences(Array.from({ length: workers }, () => new WorkerDecoder({ early, module })), told)
+        this.#engineOf = async (early, told) => worker ? new Sequences({ make: () => new WorkerDecoder({ early, module }), most: workers, ...told })
             : new Here(new Decoder(await (library ?? (library = load(module))), { early }), told);
     }
 
@@ -252,10 +254,11 @@ export class AvcVideoDecoder extends EventTarget {
     async #decode(sample, chunk) {
         const bytes = this.#config.avcc ? this.#config.avcc.annexB(sample) : sample;
         // a stream or sequence that begins anew has no parameter sets: it is given those that came last
-        const before = this.#sets.bytes, { idr } = this.#sets.note(bytes);
-        const begins = this.#isFresh || (this.#isSeveral && idr && !this.#sets.dropsPictures(bytes));
+        const before = this.#sets.units, { idr } = this.#sets.note(bytes);
+        const isNew = this.#isFresh || (this.#isSeveral && idr && !this.#sets.dropsPictures(bytes));
         this.#isFresh = false;
-        await this.#engine.decode(begins && before.length > 0 ? joined(before, bytes) : bytes, this.#waiting.begin(chunk), begins);
+        const begins = isNew ? { sets: before.length } : undefined, words = { endsUnit: true, value: this.#waiting.begin(chunk) };
+        await this.#engine.decode(isNew ? joined(byteStream(before), bytes) : bytes, words, begins);
     }
 
     async #flush() {
@@ -287,11 +290,4 @@ export class AvcVideoDecoder extends EventTarget {
         }
         return shape;
     }
-}
-
-function joined(first, second) {
-    const both = new Uint8Array(first.length + second.length);
-    both.set(first);
-    both.set(second, first.length);
-    return both;
 }

@@ -12,6 +12,7 @@
 const OK = 0, OUT_OF_MEMORY = 1, ENDED = 2, NO_VALUE = 9;
 const NOTHING = 0, PICTURE = 1;
 const EVENT_SIZE = 48, DECODER_SIZE = 16, ROWS_SIZE = 32, INFO_SIZE = 64, USED_SIZE = 8, VALUE_SIZE = 8, NAME_SIZE = 32, PIECE = 65536;
+const SHORT_ROW = 1024; // samples
 const END_OF_ACCESS_UNIT = Uint8Array.of(0, 0, 1, 9, 0xf0, 0, 0, 1);
 
 /** A call that did not do its work. `status` is a number of avcdec_status. */
@@ -288,8 +289,8 @@ export class Picture {
     copy(to = new Uint8Array(this.size)) {
         if (to.length < this.size) throw new RangeError(`avcdec: ${this.size} bytes are wanted`);
         this.#check();
-        // the module joins the rows sooner than a call for each does
-        const at = this.#handle.copied(this);
+        // the module joins short rows sooner than a call for each does
+        const at = this.width < SHORT_ROW ? this.#handle.copied(this) : 0;
         if (at !== 0) to.set(this.#handle.library.bytes(at, this.size));
         else this.#copyRows(to);
         return to;

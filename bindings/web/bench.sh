@@ -3,8 +3,8 @@
 # VideoDecoder in software, on the streams of vectors/speed, as a table: the best run in so many seconds (3), early output, whole access units. In each place
 # stands what comes where each picture's planes are looked at where they lie, and where each is copied as I420 (by copyTo, of VideoDecoder). The columns
 # before the last divide pictures in a second of the processor (of the thread that decodes, looked at, taken in turns) by the library's. Then a table
-# of each stream eight times as one, through AvcVideoDecoder in one worker and in as many as there are processors, beside VideoDecoder. Then the
-# module's size. Wants a machine without other work, and about ten minutes beside building.
+# of files with each stream sixteen times and more, whose start doesn't count, copied: by decodeSequences in one worker and in as many as there are
+# processors, beside VideoDecoder (with optimizeForLatency or without, whichever is faster). Then the module's size. Wants a machine without other work, and about ten minutes beside building.
 set -eu
 here=$(cd "$(dirname "$0")" && pwd)
 top=$(cd "$here/../.." && pwd)
@@ -30,6 +30,7 @@ LIBRARY_ONLY=1 "$top/scripts/install.sh" "$work/usr"
 awk '
 { rate[$1, $2, $3] = $4 }
 function both(way, name) { return (way, name, "read") in rate ? sprintf("%.0f / %.0f", rate[way, name, "read"], rate[way, name, "copied"]) : "-" }
+function one(way, name) { return sprintf("%.0f", rate["chromium-file-" way, name, "copied"]) }
 function part(way, of, name, how) { return (way, name, how) in rate && rate[of, name, how] > 0 ? sprintf("%.2f", rate[way, name, how] / rate[of, name, how]) : "-" }
 END {
     print "| Stream | native | Node, wasm32 | Node, wasm64 | Chromium, wasm32 | Chromium, wasm64 | WebCodecs | wasm32 of native | of native by the processor, Node | Chromium | wasm32 of WebCodecs, copied |"
@@ -42,12 +43,11 @@ END {
         print line " " part("chromium-wasm32", "native", names[i], "read") " | " part("node-wasm32", "native", names[i], "cpu") " | " part("chromium-wasm32", "native", names[i], "cpu") " | " part("chromium-wasm32", "chromium-WebCodecs", names[i], "copied") " |"
     }
     print ""
-    print "| Stream, eight times | one worker | all workers | VideoDecoder | one of VideoDecoder, copied | all |"
+    print "| File of | one worker | all workers | VideoDecoder | one of VideoDecoder | all |"
     print "|---|---|---|---|---|---|"
     for (i = 1; i <= count; i++) {
         name = names[i]
-        print "| " name " | " both("chromium-file-one", name) " | " both("chromium-file-all", name) " | " both("chromium-file-WebCodecs", name) " | " \
-            part("chromium-file-one", "chromium-file-WebCodecs", name, "copied") " | " part("chromium-file-all", "chromium-file-WebCodecs", name, "copied") " |"
+        print "| " name " | " one("one", name) " | " one("all", name) " | " one("WebCodecs", name) " | " part("chromium-file-one", "chromium-file-WebCodecs", name, "copied") " | " part("chromium-file-all", "chromium-file-WebCodecs", name, "copied") " |"
     }
 }' "$work/told"
 for kind in wasm32 wasm64; do

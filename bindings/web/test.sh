@@ -82,6 +82,7 @@ if [ -z "$module" ]; then
 fi
 part 'calls in Node' node --expose-gc "$here/tests/node.mjs" "$module" calls
 part 'all streams in Node' node "$here/tests/node.mjs" "$module" streams
+part 'all streams in Node, sequences side by side' node "$here/tests/node.mjs" "$module" sequences
 
 if has "${CHROMIUM:-chromium}"; then
     for words in calls streams; do

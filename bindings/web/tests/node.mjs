@@ -1,8 +1,9 @@
-// node [--expose-gc] node.mjs MODULE [streams|calls]: the module and its wrapper in Node. The last line is 'N passed, M failed'.
+// node [--expose-gc] node.mjs MODULE [streams|sequences|calls]: the module and its wrapper in Node. The last line is 'N passed, M failed'.
 import { readFileSync } from 'node:fs';
 import { Decoder, DecoderError, load, OutOfMemory } from '../avcdec.mjs';
 import { accessUnits, Avcc, ParameterSets, sequenceInfo, SPS, unitsOf } from '../avcdec-annexb.mjs';
 import { WorkerDecoder } from '../avcdec-client.mjs';
+import { decodeSequences } from '../avcdec-sequences.mjs';
 import { AvcVideoDecoder } from '../avcdec-video.mjs';
 import { avccOf } from './avcc.mjs';
 import { check, decode } from './check.mjs';
@@ -307,7 +308,7 @@ async function calls() {
         // as ffmpeg's trace_headers tells no_output_of_prior_pics_flag of the first slices
         for (const [name, flags] of [['cases/idr_drops_held', '01'], ['generated/pubgen_12', '110'], ['generated/pubgen_31', '001'], ['pcm/pcm_11', '1011'], ['weighted/pubwgt_44', '111'], ['encoder/pub_x_keyint3', '00000']]) {
             const sets = new ParameterSets();
-            same(accessUnits(bytesOf(name)).filter(it => sets.note(it.bytes).idr).map(it => Number(sets.dropsPictures(it.bytes))).join(''), flags);
+            same(accessUnits(bytesOf(name)).map(it => sets.note(it.bytes).idr ? Number(sets.dropsPictures(it.bytes)) : '').join(''), flags);
         }
     });
     await test('flush, then a key chunk without parameter sets', async () => {
@@ -374,6 +375,26 @@ async function calls() {
     });
 }
 
-await (part === 'streams' ? allStreams() : calls());
+/** All streams by decodeSequences: the pictures, the refusals and their units are those of one decoder. */
+async function sequences() {
+    for (const { name, md5: wanted, refused } of list) await test(`${name}, its sequences side by side`, async () => {
+        const md5 = new Md5(), told = [];
+        for await (const event of decodeSequences(bytesOf(name), { workers: 3, module })) {
+            if (event.kind === 'refused') { told.push(`refused unit ${event.unit}: ${event.fault} ${event.name}`); continue; }
+            md5.update(event.samples);
+            event.giveBack();
+        }
+        same([md5.hex(), told.join('\n')], [wanted, refused]);
+    });
+    await test('who leaves early ends the workers, and a module that is none is told', async () => {
+        let pictures = 0;
+        for await (const _ of decodeSequences(bytesOf('encoder/pub_x_keyint3'), { workers: 2, module })) if (++pictures === 3) break;
+        same(pictures, 3);
+        await throws(async () => { for await (const _ of decodeSequences(bytesOf('speed/cif'), { workers: 2, module: new URL('md5.mjs', import.meta.url) })) pictures++; }, DecoderError, '');
+        same(pictures, 3);
+    });
+}
+
+await { streams: allStreams, sequences, calls }[part]();
 console.log(`${passed} passed, ${failed} failed`);
 process.exit(failed || !passed ? 1 : 0);

@@ -2,6 +2,7 @@
 import { load } from '../avcdec.mjs';
 import { accessUnits } from '../avcdec-annexb.mjs';
 import { WorkerDecoder } from '../avcdec-client.mjs';
+import { decodeSequences } from '../avcdec-sequences.mjs';
 import { AvcVideoDecoder } from '../avcdec-video.mjs';
 import { check } from './check.mjs';
 import { Md5 } from './md5.mjs';
@@ -30,6 +31,17 @@ export async function byWorker(name) {
     for (let at = 0; at < bytes.length; at += 65536) take(await decoder.decode(bytes.slice(at, at + 65536), { transfer: true }));
     take(await decoder.flush());
     decoder.close();
+    return { md5: md5.hex(), refused: refused.join('\n') };
+}
+
+/** The same by several workers, sequence by sequence. */
+export async function bySequences(name) {
+    const md5 = new Md5(), refused = [];
+    for await (const event of decodeSequences(await bytesOf(name), { workers: 3, module })) {
+        if (event.kind === 'refused') { refused.push(`refused unit ${event.unit}: ${event.fault} ${event.name}`); continue; }
+        md5.update(event.samples);
+        event.giveBack();
+    }
     return { md5: md5.hex(), refused: refused.join('\n') };
 }
 

@@ -136,6 +136,7 @@ try {
         const list = streams(), wanted = name => list.find(it => it.name === name), there = ALIKE.filter(wanted);
         const refused = list.find(it => it.refused && bytesOf(it.name).length < 20000);
         for (const { name, md5, refused: text } of [...there.slice(0, 5).map(wanted), refused]) await test(`${name} in a worker`, async () => differs(await inPage(page, 'byWorker', name), { md5, refused: text }));
+        for (const { name, md5, refused: text } of [...there.map(wanted), refused]) await test(`${name} in three workers`, async () => differs(await inPage(page, 'bySequences', name), { md5, refused: text }));
         await test("the page's thread is free while a worker decodes", async () => {
             const longest = await inPage(page, 'freedom', there[0]);
             console.log(`longest wait of the page's thread: ${longest.toFixed(0)} ms`);

@@ -1,7 +1,7 @@
 // speed.mjs: pictures a second, in a page or in Node.
 import { Decoder, load } from '../avcdec.mjs';
 import { accessUnits } from '../avcdec-annexb.mjs';
-import { AvcVideoDecoder } from '../avcdec-video.mjs';
+import { decodeSequences } from '../avcdec-sequences.mjs';
 
 const bytesOf = async name => new Uint8Array(await (await fetch(`/vectors/${name}.264`)).arrayBuffer());
 const WAYS = { read: false, copied: true };
@@ -53,22 +53,20 @@ export async function speedOfOurs(name, module, { seconds = 3, warm = 3 } = {}) 
     return told;
 }
 
-/** How a decoder in the shape of VideoDecoder decodes access units: `run(copies)` does it once and answers how many pictures there were, each copied by
- * copyTo where asked. `times`: so often one behind another, as one stream. */
-function shaped(Kind, units, config, more, times) {
+/** How the browser's own VideoDecoder, in software, decodes access units: `run(copies)` does it once and answers how many pictures there were, each copied
+ * by copyTo where asked. */
+function theirs(units, config) {
     const room = new Uint8Array(1920 * 1088 * 2);
     let pictures = 0, made = 0, failed, copies = false, waits = [];
-    const decoder = new Kind({
+    const decoder = new VideoDecoder({
         output: frame => { pictures++; if (copies) waits.push(frame.copyTo(room).then(() => frame.close())); else frame.close(); },
         error: thrown => { failed = thrown; },
-        ...more,
     });
-    decoder.configure({ codec: 'avc1.42E028', hardwareAcceleration: 'prefer-software', ...config });
     const run = async way => {
         pictures = 0;
         copies = way;
-        for (let time = 0; time < times; time++)
-            for (const unit of units) decoder.decode(new EncodedVideoChunk({ type: unit.key ? 'key' : 'delta', timestamp: made++ * 33333, data: unit.bytes }));
+        decoder.configure({ codec: 'avc1.42E028', hardwareAcceleration: 'prefer-software', ...config });
+        for (const unit of units) decoder.decode(new EncodedVideoChunk({ type: unit.key ? 'key' : 'delta', timestamp: made++ * 33333, data: unit.bytes }));
         await decoder.flush();
         await Promise.all(waits);
         waits = [];
@@ -78,8 +76,9 @@ function shaped(Kind, units, config, more, times) {
     return { run, close: () => decoder.close() };
 }
 
-async function speedOfShape(Kind, name, { seconds = 3, warm = 2, config, more, times = 1 }) {
-    const { run, close } = shaped(Kind, accessUnits(await bytesOf(name)), config, more, times);
+/** The same of the browser's own VideoDecoder, in software; `copied` by copyTo. */
+export async function speedOfTheirs(name, { seconds = 3, warm = 2 } = {}) {
+    const { run, close } = theirs(accessUnits(await bytesOf(name)), { optimizeForLatency: true });
     const told = await bestOf(async copies => {
         const start = performance.now();
         return await run(copies) * 1000 / (performance.now() - start);
@@ -88,15 +87,40 @@ async function speedOfShape(Kind, name, { seconds = 3, warm = 2, config, more, t
     return told;
 }
 
-/** The same of the browser's own VideoDecoder, in software, each picture at once; `copied` by copyTo. */
-export async function speedOfTheirs(name, words = {}) {
-    return speedOfShape(VideoDecoder, name, { config: { optimizeForLatency: true }, ...words });
-}
+// so often a stream stands in a file, behind the first time, whose start doesn't count
+const SEQUENCES = 16;
 
-// a stream as a page gets it from a file: with an IDR picture now and then
-const SEQUENCES = 8;
-
-/** Of the stream eight times as one, without a wish for early pictures: the browser's VideoDecoder, or AvcVideoDecoder in so many workers. */
-export async function speedOfFile(name, workers, module, words = {}) {
-    return speedOfShape(workers ? AvcVideoDecoder : VideoDecoder, name, { more: workers && { workers, module }, times: SEQUENCES, ...words });
+/** Pictures a second of a file of several sequences, each picture copied: by decodeSequences in so many workers, or by VideoDecoder in software, with or without
+ * its wish for pictures at once, whichever is faster. The time of a short file is taken from that of a long one, so starts don't count. */
+export async function speedOfFile(name, workers, module, { seconds = 3, most = 12 } = {}) {
+    const bytes = await bytesOf(name), file = times => {
+        const all = new Uint8Array(times * bytes.length);
+        for (let i = 0; i < times; i++) all.set(bytes, i * bytes.length);
+        return all;
+    };
+    const code = workers ? await WebAssembly.compileStreaming(fetch(module)) : undefined;
+    const count = async (times, config) => {
+        let pictures = 0;
+        if (workers) for await (const event of decodeSequences(file(times), { workers, module: code })) pictures++, event.giveBack();
+        else {
+            const { run, close } = theirs(accessUnits(file(times)), config);
+            pictures = await run(true);
+            close();
+        }
+        return pictures;
+    };
+    let best = 0;
+    for (const config of workers ? [{}] : [{}, { optimizeForLatency: true }]) {
+        const least = {}, pictures = {};
+        const until = performance.now() + seconds * 1000;
+        for (let run = 0; run < 3 || (run < most && performance.now() < until); run++)
+            for (const times of [workers || 1, (workers || 1) + SEQUENCES]) {
+                const start = performance.now();
+                pictures[times] = await count(times, config);
+                least[times] = Math.min(least[times] ?? Infinity, performance.now() - start);
+            }
+        const [short, long] = [workers || 1, (workers || 1) + SEQUENCES];
+        best = Math.max(best, (pictures[long] - pictures[short]) * 1000 / (least[long] - least[short]));
+    }
+    return { copied: best };
 }
