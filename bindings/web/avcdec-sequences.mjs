@@ -8,8 +8,8 @@
 import { accessUnits, byteStream, joined, ParameterSets, unitsOf } from './avcdec-annexb.mjs';
 import { WorkerDecoder } from './avcdec-client.mjs';
 
-// Chunks that may be on their way to one worker, and to several; decoded pictures, in bytes, that may wait for those before them.
-const CHUNKS_OF_ONE = 4, CHUNKS_OF_SEVERAL = 512, BYTES_WAITING = 2 ** 28;
+// Calls that may be on their way to one worker; pictures, and their bytes, that may be on their way through several.
+const CALLS_OF_ONE = 4, PICTURES_OF_SEVERAL = 512, BYTES_OF_SEVERAL = 2 ** 28;
 
 /** A sequence that is not all out: the worker that decodes it, and its answers, each a list of events, up to where one has not come. */
 class Sequence {
@@ -30,26 +30,30 @@ export class Sequences {
     #take;
     #failed;
     #open = []; // the sequences that are not all out, in the stream's order
-    #chunks = 0; // calls whose events are not out
+    #together;
+    #pictures = 0; // access units that were given and whose events are not out
     #pictureSize = Infinity;
     #waiting = []; // what goes on once something is out
     #isClosed = false;
 
-    /** `make` makes a WorkerDecoder; `most` are made, each when it is needed. `take` is given the events in the stream's order, `failed` why there are
+    /** `make` makes a WorkerDecoder; `most` are made, each when it is needed. `together`: how many access units a call may give. `take` is given the events in the stream's order, `failed` why there are
      * no more: what a worker or `take` threw. */
-    constructor({ make, most, take, failed }) {
+    constructor({ make, most, together = 1, take, failed }) {
+        if (!(most >= 1)) throw new RangeError('avcdec: at least one worker is wanted');
         this.#make = make;
         this.#most = most;
+        this.#together = together;
         this.#take = take;
         this.#failed = failed;
     }
 
-    /** Gives a chunk with the words of WorkerDecoder.decode. Where `begins` stands, a new sequence begins: with `begins.sets` parameter sets, whose
-     * refusals were told when they came first. `take` is given `begins` with its events. Resolves once another may be given. */
+    /** Gives the bytes of an access unit, or of `together`, with the words of WorkerDecoder.decode. Where `begins` stands, a new sequence begins: with
+     * `begins.sets` parameter sets, whose refusals were told when they came first. `take` is given `begins` with its events. Resolves once more may be
+     * given. */
     async decode(bytes, words, begins) {
         if (begins) this.#begin(begins);
-        this.#ask(worker => worker.decode(bytes, { ...words, transfer: true }));
-        await this.#until(() => this.#chunks < this.#mostChunks);
+        this.#ask(worker => worker.decode(bytes, { ...words, transfer: true }), this.#together);
+        await this.#until(() => this.#pictures < this.#mostPictures);
     }
 
     /** Ends the stream. Resolves once all is out. */
@@ -64,9 +68,9 @@ export class Sequences {
         this.#told();
     }
 
-    get #mostChunks() {
-        if (this.#most === 1) return CHUNKS_OF_ONE;
-        return Math.min(CHUNKS_OF_SEVERAL, Math.max(CHUNKS_OF_ONE * this.#most, BYTES_WAITING / this.#pictureSize));
+    get #mostPictures() {
+        if (this.#most === 1) return CALLS_OF_ONE * this.#together;
+        return Math.min(PICTURES_OF_SEVERAL, Math.max(this.#most * this.#together, BYTES_OF_SEVERAL / this.#pictureSize));
     }
 
     #begin(begins) {
@@ -92,11 +96,11 @@ export class Sequences {
     }
 
     /** Asks the worker of the last sequence; what it answers is put in the place of this call. */
-    #ask(call) {
-        const sequence = this.#open.at(-1), answer = {};
+    #ask(call, pictures = 0) {
+        const sequence = this.#open.at(-1), answer = { pictures };
         sequence.answers.push(answer);
         sequence.unanswered++;
-        this.#chunks++;
+        this.#pictures += pictures;
         call(sequence.worker).then(events => { answer.events = events; }, thrown => { answer.thrown = thrown; }).then(() => {
             sequence.unanswered--;
             const picture = answer.events?.find(it => it.kind === 'picture');
@@ -118,8 +122,8 @@ export class Sequences {
         this.#told();
     }
 
-    #out({ events, thrown }, begins) {
-        this.#chunks--;
+    #out({ events, thrown, pictures }, begins) {
+        this.#pictures -= pictures;
         if (thrown) throw thrown;
         for (const event of events) if (!this.#isClosed && event.unit >= begins.sets) this.#take(event, begins);
     }
@@ -164,6 +168,7 @@ export async function* decodeSequences(stream, { workers = globalThis.navigator?
     const sequences = new Sequences({
         make: () => new WorkerDecoder({ early, module }),
         most: workers,
+        together: UNITS_TOGETHER,
         take: (event, { first, sets }) => {
             event.unit += first - sets;
             events.push(event);

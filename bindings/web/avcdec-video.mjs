@@ -113,6 +113,7 @@ export class AvcVideoDecoder extends EventTarget {
     constructor({ output, error, refused, library, module, workers = 1, worker = library === undefined && typeof Worker !== 'undefined' }) {
         super();
         if (typeof output !== 'function' || typeof error !== 'function') throw new TypeError('avcdec: output and error are wanted');
+        if (!(workers >= 1)) throw new RangeError('avcdec: at least one worker is wanted');
         this.#output = output;
         this.#error = error;
         this.#refused = refused;

@@ -386,6 +386,10 @@ async function sequences() {
         }
         same([md5.hex(), told.join('\n')], [wanted, refused]);
     });
+    await test('at least one worker is wanted', async () => {
+        await throws(() => decodeSequences(bytesOf('speed/cif'), { workers: 0, module }).next(), RangeError, 'one worker');
+        await throws(() => new AvcVideoDecoder({ output() {}, error() {}, worker: true, workers: 0 }), RangeError, 'one worker');
+    });
     await test('who leaves early ends the workers, and a module that is none is told', async () => {
         let pictures = 0;
         for await (const _ of decodeSequences(bytesOf('encoder/pub_x_keyint3'), { workers: 2, module })) if (++pictures === 3) break;
