@@ -96,6 +96,19 @@ pub record IsOfFourVectors (f : MbInfo) : Type 0 where
   pub inter : f.is_intra ≡ false
   pub vectors_are : HasVectors f (λ k. 4 * (k / 4))
 
+-- An inter macroblock that stands still in the frame with this number: without coefficients, with
+-- that picture and a zero vector in each block (8.7.2.1).
+pub record StandsStill (frame : ℕ) (f : MbInfo) : Type 0 where
+  pub inter : f.is_intra ≡ false
+  pub no_levels : (k : ℕ) → k < 16 → has_bit f.coefficients k ≡ false
+  pub pictures_are : (q : ℕ) → q < 4 → slice_index f.pictures q ≡ frame
+  pub vectors_are : (k : ℕ) → k < 16 → vector_at f k ≡ zero_vector
+
+-- the first n macroblocks of a row stand still in the frame with this number
+abbrev pub FirstStandStill : (frame n : ℕ) → (info : List MbInfo) → Type 0
+FirstStandStill frame n info =
+    (k : ℕ) (other : MbInfo) → k < n → StandsStill frame (slice_index_or info k other)
+
 -- The luma block on the q side of edge n of a macroblock in the k-th quarter of the edge. The edges
 -- of a macroblock are numbered from 0, four luma samples apart.
 abbrev pub edge_block : Bool → (n k : ℕ) → ℕ

@@ -1,15 +1,16 @@
 -- Laws of the order of the line filters, and of the info of macroblocks.
-use Rattle.std.specs.Prelude.{◌≡◌, ℕ, ◌+◌, ◌*◌, ◌<◌, ◌≤◌, true}
+use Rattle.std.specs.Prelude.{◌≡◌, ℕ, ◌+◌, ◌*◌, ◌<◌, ◌≤◌, ℤ, true}
 use Rattle.std.specs.Prelude.{List, [], ◌∷◌, length, slice_index_or}
 use Rattle.std.specs.List.{range_with_len, flat_map}
 use Rattle.avc_types.specs.Pictures.{Coded}
 use Rattle.avc_neigh.specs.declared.neighbour_info.Motion.{Motion}
 use Rattle.avc_deblock.specs.Edges.{line_filters, row_lines, mb_at, slice_at}
-use Rattle.avc_deblock.specs.FilterInfo.{Names, HaveInfo}
+use Rattle.avc_deblock.specs.FilterInfo.{Names, HaveInfo, FirstStandStill}
 use Rattle.avc_deblock.specs.declared.mb_info.MbInfo.{MbInfo}
 use Rattle.avc_plane.specs.Plane.{Plane}
+use Rattle.avc_plane.specs.Planes.{Planes}
 use Rattle.avc_edges.specs.OneEdge.{lines_filtered, luma_setting}
-use Rattle.avc_deblock.specs.ByInfo.{no_info, strength_of, luma_qp_of}
+use Rattle.avc_deblock.specs.ByInfo.{no_info, strength_of, luma_qp_of, row_by_info}
 
 -- The line filters of a picture are those of its rows of macroblocks, one row after another.
 abbrev pub RowsInOrder : Type 0
@@ -31,6 +32,15 @@ InfoOfFirstMacroblocksStays =
     (first : ℕ) (info : List MbInfo) →
     AgreeBelow n c d motion_c motion_d → first + length info ≤ n →
     HaveInfo c motion_c names first info → HaveInfo d motion_d names first info
+
+-- A row that stands still below one that stands still in the same frame stays as it is: all its
+-- strengths are 0 (8.7.2.1).
+abbrev pub StillRowsStay : Type 0
+StillRowsStay =
+    (offset : ℤ) (row : ℕ) (above info : List MbInfo) (frame : ℕ) (s : Planes) →
+    length above ≡ length info →
+    FirstStandStill frame (length above) above → FirstStandStill frame (length info) info →
+    row_by_info offset row above info (length info) s ≡ s
 
 -- ---- a worked row
 

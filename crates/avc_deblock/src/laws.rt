@@ -3,7 +3,8 @@
 ghost use Rattle.avc_deblock.specs.ByInfo.{EdgeIsThePictures, RowIsThePictures};
 ghost use Rattle.avc_deblock.specs.Locality.{RowChangesItsRows, RowReadsNoneBelow};
 ghost use Rattle.avc_deblock.specs.Locality.{RowCommutesWithBlocksBelow};
-ghost use Rattle.avc_deblock.specs.Laws.{RowsInOrder, InfoOfFirstMacroblocksStays, TwoEdgesOfAStep};
+ghost use Rattle.avc_deblock.specs.Laws.{RowsInOrder, InfoOfFirstMacroblocksStays};
+ghost use Rattle.avc_deblock.specs.Laws.{StillRowsStay, TwoEdgesOfAStep};
 
 /// The line filters of a picture are those of its rows of macroblocks, one row after another.
 #[tactic(auto, using(crate::proofs::FilteredPictures::rows_are_all))]
@@ -34,6 +35,12 @@ pub fn row_is_local()
     ensures changes { RowChangesItsRows }
     ensures reads { RowReadsNoneBelow }
     ensures commutes { RowCommutesWithBlocksBelow }
+{}
+
+/// A row of macroblocks that stand still below one that stands still in the same frame stays as it
+/// is.
+pub fn still_rows_stay()
+    ensures { StillRowsStay }
 {}
 
 /// The second of two edges filters what the first left.
