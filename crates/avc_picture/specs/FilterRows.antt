@@ -1,10 +1,11 @@
 -- The three rows of macroblocks whose info is kept for the deblocking filter.
 use Rattle.std.specs.Prelude.{◌≡◌, ℕ, ◌+◌, ◌-◌, ◌*◌, ◌/◌, ◌<◌, ◌≤◌, nat_le, nat_lt, Bool, ◌&&◌}
-use Rattle.std.specs.Prelude.{if◌then◌else◌, List, ◌++◌, ◌∷◌, [], length, Option, None, slice_get}
-use Rattle.std.specs.Prelude.{slice_index_or}
+use Rattle.std.specs.Prelude.{if◌then◌else◌, List, ◌++◌, ◌∷◌, [], length, Option, Some, None}
+use Rattle.std.specs.Prelude.{slice_get, slice_index_or}
 use Rattle.avc_types.specs.Macroblock.{Mb}
 use Rattle.avc_neigh.specs.declared.neighbour_info.Motion.{Motion}
 use Rattle.avc_deblock.specs.declared.mb_info.MbInfo.{MbInfo}
+use Rattle.avc_deblock.specs.FilterInfo.{FirstStandStill}
 use Rattle.avc_picture.specs.MacroblockInfo.{IsFilterInfo}
 use Rattle.avc_picture.specs.RowLate.{FilterInfo}
 use Rattle.avc_picture.specs.declared.slice_context.SliceContext.{SliceContext}
@@ -27,6 +28,18 @@ pub record AreLastRows (info : List MbInfo) (width column row : ℕ)
   pub current_is : AreFrom info (row * width) column current
   pub last_is : 1 ≤ row → AreFrom info ((row - 1) * width) width last
   pub above_is : 2 ≤ row → AreFrom info ((row - 2) * width) width above
+
+-- The first n macroblocks of a row stand still in the frame whose number is told, if one is
+-- (8.7.2.1).
+abbrev pub StandStillIn : (told : Option ℕ) → (n : ℕ) → (kept : List MbInfo) → Type 0
+StandStillIn told n kept = (frame : ℕ) → told ≡ Some frame → FirstStandStill frame n kept
+
+-- What is told of the three rows holds of what is kept of them, whichever picture it is of.
+pub record AreStillIn (width column : ℕ) (current_told last_told above_told : Option ℕ)
+    (current last above : List MbInfo) : Type 0 where
+  pub current_is : StandStillIn current_told column current
+  pub last_is : StandStillIn last_told width last
+  pub above_is : StandStillIn above_told width above
 
 -- Of a picture of this width, n macroblocks of which are there, macroblock `address` is one, and
 -- lies in the row of the macroblock that comes next or in one of the two rows above that.

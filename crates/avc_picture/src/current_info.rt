@@ -85,6 +85,14 @@ impl CurrentInfo {
         self.is_still
     }
 
+    /// Whether this macroblock, of which it is, is skipped and is known to stand still.
+    pub(crate) fn stands_still(&self, mb: &Mb) -> bool
+        ensures skipped { result ≡ true → mb.now.syntax ≡ p_skip }
+        ensures still { result ≡ true → self.now.motion ≡ still_blocks }
+    {
+        self.is_still && is_skipped(mb)
+    }
+
     /// That of a skipped macroblock of this slice that stands still. Where it is that already
     /// nothing is written: who reads it next need not wait until it is.
     fn set_still(&mut self, slice: u32)

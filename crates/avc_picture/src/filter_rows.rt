@@ -1,20 +1,23 @@
 //! The deblocking filter one row late, and what it asks of the last rows of macroblocks (8.7).
 
 ghost use Rattle.std.specs.Prelude.{◌≡◌, ℕ, suc, ◌+◌, ◌-◌, ◌/◌, ◌%◌, ◌^◌, ◌<◌, true, [], length};
-ghost use Rattle.std.specs.Prelude.{IfOk};
+ghost use Rattle.std.specs.Prelude.{IfOk, Some};
+ghost use Rattle.avc_types.specs.Macroblock.{p_skip};
 ghost use Rattle.avc_types.specs.Pictures.{Coded};
 ghost use Rattle.avc_plane.specs.Frames.{planes_of, AreSized};
-ghost use Rattle.avc_deblock.specs.FilterInfo.{Names};
+ghost use Rattle.avc_deblock.specs.ByInfo.{row_by_info};
+ghost use Rattle.avc_deblock.specs.FilterInfo.{FirstStandStill, Names};
 ghost use Rattle.avc_deblock.specs.OneEdge.{HasRoom};
 ghost use Rattle.avc_picture_core.specs.Canvas.{address_of};
 ghost use Rattle.avc_picture.specs.RowLate.{filtered_rows, AreInfoOf, FiltersUpTo};
-ghost use Rattle.avc_motion.specs.Motion.{AreOfOneMotion, has_one_motion};
+ghost use Rattle.avc_motion.specs.Motion.{AreOfOneMotion, has_one_motion, still_blocks};
 ghost use Rattle.avc_neigh.specs.TotalCoeffs.{total_coeffs_of};
 ghost use Rattle.std.specs.Option.{option_copied};
 ghost use Rattle.avc_picture.specs.FilterRows.{kept_info, AddsInfo};
 
 use crate::filter_info::set_filter_info;
 use crate::slice_context::SliceContext;
+use avc_deblock::laws::still_rows_stay;
 use avc_deblock::{MbInfo, row};
 use avc_neigh::NeighbourInfo;
 use avc_picture_core::MbPlace;
@@ -54,6 +57,13 @@ pub(crate) struct FilterRows {
     /// The row above that.
     above: Vec<MbInfo>,
 
+    /// For each of these rows the number of the frame that all its macroblocks stand still in, of
+    /// the row of the macroblock that comes next all so far; nothing where there is none such, or
+    /// it is not known.
+    current_still: Option<u8>,
+    last_still: Option<u8>,
+    above_still: Option<u8>,
+
     /// Where the macroblock stands that comes next.
     column: usize,
     row: usize,
@@ -63,14 +73,66 @@ pub(crate) struct FilterRows {
 
 impl Model for FilterRows {
     ghost use Rattle.avc_picture.specs.RowLate.{FilterInfo};
-    ghost use Rattle.avc_picture.specs.FilterRows.{AreLastRows};
+    ghost use Rattle.avc_picture.specs.FilterRows.{AreLastRows, AreStillIn};
 
     ghost Value = { FilterInfo };
 
     ghost view = { λ r. record { width = r.width; info = r.info.items } };
 
     ghost invariant = { λ r. AreLastRows r.info.items r.width r.column r.row r.current.items r.last.items
-        r.above.items };
+        r.above.items × AreStillIn r.width r.column r.current_still r.last_still r.above_still
+        r.current.items r.last.items r.above.items };
+}
+
+/// The number of the frame that the first macroblocks of a row stand still in, with one more of
+/// them: `before` is that of the `count` before it, and `frame` the one of its reference index 0.
+fn still_with(before: Option<u8>, count: usize, stands_still: bool, frame: u8) -> Option<u8>
+    ensures still { (n : ℕ) → result ≡ Some n → stands_still ≡ true }
+    ensures frame { (n : ℕ) → result ≡ Some n → frame ≡ n }
+    ensures before { (n : ℕ) → result ≡ Some n → 0 < count → before ≡ Some n }
+{
+    if stands_still && (count == 0 || before == Some(frame)) {
+        Some(frame)
+    } else {
+        None
+    }
+}
+
+/// Whether two rows stand still in one frame, by the numbers of theirs.
+fn stand_still_alike(above: Option<u8>, below: Option<u8>) -> bool
+    ensures { result ≡ true → (n : ℕ) × (above ≡ Some n) × (below ≡ Some n) }
+{
+    match (above, below) {
+        (Some(m), Some(n)) => m == n,
+        _ => false,
+    }
+}
+
+/// Filters a row of macroblocks as `row` does. Where both rows are known to stand still in one
+/// frame all strengths are 0, and nothing is to be done (8.7.2.1).
+fn filter_row<const PAD: usize>(
+    planes: &mut Planes<PAD>,
+    above: &[MbInfo],
+    info: &[MbInfo],
+    row_number: usize,
+    chroma_qp_index_offset: i8,
+    are_still: bool,
+)
+    requires same { length above.now ≡ length info.now }
+    requires room { (column : ℕ) → column < length info.now →
+        HasRoom column row_number (planes_of planes.old) }
+    requires still { are_still ≡ true → (frame : ℕ) ×
+        FirstStandStill frame (length above.now) above.now ×
+        FirstStandStill frame (length info.now) info.now }
+    ensures lines { planes_of planes.new
+        ≡ row_by_info chroma_qp_index_offset row_number above.now info.now (length info.now)
+        (planes_of planes.old) }
+{
+    if are_still {
+        still_rows_stay();
+        return;
+    }
+    row(planes, above, info, row_number, chroma_qp_index_offset);
 }
 
 impl FilterRows {
@@ -85,6 +147,9 @@ impl FilterRows {
             current: vec![in alloc; NO_FACTS; width]?,
             last: vec![in alloc; NO_FACTS; width]?,
             above: vec![in alloc; NO_FACTS; width]?,
+            current_still: None,
+            last_still: None,
+            above_still: None,
             column: 0,
             row: 0,
             info: History::new(),
@@ -154,12 +219,13 @@ impl FilterRows {
             (planes_of planes.old) (planes_of planes.new) }
     {
         if self.row > 0 {
-            row(
+            filter_row(
                 planes,
                 &self.above,
                 &self.last,
                 self.row - 1,
                 chroma_qp_index_offset,
+                stand_still_alike(self.above_still, self.last_still),
             );
         }
     }
@@ -188,20 +254,26 @@ impl FilterRows {
         }
     }
 
-    /// Adds the info of the macroblock that comes next, of which neighbours are told this.
+    /// Adds the info of the macroblock that comes next, of which neighbours are told this; it may
+    /// be known to be skipped and to stand still.
     pub(crate) fn put<const PAD: usize>(
         &mut self,
         mb: &Mb,
         neighbour_info: &NeighbourInfo,
         slice: &SliceContext<'_, PAD>,
+        stands_still: bool,
     )
         requires small { length self.old.info < 2 ^ 32 }
         requires total_coeffs { neighbour_info.now.total_coeffs ≡ total_coeffs_of mb.now.syntax }
         requires one { has_one_motion mb.now.syntax ≡ true →
             AreOfOneMotion neighbour_info.now.motion }
+        requires skipped { stands_still ≡ true → mb.now.syntax ≡ p_skip }
+        requires still { stands_still ≡ true → neighbour_info.now.motion ≡ still_blocks }
         ensures info { AddsInfo mb.now neighbour_info.now.motion slice.now self.old self.new }
         ensures blocks { length neighbour_info.now.motion ≡ 16 }
     {
+        let frame = slice.frame_numbers[0];
+        self.current_still = still_with(self.current_still, self.column, stands_still, frame);
         let info = &mut self.current[self.column];
         set_filter_info(info, mb, neighbour_info, slice);
         self.info = self.info.with(&self.current[self.column]);
@@ -210,6 +282,8 @@ impl FilterRows {
             // the oldest row gives its place to the next
             swap(&mut self.above, &mut self.last);
             swap(&mut self.last, &mut self.current);
+            self.above_still = self.last_still;
+            self.last_still = self.current_still;
             self.column = 0;
             self.row += 1;
         }

@@ -212,10 +212,11 @@ impl<const PAD: usize> Macroblocks<PAD> {
         let width = self.canvas.width;
         self.mixture = read_ahead(place, width, run.is_long(), &slice.references);
         run.build(&self.canvas, &mut self.planes, place, mb, info, &sources)?;
+        let stands_still = info.stands_still(mb);
         let info = info.info();
         self.filter_rows
             .filter_late(&mut self.planes, self.canvas.chroma_qp_index_offset);
-        self.filter_rows.put(mb, info, slice);
+        self.filter_rows.put(mb, info, slice, stands_still);
         self.row.put(info);
         self.next += 1;
         Ok(())

@@ -5,7 +5,7 @@ use Rattle.avc_picture.proofs.filter_rows.FilterRows.filter_late.Goals as goal
 pub returns-then-self-clause-lines : goal.returns-then-self-clause-lines
 returns-then-self-clause-lines g c =
     let i = c.self.inside in
-    let k = c.self.invariant in
+    let k = c.self.invariant.0 in
     let back : to_z w8 (of_z w8 c.args.chroma_qp_index_offset) ≡ c.args.chroma_qp_index_offset = search rules in
     let here = row_of_last k in
     let next = next_row k (omega (arith, c.if-self.true)) in
@@ -16,5 +16,5 @@ returns-then-self-clause-lines g c =
 pub returns-else-self-clause-lines : goal.returns-else-self-clause-lines
 returns-else-self-clause-lines g c = rw (← c.self.view_is) (λ coded names of s old.
     let i = c.self.inside in
-    let more : i.column + 1 < i.width = omega (arith, c.if-self.false, c.self.invariant.narrow) in
-    old ∙ ap (λ n. rows_filtered coded (n - 1) s) (row_of_last c.self.invariant ∙ sym (same_row c.self.invariant more)))
+    let more : i.column + 1 < i.width = omega (arith, c.if-self.false, c.self.invariant.0.narrow) in
+    old ∙ ap (λ n. rows_filtered coded (n - 1) s) (row_of_last c.self.invariant.0 ∙ sym (same_row c.self.invariant.0 more)))

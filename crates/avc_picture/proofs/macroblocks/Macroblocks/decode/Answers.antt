@@ -134,4 +134,6 @@ put-requires g c =
     let w = c.self.invariant in
     let room = rw (← c.self.view_is) at c.requires.room in
     let told = rw (← c.info-info.ensures) at c.in_ok-set.ensures in
-    (omega arith, (omega (arith, w.kept.small, w.kept.filter_count, room), (told.told.total_coeffs_is, told.one)))
+    let skipped = c.stands_still-stands_still.ensures.skipped in
+    let still = rw (← c.info-info.ensures) at c.stands_still-stands_still.ensures.still in
+    (omega arith, (omega (arith, w.kept.small, w.kept.filter_count, room), (told.told.total_coeffs_is, (told.one, (skipped, still)))))
