@@ -1,6 +1,6 @@
 -- Samples that are copied ahead: no macroblock so far covers them, and what is built and filtered so far leaves them as they are.
 use Rattle.avc_picture.proofs.Slices.{◌≡◌, ◌∙◌, ℕ, zero, suc, ◌+◌, ◌-◌, ◌*◌, ◌/◌, ◌%◌, ◌<◌, ◌≤◌, List, [], ◌∷◌, length, take, refl, sym, ap, subst, if◌then◌else◌}
-use Rattle.avc_picture.proofs.Slices.{ℤ, ◌==◌, Some, None, Option, ◌⊎◌, inl, inr, cases_lt, arith, mul_comm, add-mul, add-one, div-mul-add, div-add-mod', div-lt_iff_lt-mul}
+use Rattle.avc_picture.proofs.Slices.{ℤ, ◌==◌, Some, None, Option, ◌⊎◌, inl, inr, cases_lt, arith, mul_comm, add-mul, div-mul-add, div-add-mod', div-lt_iff_lt-mul}
 use Rattle.avc_picture.proofs.Slices.{mul-le-mul_right, div-mul-le_self, length-take-le, slice_index, slice_index_or, IfSome, with_block, sample, Plane, Planes}
 use Rattle.avc_picture.proofs.Slices.{samples_of, component, size_of, HasSize, IsSized, AreSized, Place, place_of, planes_after, built_on, with_blocks4x4, with_macroblock}
 use Rattle.avc_picture.proofs.Slices.{luma_after, chroma_after, left_of_mb, top_of_mb, block_x, block_y, block_from, luma_from, chroma_from, inter_at, address_at}
@@ -13,7 +13,16 @@ use Rattle.avc_picture_core.proofs.InterTiles.IntraSides.BuiltBlocks.{outside}
 use Rattle.avc_picture_core.proofs.InterTiles.IntraSides.{address_in}
 use Rattle.avc_plane.proofs.PlaneMaps.{sample-with_block, inside}
 use Rattle.avc_picture_core.specs.Still.{AreInPlace, AreSameIn, CoverRun, IsSameIn, with_rectangle_of, with_run_of}
-use Rattle.avc_picture.specs.StillRuns.{AreCopied, AreCopiedFrom, IsRun, KeepsEarlier}
+use Rattle.avc_neigh.specs.Around.{Around, PictureInfo, around, back, mb_a, with_info}
+use Rattle.avc_neigh.specs.BlockNear.{motion_near}
+use Rattle.avc_neigh.specs.declared.neighbour_info.NeighbourInfo.{NeighbourInfo}
+use Rattle.avc_neigh.proofs.Found.RowKeeping.{slice_get-next}
+use Rattle.avc_motion.specs.Motion.{is_held, median_prediction, near_in, neighbours_of, no_motion, still_blocks, zero_vector, HasMotion}
+use Rattle.avc_motion.proofs.MacroblockMotion.{skipped_is}
+use Rattle.avc_neigh.specs.declared.neighbour_info.Motion.TheVariants.{Inter as inter}
+use Rattle.avc_picture.specs.MacroblockInfo.{still_info, IsNeighbourInfo}
+use Rattle.avc_picture.specs.StillRuns.{AreCopied, AreCopiedFrom, GoesOnStill, IsBuiltAsTold, IsHeldByLeft, IsRun, IsToldAndBuilt, KeepsEarlier}
+use Rattle.avc_picture.proofs.Slices.{Bool, true, false, is_intra, IsPlaceOn, Ok, Err, Result, Fault, ◌++◌, replicate, Mb, CanvasState, SliceContext, length-append, nat_tests, rules}
 use Rattle.std.proofs.lemmas.Nat.{mod-mul-add}
 
 -- ---- a macroblock leaves the samples that it doesn't cover
@@ -364,6 +373,12 @@ copied_here references width column row next count s narrow at copied =
     let down : next / width ≡ row = ap (λ n. n / width) (sym at) ∙ div-mul-add row width column narrow in
     rw (across, down) at copied
 
+-- its row goes on behind it
+row_goes_on : (width column row next : ℕ) → column + 1 < width → row * width + column ≡ next → suc next % width ≡ column + 1
+row_goes_on width column row next narrow at =
+    let place : suc next ≡ row * width + (column + 1) = omega (arith, at) in
+    ap (λ n. n % width) place ∙ mod-mul-add row width (column + 1) narrow
+
 -- those behind it are in its row
 pub copied_next : {PAD : ℕ} (references : List (Option (ReferencePicture PAD))) (width column row next count : ℕ) (s t : Planes) → row * width + column ≡ next
     → (0 < suc next % width → t ≡ s) → AreCopied references width (column + 1) row count s → AreCopiedFrom references width (next + 1) count t
@@ -373,9 +388,83 @@ copied_next references width column row next count s t at same copied some =
     let place : next + 1 ≡ row * width + (column + 1) = omega (arith, at) in
     let across : (next + 1) % width ≡ column + 1 = ap (λ n. n % width) place ∙ mod-mul-add row width (column + 1) narrow in
     let down : (next + 1) / width ≡ row = ap (λ n. n / width) place ∙ div-mul-add row width (column + 1) narrow in
-    let within_row : suc next % width ≡ column + 1 = ap (λ n. n % width) (sym (add-one next)) ∙ across in
+    let within_row = row_goes_on width column row next narrow at in
     rw (across, down, same (omega (arith, within_row))) run
 
 -- before any is copied
 pub none_copied : {PAD : ℕ} (references : List (Option (ReferencePicture PAD))) (width next count : ℕ) (s : Planes) → count ≡ 0 → AreCopiedFrom references width next count s
 none_copied references width next count s none some = absurd (omega (arith, none, some))
+
+-- ---- behind a macroblock that stands still, in its row
+
+-- with such a left neighbour a skipped macroblock stands still too (8.4.1.1)
+held_by_left : (n : Around) (slice : ℕ) → n.a ≡ Some (still_info slice) → is_held n ≡ true
+held_by_left n slice left = rw left refl
+
+-- one address back from behind the last is the last
+back_one : (info : List NeighbourInfo) (f : NeighbourInfo) → back (info ++ f ∷ []) 1 ≡ Some f
+back_one info f =
+    let long : length (info ++ f ∷ []) ≡ suc (length info) = omega (arith, length-append info (f ∷ [])) in
+    grind (arith, nat_tests, long, slice_get-next info f [])
+
+-- the macroblock that comes behind it where the row goes on
+pub goes_on_still : (row : PictureInfo) (slice : ℕ) (f : NeighbourInfo) → f ≡ still_info slice → 0 < suc (length row.info) % row.width
+    → IsHeldByLeft slice (with_info row f) f
+goes_on_still row slice f told inside = record {
+  told = told;
+  held = held_by_left (around (with_info row f) slice) slice left;
+}
+  where
+    long : length (row.info ++ f ∷ []) ≡ suc (length row.info)
+    long = omega (arith, length-append row.info (f ∷ []))
+
+    left : mb_a (with_info row f) slice ≡ Some (still_info slice)
+    left = grind (arith, nat_tests, long, back_one row.info f, told, inside)
+
+-- likewise by its column and row, where macroblocks are copied behind it
+pub goes_on_behind : {PAD : ℕ} (references : List (Option (ReferencePicture PAD))) (width column down next count : ℕ) (s : Planes) (row : PictureInfo) (slice : ℕ) (f : NeighbourInfo)
+    → down * width + column ≡ next → row.width ≡ width → length row.info ≡ next → AreCopied references width (column + 1) down count s
+    → (0 < count → f ≡ still_info slice) → GoesOnStill count slice (with_info row f) f
+goes_on_behind references width column down next count s row slice f at wide long copied told some =
+    let narrow : column + 1 < width = omega (arith, (copied some).within, some) in
+    let inside : 0 < suc next % width = omega (arith, row_goes_on width column down next narrow at) in
+    goes_on_still row slice f (told some) (rw (wide, long) inside)
+
+-- the motion of a skipped macroblock that is held
+pub held_motion : (n : Around) → is_held n ≡ true → HasMotion n p_skip (Ok still_blocks)
+held_motion n held p known a around =
+    skipped_is (near_in p known a) (motion_near n) around.block still_blocks
+    (ap (λ b. replicate 16 (inter 0 (if b then zero_vector else median_prediction 0 (neighbours_of (motion_near n) no_motion 0 0 16)))) (sym held)) refl
+
+-- and what else is told of it
+pub held_told : (slice : ℕ) (n : Around) (b : Bool) (mb : Mb) → mb.syntax ≡ p_skip → IsNeighbourInfo slice n b mb (still_info slice)
+held_told slice n b mb skipped = record {
+  slice_is = refl;
+  total_coeffs_is = rw skipped refl;
+  modes_are = rw skipped (λ c known a _ _. refl);
+  in_range = λ _ _. search rules;
+}
+
+not_intra : (s : MbSyntax) → s ≡ p_skip → is_intra s ≡ true → ⊥
+not_intra s skipped intra = let no : false ≡ true = sym (ap is_intra skipped) ∙ intra in cc
+
+-- what a skipped macroblock is built from doesn't depend on its neighbours (8.4.2)
+pub none_asked : {PAD : ℕ} {canvas : CanvasState} {address : ℕ} {mb : Mb} {info : NeighbourInfo} {n : Around} {references : List (Option (ReferencePicture PAD))} {p : Place} (m : Around)
+    → mb.syntax ≡ p_skip → IsPlaceOn canvas address mb info n references p → IsPlaceOn canvas address mb info m references p
+none_asked m skipped on = record {
+  width = on.width;
+  height = on.height;
+  offset = on.offset;
+  address_is = on.address_is;
+  mb_is = on.mb_is;
+  modes = on.modes;
+  motion = on.motion;
+  sides = λ intra k h. absurd (not_intra _ skipped intra);
+  references_are = on.references_are;
+}
+
+-- by whether it was built or refused
+pub built_as_told : {PAD : ℕ} {address : ℕ} {mb : Mb} {info : NeighbourInfo} {n : Around} {s : SliceContext PAD} {old new : CanvasState} (result : Result (Unit {0}) Fault)
+    → IsBuiltAsTold address mb info n s result old new → IsToldAndBuilt address mb info n s result old new
+built_as_told (Ok done) all = all
+built_as_told (Err f) all = inr all

@@ -80,7 +80,7 @@ impl CurrentInfo {
 
     /// Whether it is that of a skipped macroblock that stands still.
     pub(crate) fn is_still(&self) -> bool
-        ensures { result ≡ true → self.now.motion ≡ still_blocks }
+        ensures { result ≡ true → self.now ≡ still_info self.now.slice }
     {
         self.is_still
     }

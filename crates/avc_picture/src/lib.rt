@@ -11,6 +11,7 @@ mod info_for_neighbours;
 pub mod laws;
 mod macroblocks;
 mod memory;
+mod next_place;
 mod reference_places;
 mod rows_ahead;
 mod slice_context;

@@ -6,7 +6,6 @@ ghost use Rattle.std.specs.Option.{option_copied, option_map};
 ghost use Rattle.avc_types.specs.Pictures.{Coded};
 ghost use Rattle.avc_params.specs.Limits.{height_in_mbs, width_in_mbs};
 ghost use Rattle.avc_params.specs.Within.{IsPps, IsSps};
-ghost use Rattle.avc_neigh.specs.Around.{info_of};
 ghost use Rattle.avc_mbsyntax.specs.SliceData.{SliceStart, left_total_coeffs, up_total_coeffs};
 ghost use Rattle.avc_plane.specs.Frames.{planes_of};
 ghost use Rattle.avc_plane.specs.Plane.{HasSamples};
@@ -20,18 +19,18 @@ ghost use Rattle.avc_picture.specs.FirstMbs.{HasSameSize, HasSets, HoldsFirst, I
 ghost use Rattle.avc_picture.specs.MacroblockInfo.{IsRead};
 ghost use Rattle.avc_picture.specs.Memory.{with_info, HasMemoryFor, LeavesAll, TakesMemory};
 ghost use Rattle.avc_picture.specs.RowLate.{covering_address, row_late};
-ghost use Rattle.avc_picture.specs.StillRuns.{AreCopiedFrom};
+ghost use Rattle.avc_picture.specs.StillRuns.{AreCopiedFrom, GoesOnStill};
 
 use crate::current_info::CurrentInfo;
 use crate::filter_rows::FilterRows;
 use crate::memory::{FactRows, PictureMemory};
-use crate::rows_ahead::read_ahead;
+use crate::next_place::NextPlace;
 use crate::slice_context::SliceContext;
 use crate::still_run::StillRun;
 use avc_deblock::MbInfo;
-use avc_neigh::{NeighbourInfo, Neighbours, Row, TotalCoeffs};
+use avc_neigh::{NeighbourInfo, Row, TotalCoeffs};
 use avc_params::{Pps, Sps};
-use avc_picture_core::{Canvas, ReferencePicture, Sources};
+use avc_picture_core::Canvas;
 use avc_plane::Planes;
 use avc_types::{Fault, Mb, OutOfMemory};
 use std::alloc::Global;
@@ -74,21 +73,6 @@ fn total_coeffs_of(info: Option<&NeighbourInfo>) -> Option<&TotalCoeffs>
     match info {
         Some(info) => Some(&info.total_coeffs),
         None => None,
-    }
-}
-
-/// What a macroblock with these neighbours is predicted from. A call is what gives both one
-/// lifetime.
-fn sources<'a, const PAD: usize>(
-    neighbours: Neighbours<'a>,
-    references: &'a [Option<ReferencePicture<'a, PAD>>],
-) -> Sources<'a, PAD>
-    ensures neighbours { info_of result.neighbours ≡ info_of neighbours.entry }
-    ensures references { result.references.now ≡ references.now }
-{
-    Sources {
-        neighbours,
-        references,
     }
 }
 
@@ -174,9 +158,9 @@ impl<const PAD: usize> Macroblocks<PAD> {
     /// its own (8.7). `VectorRange` where a component of one of its vectors is no 16-bit number,
     /// `RefMissing` where a block has no reference picture, `IntraUnavailable` where an intra
     /// prediction has not the samples that it needs: the first of these. After a fault nothing more
-    /// is to be asked of the macroblocks. Anything may stand in `info`, which is where what its
-    /// neighbours are told is written. `run`
-    /// has macroblocks that were copied ahead.
+    /// is to be asked of the macroblocks. What neighbours are told is written into `info`, where
+    /// anything may stand unless `run` has macroblocks that were copied ahead: then it is what was
+    /// told of the one to the left, which stood still.
     #[tactic(auto, using(crate::proofs::Slices::asked))]
     pub(crate) fn decode(
         &mut self,
@@ -191,27 +175,25 @@ impl<const PAD: usize> Macroblocks<PAD> {
             slice.now.references }
         requires copied { AreCopiedFrom slice.now.references self.old.canvas.width self.old.next
             run.old.copied self.old.canvas.planes }
+        requires still { GoesOnStill run.old.copied slice.now.number self.old.row info.old }
         ensures size { HasSameSize self.old self.new }
         ensures next { OnOk result (self.new.next ≡ suc self.old.next) }
         ensures copied { OnOk result
             (AreCopiedFrom slice.now.references self.new.canvas.width self.new.next run.new.copied
             self.new.canvas.planes) }
+        ensures still { OnOk result
+            (GoesOnStill run.new.copied slice.now.number self.new.row info.new) }
         ensures decoded { (c : Coded) (names : Names) → HoldsFirst c names self.old
             → slice_get c.mbs self.old.next
             ≡ Some (record { slice = slice.now.number; mb = mb.now })
             → IsSlice c names slice.now → IsDecoded c names self.old.next result self.new }
     {
-        let sources = sources(self.row.around(slice.number), &slice.references);
-        info.set(
-            mb,
-            slice.number,
-            &sources.neighbours,
-            self.canvas.constrained_intra_pred,
-        )?;
-        let place = self.filter_rows.place();
-        let width = self.canvas.width;
-        self.mixture = read_ahead(place, width, run.is_long(), &slice.references);
-        run.build(&self.canvas, &mut self.planes, place, mb, info, &sources)?;
+        NextPlace {
+            canvas: &self.canvas,
+            row: &self.row,
+            place: self.filter_rows.place(),
+        }
+        .build(&mut self.planes, mb, slice, info, run, &mut self.mixture)?;
         let stands_still = info.stands_still(mb);
         let info = info.info();
         self.filter_rows

@@ -22,7 +22,7 @@ ghost use Rattle.avc_picture.specs.DecoderState.{IsDataAnswer, IsDataOf, IsDecod
 ghost use Rattle.avc_picture.specs.DecoderState.{IsWellSomewhere, outcome_from};
 ghost use Rattle.avc_picture.specs.FirstMbs.{HasSameSize, HoldsFirst};
 ghost use Rattle.avc_picture.specs.Slices.{data_of, start_of};
-ghost use Rattle.avc_picture.specs.StillRuns.{AreCopiedFrom};
+ghost use Rattle.avc_picture.specs.StillRuns.{AreCopiedFrom, GoesOnStill};
 
 use crate::current_info::CurrentInfo;
 use crate::current_macroblock::CurrentMacroblock;
@@ -95,8 +95,7 @@ fn next_macroblock<const PAD: usize>(
 
 /// Decodes the macroblocks of a slice, and counts in `read` those that are read, a faulty one
 /// included. Answers the first fault. Anything may stand in `current`, which is where they are
-/// read, and in `info`, which is where the info of each is written. `run` has those that were
-/// copied ahead.
+/// read. `info` and `run` are as `Macroblocks::decode` has them.
 fn decode_data<const PAD: usize>(
     unread: &mut SliceData<'_>,
     context: &SliceContext<'_, PAD>,
@@ -111,6 +110,7 @@ fn decode_data<const PAD: usize>(
         context.now.references }
     requires copied { AreCopiedFrom context.now.references macroblocks.old.canvas.width
         macroblocks.old.next run.old.copied macroblocks.old.canvas.planes }
+    requires still { GoesOnStill run.old.copied context.now.number macroblocks.old.row info.old }
     requires read { macroblocks.old.next ≡ read.old }
     requires within { read.old ≤ macroblocks.old.canvas.width * macroblocks.old.canvas.height }
     requires small { macroblocks.old.canvas.width * macroblocks.old.canvas.height

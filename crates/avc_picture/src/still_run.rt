@@ -2,15 +2,18 @@
 //! their decoding.
 
 ghost use Rattle.std.specs.Prelude.{◌≡◌, ◌+◌, ◌*◌, ◌<◌, ◌≤◌, true, Some, None, All, IfSome, OnOk};
-ghost use Rattle.std.specs.Prelude.{slice_index_or};
+ghost use Rattle.std.specs.Prelude.{slice_index_or, Ok};
 ghost use Rattle.std.specs.Option.{option_copied};
+ghost use Rattle.avc_types.specs.Macroblock.{p_skip};
 ghost use Rattle.avc_neigh.specs.Around.{info_of};
 ghost use Rattle.avc_neigh.specs.Modes.{IsMode};
-ghost use Rattle.avc_motion.specs.Motion.{AreOfOneMotion, has_one_motion};
+ghost use Rattle.avc_motion.specs.Motion.{AreOfOneMotion, has_one_motion, still_blocks};
 ghost use Rattle.avc_plane.specs.Frames.{planes_of, AreSized};
-ghost use Rattle.avc_picture_core.specs.Canvas.{address_of, IsInRange};
+ghost use Rattle.avc_picture_core.specs.Built.{Place};
+ghost use Rattle.avc_picture_core.specs.Canvas.{address_of, IsBuilt, IsInRange, IsPlaceOn};
 ghost use Rattle.avc_picture_core.specs.CanvasFields.{with_planes};
 ghost use Rattle.avc_picture_core.specs.References.{AreUsable};
+ghost use Rattle.avc_picture.specs.MacroblockInfo.{still_info};
 ghost use Rattle.avc_picture.specs.StillRuns.{AreCopied, IsBuiltAhead, KeepsEarlier};
 
 use crate::current_info::{CurrentInfo, is_skipped};
@@ -32,7 +35,8 @@ pub(crate) struct StillRun {
     /// they are skipped and stand still.
     pub(crate) copied: usize,
 
-    /// How many stood still just now. It says alone how many are copied ahead.
+    /// How many stood still just now, those that are copied included. It says alone how many are
+    /// copied ahead.
     streak: usize,
 }
 
@@ -129,10 +133,44 @@ impl StillRun {
         ensures sized { AreSized canvas.now.width canvas.now.height (planes_of planes.new) }
     {
         let count = self.count_ahead(place.column, canvas.width);
-        self.streak = self.streak.saturating_add(1);
         if self.copied == 0 && count > 0 {
             self.copied = copy_ahead(canvas, planes, place, count, references);
         }
+        self.streak = self.streak.saturating_add(self.copied.max(1));
+    }
+
+    /// Builds the skipped macroblock at this place, which stands still, where it is copied already.
+    #[inline(always)]
+    pub(crate) fn build_copied<const PAD: usize>(
+        &mut self,
+        canvas: &Canvas,
+        planes: &Planes<PAD>,
+        place: MbPlace,
+        mb: &Mb,
+        info: &CurrentInfo,
+        sources: &Sources<'_, PAD>,
+    )
+        requires column { place.column < canvas.now.width }
+        requires row { place.row < canvas.now.height }
+        requires sized { AreSized canvas.now.width canvas.now.height (planes_of planes.now) }
+        requires references { AreUsable canvas.now.width canvas.now.height
+            sources.now.references.now }
+        requires some { 0 < self.old.copied }
+        requires copied { AreCopied sources.now.references.now canvas.now.width place.column
+            place.row self.old.copied (planes_of planes.now) }
+        requires skipped { mb.now.syntax ≡ p_skip }
+        requires still { info.now.motion ≡ still_blocks }
+        ensures copied { AreCopied sources.now.references.now canvas.now.width (place.column + 1)
+            place.row self.new.copied (planes_of planes.now) }
+        ensures built { (p : Place) →
+            IsPlaceOn (with_planes canvas.now (planes_of planes.now))
+            (address_of canvas.now.width place) mb.now info.now (info_of sources.now.neighbours)
+            sources.now.references.now p →
+            IsBuilt p (Ok tt) (with_planes canvas.now (planes_of planes.now))
+            (with_planes canvas.now (planes_of planes.now)) }
+    {
+        self.copied -= 1;
+        build_in_place(canvas, planes, place, mb, info.info(), sources);
     }
 
     /// Builds the macroblock at this place in the planes, of which `info` is known, as
@@ -165,13 +203,13 @@ impl StillRun {
             (info_of sources.now.neighbours) sources.now.references.now result
             (with_planes canvas.now (planes_of planes.old))
             (with_planes canvas.now (planes_of planes.new)) }
+        ensures still { 0 < self.new.copied → info.now ≡ still_info info.now.slice }
         ensures sized { AreSized canvas.now.width canvas.now.height (planes_of planes.new) }
     {
         if info.is_still() && is_skipped(mb) {
             self.go_on(canvas, planes, place, sources.references);
             if self.copied > 0 {
-                self.copied -= 1;
-                build_in_place(canvas, planes, place, mb, info.info(), sources);
+                self.build_copied(canvas, planes, place, mb, info, sources);
                 return Ok(());
             }
         } else {

@@ -12,7 +12,7 @@ returns-in_err-next_macroblock-clause-answer g c = λ coded names s go.
 pub decode-requires : goal.decode-requires
 decode-requires g c =
     let out = has-room c.requires.some c.macroblocks.invariant.goes_on (rw (c.if-branch.true, ← c.mb.ensures) at c.in_ok-next_macroblock.ensures) in
-    (omega arith, (omega arith, (out.0, (out.1, (usable-still _ c.macroblocks.invariant.size c.requires.usable, c.macroblocks.invariant.copied)))))
+    (omega arith, (omega arith, (out.0, (out.1, (usable-still _ c.macroblocks.invariant.size c.requires.usable, (c.macroblocks.invariant.copied, c.macroblocks.invariant.still))))))
 
 pub macroblocks-smaller : goal.macroblocks-smaller
 macroblocks-smaller g c =
@@ -29,6 +29,7 @@ macroblocks-preserved g c =
       size = record { width = done.size.width ∙ before.size.width; height = done.size.height ∙ before.size.height };
       reached = omega (arith, done.next, before.reached);
       copied = done.copied;
+      still = done.still;
       within = omega (arith, out.0, same-area done.size, before.reached);
       goes_on = λ coded names s go.
           let far = before.goes_on coded names s go in

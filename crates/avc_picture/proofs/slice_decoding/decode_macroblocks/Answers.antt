@@ -12,7 +12,7 @@ decode-requires g c =
     let go = h.goes_on context knows in
     let usable =
     usable-pictures m.canvas.width m.canvas.height c.args.frames.now c.args.slice.header.now c.requires.frames c.requires.weights c.args.places.now context.references knows.full knows.pictures in
-    (omega arith, (omega arith, (room go h.first, (rw c.mb.ensures (is-read go h.first), (usable, none_copied context.references m.canvas.width m.next c.new-run.result.copied m.canvas.planes c.new-run.ensures)))))
+    (omega arith, (omega arith, (room go h.first, (rw c.mb.ensures (is-read go h.first), (usable, (none_copied context.references m.canvas.width m.next c.new-run.result.copied m.canvas.planes c.new-run.ensures, λ some. absurd (omega (arith, some, c.new-run.ensures))))))))
 
 pub returns-in_err-decode-clause-answer : goal.returns-in_err-decode-clause-answer
 returns-in_err-decode-clause-answer g c = λ coded names s d h.
@@ -36,7 +36,7 @@ decode_data-requires g c =
     let far = goes-on-from go (rw (← c.mb.ensures) at h.first) c.decode.new.self done.next (done.decoded w.coded w.names) in
     let usable = usable-still _ done.size
     (usable-pictures m.canvas.width m.canvas.height c.args.frames.now c.args.slice.header.now c.requires.frames c.requires.weights c.args.places.now context.references knows.full knows.pictures) in
-    (omega arith, (omega arith, (record { coded = w.coded; names = w.names; start = w.start; goes_on = far.goes_on }, (usable, (done.copied, (omega (arith, done.next, c.requires.read), (omega (arith, inside, area, c.requires.read), omega (arith, area, c.requires.small))))))))
+    (omega arith, (omega arith, (record { coded = w.coded; names = w.names; start = w.start; goes_on = far.goes_on }, (usable, (done.copied, (done.still, (omega (arith, done.next, c.requires.read), (omega (arith, inside, area, c.requires.read), omega (arith, area, c.requires.small)))))))))
 
 pub returns-clause-answer : goal.returns-clause-answer
 returns-clause-answer g c = λ coded names s d h.

@@ -1,6 +1,6 @@
-use Rattle.avc_picture.proofs.Slices.{arith, planes_of, AreSized}
+use Rattle.avc_picture.proofs.Slices.{arith, ap, planes_of, AreSized, NeighbourInfo}
 use Rattle.avc_picture_core.specs.Canvas.{address_of}
-use Rattle.avc_picture.proofs.StillRuns.{keeps_all, one_in_place, others_copied}
+use Rattle.avc_picture.proofs.StillRuns.{keeps_all}
 use Rattle.avc_picture.proofs.still_run.StillRun.build.Goals.{then-is_still+then-is_skipped+else-self-gt0, else-is_still}
 use Rattle.avc_picture.proofs.still_run.StillRun.build.Goals as goal
 
@@ -16,7 +16,7 @@ returns-clause-built g c =
         | then-is_still+then-is_skipped+else-self-gt0 s ↦ rw s.planes-is s.go_on.ensures.earlier
         | else-is_still s ↦ rw s.planes-is (keeps_all w h address (planes_of a.planes.now))
       ];
-      built = rw (c.info-2.ensures) at c.build.ensures.built;
+      built = rw (c.info.ensures) at c.build.ensures.built;
     }
 
 pub go_on-requires : goal.go_on-requires
@@ -31,24 +31,21 @@ build-requires g c =
       | then-is_still+then-is_skipped+else-self-gt0 s ↦ rw s.planes-is s.go_on.ensures.sized
       | else-is_still s ↦ rw s.planes-is r.sized
     ] in
-    let modes = rw (← c.info-2.ensures) at r.modes in
-    let one = rw (← c.info-2.ensures) at r.one in
+    let modes = rw (← c.info.ensures) at r.modes in
+    let one = rw (← c.info.ensures) at r.one in
     (omega arith, (omega arith, (r.column, (r.row, (sized, (r.syntax, (r.quantiser, (modes, (one, r.references)))))))))
 
-pub build_in_place-requires : goal.build_in_place-requires
-build_in_place-requires g c =
+pub build_copied-requires : goal.build_copied-requires
+build_copied-requires g c =
     let r = c.requires in
-    let still = rw (← c.info.ensures) at (c.is_still.ensures c.if-is_still.true) in
+    let still = c.is_still.ensures c.if-is_still.true in
     let some = c.if-self-gt0.true in
     let ahead = c.go_on.ensures in
-    (omega arith, (omega arith, (r.column, (r.row, (ahead.sized, (r.references, (c.is_skipped.ensures c.if-is_skipped.true, (still, one_in_place (ahead.copied some) some))))))))
-
-pub returns-then-self-gt0-clause-copied : goal.returns-then-self-gt0-clause-copied
-returns-then-self-gt0-clause-copied g c = others_copied (c.go_on.ensures.copied c.if-self-gt0.true) _ (omega (arith, c.if-self-gt0.true))
+    (omega arith, (omega arith, (r.column, (r.row, (ahead.sized, (r.references, (some, (ahead.copied, (c.is_skipped.ensures c.if-is_skipped.true, ap (λ (f : NeighbourInfo). f.motion) still)))))))))
 
 pub returns-then-self-gt0-clause-built : goal.returns-then-self-gt0-clause-built
 returns-then-self-gt0-clause-built g c = record {
   between = planes_of c.go_on.new.planes;
   earlier = c.go_on.ensures.earlier;
-  built = rw (c.info.ensures) at c.build_in_place.ensures;
+  built = c.build_copied.ensures.built;
 }
