@@ -1,8 +1,25 @@
 // avcdec-client.mjs: WorkerDecoder, a decoder in a worker of its own, so that the thread of a page stays free.
-import { DecoderError, frameOf, OutOfMemory } from './avcdec.mjs';
+import { compile, DecoderError, frameOf, OutOfMemory } from './avcdec.mjs';
 
 // as many as a worker keeps
 const SPARE_BUFFERS = 16;
+
+/** What was thrown by another's name, here or in a worker. */
+const decoderError = ({ message, status }) => Object.assign(new DecoderError('', status), { message });
+
+// The modules that workers were given, by their addresses: each is compiled once, and a later worker has its code at once.
+const modules = new Map();
+
+/** The module of an address, compiled; one that could not be had is asked for again next time. */
+function compiled(module) {
+    if (module instanceof WebAssembly.Module) return module;
+    const address = module === undefined ? '' : String(module);
+    if (!modules.has(address)) modules.set(address, compile(module).catch(thrown => {
+        modules.delete(address);
+        throw decoderError(thrown);
+    }));
+    return modules.get(address);
+}
 
 /** A picture with samples of its own, as I420 without gaps: luma, Cb, Cr. */
 export class OwnPicture {
@@ -53,6 +70,7 @@ export class WorkerDecoder {
     }
 
     async #begin(early, module) {
+        module = await compiled(module);
         // the URL stands in the call, where bundlers look for it
         const threads = typeof Worker === 'undefined' ? await import('node:worker_threads') : undefined;
         if (this.#closed) throw this.#closed;
@@ -63,14 +81,13 @@ export class WorkerDecoder {
         const told = message => this.#closed ? worker.terminate() : this.#told(message);
         if (worker.on) worker.on('message', told).on('error', it => fail(it.message));
         else worker.onmessage = event => told(event.data), worker.onerror = event => fail(event.message);
-        if (module instanceof URL) module = module.href;
         return this.#put('open', { module, early });
     }
 
     #told({ id, told, error }) {
         const { done, failed } = this.#waiting.get(id);
         this.#waiting.delete(id);
-        if (error) failed(error.name === 'OutOfMemory' ? new OutOfMemory() : Object.assign(new DecoderError('', error.status), { message: error.message }));
+        if (error) failed(error.name === 'OutOfMemory' ? new OutOfMemory() : decoderError(error));
         else {
             if (told.memory) this.memory = told.memory, this.turns = told.turns;
             if (told.version) this.version = told.version;

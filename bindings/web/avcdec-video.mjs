@@ -96,6 +96,7 @@ export class AvcVideoDecoder extends EventTarget {
     #isSeveral;
     #engineOf;
     #engine;
+    #isEarly;
     #state = 'unconfigured';
     #queue = [];
     #runs = false;
@@ -233,14 +234,18 @@ export class AvcVideoDecoder extends EventTarget {
         if (!isSupported) throw fault('NotSupportedError', 'this profile is not decoded: Constrained Baseline is');
         const round = this.#round;
         await this.#engine?.flush();
-        this.#engine?.close();
-        this.#engine = undefined;
-        const engine = await this.#engineOf(config.early, {
-            take: event => round === this.#round && this.#take(event),
-            failed: thrown => round === this.#round && this.#fail(thrown),
-        });
-        if (round !== this.#round) return engine.close();
-        this.#engine = engine;
+        // one that is as it is wanted goes on, with its worker
+        if (!this.#engine || this.#isEarly !== config.early) {
+            this.#engine?.close();
+            this.#engine = undefined;
+            const engine = await this.#engineOf(config.early, {
+                take: event => round === this.#round && this.#take(event),
+                failed: thrown => round === this.#round && this.#fail(thrown),
+            });
+            if (round !== this.#round) return engine.close();
+            this.#engine = engine;
+            this.#isEarly = config.early;
+        }
         this.#config = config;
         this.#sets = new ParameterSets();
         for (const unit of config.avcc?.sets ?? []) this.#sets.put(unit);

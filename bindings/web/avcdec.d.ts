@@ -30,6 +30,9 @@ export type Source = URL | string | Response | BufferSource | WebAssembly.Module
 /** Loads the module: avcdec.wasm beside avcdec.mjs unless named. */
 export function load(from?: Source | Promise<Source>): Promise<Library>;
 
+/** The module, compiled: from what `load` takes. Several libraries can be loaded from it, here or in workers. */
+export function compile(from?: Source | Promise<Source>): Promise<WebAssembly.Module>;
+
 /** What is shown of a plane: row y are the `columns` bytes from y * stride on. */
 export interface Plane {
     readonly samples: Uint8Array;

@@ -119,20 +119,21 @@ export class Library {
 
 /** Loads the module: from a URL (avcdec.wasm beside this file unless named), a Response, its bytes or a WebAssembly.Module. Each library has a
  * memory of its own; decoders of one library share it. */
-export async function load(from = new URL('avcdec.wasm', import.meta.url)) {
-    from = await from;
-    if (typeof from === 'string') from = new URL(from, globalThis.location?.href ?? import.meta.url);
-    if (from instanceof URL) from = from.protocol === 'file:' ? await (await import('node:fs/promises')).readFile(from) : await fetch(from);
-    return new Library(await instanceOf(from));
+export async function load(from) {
+    return new Library(await WebAssembly.instantiate(await compile(from), {}));
 }
 
-async function instanceOf(from) {
-    if (from instanceof WebAssembly.Module) return WebAssembly.instantiate(from, {});
-    if (typeof Response === 'undefined' || !(from instanceof Response)) return (await WebAssembly.instantiate(from, {})).instance;
+/** The module, compiled: from what `load` takes. A WebAssembly.Module is what several libraries are loaded from, here or in workers. */
+export async function compile(from = new URL('avcdec.wasm', import.meta.url)) {
+    from = await from;
+    if (from instanceof WebAssembly.Module) return from;
+    if (typeof from === 'string') from = new URL(from, globalThis.location?.href ?? import.meta.url);
+    if (from instanceof URL) from = from.protocol === 'file:' ? await (await import('node:fs/promises')).readFile(from) : await fetch(from);
+    if (typeof Response === 'undefined' || !(from instanceof Response)) return WebAssembly.compile(from);
     if (!from.ok) throw new DecoderError(`the module was not found: ${from.status} ${from.url}`);
     // a server that gives the module another type than application/wasm does as well
-    if (from.headers.get('Content-Type') !== 'application/wasm') from = await from.arrayBuffer();
-    return (await (from instanceof Response ? WebAssembly.instantiateStreaming(from, {}) : WebAssembly.instantiate(from, {}))).instance;
+    if (from.headers.get('Content-Type') !== 'application/wasm') return WebAssembly.compile(await from.arrayBuffer());
+    return WebAssembly.compileStreaming(from);
 }
 
 /** What a decoder holds in the module's memory. It knows nothing of its Decoder, so that one that is forgotten can be collected. */

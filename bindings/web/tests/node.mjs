@@ -291,6 +291,23 @@ async function calls() {
             same(decode(library, read.annexB(avcc.sample(units[0].bytes, true))).pictures, 1);
         });
     }
+    for (const [way, init] of [['here', { library }], ['in a worker', { module, worker: true }], ['in three workers', { module, worker: true, workers: 3 }]]) {
+        // the decoder, or its workers, go on where pictures go out as before, and what they hold goes out first
+        await test(`configured again ${way}: other streams, and pictures at once`, async () => {
+            const streams = [['encoder/pub_x_keyint3', false], ['speed/cif', false], ['encoder/pub_x_aud', true], ['speed/cif', true]];
+            const md5s = streams.map(([name]) => pictures(library, bytesOf(name))), count = md5s.flat().length;
+            const { frames, errors, decoder } = await shaped(accessUnits(bytesOf(streams[0][0])), init);
+            for (const [name, optimizeForLatency] of streams.slice(1)) {
+                decoder.configure({ codec: 'avc1.42E01E', optimizeForLatency });
+                accessUnits(bytesOf(name)).forEach(({ key, bytes }, at) => decoder.decode(new Chunk({ type: key ? 'key' : 'delta', timestamp: at * 40, data: bytes })));
+            }
+            for (let i = 0; frames.length < count && i < 500; i++) await new Promise(done => setTimeout(done, 10));
+            same(errors, []);
+            same(frames.map(it => it.md5), md5s.flat()); // the last ones too, without a flush
+            same(frames.map(it => it.timestamp), md5s.flatMap(of => of.map((_, at) => at * 40)));
+            decoder.close();
+        });
+    }
     // IDR pictures that drop those before them, among others; pictures that go out in another order than they are decoded in
     for (const name of ['cases/idr_drops_held', 'generated/pubgen_31', 'pcm/pcm_11', 'weighted/pubwgt_44', 'encoder/pub_o_idr_listing', 'encoder/pub_x_allintra']) {
         await test(`${name}: sequences side by side`, async () => {
