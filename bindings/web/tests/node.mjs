@@ -1,5 +1,8 @@
 // node [--expose-gc] node.mjs MODULE [streams|sequences|calls]: the module and its wrapper in Node. The last line is 'N passed, M failed'.
-import { readFileSync } from 'node:fs';
+import { copyFileSync, mkdtempSync, readFileSync, rmSync } from 'node:fs';
+import { tmpdir } from 'node:os';
+import { join } from 'node:path';
+import { pathToFileURL } from 'node:url';
 import { Decoder, DecoderError, load, OutOfMemory } from '../avcdec.mjs';
 import { accessUnits, Avcc, ParameterSets, sequenceInfo, SPS, unitsOf } from '../avcdec-annexb.mjs';
 import { WorkerDecoder } from '../avcdec-client.mjs';
@@ -267,6 +270,20 @@ async function calls() {
         const decoder = new WorkerDecoder({ module: new URL('md5.mjs', import.meta.url) });
         await throws(() => decoder.decode(bytes), DecoderError, '');
         decoder.close();
+    });
+    await test('a module that was not there is asked for again', async () => {
+        const folder = mkdtempSync(join(tmpdir(), 'avcdec-node-')), address = pathToFileURL(join(folder, 'avcdec.wasm'));
+        for (const isThere of [false, true]) {
+            if (isThere) copyFileSync(file, address);
+            const decoder = new WorkerDecoder({ module: address });
+            if (!isThere) await throws(() => decoder.decode(bytes), DecoderError, 'ENOENT');
+            else {
+                const events = [...await decoder.decode(bytes), ...await decoder.flush()];
+                same(events.filter(it => it.kind === 'picture').length, pictures(library, bytes).length);
+            }
+            decoder.close();
+        }
+        rmSync(folder, { recursive: true });
     });
     for (const name of ['encoder/pub_x_aud', 'encoder/pub_x_keyint3', 'speed/cif']) {
         const units = accessUnits(bytesOf(name)), md5s = pictures(library, bytesOf(name)), avcc = avccOf(units);
