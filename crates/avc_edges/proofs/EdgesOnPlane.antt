@@ -375,6 +375,58 @@ covered_block s l t w h l' w' f k from to =
     by_place (λ (b : Bool). (if b then k (x - l) (y - t) else sample (with_block s l' t w' h f) x y) ≡ (if b then k (x - l) (y - t) else sample s x y)) l t w h x y
     (λ p q r u. refl) (λ out. outside_block s l' t w' h f x y column row (λ p q. out (omega arith) (omega arith))))
 
+-- ---- a vertical edge inside a square of which the columns stand in a table as rows
+
+abbrev pub square : List ℕ → ℕ → ℕ → ℕ
+square t x y = slice_index t (16 * x + y)
+
+-- a block of the samples that stand there
+pub square_itself : (s : Plane) (left top : ℕ) (f : ℕ → ℕ → ℕ) → length s.samples ≡ s.width * s.height
+    → ((x y : ℕ) → x < 16 → y < 16 → f x y ≡ sample s (left + x) (top + y)) → s ≡ with_block s left top 16 16 f
+square_itself s left top f long same =
+    block_is s s left top 16 16 f (record { width = refl; height = refl; long = long })
+    (λ a b column row p q r u. ap (λ x. sample s x b) (let e : a ≡ left + (a - left) = omega arith in e)
+    ∙ ap (λ y. sample s (left + (a - left)) y) (let e : b ≡ top + (b - top) = omega arith in e) ∙ sym (same (a - left) (b - top) (omega arith) (omega arith)))
+    (λ a b column row out. refl)
+
+module _ (setting : ℕ → Setting) (left top e from : ℕ) (s : Plane) (t u : List ℕ) (at : from ≡ 16 * e) (room : e + 8 ≤ 16)
+    (columns : left + 16 ≤ s.width) (rows : top + 16 ≤ s.height)
+    (lines : (i : ℕ) → i < 16 → filtered (setting i) (line_down_from from t i) ≡ line_down_from from u i) (others : IsInnerSet from t u) where
+  abbrev before : Plane
+  before = with_block s left top 16 16 (square t)
+
+  seen_before : (x y : ℕ) → x < 16 → y < 16 → sample before (left + x) (top + y) ≡ square t x y
+  seen_before x y x_low y_low =
+      inside_block s left top 16 16 (square t) (left + x) (top + y) (omega arith) (omega arith) (omega arith) (omega arith) (omega arith) (omega arith)
+      ∙ ap (λ a. square t a (top + y - top)) (let e : left + x - left ≡ x = omega arith in e) ∙ ap (square t x) (let e : top + y - top ≡ y = omega arith in e)
+
+  place_in : (x y : ℕ) → from + (16 * x + y) ≡ 16 * (e + x) + y
+  place_in x y = omega (arith, at)
+
+  same_outside : (x y : ℕ) → x < 16 → y < 16 → (e ≤ x → x < e + 8 → ⊥) → square u x y ≡ square t x y
+  same_outside x y x_low y_low out = elim (cases_lt x e) [
+    | inl less ↦ others.before (16 * x + y) (omega (arith, at))
+    | inr more ↦ elim (cases_lt x (e + 8)) [
+      | inl inside ↦ absurd (out more inside)
+      | inr far ↦ others.behind (16 * x + y) (omega (arith, at))
+    ]
+  ]
+
+  pub edge_on_square : edge_filtered setting true (left + e + 4) top 16 before ≡ with_block s left top 16 16 (square u)
+  edge_on_square =
+      edge_as_block true setting (left + e) top 16 before (length-plane_of s.width s.height (λ x y. if is_inside left top 16 16 x y then square t (x - left) (y - top) else sample s x y))
+      (λ x y. square u (e + x) y) (omega arith) rows
+      (λ i low.
+      ap (filtered (setting i))
+      (same_samples (λ k. sample before (left + e + k) (top + i)) (λ k. slice_index t (from + (16 * k + i)))
+      (λ k less. ap (λ a. sample before a (top + i)) (let p : left + e + k ≡ left + (e + k) = omega arith in p) ∙ seen_before (e + k) i (omega arith) low ∙ ap (slice_index t) (sym (place_in k i))))
+      ∙ lines i low
+      ∙ same_samples (λ k. slice_index u (from + (16 * k + i))) (λ k. square u (e + k) i) (λ k less. ap (slice_index u) (place_in k i)))
+      ∙ within_block before left top 16 16 e 0 8 16 (left + e) top (square u) (λ x y. square u (e + x) y) refl (omega arith) (omega arith) (omega arith)
+      (λ x y x_low y_low. ap (square u (e + x)) (let p : y ≡ 0 + y = omega arith in p))
+      (λ x y x_low y_low out. same_outside x y x_low y_low (λ p q. out p q (omega arith) (omega arith)) ∙ sym (seen_before x y x_low y_low))
+      ∙ covered_block s left top 16 16 left 16 (square t) (square u) (omega arith) (omega arith)
+
 -- the samples of a line across an edge, of which the four in the middle are anew
 abbrev across_edge : (s : Plane) (left top : ℕ) (g : ℕ → ℕ → ℕ) → ℕ → ℕ → ℕ
 across_edge s left top g x y =

@@ -67,15 +67,29 @@ line_across t i = line_of (λ k. slice_index t (8 * i + k))
 abbrev pub line_down : List ℕ → ℕ → Line
 line_down t i = line_of (λ k. slice_index t (16 * k + i))
 
--- u has the halves of the table t, one sample of each in turn
-pub record IsRiffled (t u : List ℕ) : Type 0 where
-  pub even : (k : ℕ) → k < 64 → slice_index u (2 * k) ≡ slice_index t k
-  pub odd : (k : ℕ) → k < 64 → slice_index u (2 * k + 1) ≡ slice_index t (64 + k)
+-- the same of eight rows that stand from a place of a table on
+abbrev pub line_down_from : (from : ℕ) → List ℕ → ℕ → Line
+line_down_from from t i = line_of (λ k. slice_index t (from + (16 * k + i)))
+
+-- of eight such rows the four in the middle may change, and nothing else
+pub record IsInnerSet (from : ℕ) (t u : List ℕ) : Type 0 where
+  pub before : (k : ℕ) → k < from + 32 → slice_index u k ≡ slice_index t k
+  pub behind : (k : ℕ) → from + 96 ≤ k → slice_index u k ≡ slice_index t k
+
+-- u has the halves of the table t, which have so many samples, one sample of each in turn
+pub record IsRiffled (half : ℕ) (t u : List ℕ) : Type 0 where
+  pub even : (k : ℕ) → k < half → slice_index u (2 * k) ≡ slice_index t k
+  pub odd : (k : ℕ) → k < half → slice_index u (2 * k + 1) ≡ slice_index t (half + k)
 
 -- the sixteen rows of eight samples of t are the sixteen columns of the eight rows of u
 abbrev pub IsTransposed : (t u : List ℕ) → Type 0
 IsTransposed t u =
     (r c : ℕ) → r < 16 → c < 8 → slice_index u (16 * c + r) ≡ slice_index t (8 * r + c)
+
+-- the sixteen columns of the sixteen rows of t are the rows of u
+abbrev pub IsTurned : (t u : List ℕ) → Type 0
+IsTurned t u =
+    (r c : ℕ) → r < 16 → c < 16 → slice_index u (16 * c + r) ≡ slice_index t (16 * r + c)
 
 -- u is t with the sixteen samples r at the place from
 pub record IsRowSet (from : ℕ) (r t u : List ℕ) : Type 0 where

@@ -13,13 +13,14 @@ use std::simd::prelude::*;
 
 /// The halves of a table, one sample of each in turn.
 #[inline(always)]
-pub(crate) fn riffled(t: &[u8; 128]) -> [u8; 128]
-    ensures { IsRiffled t.now result }
+pub(crate) fn riffled<const HALF: usize, const N: usize>(t: &[u8; N]) -> [u8; N]
+    requires { 2 * HALF ≡ N }
+    ensures { IsRiffled HALF t.now result }
 {
     let mut out = *t;
-    for k in 0..64 {
+    for k in 0..HALF {
         out[2 * k] = t[k];
-        out[2 * k + 1] = t[64 + k];
+        out[2 * k + 1] = t[HALF + k];
     }
     out
 }
@@ -29,10 +30,10 @@ pub(crate) fn riffled(t: &[u8; 128]) -> [u8; 128]
 pub(crate) fn columns(t: &[u8; 128]) -> [u8; 128]
     ensures { IsTransposed t.now result }
 {
-    let once = riffled(t);
-    let twice = riffled(&once);
-    let thrice = riffled(&twice);
-    riffled(&thrice)
+    let once = riffled::<64, 128>(t);
+    let twice = riffled::<64, 128>(&once);
+    let thrice = riffled::<64, 128>(&twice);
+    riffled::<64, 128>(&thrice)
 }
 
 /// Eight rows of sixteen samples as sixteen rows of eight.
@@ -40,9 +41,9 @@ pub(crate) fn columns(t: &[u8; 128]) -> [u8; 128]
 pub(crate) fn rows_of(t: &[u8; 128]) -> [u8; 128]
     ensures { IsTransposed result t.now }
 {
-    let once = riffled(t);
-    let twice = riffled(&once);
-    riffled(&twice)
+    let once = riffled::<64, 128>(t);
+    let twice = riffled::<64, 128>(&once);
+    riffled::<64, 128>(&twice)
 }
 
 /// Each four samples as one word, the first of them lowest.
@@ -103,8 +104,8 @@ pub(crate) fn rows_of_middle(t: &[u8; 128]) -> [u8; 64]
         slice_index result (4 * r + c) ≡ slice_index t.now (32 + 16 * c + r) }
 {
     let apart = middle_apart(t);
-    let once = riffled(&apart);
-    let twice = riffled(&once);
+    let once = riffled::<64, 128>(&apart);
+    let twice = riffled::<64, 128>(&once);
     by_words(&half(&twice, 0))
 }
 

@@ -7,6 +7,7 @@ ghost use Rattle.avc_edges.specs.OneEdge.{AreStrongSettings, AreWeakSettings};
 
 use crate::block::{columns, rows_of, rows_of_middle, strong_luma, weak_luma};
 use crate::pair::half;
+use crate::square::{filter_rows, transposed};
 use crate::thresholds::{QpLimits, luma_tc1s};
 use avc_plane::Plane;
 
@@ -39,8 +40,8 @@ fn weak_horizontal<const PAD: usize>(
 
 /// Filters the sixteen lines of luma across a vertical edge at strengths of 0 to 3, with `left + 4`
 /// columns left of it and `top` rows above its first line.
-#[inline(always)]
-fn weak_vertical<const PAD: usize>(
+#[inline(never)]
+pub(crate) fn one_vertical<const PAD: usize>(
     plane: &mut Plane<PAD>,
     left: usize,
     top: usize,
@@ -51,9 +52,7 @@ fn weak_vertical<const PAD: usize>(
     requires rows { top + 16 ≤ plane.old.height }
     requires strengths { (k : ℕ) → k < 4 → slice_index strengths.now k < 4 }
     requires spread { AreSpread limits.now }
-    ensures width { plane.new.width ≡ plane.old.width }
-    ensures height { plane.new.height ≡ plane.old.height }
-    ensures lines { (setting : ℕ → Setting) → AreWeakSettings limits.now strengths.now setting →
+    ensures { (setting : ℕ → Setting) → AreWeakSettings limits.now strengths.now setting →
         plane.new ≡ edge_filtered setting true (left + 4) top 16 plane.old }
 {
     let _columns = plane.width();
@@ -124,25 +123,6 @@ pub(crate) fn one_horizontal<const PAD: usize>(
     weak_horizontal(plane, left, top, limits, strengths);
 }
 
-/// The lines across one vertical edge at strengths of 0 to 3, apart from its callers.
-#[inline(never)]
-pub(crate) fn one_vertical<const PAD: usize>(
-    plane: &mut Plane<PAD>,
-    left: usize,
-    top: usize,
-    limits: &QpLimits,
-    strengths: &[u8; 4],
-)
-    requires columns { left + 8 ≤ plane.old.width }
-    requires rows { top + 16 ≤ plane.old.height }
-    requires strengths { (k : ℕ) → k < 4 → slice_index strengths.now k < 4 }
-    requires spread { AreSpread limits.now }
-    ensures { (setting : ℕ → Setting) → AreWeakSettings limits.now strengths.now setting →
-        plane.new ≡ edge_filtered setting true (left + 4) top 16 plane.old }
-{
-    weak_vertical(plane, left, top, limits, strengths);
-}
-
 /// Those across three horizontal edges with the same strengths, each four rows below the one
 /// before, which is filtered first.
 #[inline(never)]
@@ -186,8 +166,13 @@ pub(crate) fn three_vertical<const PAD: usize>(
         (edge_filtered setting true (left + 8) top 16
         (edge_filtered setting true (left + 4) top 16 plane.old)) }
 {
-    let _columns = plane.width();
-    weak_vertical(plane, left, top, limits, strengths);
-    weak_vertical(plane, left + 4, top, limits, strengths);
-    weak_vertical(plane, left + 8, top, limits, strengths);
+    let square = plane.rectangle::<16, 16, 256>(left, top);
+    let mut lines = transposed(&square);
+    let tc1 = luma_tc1s(strengths, limits);
+    let limits = limits.weak(&tc1);
+    filter_rows(&mut lines, 0, &limits);
+    filter_rows(&mut lines, 64, &limits);
+    filter_rows(&mut lines, 128, &limits);
+    let after = transposed(&lines);
+    plane.set_rectangle::<16, 16, 256>(left, top, &after);
 }

@@ -11,6 +11,7 @@ mod lines;
 mod luma_edge;
 mod pair;
 mod settings;
+mod square;
 mod strengths;
 mod thresholds;
 

@@ -398,30 +398,31 @@ by_fours f g n first second third fourth k low =
 
 -- ---- four riffles of sixteen rows of eight samples make eight rows of sixteen, and three more make them sixteen rows of eight again
 
-riffle_bit : (t u : List ℕ) (k b : ℕ) → IsRiffled t u → k < 64 → b < 2 → slice_index u (2 * k + b) ≡ slice_index t (64 * b + k)
-riffle_bit t u k zero h low bit = ap (slice_index u) (omega arith) ∙ h.even k low ∙ ap (slice_index t) (omega arith)
-riffle_bit t u k (suc zero) h low bit = h.odd k low
-riffle_bit t u k (suc (suc b)) h low bit = absurd (omega arith)
+module _ {half : ℕ} (t u : List ℕ) where
+  riffle_bit : (k b : ℕ) → IsRiffled half t u → k < half → b < 2 → slice_index u (2 * k + b) ≡ slice_index t (b * half + k)
+  riffle_bit k zero h low bit = ap (slice_index u) (omega arith) ∙ h.even k low ∙ ap (slice_index t) (omega arith)
+  riffle_bit k (suc zero) h low bit = h.odd k low ∙ ap (slice_index t) (omega arith)
+  riffle_bit k (suc (suc b)) h low bit = absurd (omega arith)
 
--- where the sample at j comes from
-back : (t u : List ℕ) (j k b m : ℕ) → IsRiffled t u → k < 64 → b < 2 → j ≡ 2 * k + b → m ≡ 64 * b + k → slice_index u j ≡ slice_index t m
-back t u j k b m h low bit e f = ap (slice_index u) e ∙ riffle_bit t u k b h low bit ∙ ap (slice_index t) (sym f)
+  -- where the sample at j comes from
+  back : (j k b m : ℕ) → IsRiffled half t u → k < half → b < 2 → j ≡ 2 * k + b → m ≡ b * half + k → slice_index u j ≡ slice_index t m
+  back j k b m h low bit e f = ap (slice_index u) e ∙ riffle_bit k b h low bit ∙ ap (slice_index t) (sym f)
 
-pub four_riffles : (t a b c u : List ℕ) → IsRiffled t a → IsRiffled a b → IsRiffled b c → IsRiffled c u → IsTransposed t u
+pub four_riffles : (t a b c u : List ℕ) → IsRiffled 64 t a → IsRiffled 64 a b → IsRiffled 64 b c → IsRiffled 64 c u → IsTransposed t u
 four_riffles t a b c u h1 h2 h3 h4 row column r_low c_low =
     back c u (16 * column + row) (8 * column + row / 2) (row % 2) (64 * (row % 2) + (8 * column + row / 2)) h4 (omega arith) (omega arith) (omega arith) (omega arith)
     ∙ back b c (64 * (row % 2) + (8 * column + row / 2)) (32 * (row % 2) + 4 * column + row / 4) (row / 2 % 2) (64 * (row / 2 % 2) + (32 * (row % 2) + 4 * column + row / 4)) h3 (omega arith) (omega arith) (omega arith) (omega arith)
     ∙ back a b (64 * (row / 2 % 2) + (32 * (row % 2) + 4 * column + row / 4)) (32 * (row / 2 % 2) + 16 * (row % 2) + 2 * column + row / 8) (row / 4 % 2) (64 * (row / 4 % 2) + (32 * (row / 2 % 2) + 16 * (row % 2) + 2 * column + row / 8)) h2 (omega arith) (omega arith) (omega arith) (omega arith)
     ∙ back t a (64 * (row / 4 % 2) + (32 * (row / 2 % 2) + 16 * (row % 2) + 2 * column + row / 8)) (32 * (row / 4 % 2) + 16 * (row / 2 % 2) + 8 * (row % 2) + column) (row / 8) (8 * row + column) h1 (omega arith) (omega arith) (omega arith) (omega arith)
 
-pub three_riffles : (t a b u : List ℕ) → IsRiffled t a → IsRiffled a b → IsRiffled b u → IsTransposed u t
+pub three_riffles : (t a b u : List ℕ) → IsRiffled 64 t a → IsRiffled 64 a b → IsRiffled 64 b u → IsTransposed u t
 three_riffles t a b u h1 h2 h3 row column r_low c_low = sym
     (back b u (8 * row + column) (4 * row + column / 2) (column % 2) (64 * (column % 2) + (4 * row + column / 2)) h3 (omega arith) (omega arith) (omega arith) (omega arith)
     ∙ back a b (64 * (column % 2) + (4 * row + column / 2)) (32 * (column % 2) + 2 * row + column / 4) (column / 2 % 2) (64 * (column / 2 % 2) + (32 * (column % 2) + 2 * row + column / 4)) h2 (omega arith) (omega arith) (omega arith) (omega arith)
     ∙ back t a (64 * (column / 2 % 2) + (32 * (column % 2) + 2 * row + column / 4)) (32 * (column / 2 % 2) + 16 * (column % 2) + row) (column / 4) (16 * column + row) h1 (omega arith) (omega arith) (omega arith) (omega arith))
 
 -- two riffles of rows that stand two apart make sixteen rows of four
-pub two_riffles : (t a u : List ℕ) → IsRiffled t a → IsRiffled a u → (row column : ℕ) → row < 16 → column < 4 → slice_index u (4 * row + column) ≡ slice_index t (32 * column + row)
+pub two_riffles : (t a u : List ℕ) → IsRiffled 64 t a → IsRiffled 64 a u → (row column : ℕ) → row < 16 → column < 4 → slice_index u (4 * row + column) ≡ slice_index t (32 * column + row)
 two_riffles t a u h1 h2 row column r_low c_low =
     back a u (4 * row + column) (2 * row + column / 2) (column % 2) (64 * (column % 2) + (2 * row + column / 2)) h2 (omega arith) (omega arith) (omega arith) (omega arith)
     ∙ back t a (64 * (column % 2) + (2 * row + column / 2)) (32 * (column % 2) + row) (column / 2) (32 * column + row) h1 (omega arith) (omega arith) (omega arith) (omega arith)
@@ -432,3 +433,48 @@ pub middle_row : (t a : List ℕ) (k column : ℕ) → k < 16 → column < 4 →
     slice_index a (32 * column + k) ≡ slice_index t (32 + 16 * column + k)
 middle_row t a k column low less first second third fourth =
     each_of_four (λ c. slice_index a (32 * c + k) ≡ slice_index t (32 + 16 * c + k)) (ap (slice_index a) (omega arith) ∙ first k low) (second k low) (third k low) (fourth k low) column less
+
+-- ---- four riffles of sixteen rows of sixteen samples turn them
+
+pub square_riffles : (t a b c u : List ℕ) → IsRiffled 128 t a → IsRiffled 128 a b → IsRiffled 128 b c → IsRiffled 128 c u → IsTurned t u
+square_riffles t a b c u h1 h2 h3 h4 row column r_low c_low =
+    back c u (16 * column + row) (8 * column + row / 2) (row % 2) (128 * (row % 2) + (8 * column + row / 2)) h4 (omega arith) (omega arith) (omega arith) (omega arith)
+    ∙ back b c (128 * (row % 2) + (8 * column + row / 2)) (64 * (row % 2) + 4 * column + row / 4) (row / 2 % 2) (128 * (row / 2 % 2) + (64 * (row % 2) + 4 * column + row / 4)) h3 (omega arith) (omega arith) (omega arith) (omega arith)
+    ∙ back a b (128 * (row / 2 % 2) + (64 * (row % 2) + 4 * column + row / 4)) (64 * (row / 2 % 2) + 32 * (row % 2) + 2 * column + row / 8) (row / 4 % 2) (128 * (row / 4 % 2) + (64 * (row / 2 % 2) + 32 * (row % 2) + 2 * column + row / 8)) h2 (omega arith) (omega arith) (omega arith) (omega arith)
+    ∙ back t a (128 * (row / 4 % 2) + (64 * (row / 2 % 2) + 32 * (row % 2) + 2 * column + row / 8)) (64 * (row / 4 % 2) + 32 * (row / 2 % 2) + 16 * (row % 2) + column) (row / 8) (16 * row + column) h1 (omega arith) (omega arith) (omega arith) (omega arith)
+
+-- ---- the lines down eight rows of a table, of which the four in the middle are put back
+
+pub inner_set : (from : ℕ) (t u : List ℕ) → ((k : ℕ) → k < from + 32 → slice_index u k ≡ slice_index t k)
+    → ((k : ℕ) → from + 32 + 64 ≤ k → slice_index u k ≡ slice_index t k) → IsInnerSet from t u
+inner_set from t u before behind = record { before = before; behind = λ k far. behind k (omega arith) }
+
+pub inner_lines : (s : Setting) (from i : ℕ) (t a b inner u : List ℕ) → i < 16 → s.strength < 4
+    → ((k : ℕ) → k < 128 → slice_index a k ≡ slice_index t (from + k))
+    → ((k : ℕ) → k < 64 → slice_index inner k ≡ slice_index b (32 + k))
+    → ((k : ℕ) → k < 64 → slice_index u (from + 32 + k) ≡ slice_index inner k)
+    → ((k : ℕ) → k < from + 32 → slice_index u k ≡ slice_index t k)
+    → ((k : ℕ) → from + 32 + 64 ≤ k → slice_index u k ≡ slice_index t k)
+    → filtered s (line_down a i) ≡ line_down b i → filtered s (line_down_from from t i) ≡ line_down_from from u i
+inner_lines s from i t a b inner u low weak loaded inner_is inside before behind is =
+    ap (filtered s) (same_samples (λ k. slice_index t (from + (16 * k + i))) (λ k. slice_index a (16 * k + i)) (λ k less. sym (loaded (16 * k + i) (omega arith))))
+    ∙ is
+    ∙ same_samples (λ k. slice_index b (16 * k + i)) (λ k. slice_index u (from + (16 * k + i))) each
+  where
+    kept : (k : ℕ) → k < 8 → (2 ≤ k → k < 6 → ⊥) → slice_index b (16 * k + i) ≡ slice_index t (from + (16 * k + i))
+    kept k less out = kept_by s (λ k. slice_index a (16 * k + i)) (λ k. slice_index b (16 * k + i)) 2 (weak_reach s weak) is k less out ∙ loaded (16 * k + i) (omega arith)
+
+    middle : (k : ℕ) → 2 ≤ k → k < 6 → slice_index b (16 * k + i) ≡ slice_index u (from + (16 * k + i))
+    middle k some last =
+        let m : ℕ = 16 * (k - 2) + i in
+        ap (slice_index b) (let e : 16 * k + i ≡ 32 + m = omega arith in e) ∙ sym (inner_is m (omega arith)) ∙ sym (inside m (omega arith))
+        ∙ ap (slice_index u) (let e : from + 32 + m ≡ from + (16 * k + i) = omega arith in e)
+
+    each : (k : ℕ) → k < 8 → slice_index b (16 * k + i) ≡ slice_index u (from + (16 * k + i))
+    each k less = elim (cases_lt k 2) [
+      | inl first ↦ kept k less (λ p q. omega arith) ∙ sym (before (from + (16 * k + i)) (omega arith))
+      | inr rest ↦ elim (cases_lt k 6) [
+        | inl last ↦ middle k rest last
+        | inr far ↦ kept k less (λ p q. omega arith) ∙ sym (behind (from + (16 * k + i)) (omega arith))
+      ]
+    ]

@@ -1,7 +1,7 @@
 -- The names that the proofs cite of std, of the crates below and of the definitions here, passed on from one place. Declares nothing.
 pub use Rattle.std.proofs.Common.{ℕ, ◌<◌, zero, suc, arith, [], ◌≡◌, ◌+◌, ◌-◌, ◌≤◌, ◌∷◌, Bool, true, false, slice_index, refl, sym, ap, ◌∙◌, if◌then◌else◌}
 pub use Rattle.std.proofs.Common.{◌==◌, ◌&&◌, ◌*◌, List, ℤ, pos, negsuc, ◌+ℤ◌, ◌-ℤ◌, nat_abs, nat_lt, ◌/◌, ◌%◌, below_more, add-zero, length, get_or, ◌≢◌}
-pub use Rattle.std.proofs.Common.{slice_set, ⊎_elim, mul_comm, get_or-set_other, get_or-set_same, length-set, map, subst}
+pub use Rattle.std.proofs.Common.{slice_set, ⊎_elim, inl, inr, mul_comm, get_or-set_other, get_or-set_same, length-set, map, subst}
 pub use Rattle.std.proofs.Common.{rules, w8}
 pub use Rattle.std.proofs.Math.Nat.{div-lt_iff_lt-mul}
 pub use Rattle.std.proofs.lemmas.Bool.{cases_lt, cases_eq, and_parts, eqb-true, leb-true}
@@ -22,8 +22,8 @@ pub use Rattle.avc_edges.specs.Line.{Line, Setting, filtered, filtered_weakly, f
 pub use Rattle.avc_edges.specs.Line.{alpha_of, beta_of, tc0_of, setting_of}
 pub use Rattle.avc_edges.specs.OneEdge.{tc1_of, strength_along, AreLimits, FitsWeak, lines_filtered, chroma_setting, chroma_filtered}
 unfoldable pub use Rattle.avc_edges.specs.OneEdge.{edge_filtered}
-pub use Rattle.avc_edges.specs.Rows.{line, line_of, line_of_rows, line_within, line_inside, line_across, line_down, line_near, IsTransposed, IsRowSet}
-pub use Rattle.avc_edges.specs.Rows.{IsNearSet, IsWeak, slope, bend, held, IsStrong, IsRiffled}
+pub use Rattle.avc_edges.specs.Rows.{line, line_of, line_of_rows, line_within, line_inside, line_across, line_down, line_down_from, line_near, IsTransposed, IsRowSet}
+pub use Rattle.avc_edges.specs.Rows.{IsNearSet, IsWeak, slope, bend, held, IsStrong, IsRiffled, IsInnerSet, IsTurned}
 pub use Rattle.avc_edges.specs.declared.strengths.Strengths.{Strengths}
 pub use Rattle.avc_edges.specs.declared.strengths.Strengths.TheVariants.{Four, BelowFour}
 pub use Rattle.avc_edges.specs.declared.thresholds.EdgeQp.{EdgeQp}

@@ -2,8 +2,8 @@ use Rattle.avc_edges.proofs.EdgesOnPlane.{◌≡◌, ◌<◌, ◌+◌, ◌*◌, 
 use Rattle.avc_edges.proofs.block.riffled.Given as goal
 
 abbrev pub invariant-loop-k : goal.invariant-loop-k
-invariant-loop-k l = record {
-  long : length l.out ≡ 128;
+invariant-loop-k g l = record {
+  long : length l.out ≡ g.row.N;
   even : (k : ℕ) → k < l.k → slice_index l.out (2 * k) ≡ slice_index l.t k;
-  odd : (k : ℕ) → k < l.k → slice_index l.out (2 * k + 1) ≡ slice_index l.t (64 + k);
+  odd : (k : ℕ) → k < l.k → slice_index l.out (2 * k + 1) ≡ slice_index l.t (g.row.HALF + k);
 }
