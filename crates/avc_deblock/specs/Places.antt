@@ -44,7 +44,12 @@ abbrev pub vertical_luma_at : Place → (n : ℕ) → (p q : MbInfo) → Plane �
 vertical_luma_at place n p q s =
     luma_of_edge true place.column place.row n (strength_of p q true n) (luma_qp_of p q) s
 
--- and one of chroma
+-- and after the three inside it
+abbrev pub inner_luma_at : Place → (q : MbInfo) → Plane → Plane
+inner_luma_at place q s =
+    vertical_luma_at place 3 q q (vertical_luma_at place 2 q q (vertical_luma_at place 1 q q s))
+
+-- a plane of chroma after vertical edge n of macroblock q
 abbrev pub vertical_chroma_at : Place → (n : ℕ) → (p q : MbInfo) → Plane → Plane
 vertical_chroma_at place n p q s =
     chroma_of_edge true place.column place.row n (strength_of p q true n)

@@ -9,19 +9,19 @@ use crate::mb_info::MbInfo;
 use crate::place::{BlockPair, MbEdge};
 use avc_edges::Strengths;
 
-/// The luma block on the q side of edge `n` in its quarter `k`.
-#[inline(always)]
-pub(crate) fn edge_block(is_vertical: bool, n: usize, k: usize) -> usize
-    requires n { n < 4 }
-    requires k { k < 4 }
-    ensures value { result ≡ edge_block is_vertical n k }
-    ensures low { result < 16 }
-{
-    let (x, y) = if is_vertical { (n, k) } else { (k, n) };
-    8 * (y / 2) + 4 * (x / 2) + 2 * (y % 2) + x % 2
-}
-
 impl MbEdge {
+    /// The luma block on its q side in its quarter `k`.
+    #[inline(always)]
+    fn block(self, k: usize) -> usize
+        requires { k < 4 }
+        ensures value { result ≡ edge_block self.is_vertical self.n k }
+        ensures low { result < 16 }
+    {
+        let n = self.n;
+        let (x, y) = if self.is_vertical { (n, k) } else { (k, n) };
+        8 * (y / 2) + 4 * (x / 2) + 2 * (y % 2) + x % 2
+    }
+
     /// The luma blocks on its sides in its quarter `k`.
     #[inline(always)]
     pub(crate) fn blocks(self, k: usize) -> BlockPair
@@ -29,9 +29,13 @@ impl MbEdge {
         ensures p { result.p ≡ edge_block self.is_vertical ((self.n + 3) % 4) k }
         ensures q { result.q ≡ edge_block self.is_vertical self.n k }
     {
+        let before = MbEdge {
+            is_vertical: self.is_vertical,
+            n: (self.n + 3) % 4,
+        };
         BlockPair {
-            p: edge_block(self.is_vertical, (self.n + 3) % 4, k),
-            q: edge_block(self.is_vertical, self.n, k),
+            p: before.block(k),
+            q: self.block(k),
         }
     }
 }

@@ -5,6 +5,7 @@ mod block_strength;
 mod edge_strengths;
 mod filter;
 mod horizontal_edges;
+mod inner_edges;
 mod inner_motion;
 mod kept_limits;
 pub mod laws;

@@ -4,14 +4,16 @@ ghost use Rattle.std.specs.Prelude.{◌≡◌, ℕ, ◌+◌, ◌*◌, ◌<◌, �
 ghost use Rattle.avc_plane.specs.Frames.{planes_of};
 ghost use Rattle.avc_edges.specs.OneEdge.{AreStrengths};
 ghost use Rattle.avc_deblock.specs.OneEdge.{HasRoom, KeepsRoom};
-ghost use Rattle.avc_deblock.specs.FilterInfo.{filters_between, IsOfOneMotion, IsStillAt, IsToldOf};
+ghost use Rattle.avc_deblock.specs.FilterInfo.{filters_between};
 ghost use Rattle.avc_deblock.specs.MbLimits.{AreRowLimits};
-ghost use Rattle.avc_deblock.specs.ByInfo.{edge_by_info, mb_by_info, strength_of, HasStrengths};
+ghost use Rattle.avc_deblock.specs.ByInfo.{mb_by_info, strength_of, HasStrengths};
 ghost use Rattle.avc_deblock.specs.Places.{edges_at, AreLimitsAt};
+ghost use Rattle.avc_deblock.specs.InnerEdges.{inner_edge_at, inner_edges_at};
 
 use crate::edge_strengths::{edge_strengths, inner_strengths};
 use crate::horizontal_edges::inner_intra_edges;
-use crate::inner_motion::InnerMotion;
+use crate::inner_edges::InnerEdges;
+use crate::inner_motion::KnownMb;
 use crate::kept_limits::RowLimits;
 use crate::mb_info::MbInfo;
 use crate::place::{EdgePlace, MbEdge, Place};
@@ -44,45 +46,29 @@ struct OuterEdge {
     strengths: Strengths,
 }
 
-/// The edges inside a macroblock.
-#[derive(Clone, Copy)]
-struct InnerEdges {
-    /// They are to be filtered. At strength 0 they need not be.
-    are_filtered: bool,
-
-    motion: InnerMotion,
-}
-
-impl MbInfo {
-    /// The outer edge to `other`, where `other` exists. This macroblock may be known to be an inter
-    /// macroblock of one motion.
+impl KnownMb<'_> {
+    /// The outer edge to `other`, where `other` exists.
     #[inline(always)]
-    fn edge_to(
-        &self,
-        other: &MbInfo,
-        is_of_one_motion: bool,
-        is_vertical: bool,
-        exists: bool,
-    ) -> OuterEdge
-        requires motion { is_of_one_motion ≡ true → IsOfOneMotion self.now }
+    fn edge_to(self, other: &MbInfo, is_vertical: bool, exists: bool) -> OuterEdge
         ensures on { result.is_filtered ≡ true →
-            (exists && filters_between self.now other.now) ≡ true }
+            (exists && filters_between self.entry.info.now other.now) ≡ true }
         ensures off { result.is_filtered ≡ false →
-            (exists && filters_between self.now other.now) ≡ true →
-            (k : ℕ) → k < 4 → strength_of other.now self.now is_vertical 0 k ≡ 0 }
+            (exists && filters_between self.entry.info.now other.now) ≡ true →
+            (k : ℕ) → k < 4 → strength_of other.now self.entry.info.now is_vertical 0 k ≡ 0 }
         ensures low { AreStrengths result.strengths }
         ensures strengths { result.is_filtered ≡ true →
-            HasStrengths result.strengths other.now self.now is_vertical 0 }
+            HasStrengths result.strengths other.now self.entry.info.now is_vertical 0 }
     {
-        if !both(exists, self.filters_edge_to(other)) || other.meets_quietly(self, is_vertical) {
+        let q = self.info;
+        if !both(exists, q.filters_edge_to(other)) || other.meets_quietly(q, is_vertical) {
             return OuterEdge {
                 is_filtered: false,
                 strengths: Strengths::BelowFour([0; 4]),
             };
         }
-        let by_motion = self.strength_by_motion(other, is_of_one_motion);
+        let by_motion = self.strength_by_motion(other);
         let edge = MbEdge { is_vertical, n: 0 };
-        let strengths = edge_strengths(other, self, edge, by_motion);
+        let strengths = edge_strengths(other, q, edge, by_motion);
         OuterEdge {
             is_filtered: !strengths.are_zero(),
             strengths,
@@ -119,124 +105,91 @@ fn outer_edge<const PAD: usize>(
     }
 }
 
-/// Filters edge `n` inside macroblock `q`, where no strength may be known to come of motion.
+/// Filters edge `n` inside a macroblock.
 #[inline(always)]
 #[tactic(auto, using(crate::proofs::FilteredPictures::edge_zero))]
 fn inner_edge<const PAD: usize>(
     planes: &mut Planes<PAD>,
-    q: &MbInfo,
-    is_still: bool,
+    inner: InnerEdges<'_>,
     is_vertical: bool,
     n: usize,
-    limits: &PairLimits,
-    place: Place,
 )
     requires some { 1 ≤ n }
     requires edge { n < 4 }
-    requires room { HasRoom place.column place.row (planes_of planes.old) }
-    requires limits { AreLimitsAt place limits.now q.now q.now }
-    requires still { is_still ≡ true → IsStillAt q.now is_vertical n }
+    requires room { HasRoom inner.place.column inner.place.row (planes_of planes.old) }
     ensures room { KeepsRoom (planes_of planes.old) (planes_of planes.new) }
     ensures lines { planes_of planes.new
-        ≡ edge_by_info is_vertical place.column place.row n place.chroma_qp_index_offset q.now q.now
-        (planes_of planes.old) }
+        ≡ inner_edge_at inner.entry is_vertical n (planes_of planes.old) }
 {
+    let (q, place) = (inner.q, inner.place);
     let edge = MbEdge { is_vertical, n };
-    let strengths = inner_strengths(q, edge, is_still);
+    let strengths = inner_strengths(q, edge, inner.motion.is_still_at(n));
     if strengths.are_zero() {
         return;
     }
     let at = EdgePlace { edge, place };
-    edge_at(planes, q, q, at, &strengths, limits);
+    edge_at(planes, q, q, at, &strengths, inner.limits);
 }
 
-/// Filters the vertical edges inside macroblock `q`.
+/// Filters the vertical edges inside a macroblock.
 #[inline(always)]
-fn inner_vertical<const PAD: usize>(
-    planes: &mut Planes<PAD>,
-    q: &MbInfo,
-    inner: InnerEdges,
-    limits: &PairLimits,
-    place: Place,
-)
-    requires motion { IsToldOf q.now inner.motion }
-    requires room { HasRoom place.column place.row (planes_of planes.old) }
-    requires limits { AreLimitsAt place limits.now q.now q.now }
+fn inner_vertical<const PAD: usize>(planes: &mut Planes<PAD>, inner: InnerEdges<'_>)
+    requires { HasRoom inner.place.column inner.place.row (planes_of planes.old) }
     ensures room { KeepsRoom (planes_of planes.old) (planes_of planes.new) }
     ensures lines { planes_of planes.new
-        ≡ edges_at place true false inner.are_filtered q.now q.now (planes_of planes.old) }
+        ≡ inner_edges_at inner.entry true (planes_of planes.old) }
 {
     if inner.are_filtered {
-        let (beside, middle) = (
-            inner.motion.is_still_beside,
-            inner.motion.is_still_in_middle,
-        );
-        inner_edge(planes, q, beside, true, 1, limits, place);
-        inner_edge(planes, q, middle, true, 2, limits, place);
-        inner_edge(planes, q, beside, true, 3, limits, place);
+        inner_edge(planes, inner, true, 1);
+        inner_edge(planes, inner, true, 2);
+        inner_edge(planes, inner, true, 3);
     }
 }
 
-/// Filters the vertical edges of macroblock `q`; `p` lies left of it.
+/// Filters the vertical edges of a macroblock; `p` lies left of it, with these limits between both.
 #[inline(always)]
 fn all_vertical<const PAD: usize>(
     planes: &mut Planes<PAD>,
     p: &MbInfo,
-    q: &MbInfo,
     outer: OuterEdge,
-    inner: InnerEdges,
-    kept: &RowLimits,
-    place: Place,
+    left: &PairLimits,
+    inner: InnerEdges<'_>,
 )
-    requires some { outer.is_filtered ≡ true → 1 ≤ place.column }
-    requires motion { IsToldOf q.now inner.motion }
+    requires some { outer.is_filtered ≡ true → 1 ≤ inner.place.column }
     requires strengths { outer.is_filtered ≡ true →
-        HasStrengths outer.strengths p.now q.now true 0 }
-    requires room { HasRoom place.column place.row (planes_of planes.old) }
-    requires left { outer.is_filtered ≡ true →
-        AreLimitsAt place kept.now.left.limits p.now q.now }
-    requires inside { AreLimitsAt place kept.now.inside.limits q.now q.now }
+        HasStrengths outer.strengths p.now inner.q.now true 0 }
+    requires room { HasRoom inner.place.column inner.place.row (planes_of planes.old) }
+    requires left { outer.is_filtered ≡ true → AreLimitsAt inner.place left.now p.now inner.q.now }
     ensures room { KeepsRoom (planes_of planes.old) (planes_of planes.new) }
-    ensures lines { planes_of planes.new ≡ edges_at place true false inner.are_filtered q.now q.now
-        (edges_at place true outer.is_filtered false p.now q.now (planes_of planes.old)) }
+    ensures lines { planes_of planes.new ≡ inner_edges_at inner.entry true
+        (edges_at inner.entry.place true outer.is_filtered false p.now inner.entry.q.now
+        (planes_of planes.old)) }
 {
     if outer.is_filtered && inner.are_filtered {
-        vertical_edges(planes, p, q, &outer.strengths, inner.motion, kept, place);
+        vertical_edges(planes, p, &outer.strengths, left, inner);
     } else {
-        outer_edge(planes, p, q, true, outer, &kept.left.limits, place);
-        inner_vertical(planes, q, inner, &kept.inside.limits, place);
+        outer_edge(planes, p, inner.q, true, outer, left, inner.place);
+        inner_vertical(planes, inner);
     }
 }
 
-/// Filters the horizontal edges inside macroblock `q`.
+/// Filters the horizontal edges inside a macroblock.
 #[inline(always)]
-fn inner_horizontal<const PAD: usize>(
-    planes: &mut Planes<PAD>,
-    q: &MbInfo,
-    inner: InnerEdges,
-    limits: &PairLimits,
-    place: Place,
-)
-    requires motion { IsToldOf q.now inner.motion }
-    requires room { HasRoom place.column place.row (planes_of planes.old) }
-    requires limits { AreLimitsAt place limits.now q.now q.now }
+fn inner_horizontal<const PAD: usize>(planes: &mut Planes<PAD>, inner: InnerEdges<'_>)
+    requires { HasRoom inner.place.column inner.place.row (planes_of planes.old) }
     ensures room { KeepsRoom (planes_of planes.old) (planes_of planes.new) }
     ensures lines { planes_of planes.new
-        ≡ edges_at place false false inner.are_filtered q.now q.now (planes_of planes.old) }
+        ≡ inner_edges_at inner.entry false (planes_of planes.old) }
 {
     if !inner.are_filtered {
         return;
     }
-    if q.is_intra {
-        inner_intra_edges(planes, q, limits, place);
+    if inner.q.is_intra {
+        inner_intra_edges(planes, inner.q, inner.limits, inner.place);
     } else {
-        let (beside, middle) = (
-            inner.motion.is_still_beside,
-            inner.motion.is_still_in_middle,
-        );
-        inner_edge(planes, q, beside, false, 1, limits, place);
-        inner_edge(planes, q, middle, false, 2, limits, place);
-        inner_edge(planes, q, beside, false, 3, limits, place);
+        inner_edge(planes, inner, false, 1);
+        inner_edge(planes, inner, false, 2);
+        inner_edge(planes, inner, false, 3);
     }
 }
 
@@ -258,11 +211,18 @@ pub(crate) fn macroblock<const PAD: usize>(
         ≡ mb_by_info place.chroma_qp_index_offset place.column place.row left.now above.now mb.now
         (planes_of planes.old) }
 {
-    let of_one = mb.is_of_one_motion();
-    let inner = both(mb.filters_edge_to(mb), !mb.is_still(of_one));
-    let from_left = mb.edge_to(left, of_one, true, place.column > 0);
-    let from_above = mb.edge_to(above, of_one, false, place.row > 0);
-    let idle = all_three(!inner, !from_left.is_filtered, !from_above.is_filtered);
+    let known = KnownMb {
+        info: mb,
+        is_of_one_motion: mb.is_of_one_motion(),
+    };
+    let are_filtered = both(mb.filters_edge_to(mb), !known.is_still());
+    let from_left = known.edge_to(left, true, place.column > 0);
+    let from_above = known.edge_to(above, false, place.row > 0);
+    let idle = all_three(
+        !are_filtered,
+        !from_left.is_filtered,
+        !from_above.is_filtered,
+    );
     if idle {
         return;
     }
@@ -273,10 +233,13 @@ pub(crate) fn macroblock<const PAD: usize>(
         place,
     );
     let inner = InnerEdges {
-        are_filtered: inner,
-        motion: mb.inner_motion(of_one),
+        q: mb,
+        place,
+        are_filtered,
+        motion: known.inner_motion(),
+        limits: &kept.inside.limits,
     };
-    all_vertical(planes, left, mb, from_left, inner, kept, place);
+    all_vertical(planes, left, from_left, &kept.left.limits, inner);
     outer_edge(
         planes,
         above,
@@ -286,5 +249,5 @@ pub(crate) fn macroblock<const PAD: usize>(
         &kept.above.limits,
         place,
     );
-    inner_horizontal(planes, mb, inner, &kept.inside.limits, place);
+    inner_horizontal(planes, inner);
 }

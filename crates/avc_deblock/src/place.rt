@@ -30,6 +30,17 @@ pub(crate) struct MbEdge {
     ghost low: { n < 4 },
 }
 
+/// A vertical edge of the macroblock at a place, which lies inside the picture.
+#[derive(Clone, Copy)]
+pub(crate) struct VerticalEdge {
+    /// 0 to 3 from its left side on.
+    pub(crate) n: usize,
+    pub(crate) place: Place,
+
+    ghost low: { n < 4 },
+    ghost across: { 1 ≤ 4 * place.column + n },
+}
+
 /// A luma block on each side of an edge, by their numbers in block order.
 #[derive(Clone, Copy)]
 pub(crate) struct BlockPair {

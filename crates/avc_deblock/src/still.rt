@@ -11,6 +11,7 @@ ghost use Rattle.avc_deblock.specs.FilterInfo.{HasOnePicture, HasVectors};
 ghost use Rattle.avc_deblock.specs.FilterInfo.{IsOfFourVectors, IsOfOneMotion};
 ghost use Rattle.avc_deblock.specs.ByInfo.{strength_of};
 
+use crate::inner_motion::KnownMb;
 use crate::mb_info::MbInfo;
 use crate::place::{BlockPair, MbEdge};
 use avc_edges::{all_three, both, either};
@@ -99,37 +100,38 @@ impl MbInfo {
         // each four in a ring
         self.has_vectors_of([1, 2, 3, 0, 5, 6, 7, 4, 9, 10, 11, 8, 13, 14, 15, 12])
     }
-
-    /// It is an inter macroblock of one motion, as is known already, without coefficients: all
-    /// strengths inside it are 0.
-    #[inline(always)]
-    pub(crate) fn is_still(&self, is_of_one_motion: bool) -> bool
-        requires motion { is_of_one_motion ≡ true → IsOfOneMotion self.now }
-        ensures inter { result ≡ true → self.now.is_intra ≡ false }
-        ensures strengths { result ≡ true → (j k : ℕ) → j < 16 → k < 16 →
-            inter_strength self.now j self.now k ≡ 0 }
-        ensures found { is_of_one_motion ≡ true → self.now.coefficients ≡ 0 → result ≡ true }
-    {
-        both(is_of_one_motion, self.coefficients == 0)
-    }
 }
 
-impl MbInfo {
-    /// The strength of all blocks without coefficients between `p` and this macroblock, where it is
-    /// known since both are inter macroblocks of one motion; this one may be known to be.
+impl KnownMb<'_> {
+    /// It is known to be an inter macroblock of one motion, and is without coefficients: all
+    /// strengths inside it are 0.
     #[inline(always)]
-    pub(crate) fn strength_by_motion(&self, p: &MbInfo, is_of_one_motion: bool) -> Option<u8>
-        requires motion { is_of_one_motion ≡ true → IsOfOneMotion self.now }
-        ensures { IfSome result (λ s. (v : Bool) (n : ℕ) → n < 4 →
-            HasByMotion p.now self.now v n s) }
+    pub(crate) fn is_still(self) -> bool
+        ensures inter { result ≡ true → self.entry.info.now.is_intra ≡ false }
+        ensures strengths { result ≡ true → (j k : ℕ) → j < 16 → k < 16 →
+            inter_strength self.entry.info.now j self.entry.info.now k ≡ 0 }
+        ensures found { self.entry.is_of_one_motion ≡ true → self.entry.info.now.coefficients ≡ 0 →
+            result ≡ true }
     {
-        if is_of_one_motion && p.is_of_one_motion() {
-            Some(p.motion_strength(self, BlockPair { p: 0, q: 0 }))
+        both(self.is_of_one_motion, self.info.coefficients == 0)
+    }
+
+    /// The strength of all blocks without coefficients between `p` and this macroblock, where it is
+    /// known since both are inter macroblocks of one motion.
+    #[inline(always)]
+    pub(crate) fn strength_by_motion(self, p: &MbInfo) -> Option<u8>
+        ensures { IfSome result (λ s. (v : Bool) (n : ℕ) → n < 4 →
+            HasByMotion p.now self.entry.info.now v n s) }
+    {
+        if self.is_of_one_motion && p.is_of_one_motion() {
+            Some(p.motion_strength(self.info, BlockPair { p: 0, q: 0 }))
         } else {
             None
         }
     }
+}
 
+impl MbInfo {
     /// The blocks have one picture and one vector.
     #[inline(always)]
     fn moves_as(&self, q: &MbInfo, blocks: BlockPair) -> bool

@@ -391,7 +391,7 @@ square_itself s left top f long same =
 
 module _ (setting : ℕ → Setting) (left top e from : ℕ) (s : Plane) (t u : List ℕ) (at : from ≡ 16 * e) (room : e + 8 ≤ 16)
     (columns : left + 16 ≤ s.width) (rows : top + 16 ≤ s.height)
-    (lines : (i : ℕ) → i < 16 → filtered (setting i) (line_down_from from t i) ≡ line_down_from from u i) (others : IsInnerSet from t u) where
+    (lines : (i : ℕ) → i < 16 → filtered (setting i) (line_down (samples_at from t) i) ≡ line_down (samples_at from u) i) (others : IsInnerSet from t u) where
   abbrev before : Plane
   before = with_block s left top 16 16 (square t)
 
@@ -456,7 +456,7 @@ as_one_edge setting left top s g long columns rows lines =
 module _ (first second : ℕ → Setting) (left top b : ℕ) (s : Plane) (before after t u v w z : List ℕ) (bit : b < 2) (long : length s.samples ≡ s.width * s.height)
     (columns : left + 12 ≤ s.width) (rows : top + 8 ≤ s.height)
     (loaded : (x y : ℕ) → x < 8 → y < 8 → slice_index before (8 * y + x) ≡ sample s (left + 2 + x) (top + y))
-    (joined : (k : ℕ) → k < 64 → slice_index t (64 * b + k) ≡ slice_index before k) (from : IsTransposed t u) (to : IsTransposed z w)
+    (joined : (k : ℕ) → k < 64 → slice_index t (64 * b + k) ≡ slice_index before k) (from : IsTransposed 8 t u) (to : IsTransposed 8 z w)
     (parted : (k : ℕ) → k < 64 → slice_index after k ≡ slice_index z (64 * b + k))
     (first_set : IsNearSet 0 u v) (second_set : IsNearSet 64 v w)
     (first_lines : (p3 p2 q2 q3 b i : ℕ) → b < 2 → i < 8 → filtered (first i) (line_near p3 p2 q2 q3 u 0 (8 * b + i)) ≡ line_near p3 p2 q2 q3 v 0 (8 * b + i))
@@ -520,41 +520,41 @@ module _ (first second : ℕ → Setting) (left top b : ℕ) (s : Plane) (before
 
 -- ---- the lines of Cb and Cr, side by side in one block
 
-module _ (st : ℕ → ℕ) (qp : EdgeQp) (left top b : ℕ) (s : Plane) (before after : List ℕ) (bit : b < 2)
+module _ (setting : ℕ → Setting) (left top b : ℕ) (s : Plane) (before after : List ℕ) (bit : b < 2)
     (long : length s.samples ≡ s.width * s.height) (columns : left + 8 ≤ s.width) (rows : top + 8 ≤ s.height)
     (loaded : (x y : ℕ) → x < 8 → y < 8 → slice_index before (8 * y + x) ≡ sample s (left + x) (top + y)) (u v : List ℕ) (others : IsNearSet 32 u v)
-    (lines : (p3 p2 q2 q3 b i : ℕ) → b < 2 → i < 8 → filtered (chroma_setting st qp i) (line_near p3 p2 q2 q3 u 32 (8 * b + i)) ≡ line_near p3 p2 q2 q3 v 32 (8 * b + i)) where
-  down : (i : ℕ) → i < 8 → filtered (chroma_setting st qp i) (line_down u (8 * b + i)) ≡ line_down v (8 * b + i)
-  down i low = down_near (chroma_setting st qp i) (8 * b + i) u v (omega arith) others (λ p3 p2 q2 q3. lines p3 p2 q2 q3 b i bit low)
+    (lines : (p3 p2 q2 q3 b i : ℕ) → b < 2 → i < 8 → filtered (setting i) (line_near p3 p2 q2 q3 u 32 (8 * b + i)) ≡ line_near p3 p2 q2 q3 v 32 (8 * b + i)) where
+  down : (i : ℕ) → i < 8 → filtered (setting i) (line_down (slice_index u) (8 * b + i)) ≡ line_down (slice_index v) (8 * b + i)
+  down i low = down_near (setting i) (8 * b + i) u v (omega arith) others (λ p3 p2 q2 q3. lines p3 p2 q2 q3 b i bit low)
 
-  pub vertical_part : (t w : List ℕ) → ((k : ℕ) → k < 64 → slice_index t (64 * b + k) ≡ slice_index before k) → IsTransposed t u → IsTransposed w v →
+  pub vertical_part : (t w : List ℕ) → ((k : ℕ) → k < 64 → slice_index t (64 * b + k) ≡ slice_index before k) → IsTransposed 8 t u → IsTransposed 8 w v →
       ((k : ℕ) → k < 64 → slice_index after k ≡ slice_index w (64 * b + k)) →
-      with_block s left top 8 8 (λ x y. slice_index after (8 * y + x)) ≡ edge_filtered (chroma_setting st qp) true (left + 4) top 8 s
+      with_block s left top 8 8 (λ x y. slice_index after (8 * y + x)) ≡ edge_filtered setting true (left + 4) top 8 s
   vertical_part t w joined from to parted = sym
-      (edge_as_block true (chroma_setting st qp) left top 8 s long (λ x y. slice_index after (8 * y + x)) columns rows
+      (edge_as_block true setting left top 8 s long (λ x y. slice_index after (8 * y + x)) columns rows
       (λ i low.
-      ap (filtered (chroma_setting st qp i))
+      ap (filtered (setting i))
       (same_samples (λ k. sample s (left + k) (top + i)) (λ k. slice_index t (8 * (8 * b + i) + k))
       (λ k less. sym (loaded k i less low) ∙ sym (joined (8 * i + k) (omega arith)) ∙ ap (slice_index t) (omega arith)))
-      ∙ filtered_across (chroma_setting st qp i) (8 * b + i) t u v w (omega arith) from to (down i low)
+      ∙ filtered_across (setting i) (8 * b + i) t u v w (omega arith) from to (down i low)
       ∙ same_samples (λ k. slice_index w (8 * (8 * b + i) + k)) (λ k. slice_index after (8 * i + k))
       (λ k less. ap (slice_index w) (omega arith) ∙ sym (parted (8 * i + k) (omega arith)))))
 
   -- of the rows only the two beside the edge change
-  pub horizontal_part : ((r c : ℕ) → r < 8 → c < 8 → slice_index u (16 * r + (8 * b + c)) ≡ slice_index before (8 * r + c)) →
+  pub horizontal_part : ((i : ℕ) → i < 8 → (setting i).is_luma ≡ false) → ((r c : ℕ) → r < 8 → c < 8 → slice_index u (16 * r + (8 * b + c)) ≡ slice_index before (8 * r + c)) →
       ((r c : ℕ) → r < 2 → c < 8 → slice_index after (8 * r + c) ≡ slice_index v (16 * (3 + r) + (8 * b + c))) →
-      with_block s left (top + 3) 8 2 (λ x y. slice_index after (8 * y + x)) ≡ edge_filtered (chroma_setting st qp) false left (top + 4) 8 s
-  horizontal_part joined parted =
-      let all : (i : ℕ) → i < 8 → filtered (chroma_setting st qp i) (line_of (λ k. sample s (left + i) (top + k))) ≡ line_of (λ k. slice_index v (16 * k + (8 * b + i))) =
+      with_block s left (top + 3) 8 2 (λ x y. slice_index after (8 * y + x)) ≡ edge_filtered setting false left (top + 4) 8 s
+  horizontal_part chroma joined parted =
+      let all : (i : ℕ) → i < 8 → filtered (setting i) (line_of (λ k. sample s (left + i) (top + k))) ≡ line_of (λ k. slice_index v (16 * k + (8 * b + i))) =
       λ i low.
-      ap (filtered (chroma_setting st qp i))
+      ap (filtered (setting i))
       (same_samples (λ k. sample s (left + i) (top + k)) (λ k. slice_index u (16 * k + (8 * b + i))) (λ k less. sym (loaded i k low less) ∙ sym (joined k i less low)))
       ∙ down i low in
       within_block s left top 8 8 0 3 8 2 left (top + 3) (λ x y. slice_index v (16 * y + (8 * b + x))) (λ x y. slice_index after (8 * y + x)) (omega arith) refl (omega arith) (omega arith)
       (λ x y x_low y_low. parted y x y_low x_low ∙ ap (slice_index v) (omega arith))
       (λ x y x_low y_low out.
-      kept_by (chroma_setting st qp x) (λ k. sample s (left + x) (top + k)) (λ k. slice_index v (16 * k + (8 * b + x))) 1 (chroma_reach (chroma_setting st qp x) refl) (all x x_low) y y_low (λ p q. out (omega arith) (omega arith) p (omega arith)))
-      ∙ sym (edge_as_block false (chroma_setting st qp) left top 8 s long (λ x y. slice_index v (16 * y + (8 * b + x))) columns rows all)
+      kept_by (setting x) (λ k. sample s (left + x) (top + k)) (λ k. slice_index v (16 * k + (8 * b + x))) 1 (chroma_reach (setting x) (chroma x x_low)) (all x x_low) y y_low (λ p q. out (omega arith) (omega arith) p (omega arith)))
+      ∙ sym (edge_as_block false setting left top 8 s long (λ x y. slice_index v (16 * y + (8 * b + x))) columns rows all)
 
 -- ---- lines of rows that are written from the left
 

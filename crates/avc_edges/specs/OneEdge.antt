@@ -6,7 +6,7 @@ use Rattle.std.specs.List.{range_with_len}
 use Rattle.avc_plane.specs.Plane.{Plane}
 use Rattle.avc_edges.specs.Line.{Setting, filtered, setting_of}
 use Rattle.avc_edges.specs.Line.{threshold_index, alpha_of, beta_of, tc0_of}
-use Rattle.avc_edges.specs.Rows.{IsWeak, IsStrong, line_near}
+use Rattle.avc_edges.specs.Rows.{IsWeak, line_near}
 use Rattle.avc_edges.specs.PlaneLine.{line_filtered}
 use Rattle.avc_edges.specs.declared.strengths.Strengths.{Strengths}
 use Rattle.avc_edges.specs.declared.strengths.Strengths.TheVariants.{Four, BelowFour}
@@ -64,11 +64,11 @@ chroma_filtered strengths qp is_vertical x y s =
     edge_filtered (chroma_setting strengths qp) is_vertical x y 8 s
 
 -- Eight lines of Cb, and then eight of Cr, down four rows of sixteen samples that stand from a
--- place of a table on, are filtered at these strengths (8.7.2).
-abbrev pub AreChromaFiltered : (ℕ → ℕ) → EdgeQp → (from : ℕ) → (t u : List ℕ) → Type 0
-AreChromaFiltered strengths qp from t u =
+-- place of a table on, are filtered with these settings (8.7.2).
+abbrev pub AreChromaFiltered : (ℕ → Setting) → (from : ℕ) → (t u : List ℕ) → Type 0
+AreChromaFiltered setting from t u =
     (p3 p2 q2 q3 b i : ℕ) → b < 2 → i < 8 →
-    filtered (chroma_setting strengths qp i) (line_near p3 p2 q2 q3 t from (8 * b + i))
+    filtered (setting i) (line_near p3 p2 q2 q3 t from (8 * b + i))
     ≡ line_near p3 p2 q2 q3 u from (8 * b + i)
 
 -- indexA and indexB of an edge's lines (8.7.2.2)
@@ -105,13 +105,3 @@ abbrev pub FitsWeak : (is_luma : Bool) → QpLimits → (strength : ℕ) → Set
 FitsWeak is_luma l strength s =
     IsWeak is_luma s (if strength == 0 then 0 else l.alpha1 + 1) (l.beta1 + 1)
     (tc0_of strength l.index_a)
-
--- sixteen lines of luma at these strengths below 4 with these limits
-abbrev pub AreWeakSettings : QpLimits → (strengths : List ℕ) → (ℕ → Setting) → Type 0
-AreWeakSettings l strengths setting =
-    (i : ℕ) → i < 16 → FitsWeak true l (slice_index strengths (i / 4)) (setting i)
-
--- and at strength 4
-abbrev pub AreStrongSettings : QpLimits → (ℕ → Setting) → Type 0
-AreStrongSettings l setting =
-    (i : ℕ) → i < 16 → IsStrong true (setting i) (l.alpha1 + 1) (l.beta1 + 1)

@@ -63,39 +63,38 @@ line_of f = line (f 0) (f 1) (f 2) (f 3) (f 4) (f 5) (f 6) (f 7)
 abbrev pub line_across : List ℕ → ℕ → Line
 line_across t i = line_of (λ k. slice_index t (8 * i + k))
 
--- line i of a block of eight rows of sixteen samples, across a horizontal edge in its middle
-abbrev pub line_down : List ℕ → ℕ → Line
-line_down t i = line_of (λ k. slice_index t (16 * k + i))
+-- line i of eight rows of sixteen samples f(0), f(1), .., across a horizontal edge in their middle
+abbrev pub line_down : (ℕ → ℕ) → ℕ → Line
+line_down f i = line_of (λ k. f (16 * k + i))
 
--- the same of eight rows that stand from a place of a table on
-abbrev pub line_down_from : (from : ℕ) → List ℕ → ℕ → Line
-line_down_from from t i = line_of (λ k. slice_index t (from + (16 * k + i)))
+-- the samples of a table from a place on
+abbrev pub samples_at : (from : ℕ) → List ℕ → ℕ → ℕ
+samples_at from t k = slice_index t (from + k)
+
+-- u is t but for the samples from the first on, up to the end
+pub record IsKeptOutside (first end : ℕ) (t u : List ℕ) : Type 0 where
+  pub before : (k : ℕ) → k < first → slice_index u k ≡ slice_index t k
+  pub behind : (k : ℕ) → end ≤ k → slice_index u k ≡ slice_index t k
+
+-- u is t with these n samples at the place from
+pub record AreSet (n from : ℕ) (samples t u : List ℕ) : Type 0 where
+  pub inside : (k : ℕ) → k < n → slice_index u (from + k) ≡ slice_index samples k
+  pub others : IsKeptOutside from (from + n) t u
 
 -- of eight such rows the four in the middle may change, and nothing else
-pub record IsInnerSet (from : ℕ) (t u : List ℕ) : Type 0 where
-  pub before : (k : ℕ) → k < from + 32 → slice_index u k ≡ slice_index t k
-  pub behind : (k : ℕ) → from + 96 ≤ k → slice_index u k ≡ slice_index t k
+abbrev pub IsInnerSet : (from : ℕ) → (t u : List ℕ) → Type 0
+IsInnerSet from t u = IsKeptOutside (from + 32) (from + 96) t u
 
 -- u has the halves of the table t, which have so many samples, one sample of each in turn
 pub record IsRiffled (half : ℕ) (t u : List ℕ) : Type 0 where
   pub even : (k : ℕ) → k < half → slice_index u (2 * k) ≡ slice_index t k
   pub odd : (k : ℕ) → k < half → slice_index u (2 * k + 1) ≡ slice_index t (half + k)
 
--- the sixteen rows of eight samples of t are the sixteen columns of the eight rows of u
-abbrev pub IsTransposed : (t u : List ℕ) → Type 0
-IsTransposed t u =
-    (r c : ℕ) → r < 16 → c < 8 → slice_index u (16 * c + r) ≡ slice_index t (8 * r + c)
-
--- the sixteen columns of the sixteen rows of t are the rows of u
-abbrev pub IsTurned : (t u : List ℕ) → Type 0
-IsTurned t u =
-    (r c : ℕ) → r < 16 → c < 16 → slice_index u (16 * c + r) ≡ slice_index t (16 * r + c)
-
--- u is t with the sixteen samples r at the place from
-pub record IsRowSet (from : ℕ) (r t u : List ℕ) : Type 0 where
-  pub inside : (k : ℕ) → k < 16 → slice_index u (from + k) ≡ slice_index r k
-  pub before : (k : ℕ) → k < from → slice_index u k ≡ slice_index t k
-  pub behind : (k : ℕ) → from + 16 ≤ k → slice_index u k ≡ slice_index t k
+-- the columns of the sixteen rows of t, of so many samples, are the rows of u
+abbrev pub IsTransposed : (columns : ℕ) → (t u : List ℕ) → Type 0
+IsTransposed columns t u =
+    (r c : ℕ) → r < 16 → c < columns →
+    slice_index u (16 * c + r) ≡ slice_index t (columns * r + c)
 
 -- ---- chroma
 
@@ -112,6 +111,5 @@ line_near p3 p2 q2 q3 t from i =
     (slice_index t (from + 32 + i)) (slice_index t (from + 48 + i)) q2 q3
 
 -- of four such rows the two in the middle may change, and nothing else
-pub record IsNearSet (from : ℕ) (t u : List ℕ) : Type 0 where
-  pub before : (k : ℕ) → k < from + 16 → slice_index u k ≡ slice_index t k
-  pub behind : (k : ℕ) → from + 48 ≤ k → slice_index u k ≡ slice_index t k
+abbrev pub IsNearSet : (from : ℕ) → (t u : List ℕ) → Type 0
+IsNearSet from t u = IsKeptOutside (from + 16) (from + 48) t u

@@ -2,13 +2,13 @@
 
 ghost use Rattle.std.specs.Prelude.{◌≡◌, ℕ, ◌+◌, ◌*◌, ◌/◌, ◌%◌, ◌<◌, ◌≤◌, true, false, slice_index};
 ghost use Rattle.avc_edges.specs.Line.{Setting, filtered};
-ghost use Rattle.avc_edges.specs.Rows.{IsRiffled, IsTransposed, IsRowSet};
+ghost use Rattle.avc_edges.specs.Rows.{IsRiffled, IsTransposed};
 ghost use Rattle.avc_edges.specs.Rows.{IsNearSet, line_down, line_near};
 ghost use Rattle.avc_edges.specs.Fits.{FitsWeakLines, FitsStrongLines};
 
 use crate::limits::{Limits, StrongLimits};
 use crate::lines::{SideRows, strong_chroma_lines, strong_lines, weak_chroma_lines, weak_lines};
-use crate::pair::half;
+use crate::table::{samples_from, set_samples};
 use std::simd::prelude::*;
 
 /// The halves of a table, one sample of each in turn.
@@ -25,21 +25,25 @@ pub(crate) fn riffled<const HALF: usize, const N: usize>(t: &[u8; N]) -> [u8; N]
     out
 }
 
-/// Sixteen rows of eight samples as eight rows of sixteen.
+/// The columns of sixteen rows of so many samples, as rows.
 #[inline(always)]
-pub(crate) fn columns(t: &[u8; 128]) -> [u8; 128]
-    ensures { IsTransposed t.now result }
+pub(crate) fn transposed<const COLUMNS: usize, const HALF: usize, const N: usize>(
+    t: &[u8; N],
+) -> [u8; N]
+    requires half { HALF ≡ 8 * COLUMNS }
+    requires all { 2 * HALF ≡ N }
+    ensures { IsTransposed COLUMNS t.now result }
 {
-    let once = riffled::<64, 128>(t);
-    let twice = riffled::<64, 128>(&once);
-    let thrice = riffled::<64, 128>(&twice);
-    riffled::<64, 128>(&thrice)
+    let once = riffled::<HALF, N>(t);
+    let twice = riffled::<HALF, N>(&once);
+    let thrice = riffled::<HALF, N>(&twice);
+    riffled::<HALF, N>(&thrice)
 }
 
 /// Eight rows of sixteen samples as sixteen rows of eight.
 #[inline(always)]
 pub(crate) fn rows_of(t: &[u8; 128]) -> [u8; 128]
-    ensures { IsTransposed result t.now }
+    ensures { IsTransposed 8 result t.now }
 {
     let once = riffled::<64, 128>(t);
     let twice = riffled::<64, 128>(&once);
@@ -106,30 +110,7 @@ pub(crate) fn rows_of_middle(t: &[u8; 128]) -> [u8; 64]
     let apart = middle_apart(t);
     let once = riffled::<64, 128>(&apart);
     let twice = riffled::<64, 128>(&once);
-    by_words(&half(&twice, 0))
-}
-
-/// Sixteen samples of a table.
-#[inline(always)]
-pub(crate) fn row(t: &[u8; 128], from: usize) -> [u8; 16]
-    requires { from + 16 ≤ 128 }
-    ensures { (k : ℕ) → k < 16 → slice_index result k ≡ slice_index t.now (from + k) }
-{
-    let mut out = [0; 16];
-    for k in 0..16 {
-        out[k] = t[from + k];
-    }
-    out
-}
-
-#[inline(always)]
-pub(crate) fn set_row(t: &mut [u8; 128], from: usize, r: &[u8; 16])
-    requires { from + 16 ≤ 128 }
-    ensures { IsRowSet from r.now t.old t.new }
-{
-    for k in 0..16 {
-        t[from + k] = r[k];
-    }
+    by_words(&samples_from(&twice, 0))
 }
 
 /// A value for each four lines, at each line.
@@ -149,35 +130,35 @@ pub(crate) fn spread(v: &[u8; 4]) -> [u8; 16]
 #[inline(always)]
 pub(crate) fn weak_luma(t: &mut [u8; 128], limits: &Limits)
     ensures { (s : Setting) (i : ℕ) → i < 16 → FitsWeakLines true s limits.now i →
-        filtered s (line_down t.old i) ≡ line_down t.new i }
+        filtered s (line_down (slice_index t.old) i) ≡ line_down (slice_index t.new) i }
 {
-    let p2 = row(t, 16);
-    let mut p1 = row(t, 32);
-    let mut p0 = row(t, 48);
-    let mut q0 = row(t, 64);
-    let mut q1 = row(t, 80);
-    let q2 = row(t, 96);
+    let p2 = samples_from(t, 16);
+    let mut p1 = samples_from(t, 32);
+    let mut p0 = samples_from(t, 48);
+    let mut q0 = samples_from(t, 64);
+    let mut q1 = samples_from(t, 80);
+    let q2 = samples_from(t, 96);
     weak_lines(&p2, &mut p1, &mut p0, &mut q0, &mut q1, &q2, limits);
-    set_row(t, 32, &p1);
-    set_row(t, 48, &p0);
-    set_row(t, 64, &q0);
-    set_row(t, 80, &q1);
+    set_samples(t, 32, &p1);
+    set_samples(t, 48, &p0);
+    set_samples(t, 64, &q0);
+    set_samples(t, 80, &q1);
 }
 
 /// Filters the sixteen lines of luma down a block of eight rows of sixteen samples, at strength 4.
 #[inline(always)]
 pub(crate) fn strong_luma(t: &mut [u8; 128], limits: &StrongLimits)
     ensures { (s : Setting) (i : ℕ) → i < 16 → FitsStrongLines true s limits.now i →
-        filtered s (line_down t.old i) ≡ line_down t.new i }
+        filtered s (line_down (slice_index t.old) i) ≡ line_down (slice_index t.new) i }
 {
-    let p3 = row(t, 0);
-    let p2 = row(t, 16);
-    let p1 = row(t, 32);
-    let p0 = row(t, 48);
-    let q0 = row(t, 64);
-    let q1 = row(t, 80);
-    let q2 = row(t, 96);
-    let q3 = row(t, 112);
+    let p3 = samples_from(t, 0);
+    let p2 = samples_from(t, 16);
+    let p1 = samples_from(t, 32);
+    let p0 = samples_from(t, 48);
+    let q0 = samples_from(t, 64);
+    let q1 = samples_from(t, 80);
+    let q2 = samples_from(t, 96);
+    let q3 = samples_from(t, 112);
     let mut sides = SideRows {
         p2,
         p1,
@@ -187,48 +168,57 @@ pub(crate) fn strong_luma(t: &mut [u8; 128], limits: &StrongLimits)
         q2,
     };
     strong_lines(&p3, &mut sides, &q3, limits);
-    set_row(t, 16, &sides.p2);
-    set_row(t, 32, &sides.p1);
-    set_row(t, 48, &sides.p0);
-    set_row(t, 64, &sides.q0);
-    set_row(t, 80, &sides.q1);
-    set_row(t, 96, &sides.q2);
+    set_samples(t, 16, &sides.p2);
+    set_samples(t, 32, &sides.p1);
+    set_samples(t, 48, &sides.p0);
+    set_samples(t, 64, &sides.q0);
+    set_samples(t, 80, &sides.q1);
+    set_samples(t, 96, &sides.q2);
 }
 
-/// Filters the sixteen lines of chroma down four rows of sixteen samples, which stand from a place
-/// of a table on, at strengths of 0 to 3.
+/// Four rows of sixteen samples, in a table of eight.
+#[derive(Clone, Copy)]
+pub(crate) struct FourRows {
+    /// The samples before them.
+    pub(crate) from: usize,
+
+    ghost room: { from + 64 ≤ 128 },
+}
+
+/// Filters the sixteen lines of chroma down four rows of sixteen samples, at strengths of 0 to 3.
 #[inline(always)]
-pub(crate) fn weak_chroma(t: &mut [u8; 128], from: usize, limits: &Limits)
-    requires room { from + 64 ≤ 128 }
+pub(crate) fn weak_chroma(t: &mut [u8; 128], rows: FourRows, limits: &Limits)
     ensures lines { (p3 p2 q2 q3 : ℕ) (s : Setting) (i : ℕ) → i < 16 →
         FitsWeakLines false s limits.now i →
-        filtered s (line_near p3 p2 q2 q3 t.old from i) ≡ line_near p3 p2 q2 q3 t.new from i }
-    ensures others { IsNearSet from t.old t.new }
+        filtered s (line_near p3 p2 q2 q3 t.old rows.from i)
+        ≡ line_near p3 p2 q2 q3 t.new rows.from i }
+    ensures others { IsNearSet rows.from t.old t.new }
 {
-    let p1 = row(t, from);
-    let mut p0 = row(t, from + 16);
-    let mut q0 = row(t, from + 32);
-    let q1 = row(t, from + 48);
+    let from = rows.from;
+    let p1 = samples_from(t, from);
+    let mut p0 = samples_from(t, from + 16);
+    let mut q0 = samples_from(t, from + 32);
+    let q1 = samples_from(t, from + 48);
     weak_chroma_lines(&p1, &mut p0, &mut q0, &q1, limits);
-    set_row(t, from + 16, &p0);
-    set_row(t, from + 32, &q0);
+    set_samples(t, from + 16, &p0);
+    set_samples(t, from + 32, &q0);
 }
 
-/// Filters the sixteen lines of chroma down four rows of sixteen samples, which stand from a place
-/// of a table on, at strength 4.
+/// Filters the sixteen lines of chroma down four rows of sixteen samples, at strength 4.
 #[inline(always)]
-pub(crate) fn strong_chroma(t: &mut [u8; 128], from: usize, limits: &StrongLimits)
-    requires room { from + 64 ≤ 128 }
+pub(crate) fn strong_chroma(t: &mut [u8; 128], rows: FourRows, limits: &StrongLimits)
     ensures lines { (p3 p2 q2 q3 : ℕ) (s : Setting) (i : ℕ) → i < 16 →
         FitsStrongLines false s limits.now i →
-        filtered s (line_near p3 p2 q2 q3 t.old from i) ≡ line_near p3 p2 q2 q3 t.new from i }
-    ensures others { IsNearSet from t.old t.new }
+        filtered s (line_near p3 p2 q2 q3 t.old rows.from i)
+        ≡ line_near p3 p2 q2 q3 t.new rows.from i }
+    ensures others { IsNearSet rows.from t.old t.new }
 {
-    let p1 = row(t, from);
-    let mut p0 = row(t, from + 16);
-    let mut q0 = row(t, from + 32);
-    let q1 = row(t, from + 48);
+    let from = rows.from;
+    let p1 = samples_from(t, from);
+    let mut p0 = samples_from(t, from + 16);
+    let mut q0 = samples_from(t, from + 32);
+    let q1 = samples_from(t, from + 48);
     strong_chroma_lines(&p1, &mut p0, &mut q0, &q1, limits);
-    set_row(t, from + 16, &p0);
-    set_row(t, from + 32, &q0);
+    set_samples(t, from + 16, &p0);
+    set_samples(t, from + 32, &q0);
 }

@@ -1,61 +1,56 @@
 //! Edges of both chroma components together (8.7.2.2 to 8.7.2.4).
 
-ghost use Rattle.std.specs.Prelude.{◌≡◌, ℕ, ◌+◌, ◌<◌, ◌≤◌, true, false, slice_index};
+ghost use Rattle.std.specs.Prelude.{◌≡◌, ℕ, ◌+◌, ◌≤◌, true, false};
+ghost use Rattle.avc_edges.specs.Line.{Setting};
 ghost use Rattle.avc_edges.specs.Rows.{IsNearSet};
-ghost use Rattle.avc_edges.specs.OneEdge.{chroma_filtered, strength_along};
-ghost use Rattle.avc_edges.specs.Settings.{strengths_of};
-ghost use Rattle.avc_edges.specs.OneEdge.{AreChromaFiltered, AreLimits, AreSpread};
-ghost use Rattle.avc_edges.specs.declared.strengths.Strengths.TheVariants.{Four, BelowFour};
+ghost use Rattle.avc_plane.specs.Plane.{HasRectangle};
+ghost use Rattle.avc_edges.specs.OneEdge.{chroma_filtered, chroma_setting, edge_filtered};
+ghost use Rattle.avc_edges.specs.OneEdge.{AreChromaFiltered, AreLimits};
+ghost use Rattle.avc_edges.specs.Settings.{strengths_of, AreStrongChroma, AreWeakChroma};
 ghost use Rattle.avc_edges.specs.declared.thresholds.EdgeQp.{EdgeQp as Qps};
 
-use crate::block::{columns, rows_of, strong_chroma, weak_chroma};
-use crate::pair::{beside, half, joined, nearest};
-use crate::settings::EdgeSettings;
+use crate::block::{FourRows, rows_of, strong_chroma, transposed, weak_chroma};
+use crate::pair::{beside, joined, nearest};
+use crate::settings::{EdgeSettings, StrongSettings, WeakSettings};
 use crate::strengths::Strengths;
-use crate::thresholds::{QpLimits, chroma_tc1s};
+use crate::table::samples_from;
 use avc_plane::Plane;
 
-/// Filters the lines of chroma down four rows of sixteen samples, which stand from a place of a
-/// table on, at strengths of 0 to 3: eight lines of Cb, and then eight of Cr.
+/// Filters the lines of chroma down four rows of sixteen samples at strengths of 0 to 3: eight
+/// lines of Cb, and then eight of Cr.
 #[inline(always)]
-fn filter_below_four(t: &mut [u8; 128], from: usize, strengths: &[u8; 4], limits: &QpLimits)
-    requires room { from + 64 ≤ 128 }
-    requires on { limits.now.is_on ≡ true }
-    requires spread { AreSpread limits.now }
-    requires strengths { (k : ℕ) → k < 4 → slice_index strengths.now k < 4 }
-    ensures lines { (qp : Qps) → AreLimits limits.now qp →
-        AreChromaFiltered (strength_along (BelowFour strengths.now)) qp from t.old t.new }
-    ensures others { IsNearSet from t.old t.new }
+fn filter_below_four(t: &mut [u8; 128], rows: FourRows, settings: WeakSettings<'_>)
+    ensures lines { (setting : ℕ → Setting) → AreWeakChroma settings.entry setting →
+        AreChromaFiltered setting rows.from t.old t.new }
+    ensures others { IsNearSet rows.from t.old t.new }
 {
-    let tc1 = chroma_tc1s(strengths, limits);
-    weak_chroma(t, from, &limits.weak(&tc1));
+    weak_chroma(t, rows, &settings.of_chroma());
 }
 
 /// Filters the lines of chroma down four rows of sixteen samples at strength 4.
 #[inline(always)]
-fn filter_at_four(t: &mut [u8; 128], from: usize, limits: &QpLimits)
-    requires room { from + 64 ≤ 128 }
-    requires on { limits.now.is_on ≡ true }
-    requires spread { AreSpread limits.now }
-    ensures lines { (qp : Qps) → AreLimits limits.now qp →
-        AreChromaFiltered (strength_along Four) qp from t.old t.new }
-    ensures others { IsNearSet from t.old t.new }
+fn filter_at_four(t: &mut [u8; 128], rows: FourRows, settings: StrongSettings<'_>)
+    ensures lines { (setting : ℕ → Setting) → AreStrongChroma settings.entry setting →
+        AreChromaFiltered setting rows.from t.old t.new }
+    ensures others { IsNearSet rows.from t.old t.new }
 {
-    strong_chroma(t, from, &limits.strong());
+    strong_chroma(t, rows, &settings.of_lines());
 }
 
 /// Filters the lines of chroma down four rows of sixteen samples at any strengths.
 #[inline(always)]
-fn filter_chroma(t: &mut [u8; 128], from: usize, settings: EdgeSettings<'_>)
-    requires room { from + 64 ≤ 128 }
-    requires on { settings.limits.now.is_on ≡ true }
+fn filter_chroma(t: &mut [u8; 128], rows: FourRows, settings: EdgeSettings<'_>)
+    requires { settings.limits.now.is_on ≡ true }
     ensures lines { (qp : Qps) → AreLimits settings.entry.limits.now qp →
-        AreChromaFiltered (strengths_of settings.entry) qp from t.old t.new }
-    ensures others { IsNearSet from t.old t.new }
+        AreChromaFiltered (chroma_setting (strengths_of settings.entry) qp) rows.from t.old t.new }
+    ensures others { IsNearSet rows.from t.old t.new }
 {
+    let limits = settings.limits;
     match settings.strengths {
-        Strengths::Four => filter_at_four(t, from, settings.limits),
-        Strengths::BelowFour(s) => filter_below_four(t, from, s, settings.limits),
+        Strengths::Four => filter_at_four(t, rows, StrongSettings { limits }),
+        Strengths::BelowFour(strengths) => {
+            filter_below_four(t, rows, WeakSettings { strengths, limits })
+        }
     }
 }
 
@@ -85,11 +80,11 @@ pub fn vertical_chroma<const PAD: usize>(
     let of_cb = cb.rectangle::<8, 8, 64>(left, top);
     let of_cr = cr.rectangle::<8, 8, 64>(left, top);
     let block = joined(&of_cb, &of_cr);
-    let mut lines = columns(&block);
-    filter_chroma(&mut lines, 32, settings);
+    let mut lines = transposed::<8, 64, 128>(&block);
+    filter_chroma(&mut lines, FourRows { from: 32 }, settings);
     let after = rows_of(&lines);
-    let new_cb = half(&after, 0);
-    let new_cr = half(&after, 64);
+    let new_cb = samples_from(&after, 0);
+    let new_cr = samples_from(&after, 64);
     cb.set_rectangle::<8, 8, 64>(left, top, &new_cb);
     cr.set_rectangle::<8, 8, 64>(left, top, &new_cr);
 }
@@ -124,12 +119,12 @@ pub fn two_vertical_chroma<const PAD: usize>(
     let of_cb = cb.rectangle::<8, 8, 64>(left + 2, top);
     let of_cr = cr.rectangle::<8, 8, 64>(left + 2, top);
     let block = joined(&of_cb, &of_cr);
-    let mut lines = columns(&block);
-    filter_chroma(&mut lines, 0, first);
-    filter_chroma(&mut lines, 64, second);
+    let mut lines = transposed::<8, 64, 128>(&block);
+    filter_chroma(&mut lines, FourRows { from: 0 }, first);
+    filter_chroma(&mut lines, FourRows { from: 64 }, second);
     let after = rows_of(&lines);
-    let new_cb = half(&after, 0);
-    let new_cr = half(&after, 64);
+    let new_cb = samples_from(&after, 0);
+    let new_cr = samples_from(&after, 64);
     cb.set_rectangle::<8, 8, 64>(left + 2, top, &new_cb);
     cr.set_rectangle::<8, 8, 64>(left + 2, top, &new_cr);
 }
@@ -142,28 +137,20 @@ fn weak_horizontal<const PAD: usize>(
     cr: &mut Plane<PAD>,
     left: usize,
     top: usize,
-    strengths: &[u8; 4],
-    limits: &QpLimits,
+    settings: WeakSettings<'_>,
 )
-    requires cb_columns { left + 8 ≤ cb.old.width }
-    requires cb_rows { top + 8 ≤ cb.old.height }
-    requires cr_columns { left + 8 ≤ cr.old.width }
-    requires cr_rows { top + 8 ≤ cr.old.height }
-    requires on { limits.now.is_on ≡ true }
-    requires spread { AreSpread limits.now }
-    requires strengths { (k : ℕ) → k < 4 → slice_index strengths.now k < 4 }
-    ensures cb { (qp : Qps) → AreLimits limits.now qp →
-        cb.new ≡ chroma_filtered (strength_along (BelowFour strengths.now)) qp false
-        left (top + 4) cb.old }
-    ensures cr { (qp : Qps) → AreLimits limits.now qp →
-        cr.new ≡ chroma_filtered (strength_along (BelowFour strengths.now)) qp false
-        left (top + 4) cr.old }
+    requires cb { HasRectangle left top 8 8 cb.old }
+    requires cr { HasRectangle left top 8 8 cr.old }
+    ensures cb { (setting : ℕ → Setting) → AreWeakChroma settings.entry setting →
+        cb.new ≡ edge_filtered setting false left (top + 4) 8 cb.old }
+    ensures cr { (setting : ℕ → Setting) → AreWeakChroma settings.entry setting →
+        cr.new ≡ edge_filtered setting false left (top + 4) 8 cr.old }
 {
     let _rows = cb.height();
     let of_cb = cb.rectangle::<8, 8, 64>(left, top);
     let of_cr = cr.rectangle::<8, 8, 64>(left, top);
     let mut lines = beside(&of_cb, &of_cr);
-    filter_below_four(&mut lines, 32, strengths, limits);
+    filter_below_four(&mut lines, FourRows { from: 32 }, settings);
     let new_cb = nearest(&lines, 0);
     let new_cr = nearest(&lines, 8);
     cb.set_rectangle::<8, 2, 16>(left, top + 3, &new_cb);
@@ -177,24 +164,20 @@ fn strong_horizontal<const PAD: usize>(
     cr: &mut Plane<PAD>,
     left: usize,
     top: usize,
-    limits: &QpLimits,
+    settings: StrongSettings<'_>,
 )
-    requires cb_columns { left + 8 ≤ cb.old.width }
-    requires cb_rows { top + 8 ≤ cb.old.height }
-    requires cr_columns { left + 8 ≤ cr.old.width }
-    requires cr_rows { top + 8 ≤ cr.old.height }
-    requires on { limits.now.is_on ≡ true }
-    requires spread { AreSpread limits.now }
-    ensures cb { (qp : Qps) → AreLimits limits.now qp →
-        cb.new ≡ chroma_filtered (strength_along Four) qp false left (top + 4) cb.old }
-    ensures cr { (qp : Qps) → AreLimits limits.now qp →
-        cr.new ≡ chroma_filtered (strength_along Four) qp false left (top + 4) cr.old }
+    requires cb { HasRectangle left top 8 8 cb.old }
+    requires cr { HasRectangle left top 8 8 cr.old }
+    ensures cb { (setting : ℕ → Setting) → AreStrongChroma settings.entry setting →
+        cb.new ≡ edge_filtered setting false left (top + 4) 8 cb.old }
+    ensures cr { (setting : ℕ → Setting) → AreStrongChroma settings.entry setting →
+        cr.new ≡ edge_filtered setting false left (top + 4) 8 cr.old }
 {
     let _rows = cb.height();
     let of_cb = cb.rectangle::<8, 8, 64>(left, top);
     let of_cr = cr.rectangle::<8, 8, 64>(left, top);
     let mut lines = beside(&of_cb, &of_cr);
-    filter_at_four(&mut lines, 32, limits);
+    filter_at_four(&mut lines, FourRows { from: 32 }, settings);
     let new_cb = nearest(&lines, 0);
     let new_cr = nearest(&lines, 8);
     cb.set_rectangle::<8, 2, 16>(left, top + 3, &new_cb);
@@ -225,7 +208,9 @@ pub fn horizontal_chroma<const PAD: usize>(
         return;
     }
     match settings.strengths {
-        Strengths::Four => strong_horizontal(cb, cr, left, top, limits),
-        Strengths::BelowFour(s) => weak_horizontal(cb, cr, left, top, s, limits),
+        Strengths::Four => strong_horizontal(cb, cr, left, top, StrongSettings { limits }),
+        Strengths::BelowFour(strengths) => {
+            weak_horizontal(cb, cr, left, top, WeakSettings { strengths, limits })
+        }
     }
 }

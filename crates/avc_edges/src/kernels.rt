@@ -1,14 +1,15 @@
 //! Sixteen lines of luma across an edge, in a plane.
 
-ghost use Rattle.std.specs.Prelude.{◌≡◌, ℕ, ◌+◌, ◌<◌, ◌≤◌, slice_index, true, false};
+ghost use Rattle.std.specs.Prelude.{◌≡◌, ℕ, ◌+◌, true, false};
 ghost use Rattle.avc_edges.specs.Line.{Setting};
-ghost use Rattle.avc_edges.specs.OneEdge.{edge_filtered, AreSpread};
-ghost use Rattle.avc_edges.specs.OneEdge.{AreStrongSettings, AreWeakSettings};
+ghost use Rattle.avc_edges.specs.OneEdge.{edge_filtered};
+ghost use Rattle.avc_plane.specs.Plane.{HasRectangle};
+ghost use Rattle.avc_edges.specs.Settings.{AreStrongLuma, AreWeakLuma};
 
-use crate::block::{columns, rows_of, rows_of_middle, strong_luma, weak_luma};
-use crate::pair::half;
-use crate::square::{filter_rows, transposed};
-use crate::thresholds::{QpLimits, luma_tc1s};
+use crate::block::{rows_of, rows_of_middle, strong_luma, transposed, weak_luma};
+use crate::settings::{StrongSettings, WeakSettings};
+use crate::square::filter_rows;
+use crate::table::samples_from;
 use avc_plane::Plane;
 
 /// Filters the sixteen lines of luma across a horizontal edge at strengths of 0 to 3. The edge has
@@ -18,23 +19,18 @@ fn weak_horizontal<const PAD: usize>(
     plane: &mut Plane<PAD>,
     left: usize,
     top: usize,
-    limits: &QpLimits,
-    strengths: &[u8; 4],
+    settings: WeakSettings<'_>,
 )
-    requires columns { left + 16 ≤ plane.old.width }
-    requires rows { top + 8 ≤ plane.old.height }
-    requires strengths { (k : ℕ) → k < 4 → slice_index strengths.now k < 4 }
-    requires spread { AreSpread limits.now }
+    requires { HasRectangle left top 16 8 plane.old }
     ensures width { plane.new.width ≡ plane.old.width }
     ensures height { plane.new.height ≡ plane.old.height }
-    ensures lines { (setting : ℕ → Setting) → AreWeakSettings limits.now strengths.now setting →
+    ensures lines { (setting : ℕ → Setting) → AreWeakLuma settings.entry setting →
         plane.new ≡ edge_filtered setting false left (top + 4) 16 plane.old }
 {
     let _rows = plane.height();
     let mut lines = plane.rectangle::<16, 8, 128>(left, top);
-    let tc1 = luma_tc1s(strengths, limits);
-    weak_luma(&mut lines, &limits.weak(&tc1));
-    let inner = half(&lines, 32);
+    weak_luma(&mut lines, &settings.of_luma());
+    let inner = samples_from::<128, 64>(&lines, 32);
     plane.set_rectangle::<16, 4, 64>(left, top + 2, &inner);
 }
 
@@ -45,21 +41,16 @@ pub(crate) fn one_vertical<const PAD: usize>(
     plane: &mut Plane<PAD>,
     left: usize,
     top: usize,
-    limits: &QpLimits,
-    strengths: &[u8; 4],
+    settings: WeakSettings<'_>,
 )
-    requires columns { left + 8 ≤ plane.old.width }
-    requires rows { top + 16 ≤ plane.old.height }
-    requires strengths { (k : ℕ) → k < 4 → slice_index strengths.now k < 4 }
-    requires spread { AreSpread limits.now }
-    ensures { (setting : ℕ → Setting) → AreWeakSettings limits.now strengths.now setting →
+    requires { HasRectangle left top 8 16 plane.old }
+    ensures { (setting : ℕ → Setting) → AreWeakLuma settings.entry setting →
         plane.new ≡ edge_filtered setting true (left + 4) top 16 plane.old }
 {
     let _columns = plane.width();
     let block = plane.rectangle::<8, 16, 128>(left, top);
-    let mut lines = columns(&block);
-    let tc1 = luma_tc1s(strengths, limits);
-    weak_luma(&mut lines, &limits.weak(&tc1));
+    let mut lines = transposed::<8, 64, 128>(&block);
+    weak_luma(&mut lines, &settings.of_luma());
     let after = rows_of_middle(&lines);
     plane.set_rectangle::<4, 16, 64>(left + 2, top, &after);
 }
@@ -70,16 +61,14 @@ pub(crate) fn strong_horizontal<const PAD: usize>(
     plane: &mut Plane<PAD>,
     left: usize,
     top: usize,
-    limits: &QpLimits,
+    settings: StrongSettings<'_>,
 )
-    requires columns { left + 16 ≤ plane.old.width }
-    requires rows { top + 8 ≤ plane.old.height }
-    requires spread { AreSpread limits.now }
-    ensures { (setting : ℕ → Setting) → AreStrongSettings limits.now setting →
+    requires { HasRectangle left top 16 8 plane.old }
+    ensures { (setting : ℕ → Setting) → AreStrongLuma settings.entry setting →
         plane.new ≡ edge_filtered setting false left (top + 4) 16 plane.old }
 {
     let mut lines = plane.rectangle::<16, 8, 128>(left, top);
-    strong_luma(&mut lines, &limits.strong());
+    strong_luma(&mut lines, &settings.of_lines());
     plane.set_rectangle::<16, 8, 128>(left, top, &lines);
 }
 
@@ -89,17 +78,15 @@ pub(crate) fn strong_vertical<const PAD: usize>(
     plane: &mut Plane<PAD>,
     left: usize,
     top: usize,
-    limits: &QpLimits,
+    settings: StrongSettings<'_>,
 )
-    requires columns { left + 8 ≤ plane.old.width }
-    requires rows { top + 16 ≤ plane.old.height }
-    requires spread { AreSpread limits.now }
-    ensures { (setting : ℕ → Setting) → AreStrongSettings limits.now setting →
+    requires { HasRectangle left top 8 16 plane.old }
+    ensures { (setting : ℕ → Setting) → AreStrongLuma settings.entry setting →
         plane.new ≡ edge_filtered setting true (left + 4) top 16 plane.old }
 {
     let block = plane.rectangle::<8, 16, 128>(left, top);
-    let mut lines = columns(&block);
-    strong_luma(&mut lines, &limits.strong());
+    let mut lines = transposed::<8, 64, 128>(&block);
+    strong_luma(&mut lines, &settings.of_lines());
     let after = rows_of(&lines);
     plane.set_rectangle::<8, 16, 128>(left, top, &after);
 }
@@ -110,17 +97,13 @@ pub(crate) fn one_horizontal<const PAD: usize>(
     plane: &mut Plane<PAD>,
     left: usize,
     top: usize,
-    limits: &QpLimits,
-    strengths: &[u8; 4],
+    settings: WeakSettings<'_>,
 )
-    requires columns { left + 16 ≤ plane.old.width }
-    requires rows { top + 8 ≤ plane.old.height }
-    requires strengths { (k : ℕ) → k < 4 → slice_index strengths.now k < 4 }
-    requires spread { AreSpread limits.now }
-    ensures { (setting : ℕ → Setting) → AreWeakSettings limits.now strengths.now setting →
+    requires { HasRectangle left top 16 8 plane.old }
+    ensures { (setting : ℕ → Setting) → AreWeakLuma settings.entry setting →
         plane.new ≡ edge_filtered setting false left (top + 4) 16 plane.old }
 {
-    weak_horizontal(plane, left, top, limits, strengths);
+    weak_horizontal(plane, left, top, settings);
 }
 
 /// Those across three horizontal edges with the same strengths, each four rows below the one
@@ -130,22 +113,18 @@ pub(crate) fn three_horizontal<const PAD: usize>(
     plane: &mut Plane<PAD>,
     left: usize,
     top: usize,
-    limits: &QpLimits,
-    strengths: &[u8; 4],
+    settings: WeakSettings<'_>,
 )
-    requires columns { left + 16 ≤ plane.old.width }
-    requires rows { top + 16 ≤ plane.old.height }
-    requires strengths { (k : ℕ) → k < 4 → slice_index strengths.now k < 4 }
-    requires spread { AreSpread limits.now }
-    ensures { (setting : ℕ → Setting) → AreWeakSettings limits.now strengths.now setting →
+    requires { HasRectangle left top 16 16 plane.old }
+    ensures { (setting : ℕ → Setting) → AreWeakLuma settings.entry setting →
         plane.new ≡ edge_filtered setting false left (top + 12) 16
         (edge_filtered setting false left (top + 8) 16
         (edge_filtered setting false left (top + 4) 16 plane.old)) }
 {
     let _rows = plane.height();
-    weak_horizontal(plane, left, top, limits, strengths);
-    weak_horizontal(plane, left, top + 4, limits, strengths);
-    weak_horizontal(plane, left, top + 8, limits, strengths);
+    weak_horizontal(plane, left, top, settings);
+    weak_horizontal(plane, left, top + 4, settings);
+    weak_horizontal(plane, left, top + 8, settings);
 }
 
 /// Those across three vertical edges, each four columns right of the one before.
@@ -154,25 +133,20 @@ pub(crate) fn three_vertical<const PAD: usize>(
     plane: &mut Plane<PAD>,
     left: usize,
     top: usize,
-    limits: &QpLimits,
-    strengths: &[u8; 4],
+    settings: WeakSettings<'_>,
 )
-    requires columns { left + 16 ≤ plane.old.width }
-    requires rows { top + 16 ≤ plane.old.height }
-    requires strengths { (k : ℕ) → k < 4 → slice_index strengths.now k < 4 }
-    requires spread { AreSpread limits.now }
-    ensures { (setting : ℕ → Setting) → AreWeakSettings limits.now strengths.now setting →
+    requires { HasRectangle left top 16 16 plane.old }
+    ensures { (setting : ℕ → Setting) → AreWeakLuma settings.entry setting →
         plane.new ≡ edge_filtered setting true (left + 12) top 16
         (edge_filtered setting true (left + 8) top 16
         (edge_filtered setting true (left + 4) top 16 plane.old)) }
 {
     let square = plane.rectangle::<16, 16, 256>(left, top);
-    let mut lines = transposed(&square);
-    let tc1 = luma_tc1s(strengths, limits);
-    let limits = limits.weak(&tc1);
+    let mut lines = transposed::<16, 128, 256>(&square);
+    let limits = settings.of_luma();
     filter_rows(&mut lines, 0, &limits);
     filter_rows(&mut lines, 64, &limits);
     filter_rows(&mut lines, 128, &limits);
-    let after = transposed(&lines);
+    let after = transposed::<16, 128, 256>(&lines);
     plane.set_rectangle::<16, 16, 256>(left, top, &after);
 }

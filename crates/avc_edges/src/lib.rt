@@ -13,6 +13,7 @@ mod pair;
 mod settings;
 mod square;
 mod strengths;
+mod table;
 mod thresholds;
 
 pub use chroma_edge::{horizontal_chroma, two_vertical_chroma, vertical_chroma};

@@ -1,15 +1,15 @@
 //! Sixteen lines at once: their limits, and what becomes of their samples.
 
-ghost use Rattle.std.specs.Prelude.{◌≡◌, ℕ, ◌-◌, ◌<◌, ◌≤◌, true, false, slice_index};
+ghost use Rattle.std.specs.Prelude.{◌≡◌, ℕ, ◌-◌, ◌/◌, ◌%◌, ◌<◌, ◌≤◌, true, false, slice_index};
 ghost use Rattle.avc_edges.specs.Line.{Setting, filtered};
 ghost use Rattle.avc_edges.specs.Rows.{line_within, line_inside};
 ghost use Rattle.avc_edges.specs.Fits.{FitsWeakLines, FitsStrongLines, line_of_sides};
-ghost use Rattle.avc_edges.specs.OneEdge.{AreSpread};
+ghost use Rattle.avc_edges.specs.OneEdge.{FitsWeak};
 
 use crate::bytes::less;
 use crate::limits::{Limits, StrongLimits, StrongThresholds, WeakThresholds};
 use crate::line::{Inner, Sides, strong_chroma_line, strong_line, weak_chroma_line, weak_line};
-use crate::thresholds::QpLimits;
+use crate::settings::{StrongSettings, WeakSettings};
 
 /// Sixteen lines across an edge by the three nearest samples on each side: a row for each.
 #[derive(Clone, Copy)]
@@ -27,11 +27,7 @@ pub(crate) struct SideRows {
 pub(crate) fn repeated(v: u8) -> [u8; 16]
     ensures { (k : ℕ) → k < 16 → slice_index result k ≡ v }
 {
-    let mut out = [0; 16];
-    for k in 0..16 {
-        out[k] = v;
-    }
-    out
+    [v; 16]
 }
 
 /// 1 where the number is 0.
@@ -60,36 +56,61 @@ fn tc0s(tc1: &[u8; 16]) -> [u8; 16]
     out
 }
 
-impl QpLimits {
-    /// Those of sixteen lines; `tc1` is one more than tC0, or 0 where nothing is filtered.
+impl WeakSettings<'_> {
+    /// What sixteen lines are filtered with; `tc1` is one more than tC0, or 0 where nothing is
+    /// filtered.
     #[inline(always)]
-    pub(crate) fn weak(&self, tc1: &[u8; 16]) -> Limits
-        requires spread { AreSpread self.now }
+    fn of_lines(self, tc1: &[u8; 16]) -> Limits
         requires small { (k : ℕ) → k < 16 → slice_index tc1.now k ≤ 26 }
-        ensures alpha { (k : ℕ) → k < 16 → slice_index result.alpha1 k ≡ self.now.alpha1 }
-        ensures beta { (k : ℕ) → k < 16 → slice_index result.beta1 k ≡ self.now.beta1 }
+        ensures alpha { (k : ℕ) → k < 16 →
+            slice_index result.alpha1 k ≡ self.entry.limits.now.alpha1 }
+        ensures beta { (k : ℕ) → k < 16 → slice_index result.beta1 k ≡ self.entry.limits.now.beta1 }
         ensures dead { (k : ℕ) → k < 16 → slice_index result.dead k ≡ 1 - slice_index tc1.now k }
         ensures tc0 { (k : ℕ) → k < 16 → slice_index result.tc0 k ≡ slice_index tc1.now k - 1 }
     {
         Limits {
-            alpha1: self.lines.alpha1,
-            beta1: self.lines.beta1,
+            alpha1: self.limits.lines.alpha1,
+            beta1: self.limits.lines.beta1,
             dead: deads(tc1),
             tc0: tc0s(tc1),
         }
     }
 
-    /// Those of sixteen lines at strength 4.
+    /// What the sixteen lines of luma are filtered with.
     #[inline(always)]
-    pub(crate) fn strong(&self) -> StrongLimits
-        requires { AreSpread self.now }
-        ensures alpha { (k : ℕ) → k < 16 → slice_index result.alpha1 k ≡ self.now.alpha1 }
-        ensures beta { (k : ℕ) → k < 16 → slice_index result.beta1 k ≡ self.now.beta1 }
+    pub(crate) fn of_luma(self) -> Limits
+        ensures { (s : Setting) (i : ℕ) → i < 16 →
+            FitsWeak true self.entry.limits.now (slice_index self.entry.strengths.now (i / 4)) s →
+            FitsWeakLines true s result i }
     {
+        self.of_lines(&self.luma_tc1s())
+    }
+
+    /// What eight lines of chroma are filtered with, twice.
+    #[inline(always)]
+    pub(crate) fn of_chroma(self) -> Limits
+        ensures { (s : Setting) (i : ℕ) → i < 16 →
+            FitsWeak false self.entry.limits.now
+            (slice_index self.entry.strengths.now (i % 8 / 2)) s →
+            FitsWeakLines false s result i }
+    {
+        self.of_lines(&self.chroma_tc1s())
+    }
+}
+
+impl StrongSettings<'_> {
+    /// What sixteen lines are filtered with.
+    #[inline(always)]
+    pub(crate) fn of_lines(self) -> StrongLimits
+        ensures alpha { (k : ℕ) → k < 16 →
+            slice_index result.alpha1 k ≡ self.entry.limits.now.alpha1 }
+        ensures beta { (k : ℕ) → k < 16 → slice_index result.beta1 k ≡ self.entry.limits.now.beta1 }
+    {
+        let limits = self.limits;
         StrongLimits {
-            alpha1: self.lines.alpha1,
-            beta1: self.lines.beta1,
-            small1: repeated(((u16::from(self.alpha1) + 1) / 4 + 1) as u8),
+            alpha1: limits.lines.alpha1,
+            beta1: limits.lines.beta1,
+            small1: repeated(((u16::from(limits.alpha1) + 1) / 4 + 1) as u8),
         }
     }
 }

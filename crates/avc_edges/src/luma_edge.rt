@@ -10,7 +10,7 @@ use crate::kernels::{
     one_horizontal, one_vertical, strong_horizontal, strong_vertical, three_horizontal,
     three_vertical,
 };
-use crate::settings::EdgeSettings;
+use crate::settings::{EdgeSettings, StrongSettings, WeakSettings};
 use crate::strengths::Strengths;
 use crate::thresholds::QpLimits;
 use avc_plane::Plane;
@@ -35,8 +35,10 @@ pub fn vertical_luma<const PAD: usize>(
         return;
     }
     match settings.strengths {
-        Strengths::Four => strong_vertical(plane, left, top, limits),
-        Strengths::BelowFour(s) => one_vertical(plane, left, top, limits, s),
+        Strengths::Four => strong_vertical(plane, left, top, StrongSettings { limits }),
+        Strengths::BelowFour(strengths) => {
+            one_vertical(plane, left, top, WeakSettings { strengths, limits })
+        }
     }
 }
 
@@ -60,8 +62,10 @@ pub fn horizontal_luma<const PAD: usize>(
         return;
     }
     match settings.strengths {
-        Strengths::Four => strong_horizontal(plane, left, top, limits),
-        Strengths::BelowFour(s) => one_horizontal(plane, left, top, limits, s),
+        Strengths::Four => strong_horizontal(plane, left, top, StrongSettings { limits }),
+        Strengths::BelowFour(strengths) => {
+            one_horizontal(plane, left, top, WeakSettings { strengths, limits })
+        }
     }
 }
 
@@ -89,7 +93,7 @@ pub fn three_vertical_luma<const PAD: usize>(
     if !limits.is_on {
         return;
     }
-    three_vertical(plane, left, top, limits, strengths);
+    three_vertical(plane, left, top, WeakSettings { strengths, limits });
 }
 
 /// Filters sixteen lines of luma across three horizontal edges, each four rows below the one
@@ -116,5 +120,5 @@ pub fn three_horizontal_luma<const PAD: usize>(
     if !limits.is_on {
         return;
     }
-    three_horizontal(plane, left, top, limits, strengths);
+    three_horizontal(plane, left, top, WeakSettings { strengths, limits });
 }

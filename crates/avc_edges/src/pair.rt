@@ -16,19 +16,6 @@ pub(crate) fn joined(a: &[u8; 64], b: &[u8; 64]) -> [u8; 128]
     out
 }
 
-/// Half of such rows.
-#[inline(always)]
-pub(crate) fn half(t: &[u8; 128], from: usize) -> [u8; 64]
-    requires { from + 64 ≤ 128 }
-    ensures { (k : ℕ) → k < 64 → slice_index result k ≡ slice_index t.now (from + k) }
-{
-    let mut out = [0; 64];
-    for k in 0..64 {
-        out[k] = t[from + k];
-    }
-    out
-}
-
 /// Eight rows of eight samples, and to their right eight others.
 #[inline(always)]
 pub(crate) fn beside(a: &[u8; 64], b: &[u8; 64]) -> [u8; 128]

@@ -2,13 +2,14 @@
 
 ghost use Rattle.std.specs.Prelude.{◌≡◌, ℕ, ◌+◌, ◌*◌, ◌/◌, ◌%◌, ◌<◌, ◌≤◌, slice_index};
 ghost use Rattle.avc_edges.specs.Line.{threshold_index, alpha_of, beta_of};
-ghost use Rattle.avc_edges.specs.OneEdge.{index_a_of, index_b_of, tc1_of, AreLimits, AreSpread};
+ghost use Rattle.avc_edges.specs.OneEdge.{index_a_of, index_b_of, tc1_of, AreLimits};
 
 use crate::block::spread;
 use crate::bytes::less;
 use crate::line::{both, is_zero};
 use crate::lines::repeated;
 use crate::pair::spread_twice;
+use crate::settings::WeakSettings;
 use std::simd::prelude::*;
 
 // Table 8-16 by index.
@@ -52,45 +53,50 @@ pub struct EdgeQp {
     pub offset_b: i8,
 }
 
+/// indexA or indexB (8.7.2.2).
+#[derive(Clone, Copy)]
+pub(crate) struct ThresholdIndex {
+    pub(crate) value: u8,
+
+    ghost low: { value < 52 },
+}
+
 #[derive(Clone, Copy)]
 pub(crate) struct Thresholds {
-    pub(crate) index_a: u8,
+    pub(crate) index_a: ThresholdIndex,
     pub(crate) alpha: u8,
     pub(crate) beta: u8,
 }
 
 #[inline(always)]
-fn index_of(p: u8, q: u8, offset: i8) -> u8
-    ensures value { result ≡ threshold_index ((p + q + 1) / 2) offset }
-    ensures small { result < 52 }
+fn index_of(p: u8, q: u8, offset: i8) -> ThresholdIndex
+    ensures { result.value ≡ threshold_index ((p + q + 1) / 2) offset }
 {
     let qp = (u16::from(p) + u16::from(q) + 1) / 2;
     let sum = qp as i16 + i16::from(offset);
     if sum < 0 {
-        0
+        ThresholdIndex { value: 0 }
     } else if sum > 51 {
-        51
+        ThresholdIndex { value: 51 }
     } else {
-        sum as u8
+        ThresholdIndex { value: sum as u8 }
     }
 }
 
 #[inline(always)]
 #[tactic(auto, using(crate::proofs::EdgesOnPlane::alpha_at))]
-fn alpha(index: u8) -> u8
-    requires { index < 52 }
-    ensures { result ≡ alpha_of index }
+fn alpha(index: ThresholdIndex) -> u8
+    ensures { result ≡ alpha_of index.value }
 {
-    ALPHA[usize::from(index)]
+    ALPHA[usize::from(index.value)]
 }
 
 #[inline(always)]
 #[tactic(auto, using(crate::proofs::EdgesOnPlane::beta_at))]
-fn beta(index: u8) -> u8
-    requires { index < 52 }
-    ensures { result ≡ beta_of index }
+fn beta(index: ThresholdIndex) -> u8
+    ensures { result ≡ beta_of index.value }
 {
-    BETA[usize::from(index)]
+    BETA[usize::from(index.value)]
 }
 
 /// The number at a place of the table: one more than tC0 at a strength of 1 to 3, and 0 at strength
@@ -108,12 +114,11 @@ fn tc1(place: usize) -> u8
 
 /// Those at all strengths, in the first four of sixteen.
 #[inline(always)]
-fn each_tc1(index: u8) -> [u8; 16]
-    requires { index < 52 }
-    ensures value { (k : ℕ) → k < 4 → slice_index result k ≡ tc1_of k index }
+fn each_tc1(index: ThresholdIndex) -> [u8; 16]
+    ensures value { (k : ℕ) → k < 4 → slice_index result k ≡ tc1_of k index.value }
     ensures small { (k : ℕ) → k < 16 → slice_index result k ≤ 26 }
 {
-    let first = 4 * usize::from(index);
+    let first = 4 * usize::from(index.value);
     let mut out = [0; 16];
     for k in 0..16 {
         out[k] = tc1(first + k);
@@ -133,40 +138,38 @@ fn looked_up(table: &[u8; 16], places: &[u8; 16]) -> [u8; 16]
         .to_array()
 }
 
-/// One more than tC0 at each of sixteen strengths of 1 to 3, and 0 at strength 0.
-#[inline(always)]
-fn tc1s(strengths: &[u8; 16], limits: &QpLimits) -> [u8; 16]
-    requires strengths { (k : ℕ) → k < 16 → slice_index strengths.now k < 4 }
-    requires spread { AreSpread limits.now }
-    ensures value { (k : ℕ) → k < 16 →
-        slice_index result k ≡ tc1_of (slice_index strengths.now k) limits.now.index_a }
-    ensures small { (k : ℕ) → k < 16 → slice_index result k ≤ 26 }
-{
-    looked_up(&limits.lines.tc1, strengths)
-}
+impl WeakSettings<'_> {
+    /// One more than tC0 at each of sixteen strengths of 1 to 3, and 0 at strength 0.
+    #[inline(always)]
+    fn tc1s(self, strengths: &[u8; 16]) -> [u8; 16]
+        requires { (k : ℕ) → k < 16 → slice_index strengths.now k < 4 }
+        ensures value { (k : ℕ) → k < 16 → slice_index result k
+            ≡ tc1_of (slice_index strengths.now k) self.entry.limits.now.index_a }
+        ensures small { (k : ℕ) → k < 16 → slice_index result k ≤ 26 }
+    {
+        looked_up(&self.limits.lines.tc1, strengths)
+    }
 
-/// That of each of sixteen lines of luma.
-#[inline(always)]
-pub(crate) fn luma_tc1s(strengths: &[u8; 4], limits: &QpLimits) -> [u8; 16]
-    requires strengths { (k : ℕ) → k < 4 → slice_index strengths.now k < 4 }
-    requires spread { AreSpread limits.now }
-    ensures value { (k : ℕ) → k < 16 →
-        slice_index result k ≡ tc1_of (slice_index strengths.now (k / 4)) limits.now.index_a }
-    ensures small { (k : ℕ) → k < 16 → slice_index result k ≤ 26 }
-{
-    tc1s(&spread(strengths), limits)
-}
+    /// That of each of sixteen lines of luma.
+    #[inline(always)]
+    pub(crate) fn luma_tc1s(self) -> [u8; 16]
+        ensures value { (k : ℕ) → k < 16 → slice_index result k
+            ≡ tc1_of (slice_index self.entry.strengths.now (k / 4)) self.entry.limits.now.index_a }
+        ensures small { (k : ℕ) → k < 16 → slice_index result k ≤ 26 }
+    {
+        self.tc1s(&spread(self.strengths))
+    }
 
-/// That of each of eight lines of chroma, twice.
-#[inline(always)]
-pub(crate) fn chroma_tc1s(strengths: &[u8; 4], limits: &QpLimits) -> [u8; 16]
-    requires strengths { (k : ℕ) → k < 4 → slice_index strengths.now k < 4 }
-    requires spread { AreSpread limits.now }
-    ensures value { (k : ℕ) → k < 16 →
-        slice_index result k ≡ tc1_of (slice_index strengths.now (k % 8 / 2)) limits.now.index_a }
-    ensures small { (k : ℕ) → k < 16 → slice_index result k ≤ 26 }
-{
-    tc1s(&spread_twice(strengths), limits)
+    /// That of each of eight lines of chroma, twice.
+    #[inline(always)]
+    pub(crate) fn chroma_tc1s(self) -> [u8; 16]
+        ensures value { (k : ℕ) → k < 16 → slice_index result k
+            ≡ tc1_of (slice_index self.entry.strengths.now (k % 8 / 2))
+            self.entry.limits.now.index_a }
+        ensures small { (k : ℕ) → k < 16 → slice_index result k ≤ 26 }
+    {
+        self.tc1s(&spread_twice(self.strengths))
+    }
 }
 
 /// What all lines between macroblocks of two QPs are filtered with (8.7.2.2).
@@ -202,11 +205,10 @@ pub struct LineLimits {
 }
 
 #[inline(always)]
-fn line_limits(alpha1: u8, beta1: u8, index: u8) -> LineLimits
-    requires { index < 52 }
+fn line_limits(alpha1: u8, beta1: u8, index: ThresholdIndex) -> LineLimits
     ensures alpha { (k : ℕ) → k < 16 → slice_index result.alpha1 k ≡ alpha1 }
     ensures beta { (k : ℕ) → k < 16 → slice_index result.beta1 k ≡ beta1 }
-    ensures tc1 { (k : ℕ) → k < 4 → slice_index result.tc1 k ≡ tc1_of k index }
+    ensures tc1 { (k : ℕ) → k < 4 → slice_index result.tc1 k ≡ tc1_of k index.value }
     ensures tc1_small { (k : ℕ) → k < 16 → slice_index result.tc1 k ≤ 26 }
 {
     LineLimits {
@@ -219,8 +221,7 @@ fn line_limits(alpha1: u8, beta1: u8, index: u8) -> LineLimits
 impl EdgeQp {
     #[inline(always)]
     pub(crate) fn thresholds(&self) -> Thresholds
-        ensures index { result.index_a ≡ index_a_of self.now }
-        ensures small { result.index_a < 52 }
+        ensures index { result.index_a.value ≡ index_a_of self.now }
         ensures alpha { result.alpha ≡ alpha_of (index_a_of self.now) }
         ensures beta { result.beta ≡ beta_of (index_b_of self.now) }
     {
@@ -243,7 +244,7 @@ impl EdgeQp {
         QpLimits {
             alpha1,
             beta1,
-            index_a: thresholds.index_a,
+            index_a: thresholds.index_a.value,
             is_on: both(!is_zero(thresholds.alpha), !is_zero(thresholds.beta)),
             lines: line_limits(alpha1, beta1, thresholds.index_a),
         }

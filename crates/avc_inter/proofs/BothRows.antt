@@ -1,6 +1,6 @@
 -- Rows of both chroma components, blended in two steps.
 use Rattle.avc_inter.proofs.SixRows.{ℕ, ℤ, pos, ◌≡◌, ◌+◌, ◌*◌, ◌-◌, ◌/◌, ◌<◌, ◌≤◌, ◌+ℤ◌, List, slice_index, arith, ap, refl, sym, ◌∙◌, mul_comm, add-mul}
-use Rattle.avc_inter.proofs.SixRows.{Wide, bilinear, blend_at, BilinearWeights, IsStridedSet, strided_line}
+use Rattle.avc_inter.proofs.SixRows.{Wide, bilinear, blend_at, IsStridedSet, strided_line}
 use Rattle.std.proofs.Math.Nat.{mul_left_comm, mul_assoc}
 use Rattle.avc_inter.specs.Eighths.{along, rounded_share, eighth_at, IsLineSet}
 
@@ -35,6 +35,5 @@ pub eighth_shown : (s : Wide) (left left' top top' : ℤ) (columns lines first s
     (i j : ℕ) → i + 1 < columns → j + 1 < lines → eighth_at right down stride p (first + (j * stride + i)) ≡ bilinear s (left +ℤ pos i) (top +ℤ pos j) right down
 eighth_shown s left left' top top' columns lines first stride right down p shown is_left is_top i j column row =
     let at = first + (j * stride + i) in
-    let shares : BilinearWeights = record { here = (8 - right) * (8 - down); right = right * (8 - down); below = (8 - right) * down; across = right * down } in
     ap (λ m. (m + 32) / 64) (two_steps (8 - right) right (8 - down) down (slice_index p at) (slice_index p (at + 1)) (slice_index p (at + stride)) (slice_index p (at + stride + 1)))
-    ∙ blend_at s left left' top top' columns lines first stride right down p shares shown is_left is_top refl refl refl refl i j column row
+    ∙ blend_at s left left' top top' columns lines first stride right down p _ _ _ _ shown is_left is_top refl refl refl refl i j column row

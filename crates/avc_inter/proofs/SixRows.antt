@@ -267,9 +267,18 @@ module _ (s : Wide) (left top : ℤ) (w h first stride : ℕ) (p : List ℕ)
 pub below_half : 48 < 2 ^ 63
 below_half = omega arith
 
--- and so are the 16 bytes of a target or of two references, and the 40 of the targets of both chroma components
+-- and so are the 8 bytes of an extent, the 16 of a target or of two references, the 24 of a source, the 32 of lines, and the 40 of the targets of both chroma components or of a surrounded block
+pub one_word : 8 < 2 ^ 63
+one_word = omega arith
+
 pub two_words : 16 < 2 ^ 63
 two_words = omega arith
+
+pub three_words : 24 < 2 ^ 63
+three_words = omega arith
+
+pub four_words : 32 < 2 ^ 63
+four_words = omega arith
 
 pub five_words : 40 < 2 ^ 63
 five_words = omega arith
@@ -340,13 +349,16 @@ pub same_blend : (a b c d e f g h a' b' c' d' e' f' g' h' : ℕ) → a ≡ a' �
 same_blend a b c d e f g h a' b' c' d' e' f' g' h' p q r t u v w x = cc (p, q, r, t, u, v, w, x)
 
 -- a sample between whole ones, from rows that show what is around it
-module _ (s : Wide) (left left' top top' : ℤ) (columns lines first stride right down : ℕ) (p : List ℕ) (shares : BilinearWeights)
+module _ (s : Wide) (left left' top top' : ℤ) (columns lines first stride right down : ℕ) (p : List ℕ) (wh wr wb wa : ℕ)
     (shown : (i j : ℕ) → i < columns → j < lines → slice_index p (first + j * stride + i) ≡ s (left' +ℤ pos i) (top' +ℤ pos j)) (is_left : left' ≡ left) (is_top : top' ≡ top)
-    (is_here : shares.here ≡ (8 - right) * (8 - down)) (is_right : shares.right ≡ right * (8 - down)) (is_below : shares.below ≡ (8 - right) * down) (is_across : shares.across ≡ right * down) where
+    (is_here : wh ≡ (8 - right) * (8 - down)) (is_right : wr ≡ right * (8 - down)) (is_below : wb ≡ (8 - right) * down) (is_across : wa ≡ right * down) where
   at : (m i j : ℕ) (u v : ℤ) → i < columns → j < lines → m ≡ first + j * stride + i → left' +ℤ pos i ≡ u → top' +ℤ pos j ≡ v → slice_index p m ≡ s u v
   at m i j u v column row place across below = rw (place, ← across, ← below) (shown i j column row)
 
-  pub blend_at : (i j : ℕ) → i + 1 < columns → j + 1 < lines → blend_of shares p stride (first + (j * stride + i)) ≡ bilinear s (left +ℤ pos i) (top +ℤ pos j) right down
+  pub blend_at : (i j : ℕ) → i + 1 < columns → j + 1 < lines →
+      (wh * slice_index p (first + (j * stride + i)) + wr * slice_index p (first + (j * stride + i) + 1)
+      + wb * slice_index p (first + (j * stride + i) + stride) + wa * slice_index p (first + (j * stride + i) + stride + 1) + 32) / 64
+      ≡ bilinear s (left +ℤ pos i) (top +ℤ pos j) right down
   blend_at i j column row =
       let k = first + (j * stride + i) in
       let next = add-mul j 1 stride in

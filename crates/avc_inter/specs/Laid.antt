@@ -1,5 +1,5 @@
 -- What is read and written a rectangle at a time, in rows of samples.
-use Rattle.std.specs.Prelude.{ℕ, ◌+◌, ◌*◌, ◌<◌, ◌≤◌, List, length, slice_index}
+use Rattle.std.specs.Prelude.{ℕ, ◌+◌, ◌*◌, ◌≤◌, List, length, slice_index}
 use Rattle.avc_plane.specs.Strided.{IsRoom, IsStridedSet}
 use Rattle.avc_plane.specs.declared.plane.lending.RowsPlace.{RowsPlace}
 

@@ -1,9 +1,9 @@
 -- The six-tap filter over samples that lie in a list, each a step behind the last.
-use Rattle.std.specs.Prelude.{ℕ, zero, suc, ◌+◌, ◌*◌, ◌/◌, ◌≡◌, ℤ, pos, ◌+ℤ◌, List}
+use Rattle.std.specs.Prelude.{ℕ, zero, suc, ◌+◌, ◌*◌, ◌/◌, ℤ, pos, ◌+ℤ◌, List}
 use Rattle.std.specs.Prelude.{slice_index, slice_index_or}
 use Rattle.avc_types.specs.Arithmetic.{◌>>ℤ◌, clip1, mean_of_two}
 use Rattle.avc_inter.specs.Luma.{six_taps}
-use Rattle.avc_inter.specs.declared.bilinear.BilinearWeights.{BilinearWeights}
+use Rattle.avc_inter.specs.declared.weights.BilinearWeights.{BilinearWeights}
 
 -- the unrounded sum of six samples, a step apart (8.4.2.2.1)
 abbrev pub taps_along : List ℕ → (at step : ℕ) → ℤ
@@ -112,7 +112,3 @@ abbrev pub blend_of : BilinearWeights → List ℕ → (stride k : ℕ) → ℕ
 blend_of w p stride k =
     (w.here * slice_index p k + w.right * slice_index p (k + 1)
     + w.below * slice_index p (k + stride) + w.across * slice_index p (k + stride + 1) + 32) / 64
-
--- the weights are 64 together
-pub record IsWhole (w : BilinearWeights) : Type 0 where
-  pub whole : w.here + w.right + w.below + w.across ≡ 64

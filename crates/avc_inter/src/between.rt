@@ -10,6 +10,17 @@ use crate::vector::{MovedPlace, Quarters};
 use avc_plane::{PaddedPlane, RowsPlace};
 use avc_samples::{fetch_held, find_within};
 
+/// How much of a block is found: `count` times sixteen samples in rows of L columns. A patch of P
+/// samples is room enough for these and those around them that the six taps ask for.
+#[derive(Clone, Copy)]
+pub struct Extent<const L: usize, const P: usize> {
+    pub count: usize,
+
+    ghost few: { count ≤ 16 },
+    ghost enough: { 16 / L * (count + (5 * L + 15) / 16) * (L + 5) ≤ P },
+    ghost short: { P < 65536 },
+}
+
 /// Lays the samples by a patch of `P` samples with each coordinate held inside the plane.
 #[cold]
 #[inline(never)]
@@ -17,48 +28,44 @@ fn lay_far<const L: usize, const W: usize, const PAD: usize, const P: usize>(
     reference: &PaddedPlane<PAD>,
     at: MovedPlace,
     beyond: Quarters,
-    count: usize,
+    extent: Extent<L, P>,
     out: &mut [u8],
     to: Target<L, W>,
 )
-    requires low { count ≤ 16 }
-    requires patch { (16 / L * (count + (5 * L + 15) / 16) * (L + 5) ≤ P) × (P < 65536) }
-    requires room { HasRows W (16 / L * count) to.rows out.old }
-    ensures { IsLaid W (16 / L * count) to.entry.rows
+    requires { HasRows W (16 / L * extent.count) to.rows out.old }
+    ensures { IsLaid W (16 / L * extent.entry.count) to.entry.rows
         (quarters_from reference.now at beyond) out.old out.new }
 {
     let mut patch = [0; P];
-    let lines = 16 / L * count_around(L, count);
+    let lines = 16 / L * count_around(L, extent.count);
     fetch_held(reference, at.left - 2, at.top - 2, L + 5, lines, &mut patch);
     let from = RowsPlace {
         first: 0,
         stride: L + 5,
     };
-    quarters::<L, W>(&patch, from, count, beyond, out, to);
+    quarters::<L, W>(&patch, from, extent.count, beyond, out, to);
 }
 
-/// Lays the samples between whole ones, in rows of L columns of which W are wanted: `count` times
-/// sixteen of them, by a patch of `P` samples where the plane has not all that they ask for.
+/// Lays the samples between whole ones, in rows of L columns of which W are wanted, by a patch of
+/// `P` samples where the plane has not all that they ask for.
 #[inline(always)]
 pub fn lay_between<const L: usize, const W: usize, const PAD: usize, const P: usize>(
     reference: &PaddedPlane<PAD>,
     at: MovedPlace,
     beyond: Quarters,
-    count: usize,
+    extent: Extent<L, P>,
     out: &mut [u8],
     to: Target<L, W>,
 )
-    requires low { count ≤ 16 }
-    requires patch { (16 / L * (count + (5 * L + 15) / 16) * (L + 5) ≤ P) × (P < 65536) }
-    requires room { HasRows W (16 / L * count) to.rows out.old }
-    ensures { IsLaid W (16 / L * count) to.entry.rows
+    requires { HasRows W (16 / L * extent.count) to.rows out.old }
+    ensures { IsLaid W (16 / L * extent.entry.count) to.entry.rows
         (quarters_from reference.now at beyond) out.old out.new }
 {
-    let lines = 16 / L * count_around(L, count);
+    let lines = 16 / L * count_around(L, extent.count);
     match find_within(reference, at.left - 2, at.top - 2, L + 5, lines) {
         Some(from) => {
-            quarters::<L, W>(reference.padded_rows(), from, count, beyond, out, to);
+            quarters::<L, W>(reference.padded_rows(), from, extent.count, beyond, out, to);
         }
-        None => lay_far::<L, W, PAD, P>(reference, at, beyond, count, out, to),
+        None => lay_far::<L, W, PAD, P>(reference, at, beyond, extent, out, to),
     }
 }

@@ -2,24 +2,23 @@
 //!
 //! Sixteen of them ask for six rows of unrounded sums. These lie one behind the other in a window,
 //! which moves on by sixteen sums at a time: it is small enough for the registers of a processor,
-//! so the sums of a block are stored nowhere. L, W, `count` and `to` are as in `rows`; `from`
-//! begins two rows above the block's first sample and two columns left of it.
+//! so the sums of a block are stored nowhere. L, W and `to` are as in `rows`.
 
-ghost use Rattle.std.specs.Prelude.{◌≡◌, ℕ, ◌+◌, ◌*◌, ◌/◌, ◌<◌, ◌≤◌, ◌^◌, pos, length, slice_index};
+ghost use Rattle.std.specs.Prelude.{◌≡◌, ℕ, ◌+◌, ◌*◌, ◌/◌, ◌<◌, ◌≤◌, pos, length, slice_index};
 ghost use Rattle.std.specs.Prelude.{slice_index_or};
 ghost use Rattle.avc_types.specs.Arithmetic.{mean_of_two};
 ghost use Rattle.avc_samples.specs.Bounds.{IsSum};
 ghost use Rattle.avc_samples.specs.Sums.{AreSums};
 ghost use Rattle.avc_inter.specs.Patch.{taps_along, half_along, centre_along, rounded_sum, j_of};
-ghost use Rattle.avc_inter.specs.SixRows.{place_of, HasPlaces, HasRoom, AreLanes, taps_of};
+ghost use Rattle.avc_inter.specs.SixRows.{place_of, HasPlaces, taps_of};
 ghost use Rattle.avc_inter.specs.SixRows.{centre_of, AreSumsOf, AreSixteen, AreSixteenSums};
 ghost use Rattle.avc_inter.specs.Laid.{sample_place, HasRows, IsLaid};
 
 use crate::row::{multiples, narrow_differences, sums, widened};
 use crate::rows::{half_row, means_of, put_rows, sixteen};
+use crate::source::{Source, Surrounded};
 use crate::taps::{centre, rounded_half};
 use crate::target::Target;
-use avc_plane::RowsPlace;
 use avc_samples::{move_on, put_sums, sixteen_sums};
 
 /// The unrounded sums of six rows.
@@ -43,52 +42,44 @@ fn sums_of(
 
 /// The unrounded taps over each six neighbours.
 #[inline(always)]
-fn sum_row<const L: usize>(p: &[u8], at: usize, stride: usize) -> [i16; 16]
-    requires lanes { AreLanes L }
-    requires samples { HasPlaces L stride 16 (at + 5 * 1) p.now }
-    ensures value { AreSixteenSums result (λ k. taps_along p.now (at + place_of L stride k) 1) }
+fn sum_row<const L: usize>(source: Source<'_, L>, at: usize) -> [i16; 16]
+    requires { HasPlaces L source.stride 16 (at + 5 * 1) source.samples.now }
+    ensures value { AreSixteenSums result
+        (λ k. taps_along source.entry.samples.now (at + place_of L source.entry.stride k) 1) }
     ensures small { (k : ℕ) → k < 16 → IsSum (slice_index_or result k (pos 0)) }
 {
-    let e = sixteen::<L>(p, at, stride);
-    let f = sixteen::<L>(p, at + 1, stride);
-    let g = sixteen::<L>(p, at + 2, stride);
-    let h = sixteen::<L>(p, at + 3, stride);
-    let i = sixteen::<L>(p, at + 4, stride);
-    let j = sixteen::<L>(p, at + 5, stride);
+    let e = sixteen::<L>(source, at);
+    let f = sixteen::<L>(source, at + 1);
+    let g = sixteen::<L>(source, at + 2);
+    let h = sixteen::<L>(source, at + 3);
+    let i = sixteen::<L>(source, at + 4);
+    let j = sixteen::<L>(source, at + 5);
     sums_of(&e, &f, &g, &h, &i, &j)
 }
 
 /// Puts the next sixteen sums behind those that the window has.
 #[inline(always)]
-fn put_sum_row<const L: usize>(
-    p: &[u8],
-    at: usize,
-    stride: usize,
-    window: &mut [i16; 96],
-    row: usize,
-)
-    requires lanes { AreLanes L }
-    requires narrow { stride < 2 ^ 32 }
+fn put_sum_row<const L: usize>(source: Source<'_, L>, at: usize, window: &mut [i16; 96], row: usize)
     requires row { row < 6 }
-    requires samples { HasPlaces L stride (16 * (row + 1)) (at + 5) p.now }
-    requires sums { AreSumsOf L stride (16 * row) at p.now window.old }
-    ensures { AreSumsOf L stride (16 * (row + 1)) at p.now window.new }
+    requires samples { HasPlaces L source.stride (16 * (row + 1)) (at + 5) source.samples.now }
+    requires sums { AreSumsOf L source.stride (16 * row) at source.samples.now window.old }
+    ensures { AreSumsOf L source.entry.stride (16 * (row + 1)) at source.entry.samples.now
+        window.new }
 {
-    let lines = 16 / L * stride;
-    let next = sum_row::<L>(p, at + row * lines, stride);
+    let lines = 16 / L * source.stride;
+    let next = sum_row::<L>(source, at + row * lines);
     put_sums(window, row, &next);
 }
 
 /// Puts the sums of a block's first five rows into the window.
 #[inline(always)]
-fn begin<const L: usize>(p: &[u8], at: usize, stride: usize, window: &mut [i16; 96])
-    requires lanes { AreLanes L }
-    requires narrow { stride < 2 ^ 32 }
-    requires samples { HasPlaces L stride (16 * ((5 * L + 15) / 16)) (at + 5) p.now }
-    ensures { AreSumsOf L stride (16 * ((5 * L + 15) / 16)) at p.now window.new }
+fn begin<const L: usize>(source: Source<'_, L>, at: usize, window: &mut [i16; 96])
+    requires { HasPlaces L source.stride (16 * ((5 * L + 15) / 16)) (at + 5) source.samples.now }
+    ensures { AreSumsOf L source.entry.stride (16 * ((5 * L + 15) / 16)) at
+        source.entry.samples.now window.new }
 {
     for row in 0..(5 * L + 15) / 16 {
-        put_sum_row::<L>(p, at, stride, window, row);
+        put_sum_row::<L>(source, at, window, row);
     }
 }
 
@@ -137,20 +128,17 @@ fn centre_row(window: &[i16; 96], at: usize, step: usize) -> [u8; 16]
 /// Sixteen half samples j, whose first one is at this place. The window has the sums of five rows,
 /// and gets the next sixteen.
 #[inline(always)]
-fn middle_row<const L: usize>(
-    p: &[u8],
-    at: usize,
-    stride: usize,
-    window: &mut [i16; 96],
-) -> [u8; 16]
-    requires lanes { AreLanes L }
-    requires narrow { stride < 2 ^ 32 }
-    requires samples { HasPlaces L stride (16 * ((5 * L + 15) / 16 + 1)) (at + 5) p.now }
-    requires sums { AreSumsOf L stride (16 * ((5 * L + 15) / 16)) at p.now window.old }
-    ensures row { AreSixteen result (λ k. j_of p.now stride (at + place_of L stride k)) }
-    ensures sums { AreSumsOf L stride (16 * ((5 * L + 15) / 16 + 1)) at p.now window.new }
+fn middle_row<const L: usize>(source: Source<'_, L>, at: usize, window: &mut [i16; 96]) -> [u8; 16]
+    requires samples { HasPlaces L source.stride (16 * ((5 * L + 15) / 16 + 1)) (at + 5)
+        source.samples.now }
+    requires sums { AreSumsOf L source.stride (16 * ((5 * L + 15) / 16)) at source.samples.now
+        window.old }
+    ensures row { AreSixteen result (λ k. j_of source.entry.samples.now source.entry.stride
+        (at + place_of L source.entry.stride k)) }
+    ensures sums { AreSumsOf L source.entry.stride (16 * ((5 * L + 15) / 16 + 1)) at
+        source.entry.samples.now window.new }
 {
-    put_sum_row::<L>(p, at, stride, window, (5 * L + 15) / 16);
+    put_sum_row::<L>(source, at, window, (5 * L + 15) / 16);
     centre_row(window, 0, L)
 }
 
@@ -172,23 +160,26 @@ fn rounded_row(window: &[i16; 96], at: usize) -> [u8; 16]
 /// The half samples j.
 #[inline(always)]
 pub fn centre_rows<const L: usize, const W: usize>(
-    p: &[u8],
-    from: RowsPlace,
-    count: usize,
+    block: Surrounded<'_, L>,
     out: &mut [u8],
     to: Target<L, W>,
 )
-    requires room { HasRows W (16 / L * count) to.rows out.old }
-    requires samples { HasRoom L from.stride count from.first p.now }
-    ensures { IsLaid W (16 / L * count) to.entry.rows
-        (λ x y. j_of p.now from.stride (sample_place from x y)) out.old out.new }
+    requires { HasRows W (16 / L * block.count) to.rows out.old }
+    ensures { IsLaid W (16 / L * block.entry.count) to.entry.rows
+        (λ x y. j_of block.entry.samples.now block.entry.from.stride
+        (sample_place block.entry.from x y)) out.old out.new }
 {
+    let from = block.from;
+    let source = Source {
+        samples: block.samples,
+        stride: from.stride,
+    };
     let lines = 16 / L * from.stride;
     let rows = 16 / L * to.rows.stride;
     let mut window = [0; 96];
-    begin::<L>(p, from.first, from.stride, &mut window);
-    for y in 0..count {
-        let row = middle_row::<L>(p, from.first + y * lines, from.stride, &mut window);
+    begin::<L>(source, from.first, &mut window);
+    for y in 0..block.count {
+        let row = middle_row::<L>(source, from.first + y * lines, &mut window);
         put_rows::<L, W>(out, to.rows.first + y * rows, to.rows.stride, &row);
         move_on::<L>(&mut window);
     }
@@ -197,26 +188,30 @@ pub fn centre_rows<const L: usize, const W: usize>(
 /// The means of j and of b or s, whose samples are `down` rows further down than its place.
 #[inline(always)]
 pub fn centre_rows_across<const L: usize, const W: usize>(
-    p: &[u8],
-    from: RowsPlace,
+    block: Surrounded<'_, L>,
     down: usize,
-    count: usize,
     out: &mut [u8],
     to: Target<L, W>,
 )
-    requires room { HasRows W (16 / L * count) to.rows out.old }
-    requires samples { HasRoom L from.stride count from.first p.now }
+    requires room { HasRows W (16 / L * block.count) to.rows out.old }
     requires down { down ≤ 5 }
-    ensures { IsLaid W (16 / L * count) to.entry.rows
-        (λ x y. mean_of_two (j_of p.now from.stride (sample_place from x y))
-        (half_along p.now (down * from.stride + sample_place from x y) 1)) out.old out.new }
+    ensures { IsLaid W (16 / L * block.entry.count) to.entry.rows
+        (λ x y. mean_of_two (j_of block.entry.samples.now block.entry.from.stride
+        (sample_place block.entry.from x y))
+        (half_along block.entry.samples.now
+        (down * block.entry.from.stride + sample_place block.entry.from x y) 1)) out.old out.new }
 {
+    let from = block.from;
+    let source = Source {
+        samples: block.samples,
+        stride: from.stride,
+    };
     let lines = 16 / L * from.stride;
     let rows = 16 / L * to.rows.stride;
     let mut window = [0; 96];
-    begin::<L>(p, from.first, from.stride, &mut window);
-    for y in 0..count {
-        let middle = middle_row::<L>(p, from.first + y * lines, from.stride, &mut window);
+    begin::<L>(source, from.first, &mut window);
+    for y in 0..block.count {
+        let middle = middle_row::<L>(source, from.first + y * lines, &mut window);
         let half = rounded_row(&window, down * L);
         let row = means_of(&middle, &half);
         put_rows::<L, W>(out, to.rows.first + y * rows, to.rows.stride, &row);
@@ -227,27 +222,32 @@ pub fn centre_rows_across<const L: usize, const W: usize>(
 /// The means of j and of h or m, whose six samples begin `by` behind its place.
 #[inline(always)]
 pub fn centre_rows_down<const L: usize, const W: usize>(
-    p: &[u8],
-    from: RowsPlace,
+    block: Surrounded<'_, L>,
     by: usize,
-    count: usize,
     out: &mut [u8],
     to: Target<L, W>,
 )
-    requires room { HasRows W (16 / L * count) to.rows out.old }
-    requires samples { HasRoom L from.stride count from.first p.now }
-    requires down { HasPlaces L from.stride (16 * count) (from.first + by + 5 * from.stride) p.now }
-    ensures { IsLaid W (16 / L * count) to.entry.rows
-        (λ x y. mean_of_two (j_of p.now from.stride (sample_place from x y))
-        (half_along p.now (by + sample_place from x y) from.stride)) out.old out.new }
+    requires room { HasRows W (16 / L * block.count) to.rows out.old }
+    requires down { HasPlaces L block.from.stride (16 * block.count)
+        (block.from.first + by + 5 * block.from.stride) block.samples.now }
+    ensures { IsLaid W (16 / L * block.entry.count) to.entry.rows
+        (λ x y. mean_of_two (j_of block.entry.samples.now block.entry.from.stride
+        (sample_place block.entry.from x y))
+        (half_along block.entry.samples.now (by + sample_place block.entry.from x y)
+        block.entry.from.stride)) out.old out.new }
 {
+    let from = block.from;
+    let source = Source {
+        samples: block.samples,
+        stride: from.stride,
+    };
     let lines = 16 / L * from.stride;
     let rows = 16 / L * to.rows.stride;
     let mut window = [0; 96];
-    begin::<L>(p, from.first, from.stride, &mut window);
-    for y in 0..count {
-        let middle = middle_row::<L>(p, from.first + y * lines, from.stride, &mut window);
-        let half = half_row::<L>(p, from.first + by + y * lines, from.stride, from.stride);
+    begin::<L>(source, from.first, &mut window);
+    for y in 0..block.count {
+        let middle = middle_row::<L>(source, from.first + y * lines, &mut window);
+        let half = half_row::<L>(source, from.first + by + y * lines, from.stride);
         let row = means_of(&middle, &half);
         put_rows::<L, W>(out, to.rows.first + y * rows, to.rows.stride, &row);
         move_on::<L>(&mut window);

@@ -4,9 +4,10 @@ ghost use Rattle.std.specs.Prelude.{◌≡◌, ◌+◌, ◌*◌, ◌/◌, ◌≤
 ghost use Rattle.avc_inter.specs.Laid.{HasRows, IsLaid};
 ghost use Rattle.avc_inter.specs.Moved.{eighths_from};
 
-use crate::bilinear::{BilinearWeights, blend_rows};
+use crate::bilinear::blend_rows;
 use crate::target::Target;
 use crate::vector::{Eighths, MovedPlace};
+use crate::weights::BilinearWeights;
 use avc_plane::{PaddedPlane, RowsPlace};
 use avc_samples::{fetch_held, find_within};
 

@@ -3,13 +3,15 @@
 //! Both have the same vector: places, fractions and weights are found once. A block has `pairs`
 //! pairs of rows.
 
-ghost use Rattle.std.specs.Prelude.{◌≡◌, ◌+◌, ◌*◌, ◌/◌, ◌%◌, ◌<◌, ◌≤◌};
-ghost use Rattle.avc_plane.specs.Plane.{with_block};
+ghost use Rattle.std.specs.Prelude.{◌≡◌, ◌+◌, ◌*◌, ◌/◌, ◌%◌, ◌<◌};
+ghost use Rattle.avc_plane.specs.Plane.{HasSample, HasRectangle, with_block};
 ghost use Rattle.avc_inter.specs.Moved.{eighths_from, predicted_chroma};
 ghost use Rattle.avc_inter.specs.Laid.{HasRows, IsLaid};
+ghost use Rattle.avc_inter.specs.Bounds.{IsBlock};
 
 use crate::both::{BothPlaces, BothTargets, ChromaPlanes};
 use crate::eighths::lay_both;
+use crate::reference::WholeBlock;
 use crate::vector::{Eighths, MovedPlace, chroma_fraction, chroma_place};
 use crate::whole::predict_whole;
 use avc_plane::{PaddedPlane, Plane, RowsPlace};
@@ -95,11 +97,10 @@ fn predict_between<const W: usize, const PAD: usize>(
     cb: &mut Plane<PAD>,
     cr: &mut Plane<PAD>,
 )
-    requires columns { (1 ≤ W) × (W ≤ 8) × (x + W ≤ cb.old.width) × (x + W ≤ cr.old.width) }
-    requires rows { (1 ≤ pairs) × (pairs ≤ 4) }
-    requires room { (y + 2 * pairs ≤ cb.old.height) × (y + 2 * pairs ≤ cr.old.height) }
-    requires column { x < from.cb.now.width }
-    requires row { y < from.cb.now.height }
+    requires block { IsBlock 8 W (2 * pairs) }
+    requires at { HasSample x y from.cb.now }
+    requires target_cb { HasRectangle x y W (2 * pairs) cb.old }
+    requires target_cr { HasRectangle x y W (2 * pairs) cr.old }
     ensures cb { cb.new ≡ with_block cb.old x y W (2 * pairs)
         (predicted_chroma from.entry.cb.now x y mv) }
     ensures cr { cr.new ≡ with_block cr.old x y W (2 * pairs)
@@ -135,11 +136,11 @@ pub fn predict_both_chroma<const W: usize, const H: usize, const PAD: usize>(
     cb: &mut Plane<PAD>,
     cr: &mut Plane<PAD>,
 )
-    requires columns { (1 ≤ W) × (W ≤ 8) × (x + W ≤ cb.old.width) × (x + W ≤ cr.old.width) }
-    requires rows { (1 ≤ H) × (H ≤ 8) × (y + H ≤ cb.old.height) × (y + H ≤ cr.old.height) }
+    requires block { IsBlock 8 W H }
     requires even { H % 2 ≡ 0 }
-    requires column { x < from_cb.now.width }
-    requires row { y < from_cb.now.height }
+    requires at { HasSample x y from_cb.now }
+    requires target_cb { HasRectangle x y W H cb.old }
+    requires target_cr { HasRectangle x y W H cr.old }
     ensures cb { cb.new ≡ with_block cb.old x y W H (predicted_chroma from_cb.now x y mv) }
     ensures cr { cr.new ≡ with_block cr.old x y W H (predicted_chroma from_cr.now x y mv) }
 {
@@ -150,8 +151,8 @@ pub fn predict_both_chroma<const W: usize, const H: usize, const PAD: usize>(
     let beyond = chroma_fraction(mv);
     if beyond.right == 0 && beyond.down == 0 {
         let at = chroma_place(x, y, mv);
-        predict_whole::<W, H, PAD>(from_cb, at, x, y, cb);
-        predict_whole::<W, H, PAD>(from_cr, at, x, y, cr);
+        predict_whole::<W, H, PAD>(from_cb, WholeBlock { at }, x, y, cb);
+        predict_whole::<W, H, PAD>(from_cr, WholeBlock { at }, x, y, cr);
     } else {
         let from = ChromaPlanes {
             cb: from_cb,

@@ -2,10 +2,12 @@
 
 ghost use Rattle.std.specs.Prelude.{◌≡◌, ℕ, ◌+◌, ◌%◌, ◌<◌, ◌≤◌, pos, ◌+ℤ◌, length};
 ghost use Rattle.avc_types.specs.Blocks.{block_of};
-ghost use Rattle.avc_plane.specs.Plane.{with_block};
+ghost use Rattle.avc_plane.specs.Plane.{HasSample, HasRectangle, with_block};
 ghost use Rattle.avc_inter.specs.Moved.{eighths_from, predicted_chroma};
+ghost use Rattle.avc_inter.specs.Bounds.{IsBlock};
 
 use crate::chroma_between::lay_eighths;
+use crate::reference::{Rectangle, WholeBlock};
 use crate::target::Target;
 use crate::vector::{Eighths, MovedPlace, chroma_fraction, chroma_place};
 use crate::whole::{predict_in_place, predict_whole, set_whole};
@@ -19,8 +21,7 @@ fn set_between<const W: usize, const H: usize, const PAD: usize>(
     beyond: Eighths,
     block: &mut Block<W, H>,
 )
-    requires columns { (1 ≤ W) × (W ≤ 8) }
-    requires rows { (1 ≤ H) × (H ≤ 8) }
+    requires block { IsBlock 8 W H }
     ensures { block.new ≡ block_of W H (eighths_from reference.now at beyond) }
 {
     let mut samples = [0; 72];
@@ -43,10 +44,8 @@ pub fn chroma<const W: usize, const H: usize, const PAD: usize>(
     mv: Mv,
     block: &mut Block<W, H>,
 )
-    requires columns { (1 ≤ W) × (W ≤ 8) }
-    requires rows { (1 ≤ H) × (H ≤ 8) }
-    requires column { x < reference.now.width }
-    requires row { y < reference.now.height }
+    requires block { IsBlock 8 W H }
+    requires at { HasSample x y reference.now }
     ensures { block.new ≡ block_of W H (predicted_chroma reference.now x y mv) }
 {
     let width = reference.width();
@@ -56,7 +55,7 @@ pub fn chroma<const W: usize, const H: usize, const PAD: usize>(
     let at = chroma_place(x, y, mv);
     let beyond = chroma_fraction(mv);
     if beyond.right == 0 && beyond.down == 0 {
-        set_whole(reference, at, block)
+        set_whole(reference, WholeBlock { at }, block)
     } else {
         set_between(reference, at, beyond, block)
     }
@@ -72,11 +71,10 @@ fn predict_between<const W: usize, const H: usize, const PAD: usize>(
     mv: Mv,
     plane: &mut Plane<PAD>,
 )
-    requires columns { (1 ≤ W) × (W ≤ 8) × (x + W ≤ plane.old.width) }
-    requires rows { (1 ≤ H) × (H ≤ 8) × (y + H ≤ plane.old.height) }
+    requires block { IsBlock 8 W H }
     requires even { H % 2 ≡ 0 }
-    requires column { x < reference.now.width }
-    requires row { y < reference.now.height }
+    requires at { HasSample x y reference.now }
+    requires target { HasRectangle x y W H plane.old }
     ensures { plane.new ≡ with_block plane.old x y W H (predicted_chroma reference.now x y mv) }
 {
     let width = reference.width();
@@ -103,11 +101,10 @@ pub fn predict_chroma<const W: usize, const H: usize, const PAD: usize>(
     mv: Mv,
     plane: &mut Plane<PAD>,
 )
-    requires columns { (1 ≤ W) × (W ≤ 8) × (x + W ≤ plane.old.width) }
-    requires rows { (1 ≤ H) × (H ≤ 8) × (y + H ≤ plane.old.height) }
+    requires block { IsBlock 8 W H }
     requires even { H % 2 ≡ 0 }
-    requires column { x < reference.now.width }
-    requires row { y < reference.now.height }
+    requires at { HasSample x y reference.now }
+    requires target { HasRectangle x y W H plane.old }
     ensures { plane.new ≡ with_block plane.old x y W H (predicted_chroma reference.now x y mv) }
 {
     let width = reference.width();
@@ -117,7 +114,7 @@ pub fn predict_chroma<const W: usize, const H: usize, const PAD: usize>(
     let beyond = chroma_fraction(mv);
     if beyond.right == 0 && beyond.down == 0 {
         let at = chroma_place(x, y, mv);
-        predict_whole::<W, H, PAD>(reference, at, x, y, plane);
+        predict_whole::<W, H, PAD>(reference, WholeBlock { at }, x, y, plane);
     } else {
         predict_between::<W, H, PAD>(reference, x, y, mv, plane);
     }
@@ -132,10 +129,16 @@ pub fn copy_chroma<const W: usize, const H: usize, const PAD: usize>(
     y: usize,
     plane: &mut Plane<PAD>,
 )
-    requires columns { (1 ≤ W) × (x + W ≤ plane.old.width) × (x + W ≤ reference.now.width) }
-    requires rows { (1 ≤ H) × (y + H ≤ plane.old.height) × (y + H ≤ reference.now.height) }
+    requires some { (1 ≤ W) × (1 ≤ H) }
+    requires source { HasRectangle x y W H reference.now }
+    requires target { HasRectangle x y W H plane.old }
     ensures { (mv : Mv) → mv.x ≡ pos 0 → mv.y ≡ pos 0 → plane.new ≡ with_block plane.old x y W H
         (predicted_chroma reference.now x y mv) }
 {
-    predict_in_place::<W, H, PAD>(reference, x, y, plane);
+    let from = Rectangle {
+        plane: reference,
+        x,
+        y,
+    };
+    predict_in_place::<W, H, PAD>(from, plane);
 }

@@ -12,25 +12,31 @@ use crate::both::{BothPlaces, BothTargets};
 use crate::rows::{load, put_row};
 use crate::vector::Eighths;
 
+/// How many eighths of the way it is from a number to the next.
+#[derive(Clone, Copy)]
+struct Part {
+    eighths: u16,
+
+    ghost few: { eighths < 8 },
+}
+
 /// Between two samples, in eighths.
 #[inline(always)]
-fn share(by: u16, first: u8, second: u8) -> u16
-    requires { by < 8 }
-    ensures value { result ≡ share_of by first second }
+fn share(by: Part, first: u8, second: u8) -> u16
+    ensures value { result ≡ share_of by.eighths first second }
     ensures small { result ≤ 2040 }
 {
-    (8 - by) * u16::from(first) + by * u16::from(second)
+    (8 - by.eighths) * u16::from(first) + by.eighths * u16::from(second)
 }
 
 /// Between two numbers in eighths, rounded.
 #[inline(always)]
-fn rounded(by: u16, first: u16, second: u16) -> u8
-    requires by { by < 8 }
+fn rounded(by: Part, first: u16, second: u16) -> u8
     requires first { first ≤ 2040 }
     requires second { second ≤ 2040 }
-    ensures { result ≡ rounded_share by first second }
+    ensures { result ≡ rounded_share by.eighths first second }
 {
-    (((8 - by) * first + by * second + 32) / 64) as u8
+    (((8 - by.eighths) * first + by.eighths * second + 32) / 64) as u8
 }
 
 /// Eight samples of each list.
@@ -49,10 +55,9 @@ fn eight_of_both(cb: &[u8], i: usize, cr: &[u8], j: usize) -> [u8; 16]
 
 /// Between each sample and that right of it.
 #[inline(always)]
-fn shares_of(by: u16, first: &[u8; 16], second: &[u8; 16]) -> [u16; 16]
-    requires { by < 8 }
-    ensures value { (k : ℕ) → k < 16 →
-        slice_index result k ≡ share_of by (slice_index first.now k) (slice_index second.now k) }
+fn shares_of(by: Part, first: &[u8; 16], second: &[u8; 16]) -> [u16; 16]
+    ensures value { (k : ℕ) → k < 16 → slice_index result k
+        ≡ share_of by.eighths (slice_index first.now k) (slice_index second.now k) }
     ensures small { AreShares result }
 {
     let (first, second) = (*first, *second);
@@ -65,13 +70,12 @@ fn shares_of(by: u16, first: &[u8; 16], second: &[u8; 16]) -> [u16; 16]
 
 /// Between two rows.
 #[inline(always)]
-fn rounded_shares_of(by: u16, first: &[u16; 16], second: &[u16; 16]) -> [u8; 16]
-    requires by { by < 8 }
+fn rounded_shares_of(by: Part, first: &[u16; 16], second: &[u16; 16]) -> [u8; 16]
     requires first { AreShares first.now }
     requires second { AreShares second.now }
     ensures { (k : ℕ) → k < 16 →
         slice_index result k
-        ≡ rounded_share by (slice_index first.now k) (slice_index second.now k) }
+        ≡ rounded_share by.eighths (slice_index first.now k) (slice_index second.now k) }
 {
     let (first, second) = (*first, *second);
     let mut out = [0; 16];
@@ -83,11 +87,10 @@ fn rounded_shares_of(by: u16, first: &[u16; 16], second: &[u16; 16]) -> [u8; 16]
 
 /// Row n of both, blended along itself.
 #[inline(always)]
-fn along_row(cb: &[u8], cr: &[u8], from: BothPlaces, n: usize, right: u16) -> [u16; 16]
-    requires right { right < 8 }
+fn along_row(cb: &[u8], cr: &[u8], from: BothPlaces, n: usize, right: Part) -> [u16; 16]
     requires cb { from.cb.first + n * from.cb.stride + 9 ≤ length cb.now }
     requires cr { from.cr.first + n * from.cr.stride + 9 ≤ length cr.now }
-    ensures { AreAlong right cb.now (from.cb.first + n * from.cb.stride)
+    ensures { AreAlong right.eighths cb.now (from.cb.first + n * from.cb.stride)
         cr.now (from.cr.first + n * from.cr.stride) result }
 {
     let i = from.cb.first + n * from.cb.stride;
@@ -100,7 +103,7 @@ fn along_row(cb: &[u8], cr: &[u8], from: BothPlaces, n: usize, right: u16) -> [u
 /// Lays row n of both, between two rows.
 #[inline(always)]
 fn lay_line<const W: usize>(
-    down: u16,
+    down: Part,
     above: &[u16; 16],
     below: &[u16; 16],
     n: usize,
@@ -108,17 +111,16 @@ fn lay_line<const W: usize>(
     cr: &mut [u8],
     to: BothTargets<W>,
 )
-    requires down { down < 8 }
     requires above { AreShares above.now }
     requires below { AreShares below.now }
     requires cb { to.cb.first + n * to.cb.stride + W ≤ length cb.old }
     requires cr { to.cr.first + n * to.cr.stride + W ≤ length cr.old }
     ensures cb { IsLineSet W (to.entry.cb.first + n * to.entry.cb.stride)
-        (λ x. rounded_share down (slice_index above.now x) (slice_index below.now x))
+        (λ x. rounded_share down.eighths (slice_index above.now x) (slice_index below.now x))
         cb.old cb.new }
     ensures cr { IsLineSet W (to.entry.cr.first + n * to.entry.cr.stride)
-        (λ x. rounded_share down (slice_index above.now (8 + x)) (slice_index below.now (8 + x)))
-        cr.old cr.new }
+        (λ x. rounded_share down.eighths (slice_index above.now (8 + x))
+        (slice_index below.now (8 + x))) cr.old cr.new }
 {
     let row = rounded_shares_of(down, above, below);
     put_row::<W>(cb, to.cb.first + n * to.cb.stride, &row, 0);
@@ -147,12 +149,18 @@ pub fn lay_both<const W: usize>(
         (λ x y. eighth_at beyond.right beyond.down from.cr.stride cr.now (sample_place from.cr x y))
         out_cr.old out_cr.new }
 {
-    let mut row = along_row(cb, cr, from, 0, beyond.right);
+    let right = Part {
+        eighths: beyond.right,
+    };
+    let down = Part {
+        eighths: beyond.down,
+    };
+    let mut row = along_row(cb, cr, from, 0, right);
     for y in 0..to.pairs {
-        let middle = along_row(cb, cr, from, 2 * y + 1, beyond.right);
-        lay_line::<W>(beyond.down, &row, &middle, 2 * y, out_cb, out_cr, to);
-        let last = along_row(cb, cr, from, 2 * (y + 1), beyond.right);
-        lay_line::<W>(beyond.down, &middle, &last, 2 * y + 1, out_cb, out_cr, to);
+        let middle = along_row(cb, cr, from, 2 * y + 1, right);
+        lay_line::<W>(down, &row, &middle, 2 * y, out_cb, out_cr, to);
+        let last = along_row(cb, cr, from, 2 * (y + 1), right);
+        lay_line::<W>(down, &middle, &last, 2 * y + 1, out_cb, out_cr, to);
         row = last;
     }
 }

@@ -12,12 +12,15 @@ mod eighths;
 mod lines;
 mod luma_prediction;
 mod positions;
+mod reference;
 mod row;
 mod rows;
+mod source;
 mod taps;
 mod target;
 mod vector;
 mod weighting;
+mod weights;
 mod whole;
 
 pub use chroma_both::predict_both_chroma;

@@ -1,8 +1,9 @@
 //! Lines of samples, copied from rows to rows.
 
 ghost use Rattle.std.specs.Prelude.{◌≡◌, ℕ, ◌+◌, ◌*◌, ◌<◌, ◌≤◌, length, slice_index};
-ghost use Rattle.avc_inter.specs.Laid.{sample_in, HasRows, HasRowsApart, IsLaid};
+ghost use Rattle.avc_inter.specs.Laid.{sample_in, HasRowsApart, IsLaid};
 
+use crate::source::Lines;
 use avc_plane::RowsPlace;
 
 // a line by itself: of it is known that it overlaps neither of the rows, so that it is loaded and
@@ -33,71 +34,65 @@ fn put_line<const W: usize>(out: &mut [u8], first: usize, line: &[u8; W])
 
 /// Copies W columns and H rows, one by one.
 #[inline(always)]
-fn copy_each<const W: usize, const H: usize>(
-    p: &[u8],
-    from: RowsPlace,
-    out: &mut [u8],
-    to: RowsPlace,
-)
-    requires source { HasRows W H from p.now }
-    requires room { HasRowsApart W H to out.old }
-    ensures { IsLaid W H to (sample_in from p.now) out.old out.new }
+fn copy_each<const W: usize, const H: usize>(lines: Lines<'_, W, H>, out: &mut [u8], to: RowsPlace)
+    requires { HasRowsApart W H to out.old }
+    ensures { IsLaid W H to (sample_in lines.entry.from lines.entry.samples.now) out.old out.new }
 {
     for y in 0..H {
-        let line = line_at::<W>(p, from.first + y * from.stride);
+        let line = line_at::<W>(lines.samples, lines.from.first + y * lines.from.stride);
         put_line::<W>(out, to.first + y * to.stride, &line);
     }
 }
 
 /// Copies rows that are counted from the first sample on: an address near it is no sum of its own.
 #[inline(always)]
-fn copy_near<const W: usize, const H: usize>(
-    p: &[u8],
-    from: RowsPlace,
-    out: &mut [u8],
-    to: RowsPlace,
-)
+fn copy_near<const W: usize, const H: usize>(lines: Lines<'_, W, H>, out: &mut [u8], to: RowsPlace)
     requires some { 0 < H }
-    requires source { HasRows W H from p.now }
     requires room { HasRowsApart W H to out.old }
-    ensures { IsLaid W H to (sample_in from p.now) out.old out.new }
+    ensures { IsLaid W H to (sample_in lines.entry.from lines.entry.samples.now) out.old out.new }
 {
-    let source = RowsPlace {
+    let from = RowsPlace {
         first: 0,
-        stride: from.stride,
+        stride: lines.from.stride,
+    };
+    let near = Lines {
+        samples: &lines.samples[lines.from.first..],
+        from,
     };
     let target = RowsPlace {
         first: 0,
         stride: to.stride,
     };
-    copy_each::<W, H>(&p[from.first..], source, &mut out[to.first..], target);
+    copy_each::<W, H>(near, &mut out[to.first..], target);
 }
 
 /// Copies W columns and H rows, where they can be four at a time.
 #[inline(always)]
 pub fn copy_lines<const W: usize, const H: usize>(
-    p: &[u8],
-    from: RowsPlace,
+    lines: Lines<'_, W, H>,
     out: &mut [u8],
     to: RowsPlace,
 )
-    requires source { HasRows W H from p.now }
-    requires room { HasRowsApart W H to out.old }
-    ensures { IsLaid W H to (sample_in from p.now) out.old out.new }
+    requires { HasRowsApart W H to out.old }
+    ensures { IsLaid W H to (sample_in lines.entry.from lines.entry.samples.now) out.old out.new }
 {
     if H % 4 != 0 {
-        copy_each::<W, H>(p, from, out, to);
+        copy_each::<W, H>(lines, out, to);
         return;
     }
     for four in 0..H / 4 {
-        let source = RowsPlace {
-            first: from.first + four * (4 * from.stride),
-            stride: from.stride,
+        let from = RowsPlace {
+            first: lines.from.first + four * (4 * lines.from.stride),
+            stride: lines.from.stride,
+        };
+        let next = Lines {
+            samples: lines.samples,
+            from,
         };
         let target = RowsPlace {
             first: to.first + four * (4 * to.stride),
             stride: to.stride,
         };
-        copy_near::<W, 4>(p, source, out, target);
+        copy_near::<W, 4>(next, out, target);
     }
 }

@@ -2,12 +2,14 @@
 
 ghost use Rattle.std.specs.Prelude.{◌≡◌, ℕ, ◌+◌, ◌*◌, ◌/◌, ◌%◌, ◌<◌, ◌≤◌, ◌^◌, pos, ◌+ℤ◌, length};
 ghost use Rattle.avc_types.specs.Blocks.{block_of};
-ghost use Rattle.avc_plane.specs.Plane.{with_block};
+ghost use Rattle.avc_plane.specs.Plane.{HasSample, HasRectangle, with_block};
 ghost use Rattle.avc_plane.specs.Strided.{IsRoom};
 ghost use Rattle.avc_inter.specs.Moved.{quarters_from, predicted_luma};
 ghost use Rattle.avc_inter.specs.SixRows.{AreLanes};
+ghost use Rattle.avc_inter.specs.Bounds.{IsBlock};
 
-use crate::between::lay_between;
+use crate::between::{Extent, lay_between};
+use crate::reference::{Rectangle, WholeBlock};
 use crate::target::Target;
 use crate::vector::{MovedPlace, Quarters, luma_fraction, luma_place};
 use crate::whole::{predict_in_place, predict_whole, set_whole};
@@ -53,7 +55,10 @@ fn set_between<
         stride: L,
     };
     let to = Target { rows: to };
-    lay_between::<L, L, PAD, P>(reference, at, beyond, count_of(L, H), &mut samples, to);
+    let extent = Extent {
+        count: count_of(L, H),
+    };
+    lay_between::<L, L, PAD, P>(reference, at, beyond, extent, &mut samples, to);
     block.set_rows(&samples, 0, L);
 }
 
@@ -68,10 +73,8 @@ pub fn luma<const W: usize, const H: usize, const PAD: usize>(
     mv: Mv,
     block: &mut Block<W, H>,
 )
-    requires columns { (1 ≤ W) × (W ≤ 16) }
-    requires rows { (1 ≤ H) × (H ≤ 16) }
-    requires column { x < reference.now.width }
-    requires row { y < reference.now.height }
+    requires block { IsBlock 16 W H }
+    requires at { HasSample x y reference.now }
     ensures { block.new ≡ block_of W H (predicted_luma reference.now x y mv) }
 {
     let width = reference.width();
@@ -81,7 +84,7 @@ pub fn luma<const W: usize, const H: usize, const PAD: usize>(
     let at = luma_place(x, y, mv);
     let beyond = luma_fraction(mv);
     if beyond.right == 0 && beyond.down == 0 {
-        set_whole(reference, at, block)
+        set_whole(reference, WholeBlock { at }, block)
     } else if W <= 8 {
         set_between::<W, H, PAD, 8, 144, 286>(reference, at, beyond, block)
     } else {
@@ -99,11 +102,10 @@ fn predict_between<const W: usize, const H: usize, const PAD: usize>(
     mv: Mv,
     plane: &mut Plane<PAD>,
 )
-    requires columns { (1 ≤ W) × (W ≤ 16) × (x + W ≤ plane.old.width) }
-    requires rows { (1 ≤ H) × (H ≤ 16) × (y + H ≤ plane.old.height) }
+    requires block { IsBlock 16 W H }
     requires even { H % 2 ≡ 0 }
-    requires column { x < reference.now.width }
-    requires row { y < reference.now.height }
+    requires at { HasSample x y reference.now }
+    requires target { HasRectangle x y W H plane.old }
     ensures { plane.new ≡ with_block plane.old x y W H (predicted_luma reference.now x y mv) }
 {
     let width = reference.width();
@@ -115,11 +117,14 @@ fn predict_between<const W: usize, const H: usize, const PAD: usize>(
     let to = plane.padded_place(x, y);
     let out = plane.padded_rows_mut();
     if W <= 4 && H % 4 == 0 {
-        lay_between::<4, W, PAD, 216>(reference, at, beyond, H / 4, out, Target { rows: to });
+        let extent = Extent { count: H / 4 };
+        lay_between::<4, W, PAD, 216>(reference, at, beyond, extent, out, Target { rows: to });
     } else if W <= 8 {
-        lay_between::<8, W, PAD, 286>(reference, at, beyond, H / 2, out, Target { rows: to });
+        let extent = Extent { count: H / 2 };
+        lay_between::<8, W, PAD, 286>(reference, at, beyond, extent, out, Target { rows: to });
     } else {
-        lay_between::<16, W, PAD, 441>(reference, at, beyond, H, out, Target { rows: to });
+        let extent = Extent { count: H };
+        lay_between::<16, W, PAD, 441>(reference, at, beyond, extent, out, Target { rows: to });
     }
 }
 
@@ -131,11 +136,10 @@ pub fn predict_luma<const W: usize, const H: usize, const PAD: usize>(
     mv: Mv,
     plane: &mut Plane<PAD>,
 )
-    requires columns { (1 ≤ W) × (W ≤ 16) × (x + W ≤ plane.old.width) }
-    requires rows { (1 ≤ H) × (H ≤ 16) × (y + H ≤ plane.old.height) }
+    requires block { IsBlock 16 W H }
     requires even { H % 2 ≡ 0 }
-    requires column { x < reference.now.width }
-    requires row { y < reference.now.height }
+    requires at { HasSample x y reference.now }
+    requires target { HasRectangle x y W H plane.old }
     ensures { plane.new ≡ with_block plane.old x y W H (predicted_luma reference.now x y mv) }
 {
     let width = reference.width();
@@ -145,7 +149,7 @@ pub fn predict_luma<const W: usize, const H: usize, const PAD: usize>(
     let Quarters { right, down } = luma_fraction(mv);
     if right == 0 && down == 0 {
         let at = luma_place(x, y, mv);
-        predict_whole::<W, H, PAD>(reference, at, x, y, plane);
+        predict_whole::<W, H, PAD>(reference, WholeBlock { at }, x, y, plane);
     } else {
         predict_between::<W, H, PAD>(reference, x, y, mv, plane);
     }
@@ -160,10 +164,16 @@ pub fn copy_luma<const W: usize, const H: usize, const PAD: usize>(
     y: usize,
     plane: &mut Plane<PAD>,
 )
-    requires columns { (1 ≤ W) × (x + W ≤ plane.old.width) × (x + W ≤ reference.now.width) }
-    requires rows { (1 ≤ H) × (y + H ≤ plane.old.height) × (y + H ≤ reference.now.height) }
+    requires some { (1 ≤ W) × (1 ≤ H) }
+    requires source { HasRectangle x y W H reference.now }
+    requires target { HasRectangle x y W H plane.old }
     ensures { (mv : Mv) → mv.x ≡ pos 0 → mv.y ≡ pos 0 → plane.new ≡ with_block plane.old x y W H
         (predicted_luma reference.now x y mv) }
 {
-    predict_in_place::<W, H, PAD>(reference, x, y, plane);
+    let from = Rectangle {
+        plane: reference,
+        x,
+        y,
+    };
+    predict_in_place::<W, H, PAD>(from, plane);
 }

@@ -12,6 +12,7 @@ ghost use Rattle.avc_inter.specs.Laid.{sample_place, HasRows, IsLaid};
 
 use crate::centres::{centre_rows, centre_rows_across, centre_rows_down};
 use crate::rows::{Taps, diagonal_rows, half_rows, quarter_rows, whole_rows};
+use crate::source::Surrounded;
 use crate::target::Target;
 use crate::vector::Quarters;
 use avc_plane::RowsPlace;
@@ -67,6 +68,11 @@ fn row_1<const L: usize, const W: usize>(
         (λ x y. row_1_of p.now from.stride (sample_place from x y) beyond.right) out.old out.new }
 {
     let b = 2 * from.stride;
+    let block = Surrounded {
+        samples: p,
+        from,
+        count,
+    };
     match beyond.right {
         0 => quarter_rows::<L, W>(
             p,
@@ -81,7 +87,7 @@ fn row_1<const L: usize, const W: usize>(
             to,
         ),
         1 => diagonal_rows::<L, W>(p, from, b, 2, count, out, to),
-        2 => centre_rows_across::<L, W>(p, from, 2, count, out, to),
+        2 => centre_rows_across::<L, W>(block, 2, out, to),
         _ => diagonal_rows::<L, W>(p, from, b, 3, count, out, to),
     }
 }
@@ -101,6 +107,11 @@ fn row_2<const L: usize, const W: usize>(
     ensures { IsLaid W (16 / L * count) to.entry.rows
         (λ x y. row_2_of p.now from.stride (sample_place from x y) beyond.right) out.old out.new }
 {
+    let block = Surrounded {
+        samples: p,
+        from,
+        count,
+    };
     match beyond.right {
         0 => half_rows::<L, W>(
             p,
@@ -113,9 +124,9 @@ fn row_2<const L: usize, const W: usize>(
             out,
             to,
         ),
-        1 => centre_rows_down::<L, W>(p, from, 2, count, out, to),
-        2 => centre_rows::<L, W>(p, from, count, out, to),
-        _ => centre_rows_down::<L, W>(p, from, 3, count, out, to),
+        1 => centre_rows_down::<L, W>(block, 2, out, to),
+        2 => centre_rows::<L, W>(block, out, to),
+        _ => centre_rows_down::<L, W>(block, 3, out, to),
     }
 }
 
@@ -135,6 +146,11 @@ fn row_3<const L: usize, const W: usize>(
         (λ x y. row_3_of p.now from.stride (sample_place from x y) beyond.right) out.old out.new }
 {
     let s = 3 * from.stride;
+    let block = Surrounded {
+        samples: p,
+        from,
+        count,
+    };
     match beyond.right {
         0 => quarter_rows::<L, W>(
             p,
@@ -149,7 +165,7 @@ fn row_3<const L: usize, const W: usize>(
             to,
         ),
         1 => diagonal_rows::<L, W>(p, from, s, 2, count, out, to),
-        2 => centre_rows_across::<L, W>(p, from, 3, count, out, to),
+        2 => centre_rows_across::<L, W>(block, 3, out, to),
         _ => diagonal_rows::<L, W>(p, from, s, 3, count, out, to),
     }
 }

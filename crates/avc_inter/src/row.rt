@@ -5,6 +5,7 @@ ghost use Rattle.std.specs.Prelude.{slice_index, slice_index_or};
 ghost use Rattle.std.specs.Int.{w16, w32};
 ghost use Rattle.std.specs.Simd.Lanes.{chunk, Each1};
 ghost use Rattle.avc_inter.specs.SixTapRow.{taps_at};
+ghost use Rattle.avc_inter.specs.Bounds.{AreAddable};
 
 use crate::taps::taps;
 use std::simd::prelude::*;
@@ -21,8 +22,7 @@ pub fn widened(src: &[u8], at: usize) -> u16x16
 
 #[inline(always)]
 pub fn sums(a: u16x16, b: u16x16) -> u16x16
-    requires a_small { Each1 (λ x. x ≤ 16383) a }
-    requires b_small { Each1 (λ x. x ≤ 16383) b }
+    requires { AreAddable a b }
     ensures long { length result ≡ 16 }
     ensures at { (k : ℕ) → k < 16 → slice_index result k ≡ slice_index a k + slice_index b k }
     ensures small { (m n : ℕ) → Each1 (λ x. x ≤ m) a → Each1 (λ y. y ≤ n) b →
@@ -43,8 +43,7 @@ pub fn multiples(a: u16x16, by: u16) -> u16x16
 }
 
 fn differences(a: u16x16, b: u16x16) -> i32x16
-    requires a_small { Each1 (λ x. x ≤ 16383) a }
-    requires b_small { Each1 (λ x. x ≤ 16383) b }
+    requires { AreAddable a b }
     ensures long { length result ≡ 16 }
     ensures at { (k : ℕ) → k < 16 →
         slice_index_or result k (pos 0) ≡ pos (slice_index a k) -ℤ pos (slice_index b k) }
@@ -56,8 +55,7 @@ fn differences(a: u16x16, b: u16x16) -> i32x16
 /// The differences of two rows in sixteen bits.
 #[inline(always)]
 pub fn narrow_differences(a: u16x16, b: u16x16) -> i16x16
-    requires a_small { Each1 (λ x. x ≤ 16383) a }
-    requires b_small { Each1 (λ x. x ≤ 16383) b }
+    requires { AreAddable a b }
     ensures long { length result ≡ 16 }
     ensures at { (k : ℕ) → k < 16 →
         slice_index_or result k (pos 0) ≡ pos (slice_index a k) -ℤ pos (slice_index b k) }

@@ -11,6 +11,7 @@ ghost use Rattle.avc_inter.specs.Patch.{half_along};
 ghost use Rattle.avc_inter.specs.SixRows.{place_of, HasPlaces, AreLanes, AreSixteen, half_of};
 ghost use Rattle.avc_inter.specs.Laid.{sample_place, HasRows, IsLaid};
 
+use crate::source::Source;
 use crate::taps::{half, mean};
 use crate::target::Target;
 use avc_plane::RowsPlace;
@@ -30,14 +31,14 @@ pub fn load<const L: usize>(p: &[u8], from: usize, out: &mut [u8; 16], to: usize
 
 /// Sixteen samples of a block whose first one is at this place.
 #[inline(always)]
-pub fn sixteen<const L: usize>(p: &[u8], at: usize, stride: usize) -> [u8; 16]
-    requires lanes { AreLanes L }
-    requires samples { HasPlaces L stride 16 at p.now }
-    ensures { AreSixteen result (λ k. slice_index p.now (at + place_of L stride k)) }
+pub fn sixteen<const L: usize>(source: Source<'_, L>, at: usize) -> [u8; 16]
+    requires { HasPlaces L source.stride 16 at source.samples.now }
+    ensures { AreSixteen result
+        (λ k. slice_index source.entry.samples.now (at + place_of L source.entry.stride k)) }
 {
     let mut out = [0; 16];
     for y in 0..16 / L {
-        load::<L>(p, at + y * stride, &mut out, L * y);
+        load::<L>(source.samples, at + y * source.stride, &mut out, L * y);
     }
     out
 }
@@ -64,17 +65,17 @@ fn halves_of(
 
 /// The half samples between each third and fourth of six samples a step apart.
 #[inline(always)]
-pub fn half_row<const L: usize>(p: &[u8], at: usize, stride: usize, step: usize) -> [u8; 16]
-    requires lanes { AreLanes L }
-    requires samples { HasPlaces L stride 16 (at + 5 * step) p.now }
-    ensures { AreSixteen result (λ k. half_along p.now (at + place_of L stride k) step) }
+pub fn half_row<const L: usize>(source: Source<'_, L>, at: usize, step: usize) -> [u8; 16]
+    requires { HasPlaces L source.stride 16 (at + 5 * step) source.samples.now }
+    ensures { AreSixteen result
+        (λ k. half_along source.entry.samples.now (at + place_of L source.entry.stride k) step) }
 {
-    let e = sixteen::<L>(p, at, stride);
-    let f = sixteen::<L>(p, at + step, stride);
-    let g = sixteen::<L>(p, at + 2 * step, stride);
-    let h = sixteen::<L>(p, at + 3 * step, stride);
-    let i = sixteen::<L>(p, at + 4 * step, stride);
-    let j = sixteen::<L>(p, at + 5 * step, stride);
+    let e = sixteen::<L>(source, at);
+    let f = sixteen::<L>(source, at + step);
+    let g = sixteen::<L>(source, at + 2 * step);
+    let h = sixteen::<L>(source, at + 3 * step);
+    let i = sixteen::<L>(source, at + 4 * step);
+    let j = sixteen::<L>(source, at + 5 * step);
     halves_of(&e, &f, &g, &h, &i, &j)
 }
 
@@ -128,10 +129,14 @@ pub fn whole_rows<const L: usize, const W: usize>(
     ensures { IsLaid W (16 / L * count) to.entry.rows
         (λ x y. slice_index p.now (by + sample_place from x y)) out.old out.new }
 {
+    let source = Source {
+        samples: p,
+        stride: from.stride,
+    };
     let lines = 16 / L * from.stride;
     let rows = 16 / L * to.rows.stride;
     for y in 0..count {
-        let row = sixteen::<L>(p, from.first + by + y * lines, from.stride);
+        let row = sixteen::<L>(source, from.first + by + y * lines);
         put_rows::<L, W>(out, to.rows.first + y * rows, to.rows.stride, &row);
     }
 }
@@ -160,10 +165,14 @@ pub fn half_rows<const L: usize, const W: usize>(
     ensures { IsLaid W (16 / L * count) to.entry.rows
         (λ x y. half_along p.now (taps.by + sample_place from x y) taps.step) out.old out.new }
 {
+    let source = Source {
+        samples: p,
+        stride: from.stride,
+    };
     let lines = 16 / L * from.stride;
     let rows = 16 / L * to.rows.stride;
     for y in 0..count {
-        let row = half_row::<L>(p, from.first + taps.by + y * lines, from.stride, taps.step);
+        let row = half_row::<L>(source, from.first + taps.by + y * lines, taps.step);
         put_rows::<L, W>(out, to.rows.first + y * rows, to.rows.stride, &row);
     }
 }
@@ -207,26 +216,24 @@ fn quarters_of(
 /// fourth of six samples a step apart.
 #[inline(always)]
 fn quarter_row<const L: usize>(
-    p: &[u8],
+    source: Source<'_, L>,
     at: usize,
     whole: usize,
-    stride: usize,
     step: usize,
 ) -> [u8; 16]
-    requires lanes { AreLanes L }
-    requires samples { HasPlaces L stride 16 (at + 5 * step) p.now }
-    requires whole { HasPlaces L stride 16 whole p.now }
-    ensures { AreSixteen result
-        (λ k. mean_of_two (slice_index p.now (whole + place_of L stride k))
-        (half_along p.now (at + place_of L stride k) step)) }
+    requires samples { HasPlaces L source.stride 16 (at + 5 * step) source.samples.now }
+    requires whole { HasPlaces L source.stride 16 whole source.samples.now }
+    ensures { AreSixteen result (λ k. mean_of_two
+        (slice_index source.entry.samples.now (whole + place_of L source.entry.stride k))
+        (half_along source.entry.samples.now (at + place_of L source.entry.stride k) step)) }
 {
-    let e = sixteen::<L>(p, at, stride);
-    let f = sixteen::<L>(p, at + step, stride);
-    let g = sixteen::<L>(p, at + 2 * step, stride);
-    let h = sixteen::<L>(p, at + 3 * step, stride);
-    let i = sixteen::<L>(p, at + 4 * step, stride);
-    let j = sixteen::<L>(p, at + 5 * step, stride);
-    let whole = sixteen::<L>(p, whole, stride);
+    let e = sixteen::<L>(source, at);
+    let f = sixteen::<L>(source, at + step);
+    let g = sixteen::<L>(source, at + 2 * step);
+    let h = sixteen::<L>(source, at + 3 * step);
+    let i = sixteen::<L>(source, at + 4 * step);
+    let j = sixteen::<L>(source, at + 5 * step);
+    let whole = sixteen::<L>(source, whole);
     quarters_of(&whole, &e, &f, &g, &h, &i, &j)
 }
 
@@ -249,14 +256,17 @@ pub fn quarter_rows<const L: usize, const W: usize>(
         (λ x y. mean_of_two (slice_index p.now (whole + sample_place from x y))
         (half_along p.now (taps.by + sample_place from x y) taps.step)) out.old out.new }
 {
+    let source = Source {
+        samples: p,
+        stride: from.stride,
+    };
     let lines = 16 / L * from.stride;
     let rows = 16 / L * to.rows.stride;
     for y in 0..count {
         let row = quarter_row::<L>(
-            p,
+            source,
             from.first + taps.by + y * lines,
             from.first + whole + y * lines,
-            from.stride,
             taps.step,
         );
         put_rows::<L, W>(out, to.rows.first + y * rows, to.rows.stride, &row);
@@ -283,11 +293,15 @@ pub fn diagonal_rows<const L: usize, const W: usize>(
         (λ x y. mean_of_two (half_along p.now (across + sample_place from x y) 1)
         (half_along p.now (down + sample_place from x y) from.stride)) out.old out.new }
 {
+    let source = Source {
+        samples: p,
+        stride: from.stride,
+    };
     let lines = 16 / L * from.stride;
     let rows = 16 / L * to.rows.stride;
     for y in 0..count {
-        let b = half_row::<L>(p, from.first + across + y * lines, from.stride, 1);
-        let h = half_row::<L>(p, from.first + down + y * lines, from.stride, from.stride);
+        let b = half_row::<L>(source, from.first + across + y * lines, 1);
+        let h = half_row::<L>(source, from.first + down + y * lines, from.stride);
         let row = means_of(&b, &h);
         put_rows::<L, W>(out, to.rows.first + y * rows, to.rows.stride, &row);
     }

@@ -4,9 +4,21 @@ ghost use Rattle.std.specs.Prelude.{◌≡◌, ℕ, ◌+◌, ◌*◌, ◌<◌, �
 ghost use Rattle.std.specs.Prelude.{length, slice_index, map};
 ghost use Rattle.avc_types.specs.Arithmetic.{◌>>ℤ◌, clip1};
 ghost use Rattle.avc_inter.specs.Weight.{weighted};
-ghost use Rattle.avc_inter.specs.Bounds.{IsWithin};
+ghost use Rattle.avc_inter.specs.Bounds.{IsBlock, IsWithin};
 
 use avc_types::Block;
+
+/// A weight, an offset, and the power of two that divides a product.
+#[derive(Clone, Copy)]
+struct Weighting {
+    log2_denom: u8,
+    weight: i32,
+    offset: i32,
+
+    ghost few: { log2_denom ≤ 7 },
+    ghost light: { IsWithin 128 weight },
+    ghost near: { IsWithin 128 offset },
+}
 
 /// The sample times the weight.
 fn product(sample: u8, weight: i32) -> i32
@@ -40,17 +52,14 @@ fn clipped(value: i32) -> u8
     }
 }
 
-fn weighted_sample(sample: u8, log2_denom: u8, weight: i32, offset: i32) -> u8
-    requires log2_denom { log2_denom ≤ 7 }
-    requires weight { IsWithin 128 weight }
-    requires offset { IsWithin 128 offset }
-    ensures { result ≡ weighted log2_denom weight offset sample }
+fn weighted_sample(sample: u8, by: Weighting) -> u8
+    ensures { result ≡ weighted by.log2_denom by.weight by.offset sample }
 {
-    let value = product(sample, weight);
-    if log2_denom == 0 {
-        clipped(value + offset)
+    let value = product(sample, by.weight);
+    if by.log2_denom == 0 {
+        clipped(value + by.offset)
     } else {
-        clipped(scaled(value, log2_denom) + offset)
+        clipped(scaled(value, by.log2_denom) + by.offset)
     }
 }
 
@@ -62,17 +71,21 @@ pub fn weight<const W: usize, const H: usize>(
     weight: i32,
     offset: i32,
 ) -> Block<W, H>
-    requires columns { (1 ≤ W) × (W ≤ 16) }
-    requires rows { (1 ≤ H) × (H ≤ 16) }
+    requires block { IsBlock 16 W H }
     requires log2_denom { log2_denom ≤ 7 }
     requires weight { IsWithin 128 weight }
     requires offset { IsWithin 128 offset }
     ensures { result ≡ map (weighted log2_denom weight offset) block.now }
 {
+    let by = Weighting {
+        log2_denom,
+        weight,
+        offset,
+    };
     let mut samples = [0; 272];
     let old = block.as_slice();
     for k in 0..old.len() {
-        samples[k] = weighted_sample(old[k], log2_denom, weight, offset);
+        samples[k] = weighted_sample(old[k], by);
     }
     let mut weighted = Block::new(0);
     weighted.set_rows(&samples, 0, W);

@@ -1,13 +1,14 @@
 //! Whole samples, laid into rows or given to a block.
 
-ghost use Rattle.std.specs.Prelude.{◌≡◌, ℕ, ◌+◌, ◌*◌, ◌<◌, ◌≤◌, pos, ◌+ℤ◌, length};
+ghost use Rattle.std.specs.Prelude.{◌≡◌, ℕ, ◌+◌, ◌*◌, ◌<◌, pos, ◌+ℤ◌, length};
 ghost use Rattle.avc_types.specs.Blocks.{block_of};
-ghost use Rattle.avc_plane.specs.Plane.{sample, clamped, with_block};
+ghost use Rattle.avc_plane.specs.Plane.{HasRectangle, sample, clamped, with_block};
 ghost use Rattle.avc_inter.specs.Laid.{HasRowsApart, IsLaid};
 ghost use Rattle.avc_inter.specs.Moved.{whole_from};
 
 use crate::lines::copy_lines;
-use crate::vector::MovedPlace;
+use crate::reference::{Rectangle, WholeBlock};
+use crate::source::Lines;
 use avc_plane::{PaddedPlane, Plane, RowsPlace};
 use avc_samples::{fetch_held, find_within, place_inside};
 use avc_types::Block;
@@ -17,38 +18,46 @@ use avc_types::Block;
 #[inline(never)]
 fn lay_held<const W: usize, const H: usize, const PAD: usize>(
     plane: &PaddedPlane<PAD>,
-    at: MovedPlace,
+    from: WholeBlock<W, H>,
     out: &mut [u8],
     to: RowsPlace,
 )
-    requires small { (W ≤ 16) × (H ≤ 16) }
-    requires room { HasRowsApart W H to out.old }
-    ensures { IsLaid W H to (whole_from plane.now at) out.old out.new }
+    requires { HasRowsApart W H to out.old }
+    ensures { IsLaid W H to (whole_from plane.now from.entry.at) out.old out.new }
 {
     let mut patch = [0; 256];
-    fetch_held(plane, at.left, at.top, W, H, &mut patch);
-    let from = RowsPlace {
+    fetch_held(plane, from.at.left, from.at.top, W, H, &mut patch);
+    let first = RowsPlace {
         first: 0,
         stride: W,
     };
-    copy_lines::<W, H>(&patch, from, out, to);
+    let lines = Lines {
+        samples: &patch,
+        from: first,
+    };
+    copy_lines::<W, H>(lines, out, to);
 }
 
 /// Lays whole samples from a place on.
 #[inline(always)]
 fn lay_whole<const W: usize, const H: usize, const PAD: usize>(
     plane: &PaddedPlane<PAD>,
-    at: MovedPlace,
+    from: WholeBlock<W, H>,
     out: &mut [u8],
     to: RowsPlace,
 )
-    requires small { (W ≤ 16) × (H ≤ 16) }
-    requires room { HasRowsApart W H to out.old }
-    ensures { IsLaid W H to (whole_from plane.now at) out.old out.new }
+    requires { HasRowsApart W H to out.old }
+    ensures { IsLaid W H to (whole_from plane.now from.entry.at) out.old out.new }
 {
-    match find_within(plane, at.left, at.top, W, H) {
-        Some(from) => copy_lines::<W, H>(plane.padded_rows(), from, out, to),
-        None => lay_held::<W, H, PAD>(plane, at, out, to),
+    match find_within(plane, from.at.left, from.at.top, W, H) {
+        Some(first) => {
+            let lines = Lines {
+                samples: plane.padded_rows(),
+                from: first,
+            };
+            copy_lines::<W, H>(lines, out, to);
+        }
+        None => lay_held::<W, H, PAD>(plane, from, out, to),
     }
 }
 
@@ -57,53 +66,52 @@ fn lay_whole<const W: usize, const H: usize, const PAD: usize>(
 #[inline(never)]
 pub fn predict_whole<const W: usize, const H: usize, const PAD: usize>(
     reference: &PaddedPlane<PAD>,
-    at: MovedPlace,
+    from: WholeBlock<W, H>,
     x: usize,
     y: usize,
     plane: &mut Plane<PAD>,
 )
-    requires columns { (1 ≤ W) × (W ≤ 16) × (x + W ≤ plane.old.width) }
-    requires rows { (1 ≤ H) × (H ≤ 16) × (y + H ≤ plane.old.height) }
-    ensures { (f : ℕ → ℕ → ℕ) → ((i j : ℕ) → whole_from reference.now at i j ≡ f i j) →
+    requires { HasRectangle x y W H plane.old }
+    ensures { (f : ℕ → ℕ → ℕ) → ((i j : ℕ) → whole_from reference.now from.entry.at i j ≡ f i j) →
         plane.new ≡ with_block plane.old x y W H f }
 {
     let to = plane.padded_place(x, y);
     let rows = plane.padded_rows_mut();
-    lay_whole::<W, H, PAD>(reference, at, rows, to);
+    lay_whole::<W, H, PAD>(reference, from, rows, to);
 }
 
 /// Lays the samples of a rectangle of a reference plane into the same place in a plane.
 #[inline(always)]
 pub fn predict_in_place<const W: usize, const H: usize, const PAD: usize>(
-    reference: &PaddedPlane<PAD>,
-    x: usize,
-    y: usize,
+    from: Rectangle<'_, W, H, PAD>,
     plane: &mut Plane<PAD>,
 )
-    requires columns { (1 ≤ W) × (x + W ≤ plane.old.width) × (x + W ≤ reference.now.width) }
-    requires rows { (1 ≤ H) × (y + H ≤ plane.old.height) × (y + H ≤ reference.now.height) }
+    requires { HasRectangle from.x from.y W H plane.old }
     ensures { (f : ℕ → ℕ → ℕ) → ((i j : ℕ) →
-        clamped reference.now.width reference.now.height (sample reference.now)
-        (pos x +ℤ pos i) (pos y +ℤ pos j) ≡ f i j) →
-        plane.new ≡ with_block plane.old x y W H f }
+        clamped from.entry.plane.now.width from.entry.plane.now.height
+        (sample from.entry.plane.now) (pos from.entry.x +ℤ pos i) (pos from.entry.y +ℤ pos j)
+        ≡ f i j) →
+        plane.new ≡ with_block plane.old from.entry.x from.entry.y W H f }
 {
-    let from = place_inside(reference, x, y);
-    let to = plane.padded_place(x, y);
+    let lines = Lines {
+        samples: from.plane.padded_rows(),
+        from: place_inside(from.plane, from.x, from.y),
+    };
+    let to = plane.padded_place(from.x, from.y);
     let rows = plane.padded_rows_mut();
-    copy_lines::<W, H>(reference.padded_rows(), from, rows, to);
+    copy_lines::<W, H>(lines, rows, to);
 }
 
 /// Gives a block the whole samples from a place on, each coordinate held inside the plane.
 fn set_held<const W: usize, const H: usize, const PAD: usize>(
     plane: &PaddedPlane<PAD>,
-    at: MovedPlace,
+    from: WholeBlock<W, H>,
     block: &mut Block<W, H>,
 )
-    requires small { (W ≤ 16) × (H ≤ 16) }
-    ensures { block.new ≡ block_of W H (whole_from plane.now at) }
+    ensures { block.new ≡ block_of W H (whole_from plane.now from.entry.at) }
 {
     let mut patch = [0; 272];
-    fetch_held(plane, at.left, at.top, W, H, &mut patch);
+    fetch_held(plane, from.at.left, from.at.top, W, H, &mut patch);
     block.set_rows(&patch, 0, W);
 }
 
@@ -111,14 +119,13 @@ fn set_held<const W: usize, const H: usize, const PAD: usize>(
 #[inline(always)]
 pub fn set_whole<const W: usize, const H: usize, const PAD: usize>(
     plane: &PaddedPlane<PAD>,
-    at: MovedPlace,
+    from: WholeBlock<W, H>,
     block: &mut Block<W, H>,
 )
-    requires small { (W ≤ 16) × (H ≤ 16) }
-    ensures { block.new ≡ block_of W H (whole_from plane.now at) }
+    ensures { block.new ≡ block_of W H (whole_from plane.now from.entry.at) }
 {
-    match find_within(plane, at.left, at.top, 16, H) {
-        Some(from) => block.set_rows(plane.padded_rows(), from.first, from.stride),
-        None => set_held(plane, at, block),
+    match find_within(plane, from.at.left, from.at.top, 16, H) {
+        Some(place) => block.set_rows(plane.padded_rows(), place.first, place.stride),
+        None => set_held(plane, from, block),
     }
 }

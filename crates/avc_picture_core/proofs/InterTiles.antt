@@ -361,9 +361,9 @@ module _ (p : Place) (column row qp qp_of_chroma : ℕ) (motion : List Motion) (
       ∙ predicted_there p column row motion at.column_is at.row_is mine k x y
 
   each_kept : (k x y : ℕ) → k < 3 → x < size_of k → y < size_of k → f k x y ≡ inter_at p k x y
-  each_kept zero x y few left top = kept 0 x y (laid_small s.luma new.luma (16 * column) (16 * row) 16 (f 0) (ap (λ (t : Planes). t.luma) all) room.luma_columns room.luma_rows l x y left top)
-  each_kept (suc zero) x y few left top = kept 1 x y (laid_small s.cb new.cb (8 * column) (8 * row) 8 (f 1) (ap (λ (t : Planes). t.cb) all) room.cb_columns room.cb_rows b x y left top)
-  each_kept (suc (suc zero)) x y few left top = kept 2 x y (laid_small s.cr new.cr (8 * column) (8 * row) 8 (f 2) (ap (λ (t : Planes). t.cr) all) room.cr_columns room.cr_rows r x y left top)
+  each_kept zero x y few left top = kept 0 x y (laid_small s.luma new.luma (16 * column) (16 * row) 16 (f 0) (ap (λ (t : Planes). t.luma) all) room.luma.columns room.luma.rows l x y left top)
+  each_kept (suc zero) x y few left top = kept 1 x y (laid_small s.cb new.cb (8 * column) (8 * row) 8 (f 1) (ap (λ (t : Planes). t.cb) all) room.cb.columns room.cb.rows b x y left top)
+  each_kept (suc (suc zero)) x y few left top = kept 2 x y (laid_small s.cr new.cr (8 * column) (8 * row) 8 (f 2) (ap (λ (t : Planes). t.cr) all) room.cr.columns room.cr.rows r x y left top)
   each_kept (suc (suc (suc k))) x y few left top = absurd (omega (arith, few))
 
   pub planes_skip : (refusal p ≡ None) × (new ≡ planes_after p s)
@@ -397,11 +397,11 @@ module _ (p : Place) (column row qp qp_of_chroma : ℕ) (mb_type : PMbType) (ref
       let laid : mid ≡ with_square column row first s = are.1 ∙ whole_part column row first s in
       planes_inter p column row (p_inter mb_type ref_idx mvd r) true at.column_is at.row_is at.syntax_is (ap (have_all p) mine ∙ are.0) refl s new refl refl refl summed
       (λ k x y few left top. predicted_there p column row motion at.column_is at.row_is mine k x y)
-      (over s.luma mid.luma new.luma 0 (16 * column) (16 * row) 16 (luma_residual qp r) room.luma_columns room.luma_rows (ap (λ (t : Planes). t.luma) laid) l
+      (over s.luma mid.luma new.luma 0 (16 * column) (16 * row) 16 (luma_residual qp r) room.luma.columns room.luma.rows (ap (λ (t : Planes). t.luma) laid) l
       (λ x y. rw (at.syntax_is, at.qp_is) refl))
-      (over s.cb mid.cb new.cb 1 (8 * column) (8 * row) 8 (chroma_residual qp_of_chroma r.cb_dc r.cb_ac) room.cb_columns room.cb_rows
+      (over s.cb mid.cb new.cb 1 (8 * column) (8 * row) 8 (chroma_residual qp_of_chroma r.cb_dc r.cb_ac) room.cb.columns room.cb.rows
       (ap (λ (t : Planes). t.cb) laid) b (λ x y. rw (at.syntax_is, at.chroma_is) refl))
-      (over s.cr mid.cr new.cr 2 (8 * column) (8 * row) 8 (chroma_residual qp_of_chroma r.cr_dc r.cr_ac) room.cr_columns room.cr_rows
+      (over s.cr mid.cr new.cr 2 (8 * column) (8 * row) 8 (chroma_residual qp_of_chroma r.cr_dc r.cr_ac) room.cr.columns room.cr.rows
       (ap (λ (t : Planes). t.cr) laid) c (λ x y. rw (at.syntax_is, at.chroma_is) refl))
 
 -- ---- blocks that are predicted together have one motion
@@ -556,12 +556,9 @@ one_shape motion one =
 usable_on : {PAD : ℕ} (w h column row : ℕ) (p : ReferencePicture PAD) → column < w → row < h → IsUsable w h p → IsUsableAt column row p
 usable_on w h column row p a b u = record {
   planes = record {
-    luma_columns = omega (arith, a, u.sized.luma_width);
-    luma_rows = omega (arith, b, u.sized.luma_height);
-    cb_columns = omega (arith, a, u.sized.cb_width);
-    cb_rows = omega (arith, b, u.sized.cb_height);
-    cr_columns = omega (arith, a, u.sized.cr_width);
-    cr_rows = omega (arith, b, u.sized.cr_height);
+    luma = record { columns = omega (arith, a, u.sized.luma_width); rows = omega (arith, b, u.sized.luma_height) };
+    cb = record { columns = omega (arith, a, u.sized.cb_width); rows = omega (arith, b, u.sized.cb_height) };
+    cr = record { columns = omega (arith, a, u.sized.cr_width); rows = omega (arith, b, u.sized.cr_height) };
   };
   weights = u.weights;
 }
@@ -621,7 +618,7 @@ predicted_is c slice w h references k x y wide high are all (motions.Inter r v) 
 predicted_is c slice w h references k x y wide high are all m there = absurd (false≢true there)
 
 -- a block has a picture where all have
-there : {PAD : ℕ} (references : List (Option (ReferencePicture PAD))) (motion : List Motion) (i : ℕ) → length motion ≡ 16 → i < 16 → have_pictures references motion ≡ true
+pub there : {PAD : ℕ} (references : List (Option (ReferencePicture PAD))) (motion : List Motion) (i : ℕ) → length motion ≡ 16 → i < 16 → have_pictures references motion ≡ true
     → is_some (picture_in references (block_motion motion i)) ≡ true
 there references motion i long few all =
     All-get_or (λ m. is_some (picture_in references m) ≡ true) motion i motions.Absent (omega (arith, long, few)) (AllPass-from_list_all (λ m. is_some (picture_in references m)) motion all)
@@ -655,12 +652,9 @@ part_is references column row motion left top w h r v p old new left_even top_ev
 pub cover_part : (column row left top w h : ℕ) (f : ℕ → ℕ → ℕ → ℕ) (s new : Planes) → new ≡ with_part column row left top w h f s → CoverMacroblock column row s → CoverMacroblock column row new
 cover_part column row left top w h f s new e room =
     subst (CoverMacroblock column row) (sym e) (record {
-      luma_columns = room.luma_columns;
-      luma_rows = room.luma_rows;
-      cb_columns = room.cb_columns;
-      cb_rows = room.cb_rows;
-      cr_columns = room.cr_columns;
-      cr_rows = room.cr_rows;
+      luma = record { columns = room.luma.columns; rows = room.luma.rows };
+      cb = record { columns = room.cb.columns; rows = room.cb.rows };
+      cr = record { columns = room.cr.columns; rows = room.cr.rows };
     })
 
 -- ---- one block of 4x4 samples

@@ -224,7 +224,7 @@ module _ {PAD : ℕ} (picture : ReferencePicture PAD) (column row : ℕ) (s : Pl
   luma_same : (x y : ℕ) → x < 16 → y < 16 → from_luma x y ≡ sample s.luma (16 * column + 0 + x) (16 * row + 0 + y)
   luma_same x y low high =
       still_luma picture.planes.now.luma.width picture.planes.now.luma.height (sample picture.planes.now.luma) (16 * column + 0 + x) (16 * row + 0 + y)
-      (omega (arith, low, room.luma_columns)) (omega (arith, high, room.luma_rows))
+      (omega (arith, low, room.luma.columns)) (omega (arith, high, room.luma.rows))
       ∙ sym (same.luma (16 * column + 0 + x) (16 * row + 0 + y) (omega arith) (omega (arith, low)) (omega arith) (omega (arith, high)))
 
   chroma_same : (t u : Plane) → 8 * column + 8 ≤ t.width → 8 * row + 8 ≤ t.height → IsSameIn (8 * column) (8 * row) (8 * 1) 8 t u
@@ -238,9 +238,9 @@ module _ {PAD : ℕ} (picture : ReferencePicture PAD) (column row : ℕ) (s : Pl
       part_unweighted picture zero_vector column row 0 0 16 16 8 8 s s refl refl none
       (block_of_its_own s.luma (16 * column + 0) (16 * row + 0) 16 16 from_luma l (λ x y low high _ _. luma_same x y low high))
       (block_of_its_own s.cb (8 * column + 0) (8 * row + 0) 8 8 (from_chroma picture.planes.now.cb) b
-      (λ x y low high _ _. chroma_same picture.planes.now.cb s.cb room.cb_columns room.cb_rows same.cb x y low high))
+      (λ x y low high _ _. chroma_same picture.planes.now.cb s.cb room.cb.columns room.cb.rows same.cb x y low high))
       (block_of_its_own s.cr (8 * column + 0) (8 * row + 0) 8 8 (from_chroma picture.planes.now.cr) r
-      (λ x y low high _ _. chroma_same picture.planes.now.cr s.cr room.cr_columns room.cr_rows same.cr x y low high))
+      (λ x y low high _ _. chroma_same picture.planes.now.cr s.cr room.cr.columns room.cr.rows same.cr x y low high))
 
 -- it is built
 module _ {PAD : ℕ} (canvas : CanvasState) (address : ℕ) (mb : Mb) (info : NeighbourInfo) (n : MacroblocksAround) (references : List (Option (ReferencePicture PAD)))

@@ -1,5 +1,5 @@
 -- The samples of an inter macroblock from its reference pictures, ITU-T H.264 clause 8.4.2.
-use Rattle.std.specs.Prelude.{◌≡◌, ℕ, pos, zero, suc, ◌+◌, ◌*◌, ◌/◌, ◌<◌, ◌≤◌, Bool, true, false}
+use Rattle.std.specs.Prelude.{◌≡◌, ℕ, pos, zero, suc, ◌+◌, ◌*◌, ◌/◌, ◌<◌, Bool, true, false}
 use Rattle.std.specs.Prelude.{List, Option, Some, None, IfSome, Result, Ok, Err, is_some}
 use Rattle.std.specs.Prelude.{slice_index_or}
 use Rattle.std.specs.Option.{option_map}
@@ -20,8 +20,10 @@ use Rattle.avc_inter.specs.Chroma.{inter_chroma}
 use Rattle.avc_picture_core.specs.Built.{size_of, luma_place, inter_predicted, reference_of}
 use Rattle.avc_picture_core.specs.Built.{component_weight, weighted_by}
 use Rattle.avc_picture_core.specs.Faults.{is_picture}
+use Rattle.avc_picture_core.specs.Places.{HasMacroblock}
 use Rattle.avc_picture_core.specs.References.{AreWeights}
 use Rattle.avc_picture_core.specs.declared.inter.ReferencePicture.{ReferencePicture}
+use Rattle.avc_picture_core.specs.declared.places.MbPlace.{MbPlace}
 use Rattle.avc_picture_core.specs.declared.shape.Shape.{Shape}
 use Rattle.avc_picture_core.specs.declared.shape.Shape.TheVariants.{Whole, WideHalves, TallHalves}
 use Rattle.avc_picture_core.specs.declared.shape.Shape.TheVariants.{Quarters}
@@ -100,12 +102,13 @@ predicted_in references m k x y = predicted_by (picture_in references m) (vector
 
 -- The macroblock in this column and row lies in a picture of the size of these planes.
 pub record CoverMacroblock (column row : ℕ) (p : Planes) : Type 0 where
-  pub luma_columns : 16 * column + 16 ≤ p.luma.width
-  pub luma_rows : 16 * row + 16 ≤ p.luma.height
-  pub cb_columns : 8 * column + 8 ≤ p.cb.width
-  pub cb_rows : 8 * row + 8 ≤ p.cb.height
-  pub cr_columns : 8 * column + 8 ≤ p.cr.width
-  pub cr_rows : 8 * row + 8 ≤ p.cr.height
+  pub luma : HasMacroblock 16 column row p.luma
+  pub cb : HasMacroblock 8 column row p.cb
+  pub cr : HasMacroblock 8 column row p.cr
+
+-- The macroblock at this place does.
+abbrev pub CoverPlace : MbPlace → Planes → Type 0
+CoverPlace place p = CoverMacroblock place.column place.row p
 
 -- It can be predicted from this reference picture.
 pub record IsUsableAt {PAD : ℕ} (column row : ℕ) (p : ReferencePicture PAD) : Type 0 where

@@ -8,12 +8,14 @@ use Rattle.avc_neigh.specs.Blocks.{block_x, block_y}
 use Rattle.avc_neigh.specs.declared.neighbour_info.NeighbourInfo.{NeighbourInfo}
 use Rattle.avc_motion.specs.Motion.{is_intra}
 use Rattle.avc_transform.specs.Residual.{chroma_qp}
-use Rattle.avc_plane.specs.Plane.{Plane}
+use Rattle.avc_plane.specs.Plane.{Plane, HasRectangle}
 use Rattle.avc_plane.specs.Planes.{Planes}
 use Rattle.avc_picture_core.specs.Built.{Place, planes_after, sides_of}
 use Rattle.avc_picture_core.specs.Faults.{refusal}
 use Rattle.avc_picture_core.specs.References.{AreReferences}
 use Rattle.avc_picture_core.specs.declared.inter.ReferencePicture.{ReferencePicture}
+use Rattle.avc_picture_core.specs.declared.places.MbPlace.{MbPlace}
+use Rattle.avc_picture_core.specs.declared.places.PictureSize.{PictureSize}
 use Rattle.avc_picture_core.specs.Sides.{readable_sides, AreInside}
 use Rattle.avc_picture_core.specs.declared.sides.ReadableNeighbours.{ReadableNeighbours}
 
@@ -32,12 +34,22 @@ pub record MayRead (column row width : ℕ) (r : ReadableNeighbours) (p : Place)
   pub inside : (k : ℕ) → k < 16 →
       AreInside (16 * column + block_x k) (16 * row + block_y k) width (readable_sides r k)
 
+-- The macroblock at this place lies in a picture of this size.
+pub record IsIn (place : MbPlace) (size : PictureSize) : Type 0 where
+  pub column : place.column < size.width
+  pub row : place.row < size.height
+
 -- The macroblock was built, or refused, and then the planes are any.
 abbrev pub ArePlanesBuilt : Place → Result (Unit {0}) Fault → (old new : Planes) → Type 0
 ArePlanesBuilt p (Ok done) old new = (refusal p ≡ None) × (new ≡ planes_after p old)
 ArePlanesBuilt p (Err f) old new = refusal p ≡ Some f
 
 -- ---- sizes
+
+-- The macroblock in this column and row lies in the plane, which has so many columns and rows of
+-- each macroblock (6.4.1).
+abbrev pub HasMacroblock : (side column row : ℕ) → Plane → Type 0
+HasMacroblock side column row p = HasRectangle (side * column) (side * row) side side p
 
 -- the plane kept its sides
 abbrev pub IsSameSize : (old new : Plane) → Type 0

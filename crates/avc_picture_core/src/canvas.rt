@@ -13,9 +13,10 @@ ghost use Rattle.avc_picture_core.specs.References.{AreUsable};
 ghost use Rattle.avc_picture_core.specs.Sides.{readable_near};
 
 use crate::inter::ReferencePicture;
-use crate::macroblock::{References, build_macroblock, build_p_skip};
+use crate::inter_sources::References;
+use crate::macroblock::{build_macroblock, build_p_skip};
 use crate::places::{MbPlace, PictureSize};
-use crate::residual::Quantisers;
+use crate::residual::{ChromaQuantiser, Quantiser, Quantisers};
 use crate::sides::ReadableNeighbours;
 use avc_neigh::{NeighbourInfo, Neighbours};
 use avc_plane::Planes;
@@ -95,34 +96,28 @@ impl Canvas {
             (with_planes self.now (planes_of planes.new)) }
         ensures sized { AreSized self.now.width self.now.height (planes_of planes.new) }
     {
-        let size = PictureSize {
-            width: self.width,
-            height: self.height,
+        let references = References {
+            size: PictureSize {
+                width: self.width,
+                height: self.height,
+            },
+            pictures: sources.references,
         };
         // there is nothing to scale
         if let Syntax::PSkip = &mb.syntax {
-            return build_p_skip(planes, place, size, &info.motion, sources.references);
+            return build_p_skip(planes, place, &info.motion, references);
         }
         let qp = Quantisers {
-            luma: mb.qp,
-            chroma: chroma_qp(self.chroma_qp_index_offset, mb.qp),
+            luma: Quantiser { value: mb.qp },
+            chroma: ChromaQuantiser {
+                value: chroma_qp(self.chroma_qp_index_offset, mb.qp),
+            },
         };
         let readable = readable_neighbours(
             &mb.syntax,
             &sources.neighbours,
             self.constrained_intra_pred,
         );
-        build_macroblock(
-            planes,
-            place,
-            &mb.syntax,
-            qp,
-            info,
-            readable,
-            References {
-                size,
-                pictures: sources.references,
-            },
-        )
+        build_macroblock(planes, place, &mb.syntax, qp, info, readable, references)
     }
 }

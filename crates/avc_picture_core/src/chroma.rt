@@ -1,10 +1,10 @@
 //! The prediction of the chroma of an intra macroblock (8.3.4).
-ghost use Rattle.std.specs.Prelude.{◌≡◌, ℕ, ◌+◌, ◌*◌, ◌≤◌, true};
+ghost use Rattle.std.specs.Prelude.{◌≡◌, ℕ, ◌*◌, true};
 ghost use Rattle.std.specs.Option.{unwrap_or};
 ghost use Rattle.avc_plane.specs.Plane.{with_block};
 ghost use Rattle.avc_intra.specs.Chroma.{can_predict_chroma, intra_chroma};
 ghost use Rattle.avc_picture_core.specs.Built.{seen_from};
-ghost use Rattle.avc_picture_core.specs.Places.{IsSameSize};
+ghost use Rattle.avc_picture_core.specs.Places.{HasMacroblock, IsSameSize};
 ghost use Rattle.avc_picture_core.specs.Sides.{AreInside};
 
 use crate::corner::{first_column, first_row};
@@ -19,8 +19,7 @@ pub(crate) fn predict_component<const PAD: usize>(
     sides: Sides,
     mode: ModeChroma,
 )
-    requires columns { 8 * place.column + 8 ≤ plane.old.width }
-    requires rows { 8 * place.row + 8 ≤ plane.old.height }
+    requires macroblock { HasMacroblock 8 place.column place.row plane.old }
     requires mode { can_predict_chroma sides mode ≡ true }
     ensures size { IsSameSize plane.old plane.new }
     ensures samples { AreInside (8 * place.column) (8 * place.row) plane.old.width sides →

@@ -1,10 +1,10 @@
 //! The prediction of the luma of an Intra 16x16 macroblock (8.3.3).
-ghost use Rattle.std.specs.Prelude.{◌≡◌, ℕ, ◌+◌, ◌*◌, ◌≤◌, true};
+ghost use Rattle.std.specs.Prelude.{◌≡◌, ℕ, ◌*◌, true};
 ghost use Rattle.std.specs.Option.{unwrap_or};
 ghost use Rattle.avc_plane.specs.Plane.{with_block};
 ghost use Rattle.avc_intra.specs.Luma16x16.{can_predict16x16, intra16x16};
 ghost use Rattle.avc_picture_core.specs.Built.{seen_from};
-ghost use Rattle.avc_picture_core.specs.Places.{IsSameSize};
+ghost use Rattle.avc_picture_core.specs.Places.{HasMacroblock, IsSameSize};
 ghost use Rattle.avc_picture_core.specs.Sides.{AreInside};
 
 use crate::corner::{first_column, first_row};
@@ -19,8 +19,7 @@ pub(crate) fn predict_luma16x16<const PAD: usize>(
     sides: Sides,
     mode: Mode16x16,
 )
-    requires columns { 16 * place.column + 16 ≤ plane.old.width }
-    requires rows { 16 * place.row + 16 ≤ plane.old.height }
+    requires macroblock { HasMacroblock 16 place.column place.row plane.old }
     requires mode { can_predict16x16 sides mode ≡ true }
     ensures size { IsSameSize plane.old plane.new }
     ensures samples { AreInside (16 * place.column) (16 * place.row) plane.old.width sides →

@@ -1,10 +1,11 @@
 //! Prediction modes by their numbers in the syntax.
-ghost use Rattle.std.specs.Prelude.{◌≡◌, ◌≤◌};
+ghost use Rattle.std.specs.Prelude.{◌≡◌, ◌≤◌, All};
 ghost use Rattle.avc_neigh.specs.Modes.{IsMode};
 ghost use Rattle.avc_intra.specs.Luma4x4.{mode4x4_of};
 ghost use Rattle.avc_intra.specs.Luma16x16.{mode16x16_of};
 ghost use Rattle.avc_intra.specs.Chroma.{mode_chroma_of};
 ghost use Rattle.avc_picture_core.specs.Built.{mode_number};
+ghost use Rattle.avc_picture_core.specs.Modes.{IsMode-prop};
 
 use avc_intra::{Mode4x4, Mode16x16, ModeChroma};
 use avc_neigh::NearMode;
@@ -37,6 +38,14 @@ static MODES_CHROMA: [ModeChroma; 4] = [
     ModeChroma::Vertical,
     ModeChroma::Plane,
 ];
+
+/// What the blocks of a macroblock have as their intra prediction modes.
+#[derive(Clone, Copy)]
+pub(crate) struct BlockModes<'a> {
+    pub in_order: &'a [NearMode; 16],
+
+    ghost each: { All IsMode in_order.now } by { Prim.hlevel (IsMode-prop) },
+}
 
 /// The mode of a block of an I_NxN macroblock.
 pub(crate) fn mode4x4(mode: NearMode) -> Mode4x4

@@ -4,16 +4,17 @@ ghost use Rattle.std.specs.Prelude.{◌≡◌, ◌+◌, ◌*◌, ◌/◌, ◌%�
 ghost use Rattle.std.specs.Prelude.{length, map, slice_index};
 ghost use Rattle.std.specs.Option.{option_map};
 ghost use Rattle.avc_plane.specs.Frames.{planes_of};
-ghost use Rattle.avc_plane.specs.Plane.{sample, with_block};
+ghost use Rattle.avc_plane.specs.Plane.{HasRectangle, sample, with_block};
 ghost use Rattle.avc_inter.specs.Luma.{inter_luma};
 ghost use Rattle.avc_inter.specs.Chroma.{inter_chroma};
-ghost use Rattle.avc_picture_core.specs.Built.{component_weight, size_of, weighted_by};
+ghost use Rattle.avc_picture_core.specs.Built.{component_weight, weighted_by};
 ghost use Rattle.avc_picture_core.specs.References.{AreWeights, IsWeight};
-ghost use Rattle.avc_picture_core.specs.Inter.{CoverMacroblock, IsCopied, IsUsableAt};
-ghost use Rattle.avc_picture_core.specs.Inter.{predicted_from, with_part};
+ghost use Rattle.avc_picture_core.specs.Inter.{CoverPlace, IsCopied};
+ghost use Rattle.avc_picture_core.specs.Places.{HasMacroblock};
+ghost use Rattle.avc_picture_core.specs.Predicted.{with_moved};
 
-use crate::inter::ReferencePicture;
-use crate::places::{Corner, MbPlace};
+use crate::inter_sources::MovedPicture;
+use crate::places::{Corner, MbPlace, Part};
 use avc_inter::{
     chroma, copy_chroma, copy_luma, luma, predict_both_chroma, predict_chroma, predict_luma, weight,
 };
@@ -56,8 +57,9 @@ fn set_weighted<const W: usize, const H: usize, const PAD: usize>(
     block: &Block<W, H>,
     by: Weight,
 )
-    requires columns { (1 ≤ W) × (W ≤ 16) × (x + W ≤ plane.old.width) }
-    requires rows { (1 ≤ H) × (H ≤ 16) × (y + H ≤ plane.old.height) }
+    requires columns { (1 ≤ W) × (W ≤ 16) }
+    requires rows { (1 ≤ H) × (H ≤ 16) }
+    requires room { HasRectangle x y W H plane.old }
     requires weight { IsWeight by }
     requires long { length block.now ≡ W * H }
     ensures { plane.new
@@ -82,10 +84,8 @@ fn set_luma<const W: usize, const H: usize, const PAD: usize>(
     requires columns { (1 ≤ W) × (corner.x + W ≤ 16) }
     requires rows { (1 ≤ H) × (corner.y + H ≤ 16) }
     requires even { H % 2 ≡ 0 }
-    requires reference_columns { 16 * place.column + 16 ≤ reference.now.width }
-    requires reference_rows { 16 * place.row + 16 ≤ reference.now.height }
-    requires plane_columns { 16 * place.column + 16 ≤ plane.old.width }
-    requires plane_rows { 16 * place.row + 16 ≤ plane.old.height }
+    requires source { HasMacroblock 16 place.column place.row reference.now }
+    requires macroblock { HasMacroblock 16 place.column place.row plane.old }
     requires weight { IfSome by IsWeight }
     ensures { plane.new
         ≡ with_block plane.old (16 * place.column + corner.x) (16 * place.row + corner.y) W H
@@ -123,10 +123,8 @@ fn set_chroma<const W: usize, const H: usize, const PAD: usize>(
     requires columns { (1 ≤ W) × (corner.x + W ≤ 8) }
     requires rows { (1 ≤ H) × (corner.y + H ≤ 8) }
     requires even { H % 2 ≡ 0 }
-    requires reference_columns { 8 * place.column + 8 ≤ reference.now.width }
-    requires reference_rows { 8 * place.row + 8 ≤ reference.now.height }
-    requires plane_columns { 8 * place.column + 8 ≤ plane.old.width }
-    requires plane_rows { 8 * place.row + 8 ≤ plane.old.height }
+    requires source { HasMacroblock 8 place.column place.row reference.now }
+    requires macroblock { HasMacroblock 8 place.column place.row plane.old }
     requires weight { IfSome by IsWeight }
     ensures { plane.new
         ≡ with_block plane.old (8 * place.column + corner.x) (8 * place.row + corner.y) W H
@@ -150,51 +148,43 @@ fn set_chroma<const W: usize, const H: usize, const PAD: usize>(
     }
 }
 
-/// Whether the samples of a picture are taken over from their places by this vector (8.4.2.2),
+/// Whether the samples of a picture are taken over from their places by its vector (8.4.2.2),
 /// without a weight (8.4.2.3).
 #[inline(always)]
-fn is_copied<const PAD: usize>(picture: &ReferencePicture<'_, PAD>, mv: Mv) -> bool
-    ensures { result ≡ true → IsCopied picture.now mv }
+fn is_copied<const PAD: usize>(from: &MovedPicture<'_, '_, PAD>) -> bool
+    ensures { result ≡ true → IsCopied from.now.picture.now from.now.mv }
 {
-    mv.x == 0 && mv.y == 0 && picture.weights.is_none()
+    from.mv.x == 0 && from.mv.y == 0 && from.picture.weights.is_none()
 }
 
-/// Predicts a rectangle of W columns and H rows of luma, and of CW and CH of each chroma component,
-/// from one picture by a vector of 0, without weights.
+/// Predicts a part of a macroblock by a vector of 0, without weights.
 #[inline(never)]
 fn copy_part<const W: usize, const H: usize, const CW: usize, const CH: usize, const PAD: usize>(
-    picture: &ReferencePicture<'_, PAD>,
-    mv: Mv,
-    place: MbPlace,
-    corner: Corner,
+    from: &MovedPicture<'_, '_, PAD>,
+    part: Part<W, H, CW, CH>,
     planes: &mut Planes<PAD>,
 )
-    requires columns { (1 ≤ CW) × (W ≡ 2 * CW) × (corner.x + W ≤ 16) }
-    requires rows { (1 ≤ CH) × (H ≡ 2 * CH) × (corner.y + H ≤ 16) }
-    requires even { (corner.x % 2 ≡ 0) × (corner.y % 2 ≡ 0) }
-    requires macroblock { CoverMacroblock place.column place.row (planes_of planes.old) }
-    requires usable { IsUsableAt place.column place.row picture.now }
-    requires copied { IsCopied picture.now mv }
-    ensures { planes_of planes.new ≡ with_part place.column place.row corner.x corner.y W H
-        (λ k x y. predicted_from picture.now mv k (size_of k * place.column + x)
-        (size_of k * place.row + y)) (planes_of planes.old) }
+    requires macroblock { CoverPlace from.now.place (planes_of planes.old) }
+    requires copied { IsCopied from.now.picture.now from.now.mv }
+    ensures { planes_of planes.new
+        ≡ with_moved from.now part.entry.x part.entry.y W H (planes_of planes.old) }
 {
-    let reference = picture.planes;
+    let reference = from.picture.planes;
+    let place = from.place;
     let width = reference.luma.width();
     let height = reference.luma.height();
     prove!(16 * place.column + 16 <= width);
     prove!(16 * place.row + 16 <= height);
-    let x = 16 * place.column + corner.x;
-    let y = 16 * place.row + corner.y;
+    let x = 16 * place.column + part.x;
+    let y = 16 * place.row + part.y;
     copy_luma::<W, H, PAD>(&reference.luma, x, y, &mut planes.luma);
-    let x = 8 * place.column + corner.x / 2;
-    let y = 8 * place.row + corner.y / 2;
+    let x = 8 * place.column + part.x / 2;
+    let y = 8 * place.row + part.y / 2;
     copy_chroma::<CW, CH, PAD>(&reference.cb, x, y, &mut planes.cb);
     copy_chroma::<CW, CH, PAD>(&reference.cr, x, y, &mut planes.cr);
 }
 
-/// Predicts a rectangle of W columns and H rows of luma, and of CW and CH of each chroma component,
-/// from one picture by one vector, without weights.
+/// Predicts a part of a macroblock without weights.
 #[inline(always)]
 fn set_plain_part<
     const W: usize,
@@ -202,45 +192,35 @@ fn set_plain_part<
     const CW: usize,
     const CH: usize,
     const PAD: usize,
->(
-    picture: &ReferencePicture<'_, PAD>,
-    mv: Mv,
-    place: MbPlace,
-    corner: Corner,
-    planes: &mut Planes<PAD>,
-)
-    requires columns { (1 ≤ CW) × (W ≡ 2 * CW) × (corner.x + W ≤ 16) }
-    requires rows { (1 ≤ CH) × (H ≡ 2 * CH) × (CH % 2 ≡ 0) × (corner.y + H ≤ 16) }
-    requires even { (corner.x % 2 ≡ 0) × (corner.y % 2 ≡ 0) }
-    requires macroblock { CoverMacroblock place.column place.row (planes_of planes.old) }
-    requires usable { IsUsableAt place.column place.row picture.now }
-    requires plain { picture.now.weights ≡ None }
-    ensures { planes_of planes.new ≡ with_part place.column place.row corner.x corner.y W H
-        (λ k x y. predicted_from picture.now mv k (size_of k * place.column + x)
-        (size_of k * place.row + y)) (planes_of planes.old) }
+>(from: &MovedPicture<'_, '_, PAD>, part: Part<W, H, CW, CH>, planes: &mut Planes<PAD>)
+    requires macroblock { CoverPlace from.now.place (planes_of planes.old) }
+    requires plain { from.now.picture.now.weights ≡ None }
+    ensures { planes_of planes.new
+        ≡ with_moved from.now part.entry.x part.entry.y W H (planes_of planes.old) }
 {
-    let reference = picture.planes;
+    let reference = from.picture.planes;
+    let place = from.place;
     let width = reference.luma.width();
     let height = reference.luma.height();
     prove!(16 * place.column + 16 <= width);
     prove!(16 * place.row + 16 <= height);
-    let x = 16 * place.column + corner.x;
-    let y = 16 * place.row + corner.y;
-    predict_luma::<W, H, PAD>(&reference.luma, x, y, mv, &mut planes.luma);
-    let x = 8 * place.column + corner.x / 2;
-    let y = 8 * place.row + corner.y / 2;
+    let x = 16 * place.column + part.x;
+    let y = 16 * place.row + part.y;
+    predict_luma::<W, H, PAD>(&reference.luma, x, y, from.mv, &mut planes.luma);
+    let x = 8 * place.column + part.x / 2;
+    let y = 8 * place.row + part.y / 2;
     predict_both_chroma::<CW, CH, PAD>(
         &reference.cb,
         &reference.cr,
         x,
         y,
-        mv,
+        from.mv,
         &mut planes.cb,
         &mut planes.cr,
     );
 }
 
-/// Predicts a part with weights.
+/// Predicts a part of a macroblock with weights.
 #[inline(never)]
 fn set_weighted_part<
     const W: usize,
@@ -248,100 +228,76 @@ fn set_weighted_part<
     const CW: usize,
     const CH: usize,
     const PAD: usize,
->(
-    picture: &ReferencePicture<'_, PAD>,
-    mv: Mv,
-    place: MbPlace,
-    corner: Corner,
-    planes: &mut Planes<PAD>,
-)
-    requires columns { (1 ≤ CW) × (W ≡ 2 * CW) × (corner.x + W ≤ 16) }
-    requires rows { (1 ≤ CH) × (H ≡ 2 * CH) × (CH % 2 ≡ 0) × (corner.y + H ≤ 16) }
-    requires even { (corner.x % 2 ≡ 0) × (corner.y % 2 ≡ 0) }
-    requires macroblock { CoverMacroblock place.column place.row (planes_of planes.old) }
-    requires usable { IsUsableAt place.column place.row picture.now }
-    ensures { planes_of planes.new ≡ with_part place.column place.row corner.x corner.y W H
-        (λ k x y. predicted_from picture.now mv k (size_of k * place.column + x)
-        (size_of k * place.row + y)) (planes_of planes.old) }
+>(from: &MovedPicture<'_, '_, PAD>, part: Part<W, H, CW, CH>, planes: &mut Planes<PAD>)
+    requires macroblock { CoverPlace from.now.place (planes_of planes.old) }
+    ensures { planes_of planes.new
+        ≡ with_moved from.now part.entry.x part.entry.y W H (planes_of planes.old) }
 {
-    let reference = picture.planes;
+    let picture = from.picture;
+    let corner = Corner {
+        x: part.x,
+        y: part.y,
+    };
     let half = Corner {
-        x: corner.x / 2,
-        y: corner.y / 2,
+        x: part.x / 2,
+        y: part.y / 2,
     };
     set_luma::<W, H, PAD>(
-        &reference.luma,
+        &picture.planes.luma,
         component_weight(picture.weights, 0),
-        mv,
-        place,
+        from.mv,
+        from.place,
         corner,
         &mut planes.luma,
     );
     set_chroma::<CW, CH, PAD>(
-        &reference.cb,
+        &picture.planes.cb,
         component_weight(picture.weights, 1),
-        mv,
-        place,
+        from.mv,
+        from.place,
         half,
         &mut planes.cb,
     );
     set_chroma::<CW, CH, PAD>(
-        &reference.cr,
+        &picture.planes.cr,
         component_weight(picture.weights, 2),
-        mv,
-        place,
+        from.mv,
+        from.place,
         half,
         &mut planes.cr,
     );
 }
 
-/// Predicts a part from one picture, with weights where it has them.
+/// Predicts a part of a macroblock from one picture, with weights where it has them.
 pub(crate) fn set_part<
     const W: usize,
     const H: usize,
     const CW: usize,
     const CH: usize,
     const PAD: usize,
->(
-    picture: &ReferencePicture<'_, PAD>,
-    mv: Mv,
-    place: MbPlace,
-    corner: Corner,
-    planes: &mut Planes<PAD>,
-)
-    requires columns { (1 ≤ CW) × (W ≡ 2 * CW) × (corner.x + W ≤ 16) }
-    requires rows { (1 ≤ CH) × (H ≡ 2 * CH) × (CH % 2 ≡ 0) × (corner.y + H ≤ 16) }
-    requires even { (corner.x % 2 ≡ 0) × (corner.y % 2 ≡ 0) }
-    requires macroblock { CoverMacroblock place.column place.row (planes_of planes.old) }
-    requires usable { IsUsableAt place.column place.row picture.now }
-    ensures { planes_of planes.new ≡ with_part place.column place.row corner.x corner.y W H
-        (λ k x y. predicted_from picture.now mv k (size_of k * place.column + x)
-        (size_of k * place.row + y)) (planes_of planes.old) }
+>(from: &MovedPicture<'_, '_, PAD>, part: Part<W, H, CW, CH>, planes: &mut Planes<PAD>)
+    requires macroblock { CoverPlace from.now.place (planes_of planes.old) }
+    ensures { planes_of planes.new
+        ≡ with_moved from.now part.entry.x part.entry.y W H (planes_of planes.old) }
 {
-    if picture.weights.is_none() {
-        set_plain_part::<W, H, CW, CH, PAD>(picture, mv, place, corner, planes);
+    if from.picture.weights.is_none() {
+        set_plain_part::<W, H, CW, CH, PAD>(from, part, planes);
     } else {
-        set_weighted_part::<W, H, CW, CH, PAD>(picture, mv, place, corner, planes);
+        set_weighted_part::<W, H, CW, CH, PAD>(from, part, planes);
     }
 }
 
 /// Predicts a macroblock from one picture by one vector.
 pub(crate) fn set_macroblock<const PAD: usize>(
-    picture: &ReferencePicture<'_, PAD>,
-    mv: Mv,
-    place: MbPlace,
+    from: &MovedPicture<'_, '_, PAD>,
     planes: &mut Planes<PAD>,
 )
-    requires macroblock { CoverMacroblock place.column place.row (planes_of planes.old) }
-    requires usable { IsUsableAt place.column place.row picture.now }
-    ensures { planes_of planes.new ≡ with_part place.column place.row 0 0 16 16
-        (λ k x y. predicted_from picture.now mv k (size_of k * place.column + x)
-        (size_of k * place.row + y)) (planes_of planes.old) }
+    requires macroblock { CoverPlace from.now.place (planes_of planes.old) }
+    ensures { planes_of planes.new ≡ with_moved from.now 0 0 16 16 (planes_of planes.old) }
 {
-    let corner = Corner { x: 0, y: 0 };
-    if is_copied(picture, mv) {
-        copy_part::<16, 16, 8, 8, PAD>(picture, mv, place, corner, planes);
+    if is_copied(from) {
+        copy_part::<16, 16, 8, 8, PAD>(from, Part { x: 0, y: 0 }, planes);
     } else {
-        set_part::<16, 16, 8, 8, PAD>(picture, mv, place, corner, planes);
+        set_part::<16, 16, 8, 8, PAD>(from, Part { x: 0, y: 0 }, planes);
     }
 }

@@ -5,33 +5,47 @@ ghost use Rattle.avc_types.specs.Arithmetic.{◌>>ℤ◌};
 ghost use Rattle.avc_types.specs.Macroblock.{total_coeff};
 ghost use Rattle.avc_types.specs.MacroblockFields.{residual_of};
 ghost use Rattle.avc_neigh.specs.Blocks.{block_x, block_y};
-ghost use Rattle.avc_mbsyntax.specs.Ranges.{AreSmall, IsResidual};
+ghost use Rattle.avc_mbsyntax.specs.Ranges.{AreSmall};
 ghost use Rattle.avc_transform.specs.Bounds.{IsBelow, AllBelow, matrix};
 ghost use Rattle.avc_transform.specs.Residual.{residual4x4, residual4x4_with_dc};
 ghost use Rattle.avc_transform.specs.MacroblockResidual.{luma_residual, luma_residual_16x16};
 ghost use Rattle.avc_transform.specs.MacroblockResidual.{chroma_residual};
+ghost use Rattle.avc_plane.specs.Plane.{HasRectangle};
+ghost use Rattle.avc_picture_core.specs.Places.{HasMacroblock};
 ghost use Rattle.avc_picture_core.specs.Residuals.{with_residual};
 
 use crate::corner::{first_column, first_row};
+use crate::levels::{ChromaLevels, Levels4x4, Levels16x16};
 use crate::places::MbPlace;
 use avc_plane::Plane;
 use avc_transform::{
     add_clip, add_to_row, add_to_square, chroma_dc, clipped_sum, luma_dc, residual_of_dc,
     residual4x4, residual4x4_with_dc,
 };
-use avc_types::{BlockLevels, Levels};
+use avc_types::Levels;
+
+/// The quantiser of a block: QP_Y, or QP_C, which reaches less far.
+#[derive(Clone, Copy)]
+pub(crate) struct Quantiser {
+    pub value: u8,
+
+    ghost range: { value ≤ 51 },
+}
+
+/// The quantiser of chroma, QP_C (8.5.8).
+#[derive(Clone, Copy)]
+pub(crate) struct ChromaQuantiser {
+    pub value: u8,
+
+    ghost range: { value ≤ 39 },
+}
 
 /// The quantisers of a macroblock.
 #[derive(Clone, Copy)]
 pub(crate) struct Quantisers {
-    /// QP_Y, 0 to 51.
-    pub luma: u8,
+    pub luma: Quantiser,
 
-    /// QP_C, 0 to 39 (8.5.8).
-    pub chroma: u8,
-
-    ghost luma_qp: { luma ≤ 51 },
-    ghost chroma_qp: { chroma ≤ 39 },
+    pub chroma: ChromaQuantiser,
 }
 
 /// Adds a residual to a 4x4 block.
@@ -43,8 +57,7 @@ fn add_residual4x4<const PAD: usize>(
     top: usize,
     values: &[i32; 16],
 )
-    requires columns { left + 4 ≤ plane.old.width }
-    requires rows { top + 4 ≤ plane.old.height }
+    requires block { HasRectangle left top 4 4 plane.old }
     requires small { AllBelow 16 (2 ^ 25) values.now }
     ensures { plane.new ≡ with_residual plane.old left top 4 4 (matrix values.now) }
 {
@@ -56,8 +69,7 @@ fn add_residual4x4<const PAD: usize>(
 /// Adds the same residual to each sample of a 4x4 block.
 #[inline(always)]
 fn add_level4x4<const PAD: usize>(plane: &mut Plane<PAD>, left: usize, top: usize, value: i32)
-    requires columns { left + 4 ≤ plane.old.width }
-    requires rows { top + 4 ≤ plane.old.height }
+    requires block { HasRectangle left top 4 4 plane.old }
     requires small { IsBelow (2 ^ 25) value }
     ensures { plane.new ≡ with_residual plane.old left top 4 4 (λ x y. value) }
 {
@@ -76,8 +88,7 @@ fn add_levels_to_row<const PAD: usize>(
     top: usize,
     values: [i32; 4],
 )
-    requires columns { left + 16 ≤ plane.old.width }
-    requires rows { top + 4 ≤ plane.old.height }
+    requires row { HasRectangle left top 16 4 plane.old }
     requires small { AllBelow 4 (2 ^ 25) values }
     ensures { plane.new
         ≡ with_residual plane.old left top 16 4 (λ x y. slice_index_or values (x / 4) (pos 0)) }
@@ -94,8 +105,7 @@ fn add_levels_to_square<const PAD: usize>(
     top: usize,
     values: [i32; 4],
 )
-    requires columns { left + 8 ≤ plane.old.width }
-    requires rows { top + 8 ≤ plane.old.height }
+    requires square { HasRectangle left top 8 8 plane.old }
     requires small { AllBelow 4 (2 ^ 25) values }
     ensures { plane.new
         ≡ with_residual plane.old left top 8 8
@@ -131,15 +141,13 @@ fn add_coded_block4x4<const PAD: usize>(
     left: usize,
     top: usize,
     levels: &Levels<16>,
-    qp: u8,
+    qp: Quantiser,
 )
-    requires columns { left + 4 ≤ plane.old.width }
-    requires rows { top + 4 ≤ plane.old.height }
-    requires quantiser { qp ≤ 51 }
+    requires block { HasRectangle left top 4 4 plane.old }
     requires levels { AreSmall levels.now }
-    ensures { plane.new ≡ with_residual plane.old left top 4 4 (residual4x4 qp levels.now) }
+    ensures { plane.new ≡ with_residual plane.old left top 4 4 (residual4x4 qp.value levels.now) }
 {
-    let values = residual4x4(levels.as_array(), qp);
+    let values = residual4x4(levels.as_array(), qp.value);
     add_residual4x4(plane, left, top, &values);
 }
 
@@ -151,13 +159,11 @@ pub(crate) fn add_block4x4<const PAD: usize>(
     left: usize,
     top: usize,
     levels: &Levels<16>,
-    qp: u8,
+    qp: Quantiser,
 )
-    requires columns { left + 4 ≤ plane.old.width }
-    requires rows { top + 4 ≤ plane.old.height }
-    requires quantiser { qp ≤ 51 }
+    requires block { HasRectangle left top 4 4 plane.old }
     requires levels { AreSmall levels.now }
-    ensures { plane.new ≡ with_residual plane.old left top 4 4 (residual4x4 qp levels.now) }
+    ensures { plane.new ≡ with_residual plane.old left top 4 4 (residual4x4 qp.value levels.now) }
 {
     if levels.total_coeff() == 0 {
         plane.holds_bytes();
@@ -174,18 +180,16 @@ fn add_block4x4_with_dc<const PAD: usize>(
     top: usize,
     dc: i32,
     levels: &Levels<15>,
-    qp: u8,
+    qp: Quantiser,
 )
-    requires columns { left + 4 ≤ plane.old.width }
-    requires rows { top + 4 ≤ plane.old.height }
-    requires quantiser { qp ≤ 51 }
+    requires block { HasRectangle left top 4 4 plane.old }
     requires dc { IsBelow (2 ^ 27) dc }
     requires levels { AreSmall levels.now }
     ensures { plane.new
-        ≡ with_residual plane.old left top 4 4 (residual4x4_with_dc qp dc levels.now) }
+        ≡ with_residual plane.old left top 4 4 (residual4x4_with_dc qp.value dc levels.now) }
 {
     if levels.total_coeff() != 0 {
-        let values = residual4x4_with_dc(dc, levels.as_array(), qp);
+        let values = residual4x4_with_dc(dc, levels.as_array(), qp.value);
         add_residual4x4(plane, left, top, &values);
     } else if dc != 0 {
         add_level4x4(plane, left, top, residual_of_dc(dc));
@@ -201,18 +205,16 @@ fn add_numbered<const PAD: usize>(
     plane: &mut Plane<PAD>,
     place: MbPlace,
     levels: &[Levels<16>; 16],
-    qp: u8,
+    qp: Quantiser,
     k: usize,
 )
-    requires columns { 16 * place.column + 16 ≤ plane.old.width }
-    requires rows { 16 * place.row + 16 ≤ plane.old.height }
+    requires macroblock { HasMacroblock 16 place.column place.row plane.old }
     requires number { k < 16 }
-    requires quantiser { qp ≤ 51 }
     requires levels { All AreSmall levels.now }
     ensures size { (plane.new.width ≡ plane.old.width) × (plane.new.height ≡ plane.old.height) }
     ensures block { plane.new
         ≡ with_residual plane.old (16 * place.column + block_x k) (16 * place.row + block_y k) 4 4
-        (residual4x4 qp (slice_index_or levels.now k [])) }
+        (residual4x4 qp.value (slice_index_or levels.now k [])) }
 {
     let left = first_column(plane, 16, place.column) + left_of_block(k);
     let top = first_row(plane, 16, place.row) + top_of_block(k);
@@ -223,23 +225,20 @@ fn add_numbered<const PAD: usize>(
 pub(crate) fn add_luma_residual<const PAD: usize>(
     plane: &mut Plane<PAD>,
     place: MbPlace,
-    levels: &BlockLevels<16>,
-    qp: u8,
+    levels: Levels4x4<'_>,
+    qp: Quantiser,
 )
-    requires columns { 16 * place.column + 16 ≤ plane.old.width }
-    requires rows { 16 * place.row + 16 ≤ plane.old.height }
-    requires quantiser { qp ≤ 51 }
-    requires levels { IsResidual (residual_of [] levels.now) }
+    requires macroblock { HasMacroblock 16 place.column place.row plane.old }
     ensures { plane.new ≡ with_residual plane.old (16 * place.column) (16 * place.row) 16 16
-        (luma_residual qp (residual_of [] levels.now)) }
+        (luma_residual qp.value (residual_of [] levels.entry.blocks.now)) }
 {
     plane.holds_bytes();
     for quarter in 0..4 {
         let first = 4 * quarter;
-        add_numbered(plane, place, &levels.luma, qp, first);
-        add_numbered(plane, place, &levels.luma, qp, first + 1);
-        add_numbered(plane, place, &levels.luma, qp, first + 2);
-        add_numbered(plane, place, &levels.luma, qp, first + 3);
+        add_numbered(plane, place, &levels.blocks.luma, qp, first);
+        add_numbered(plane, place, &levels.blocks.luma, qp, first + 1);
+        add_numbered(plane, place, &levels.blocks.luma, qp, first + 2);
+        add_numbered(plane, place, &levels.blocks.luma, qp, first + 3);
     }
 }
 
@@ -258,8 +257,7 @@ fn has_luma_levels(levels: &[Levels<15>; 16]) -> bool
 /// Adds the luma residual to an Intra 16x16 macroblock that has DC values alone, four blocks beside
 /// one another at once.
 fn add_luma_levels<const PAD: usize>(plane: &mut Plane<PAD>, place: MbPlace, values: &[i32; 16])
-    requires columns { 16 * place.column + 16 ≤ plane.old.width }
-    requires rows { 16 * place.row + 16 ≤ plane.old.height }
+    requires macroblock { HasMacroblock 16 place.column place.row plane.old }
     requires small { AllBelow 16 (2 ^ 27) values.now }
     ensures { plane.new ≡ with_residual plane.old (16 * place.column) (16 * place.row) 16 16
         (λ x y. slice_index_or values.now (4 * (y / 4) + x / 4) (pos 0) +ℤ pos 32 >>ℤ 6) }
@@ -276,20 +274,18 @@ fn add_luma_levels<const PAD: usize>(plane: &mut Plane<PAD>, place: MbPlace, val
 pub(crate) fn add_luma_residual_16x16<const PAD: usize>(
     plane: &mut Plane<PAD>,
     place: MbPlace,
-    dc: &Levels<16>,
-    levels: &BlockLevels<15>,
-    qp: u8,
+    levels: Levels16x16<'_>,
+    qp: Quantiser,
 )
-    requires columns { 16 * place.column + 16 ≤ plane.old.width }
-    requires rows { 16 * place.row + 16 ≤ plane.old.height }
-    requires quantiser { qp ≤ 51 }
-    requires levels { IsResidual (residual_of dc.now levels.now) }
+    requires macroblock { HasMacroblock 16 place.column place.row plane.old }
     ensures { plane.new ≡ with_residual plane.old (16 * place.column) (16 * place.row) 16 16
-        (luma_residual_16x16 qp (residual_of dc.now levels.now)) }
+        (luma_residual_16x16 qp.value
+        (residual_of levels.entry.dc.now levels.entry.blocks.now)) }
 {
     plane.holds_bytes();
-    let values = luma_dc(dc.as_array(), qp);
-    if !has_luma_levels(&levels.luma) {
+    let values = luma_dc(levels.dc.as_array(), qp.value);
+    let blocks = levels.blocks;
+    if !has_luma_levels(&blocks.luma) {
         add_luma_levels(plane, place, &values);
         return;
     }
@@ -299,7 +295,7 @@ pub(crate) fn add_luma_residual_16x16<const PAD: usize>(
         let left = left_of_block(k);
         let top = top_of_block(k);
         let dc = values[top + left / 4];
-        add_block4x4_with_dc(plane, column + left, row + top, dc, &levels.luma[k], qp);
+        add_block4x4_with_dc(plane, column + left, row + top, dc, &blocks.luma[k], qp);
     }
 }
 
@@ -310,18 +306,16 @@ fn add_chroma_blocks4x4<const PAD: usize>(
     place: MbPlace,
     dc: &Levels<4>,
     ac: &[Levels<15>; 4],
-    qp: u8,
+    qp: ChromaQuantiser,
 )
-    requires columns { 8 * place.column + 8 ≤ plane.old.width }
-    requires rows { 8 * place.row + 8 ≤ plane.old.height }
-    requires quantiser { qp ≤ 39 }
+    requires macroblock { HasMacroblock 8 place.column place.row plane.old }
     requires dc { AreSmall dc.now }
     requires ac { All AreSmall ac.now }
     ensures { plane.new ≡ with_residual plane.old (8 * place.column) (8 * place.row) 8 8
-        (chroma_residual qp dc.now ac.now) }
+        (chroma_residual qp.value dc.now ac.now) }
 {
     plane.holds_bytes();
-    let values = chroma_dc(dc.as_array(), qp);
+    let values = chroma_dc(dc.as_array(), qp.value);
     let column = first_column(plane, 8, place.column);
     let row = first_row(plane, 8, place.row);
     if !has_ac_levels(ac) {
@@ -331,7 +325,8 @@ fn add_chroma_blocks4x4<const PAD: usize>(
     for k in 0..4 {
         let left = column + 4 * (k % 2);
         let top = row + 4 * (k / 2);
-        add_block4x4_with_dc(plane, left, top, values[k], &ac[k], qp);
+        let block_qp = Quantiser { value: qp.value };
+        add_block4x4_with_dc(plane, left, top, values[k], &ac[k], block_qp);
     }
 }
 
@@ -341,20 +336,15 @@ fn add_chroma_blocks4x4<const PAD: usize>(
 pub(crate) fn add_chroma_residual<const PAD: usize>(
     plane: &mut Plane<PAD>,
     place: MbPlace,
-    dc: &Levels<4>,
-    ac: &[Levels<15>; 4],
-    qp: u8,
+    levels: ChromaLevels<'_>,
+    qp: ChromaQuantiser,
 )
-    requires columns { 8 * place.column + 8 ≤ plane.old.width }
-    requires rows { 8 * place.row + 8 ≤ plane.old.height }
-    requires quantiser { qp ≤ 39 }
-    requires dc { AreSmall dc.now }
-    requires ac { All AreSmall ac.now }
+    requires macroblock { HasMacroblock 8 place.column place.row plane.old }
     ensures { plane.new ≡ with_residual plane.old (8 * place.column) (8 * place.row) 8 8
-        (chroma_residual qp dc.now ac.now) }
+        (chroma_residual qp.value levels.entry.dc.now levels.entry.ac.now) }
 {
-    if has_chroma_levels(dc, ac) {
-        add_chroma_blocks4x4(plane, place, dc, ac, qp);
+    if has_chroma_levels(levels.dc, levels.ac) {
+        add_chroma_blocks4x4(plane, place, levels.dc, levels.ac, qp);
     } else {
         plane.holds_bytes();
     }

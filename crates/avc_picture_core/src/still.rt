@@ -5,7 +5,7 @@ ghost use Rattle.avc_types.specs.Macroblock.{p_skip};
 ghost use Rattle.avc_neigh.specs.Around.{info_of};
 ghost use Rattle.avc_motion.specs.Motion.{still_blocks};
 ghost use Rattle.avc_plane.specs.Frames.{padded_planes_of, planes_of, AreSized};
-ghost use Rattle.avc_plane.specs.Plane.{sample};
+ghost use Rattle.avc_plane.specs.Plane.{HasRectangle, sample};
 ghost use Rattle.avc_picture_core.specs.Built.{Place};
 ghost use Rattle.avc_picture_core.specs.Canvas.{address_of, IsBuilt, IsPlaceOn};
 ghost use Rattle.avc_picture_core.specs.CanvasFields.{with_planes};
@@ -22,8 +22,7 @@ use avc_types::Mb;
 /// So many samples of row `y` of a plane, from column `left` on.
 #[inline(always)]
 fn line_of<const PAD: usize>(from: &PaddedPlane<PAD>, left: usize, y: usize, width: usize) -> &[u8]
-    requires columns { left + width ≤ from.now.width }
-    requires row { y < from.now.height }
+    requires line { HasRectangle left y width 1 from.now }
     ensures long { length result.now ≡ width }
     ensures samples { (x : ℕ) → x < width → slice_index result.now x
         ≡ sample from.now (left + x) y }
@@ -90,10 +89,8 @@ fn copy_rectangle<const PAD: usize>(
     height: usize,
     plane: &mut Plane<PAD>,
 )
-    requires from_columns { left + width ≤ from.now.width }
-    requires from_rows { top + height ≤ from.now.height }
-    requires columns { left + width ≤ plane.old.width }
-    requires rows { top + height ≤ plane.old.height }
+    requires source { HasRectangle left top width height from.now }
+    requires target { HasRectangle left top width height plane.old }
     ensures { plane.new ≡ with_rectangle_of from.now left top width height plane.old }
 {
     let _columns = from.width();

@@ -588,6 +588,14 @@ still_first f four v = still_beside f four v 1 (omega arith) (quarter_first v)
 pub still_last : (f : MbInfo) → IsOfFourVectors f → (v : Bool) → IsStillAt f v 3
 still_last f four v = still_beside f four v 3 (omega arith) (quarter_last v)
 
+-- what is told of the motion inside, at each edge
+pub told_at : (f : MbInfo) (m : InnerMotion) (v : Bool) (n : ℕ) → IsToldOf f m → 1 ≤ n → n < 4 → (if n == 2 then m.is_still_in_middle else m.is_still_beside) ≡ true → IsStillAt f v n
+told_at f m v zero told some low still = absurd (omega arith)
+told_at f m v (suc zero) told some low still = told.first still v
+told_at f m v (suc (suc zero)) told some low still = told.middle still v
+told_at f m v (suc (suc (suc zero))) told some low still = told.last still v
+told_at f m v (suc (suc (suc (suc n)))) told some low still = absurd (omega arith)
+
 pub without_levels : (p q : MbInfo) (j k : ℕ) → has_bit p.coefficients j ≡ false → has_bit q.coefficients k ≡ false → inter_strength p j q k ≡ motion_strength p j q k
 without_levels p q j k e f = rw (e, f) refl
 

@@ -100,12 +100,12 @@ filtered_off s l off = grind (arith, nat_tests)
 -- ---- the lines of a block of eight rows of sixteen samples, from the rows that are put into it
 
 -- a transposed block has the same lines
-pub across : (t u : List ℕ) (i : ℕ) → IsTransposed t u → i < 16 → line_across t i ≡ line_down u i
+pub across : (t u : List ℕ) (i : ℕ) → IsTransposed 8 t u → i < 16 → line_across t i ≡ line_down (slice_index u) i
 across t u i h low = same_samples (λ k. slice_index t (8 * i + k)) (λ k. slice_index u (16 * k + i)) (λ k less. sym (h i k low less))
 
 -- a line that is filtered in the transposed block
-pub filtered_across : (s : Setting) (i : ℕ) (old t u new : List ℕ) → i < 16 → IsTransposed old t → IsTransposed new u →
-    filtered s (line_down t i) ≡ line_down u i → filtered s (line_across old i) ≡ line_across new i
+pub filtered_across : (s : Setting) (i : ℕ) (old t u new : List ℕ) → i < 16 → IsTransposed 8 old t → IsTransposed 8 new u →
+    filtered s (line_down (slice_index t) i) ≡ line_down (slice_index u) i → filtered s (line_across old i) ≡ line_across new i
 filtered_across s i old t u new low from to is = ap (filtered s) (across old t i from low) ∙ is ∙ sym (across new u i to low)
 
 -- the sample of column i in row c
@@ -117,45 +117,45 @@ abbrev IsColumn : (c : ℕ) → (u r : List ℕ) → Type 0
 IsColumn c u r = (k : ℕ) → k < 16 → slice_index r k ≡ slice_index u (16 * c + k)
 
 -- a sample after a row was put into the block
-put : (row c i : ℕ) {r t u : List ℕ} {v : ℕ} → i < 16 → IsRowSet (16 * row) r t u → at_column t c i ≡ v →
+put : (row c i : ℕ) {r t u : List ℕ} {v : ℕ} → i < 16 → AreSet 16 (16 * row) r t u → at_column t c i ≡ v →
     at_column u c i ≡ (if c == row then slice_index r i else v)
 put row c i {r} {t} {u} {v} low h old = grind (arith, nat_tests, cases_lt, cases_eq)
 
 -- four rows anew between others that stay
 pub weak_down : (s : Setting) (i : ℕ) (t p2 p1 p0 q0 q1 q2 n1 n0 m0 m1 a b c u : List ℕ) → i < 16 →
     IsColumn 1 t p2 → IsColumn 2 t p1 → IsColumn 3 t p0 → IsColumn 4 t q0 → IsColumn 5 t q1 → IsColumn 6 t q2 →
-    IsRowSet 32 n1 t a → IsRowSet 48 n0 a b → IsRowSet 64 m0 b c → IsRowSet 80 m1 c u →
+    AreSet 16 32 n1 t a → AreSet 16 48 n0 a b → AreSet 16 64 m0 b c → AreSet 16 80 m1 c u →
     ((p3 q3 : ℕ) → filtered s (line_within p3 q3 p2 p1 p0 q0 q1 q2 i) ≡ line_within p3 q3 p2 n1 n0 m0 m1 q2 i) →
-    filtered s (line_down t i) ≡ line_down u i
+    filtered s (line_down (slice_index t) i) ≡ line_down (slice_index u) i
 weak_down s i t p2 p1 p0 q0 q1 q2 n1 n0 m0 m1 a b c u low k1 k2 k3 k4 k5 k6 h1 h2 h3 h4 is = grind (arith, nat_tests, put, same_line)
 
 -- six rows anew between the two that stand furthest off
 pub strong_down : (s : Setting) (i : ℕ) (t p3 p2 p1 p0 q0 q1 q2 q3 n2 n1 n0 m0 m1 m2 a b c d e u : List ℕ) → i < 16 →
     IsColumn 0 t p3 → IsColumn 1 t p2 → IsColumn 2 t p1 → IsColumn 3 t p0 → IsColumn 4 t q0 → IsColumn 5 t q1 → IsColumn 6 t q2 → IsColumn 7 t q3 →
-    IsRowSet 16 n2 t a → IsRowSet 32 n1 a b → IsRowSet 48 n0 b c → IsRowSet 64 m0 c d → IsRowSet 80 m1 d e → IsRowSet 96 m2 e u →
+    AreSet 16 16 n2 t a → AreSet 16 32 n1 a b → AreSet 16 48 n0 b c → AreSet 16 64 m0 c d → AreSet 16 80 m1 d e → AreSet 16 96 m2 e u →
     filtered s (line_of_rows p3 p2 p1 p0 q0 q1 q2 q3 i) ≡ line_of_rows p3 n2 n1 n0 m0 m1 m2 q3 i →
-    filtered s (line_down t i) ≡ line_down u i
+    filtered s (line_down (slice_index t) i) ≡ line_down (slice_index u) i
 strong_down s i t p3 p2 p1 p0 q0 q1 q2 q3 n2 n1 n0 m0 m1 m2 a b c d e u low k0 k1 k2 k3 k4 k5 k6 k7 h1 h2 h3 h4 h5 h6 is =
     grind (arith, nat_tests, put, same_line)
 
 -- two rows anew between two that stay
-pub near_set : (from : ℕ) (n0 m0 t a u : List ℕ) → IsRowSet (from + 16) n0 t a → IsRowSet (from + 32) m0 a u → IsNearSet from t u
+pub near_set : (from : ℕ) (n0 m0 t a u : List ℕ) → AreSet 16 (from + 16) n0 t a → AreSet 16 (from + 32) m0 a u → IsNearSet from t u
 near_set from n0 m0 t a u h1 h2 = record {
-  before = λ k low. h2.before k (omega arith) ∙ h1.before k (omega arith);
-  behind = λ k low. h2.behind k (omega arith) ∙ h1.behind k (omega arith);
+  before = λ k low. h2.others.before k (omega arith) ∙ h1.others.before k (omega arith);
+  behind = λ k low. h2.others.behind k (omega arith) ∙ h1.others.behind k (omega arith);
 }
 
 pub near_lines : (s : Setting) (from i : ℕ) (t p1 p0 q0 q1 n0 m0 a u : List ℕ) → i < 16 →
     ((k : ℕ) → k < 16 → slice_index p1 k ≡ slice_index t (from + k)) → ((k : ℕ) → k < 16 → slice_index p0 k ≡ slice_index t (from + 16 + k)) →
     ((k : ℕ) → k < 16 → slice_index q0 k ≡ slice_index t (from + 32 + k)) → ((k : ℕ) → k < 16 → slice_index q1 k ≡ slice_index t (from + 48 + k)) →
-    IsRowSet (from + 16) n0 t a → IsRowSet (from + 32) m0 a u →
+    AreSet 16 (from + 16) n0 t a → AreSet 16 (from + 32) m0 a u →
     (p3 p2 q2 q3 : ℕ) → filtered s (line_inside p3 p2 q2 q3 p1 p0 q0 q1 i) ≡ line_inside p3 p2 q2 q3 p1 n0 m0 q1 i →
     filtered s (line_near p3 p2 q2 q3 t from i) ≡ line_near p3 p2 q2 q3 u from i
 near_lines s from i t p1 p0 q0 q1 n0 m0 a u low k1 k2 k3 k4 h1 h2 p3 p2 q2 q3 is = grind (arith, nat_tests, same_line)
 
 -- the four in the middle of eight rows
 pub down_near : (s : Setting) (i : ℕ) (t u : List ℕ) → i < 16 → IsNearSet 32 t u →
-    ((p3 p2 q2 q3 : ℕ) → filtered s (line_near p3 p2 q2 q3 t 32 i) ≡ line_near p3 p2 q2 q3 u 32 i) → filtered s (line_down t i) ≡ line_down u i
+    ((p3 p2 q2 q3 : ℕ) → filtered s (line_near p3 p2 q2 q3 t 32 i) ≡ line_near p3 p2 q2 q3 u 32 i) → filtered s (line_down (slice_index t) i) ≡ line_down (slice_index u) i
 down_near s i t u low h is = grind (arith, nat_tests, same_line)
 
 -- ---- a line at a strength below 4 from its four new samples
@@ -396,7 +396,19 @@ by_fours f g n first second third fourth k low =
     λ r e. each_of_four (λ r. f (4 * q + r) ≡ g (4 * q + r)) (rw add-zero (first q (omega arith))) (second q (omega arith)) (third q (omega arith)) (fourth q (omega arith)) r in
     ap f (let e : k ≡ 4 * q + k % 4 = omega arith in e) ∙ at (k % 4) refl (omega arith) ∙ ap g (let e : 4 * q + k % 4 ≡ k = omega arith in e)
 
--- ---- four riffles of sixteen rows of eight samples make eight rows of sixteen, and three more make them sixteen rows of eight again
+-- ---- four riffles of sixteen rows make the columns rows, and of rows of eight samples three more make them sixteen rows again
+
+-- a bit times half the samples of sixteen rows
+times_eight : (b w half : ℕ) → b < 2 → half ≡ 8 * w → (b * half ≡ 8 * (b * w)) × (b * w ≤ w)
+times_eight zero w half low is = (omega arith, omega arith)
+times_eight (suc zero) w half low is = (omega (arith, is), omega arith)
+times_eight (suc (suc b)) w half low is = absurd (omega arith)
+
+-- a row's place by the bits of its number
+bits_times : (w row : ℕ) → w * row ≡ 8 * (row / 8 * w) + 4 * (row / 4 % 2 * w) + 2 * (row / 2 % 2 * w) + row % 2 * w
+bits_times w row =
+    let e : row ≡ 8 * (row / 8) + 4 * (row / 4 % 2) + 2 * (row / 2 % 2) + row % 2 = omega arith in
+    ap (λ r. w * r) e ∙ omega arith
 
 module _ {half : ℕ} (t u : List ℕ) where
   riffle_bit : (k b : ℕ) → IsRiffled half t u → k < half → b < 2 → slice_index u (2 * k + b) ≡ slice_index t (b * half + k)
@@ -408,14 +420,27 @@ module _ {half : ℕ} (t u : List ℕ) where
   back : (j k b m : ℕ) → IsRiffled half t u → k < half → b < 2 → j ≡ 2 * k + b → m ≡ b * half + k → slice_index u j ≡ slice_index t m
   back j k b m h low bit e f = ap (slice_index u) e ∙ riffle_bit k b h low bit ∙ ap (slice_index t) (sym f)
 
-pub four_riffles : (t a b c u : List ℕ) → IsRiffled 64 t a → IsRiffled 64 a b → IsRiffled 64 b c → IsRiffled 64 c u → IsTransposed t u
-four_riffles t a b c u h1 h2 h3 h4 row column r_low c_low =
-    back c u (16 * column + row) (8 * column + row / 2) (row % 2) (64 * (row % 2) + (8 * column + row / 2)) h4 (omega arith) (omega arith) (omega arith) (omega arith)
-    ∙ back b c (64 * (row % 2) + (8 * column + row / 2)) (32 * (row % 2) + 4 * column + row / 4) (row / 2 % 2) (64 * (row / 2 % 2) + (32 * (row % 2) + 4 * column + row / 4)) h3 (omega arith) (omega arith) (omega arith) (omega arith)
-    ∙ back a b (64 * (row / 2 % 2) + (32 * (row % 2) + 4 * column + row / 4)) (32 * (row / 2 % 2) + 16 * (row % 2) + 2 * column + row / 8) (row / 4 % 2) (64 * (row / 4 % 2) + (32 * (row / 2 % 2) + 16 * (row % 2) + 2 * column + row / 8)) h2 (omega arith) (omega arith) (omega arith) (omega arith)
-    ∙ back t a (64 * (row / 4 % 2) + (32 * (row / 2 % 2) + 16 * (row % 2) + 2 * column + row / 8)) (32 * (row / 4 % 2) + 16 * (row / 2 % 2) + 8 * (row % 2) + column) (row / 8) (8 * row + column) h1 (omega arith) (omega arith) (omega arith) (omega arith)
+pub four_riffles : (w half : ℕ) (t a b c u : List ℕ) → half ≡ 8 * w → IsRiffled half t a → IsRiffled half a b → IsRiffled half b c → IsRiffled half c u → IsTransposed w t u
+four_riffles w half t a b c u is h1 h2 h3 h4 row column r_low c_low =
+    let b0 = row % 2 in
+    let b1 = row / 2 % 2 in
+    let b2 = row / 4 % 2 in
+    let b3 = row / 8 in
+    let all : w * row ≡ 8 * (b3 * w) + 4 * (b2 * w) + 2 * (b1 * w) + b0 * w = bits_times w row in
+    let n0 = times_eight b0 w half (omega arith) is in
+    let n1 = times_eight b1 w half (omega arith) is in
+    let n2 = times_eight b2 w half (omega arith) is in
+    let n3 = times_eight b3 w half (omega arith) is in
+    let k3 : ℕ = 8 * column + row / 2 in
+    let k2 : ℕ = 4 * (b0 * w) + 4 * column + row / 4 in
+    let k1 : ℕ = 4 * (b1 * w) + 2 * (b0 * w) + 2 * column + row / 8 in
+    let k0 : ℕ = 4 * (b2 * w) + 2 * (b1 * w) + b0 * w + column in
+    back c u (16 * column + row) k3 b0 (b0 * half + k3) h4 (omega (arith, is)) (omega arith) (omega arith) refl
+    ∙ back b c (b0 * half + k3) k2 b1 (b1 * half + k2) h3 (omega (arith, is, n0.1)) (omega arith) (omega (arith, n0.0)) refl
+    ∙ back a b (b1 * half + k2) k1 b2 (b2 * half + k1) h2 (omega (arith, is, n0.1, n1.1)) (omega arith) (omega (arith, n1.0)) refl
+    ∙ back t a (b2 * half + k1) k0 b3 (w * row + column) h1 (omega (arith, is, n0.1, n1.1, n2.1)) (omega arith) (omega (arith, n2.0)) (omega (arith, all, n3.0))
 
-pub three_riffles : (t a b u : List ℕ) → IsRiffled 64 t a → IsRiffled 64 a b → IsRiffled 64 b u → IsTransposed u t
+pub three_riffles : (t a b u : List ℕ) → IsRiffled 64 t a → IsRiffled 64 a b → IsRiffled 64 b u → IsTransposed 8 u t
 three_riffles t a b u h1 h2 h3 row column r_low c_low = sym
     (back b u (8 * row + column) (4 * row + column / 2) (column % 2) (64 * (column % 2) + (4 * row + column / 2)) h3 (omega arith) (omega arith) (omega arith) (omega arith)
     ∙ back a b (64 * (column % 2) + (4 * row + column / 2)) (32 * (column % 2) + 2 * row + column / 4) (column / 2 % 2) (64 * (column / 2 % 2) + (32 * (column % 2) + 2 * row + column / 4)) h2 (omega arith) (omega arith) (omega arith) (omega arith)
@@ -434,29 +459,14 @@ pub middle_row : (t a : List ℕ) (k column : ℕ) → k < 16 → column < 4 →
 middle_row t a k column low less first second third fourth =
     each_of_four (λ c. slice_index a (32 * c + k) ≡ slice_index t (32 + 16 * c + k)) (ap (slice_index a) (omega arith) ∙ first k low) (second k low) (third k low) (fourth k low) column less
 
--- ---- four riffles of sixteen rows of sixteen samples turn them
-
-pub square_riffles : (t a b c u : List ℕ) → IsRiffled 128 t a → IsRiffled 128 a b → IsRiffled 128 b c → IsRiffled 128 c u → IsTurned t u
-square_riffles t a b c u h1 h2 h3 h4 row column r_low c_low =
-    back c u (16 * column + row) (8 * column + row / 2) (row % 2) (128 * (row % 2) + (8 * column + row / 2)) h4 (omega arith) (omega arith) (omega arith) (omega arith)
-    ∙ back b c (128 * (row % 2) + (8 * column + row / 2)) (64 * (row % 2) + 4 * column + row / 4) (row / 2 % 2) (128 * (row / 2 % 2) + (64 * (row % 2) + 4 * column + row / 4)) h3 (omega arith) (omega arith) (omega arith) (omega arith)
-    ∙ back a b (128 * (row / 2 % 2) + (64 * (row % 2) + 4 * column + row / 4)) (64 * (row / 2 % 2) + 32 * (row % 2) + 2 * column + row / 8) (row / 4 % 2) (128 * (row / 4 % 2) + (64 * (row / 2 % 2) + 32 * (row % 2) + 2 * column + row / 8)) h2 (omega arith) (omega arith) (omega arith) (omega arith)
-    ∙ back t a (128 * (row / 4 % 2) + (64 * (row / 2 % 2) + 32 * (row % 2) + 2 * column + row / 8)) (64 * (row / 4 % 2) + 32 * (row / 2 % 2) + 16 * (row % 2) + column) (row / 8) (16 * row + column) h1 (omega arith) (omega arith) (omega arith) (omega arith)
-
 -- ---- the lines down eight rows of a table, of which the four in the middle are put back
-
-pub inner_set : (from : ℕ) (t u : List ℕ) → ((k : ℕ) → k < from + 32 → slice_index u k ≡ slice_index t k)
-    → ((k : ℕ) → from + 32 + 64 ≤ k → slice_index u k ≡ slice_index t k) → IsInnerSet from t u
-inner_set from t u before behind = record { before = before; behind = λ k far. behind k (omega arith) }
 
 pub inner_lines : (s : Setting) (from i : ℕ) (t a b inner u : List ℕ) → i < 16 → s.strength < 4
     → ((k : ℕ) → k < 128 → slice_index a k ≡ slice_index t (from + k))
     → ((k : ℕ) → k < 64 → slice_index inner k ≡ slice_index b (32 + k))
-    → ((k : ℕ) → k < 64 → slice_index u (from + 32 + k) ≡ slice_index inner k)
-    → ((k : ℕ) → k < from + 32 → slice_index u k ≡ slice_index t k)
-    → ((k : ℕ) → from + 32 + 64 ≤ k → slice_index u k ≡ slice_index t k)
-    → filtered s (line_down a i) ≡ line_down b i → filtered s (line_down_from from t i) ≡ line_down_from from u i
-inner_lines s from i t a b inner u low weak loaded inner_is inside before behind is =
+    → AreSet 64 (from + 32) inner t u
+    → filtered s (line_down (slice_index a) i) ≡ line_down (slice_index b) i → filtered s (line_down (samples_at from t) i) ≡ line_down (samples_at from u) i
+inner_lines s from i t a b inner u low weak loaded inner_is set is =
     ap (filtered s) (same_samples (λ k. slice_index t (from + (16 * k + i))) (λ k. slice_index a (16 * k + i)) (λ k less. sym (loaded (16 * k + i) (omega arith))))
     ∙ is
     ∙ same_samples (λ k. slice_index b (16 * k + i)) (λ k. slice_index u (from + (16 * k + i))) each
@@ -467,14 +477,14 @@ inner_lines s from i t a b inner u low weak loaded inner_is inside before behind
     middle : (k : ℕ) → 2 ≤ k → k < 6 → slice_index b (16 * k + i) ≡ slice_index u (from + (16 * k + i))
     middle k some last =
         let m : ℕ = 16 * (k - 2) + i in
-        ap (slice_index b) (let e : 16 * k + i ≡ 32 + m = omega arith in e) ∙ sym (inner_is m (omega arith)) ∙ sym (inside m (omega arith))
+        ap (slice_index b) (let e : 16 * k + i ≡ 32 + m = omega arith in e) ∙ sym (inner_is m (omega arith)) ∙ sym (set.inside m (omega arith))
         ∙ ap (slice_index u) (let e : from + 32 + m ≡ from + (16 * k + i) = omega arith in e)
 
     each : (k : ℕ) → k < 8 → slice_index b (16 * k + i) ≡ slice_index u (from + (16 * k + i))
     each k less = elim (cases_lt k 2) [
-      | inl first ↦ kept k less (λ p q. omega arith) ∙ sym (before (from + (16 * k + i)) (omega arith))
+      | inl first ↦ kept k less (λ p q. omega arith) ∙ sym (set.others.before (from + (16 * k + i)) (omega arith))
       | inr rest ↦ elim (cases_lt k 6) [
         | inl last ↦ middle k rest last
-        | inr far ↦ kept k less (λ p q. omega arith) ∙ sym (behind (from + (16 * k + i)) (omega arith))
+        | inr far ↦ kept k less (λ p q. omega arith) ∙ sym (set.others.behind (from + (16 * k + i)) (omega arith))
       ]
     ]

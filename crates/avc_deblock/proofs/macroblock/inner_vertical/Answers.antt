@@ -1,19 +1,12 @@
-use Rattle.avc_deblock.proofs.FilteredPictures.{true, arith, planes_of}
+use Rattle.avc_deblock.proofs.FilteredPictures.{arith, planes_of}
 use Rattle.avc_deblock.proofs.macroblock.inner_vertical.Goals as goal
 
-pub inner_edge-requires : goal.inner_edge-requires
-inner_edge-requires g c =
-    (omega arith, (omega arith, (omega arith, (c.requires.room, (c.requires.limits, λ t. c.requires.motion.first t true)))))
-
 pub inner_edge-requires-then-inner : goal.inner_edge-requires-then-inner
-inner_edge-requires-then-inner g c =
-    let room = c.inner_edge.ensures.room c.args.place.column c.args.place.row c.requires.room in
-    (omega arith, (omega arith, (omega arith, (room, (c.requires.limits, λ t. c.requires.motion.middle t true)))))
+inner_edge-requires-then-inner g c = (omega arith, (omega arith, (omega arith, c.inner_edge.ensures.room c.args.inner.place.column c.args.inner.place.row c.requires)))
 
 pub inner_edge-requires-then-inner-2 : goal.inner_edge-requires-then-inner-2
 inner_edge-requires-then-inner-2 g c =
-    let room = c.inner_edge-then-inner.ensures.room c.args.place.column c.args.place.row (c.inner_edge.ensures.room c.args.place.column c.args.place.row c.requires.room) in
-    (omega arith, (omega arith, (omega arith, (room, (c.requires.limits, λ t. c.requires.motion.last t true)))))
+    (omega arith, (omega arith, (omega arith, c.inner_edge-then-inner.ensures.room c.args.inner.place.column c.args.inner.place.row (c.inner_edge.ensures.room c.args.inner.place.column c.args.inner.place.row c.requires))))
 
 pub returns-then-inner-clause-room : goal.returns-then-inner-clause-room
 returns-then-inner-clause-room g c column row h =

@@ -7,11 +7,11 @@ all_off i l u b e t = grind arith
 
 pub returns-then-idle-clause-lines : goal.returns-then-idle-clause-lines
 returns-then-idle-clause-lines g c =
-    let off = all_off c.both-inner.result c.edge_to-from_left.result.is_filtered c.edge_to-from_above.result.is_filtered c.all_three-idle.result c.all_three-idle.ensures c.if-idle.true in
+    let off = all_off c.both-are_filtered.result c.edge_to-from_left.result.is_filtered c.edge_to-from_above.result.is_filtered c.all_three-idle.result c.all_three-idle.ensures c.if-idle.true in
     rw (off.0.0, off.0.1, off.1) at
-    (mb_kept c.args.place.column c.args.place.row c.args.place.chroma_qp_index_offset c.args.left.now c.args.above.now c.args.mb.now c.is_still.result c.both-inner.result
+    (mb_kept c.args.place.column c.args.place.row c.args.place.chroma_qp_index_offset c.args.left.now c.args.above.now c.args.mb.now c.is_still.result c.both-are_filtered.result
     c.edge_to-from_left.result.is_filtered c.edge_to-from_above.result.is_filtered c.is_still.ensures.inter c.is_still.ensures.strengths
-    (c.both-inner.ensures ∙ ap (λ (b : Bool). b && not c.is_still.result) c.filters_edge_to.ensures)
+    (c.both-are_filtered.ensures ∙ ap (λ (b : Bool). b && not c.is_still.result) c.filters_edge_to.ensures)
     c.edge_to-from_left.ensures.on c.edge_to-from_left.ensures.off c.edge_to-from_above.ensures.on c.edge_to-from_above.ensures.off (planes_of c.args.planes.now))
 
 pub outer_edge-requires : goal.outer_edge-requires
@@ -24,7 +24,7 @@ pub inner_horizontal-requires : goal.inner_horizontal-requires
 inner_horizontal-requires g c =
     let before = c.all_vertical.ensures.room c.args.place.column c.args.place.row c.requires.room in
     let room = c.outer_edge.ensures.room c.args.place.column c.args.place.row before in
-    (omega arith, (c.inner_motion.ensures, (room, c.fit.ensures.inside)))
+    (omega arith, room)
 
 pub returns-clause-room : goal.returns-clause-room
 returns-clause-room g c column row h =
@@ -39,7 +39,7 @@ returns-clause-lines g c =
     let column = c.args.place.column in
     let row = c.args.place.row in
     let e = c.args.place.chroma_qp_index_offset in
-    let i = c.both-inner.result in
+    let i = c.both-are_filtered.result in
     let l = c.edge_to-from_left.result.is_filtered in
     let u = c.edge_to-from_above.result.is_filtered in
     c.inner_horizontal.ensures.lines
@@ -47,5 +47,5 @@ returns-clause-lines g c =
     (c.outer_edge.ensures.lines ∙ ap (edges_by_info false column row e u false above mb) c.all_vertical.ensures.lines)
     ∙ mb_kept column row e left above mb c.is_still.result i l u
     c.is_still.ensures.inter c.is_still.ensures.strengths
-    (c.both-inner.ensures ∙ ap (λ (b : Bool). b && not c.is_still.result) c.filters_edge_to.ensures)
+    (c.both-are_filtered.ensures ∙ ap (λ (b : Bool). b && not c.is_still.result) c.filters_edge_to.ensures)
     c.edge_to-from_left.ensures.on c.edge_to-from_left.ensures.off c.edge_to-from_above.ensures.on c.edge_to-from_above.ensures.off s

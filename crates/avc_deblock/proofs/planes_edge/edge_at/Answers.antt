@@ -1,4 +1,4 @@
-use Rattle.avc_deblock.proofs.FilteredPictures.{ℕ, planes_of, Planes, luma_qp_of, chroma_qp_of, strength_of, strength_along, room_kept, in_three}
+use Rattle.avc_deblock.proofs.FilteredPictures.{planes_of, Planes, luma_qp_of, chroma_qp_of, strength_of, strength_along, room_kept, in_three}
 use Rattle.avc_deblock.proofs.planes_edge.edge_at.Goals as goal
 
 pub returns-clause-lines : goal.returns-clause-lines

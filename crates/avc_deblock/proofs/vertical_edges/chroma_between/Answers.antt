@@ -6,16 +6,16 @@ returns-then-are_zero-clause-cb g c = grind (arith, nat_tests, edge_none, c.requ
 
 pub returns-clause-cb : goal.returns-clause-cb
 returns-clause-cb g c =
-    let qp = chroma_qp_of c.args.place.chroma_qp_index_offset c.args.p.now c.args.q.now in
-    c.chroma_of.ensures.cb qp c.requires.settings.limits ∙ chroma_same c.args.place.column c.args.place.row c.args.n _ _ qp c.requires.settings.value true c.args.cb.now
+    let qp = chroma_qp_of c.args.at.place.chroma_qp_index_offset c.args.p.now c.args.q.now in
+    c.chroma_of.ensures.cb qp c.requires.settings.limits ∙ chroma_same c.args.at.place.column c.args.at.place.row c.args.at.n _ _ qp c.requires.settings.value true c.args.cb.now
 
 pub returns-then-are_zero-clause-cr : goal.returns-then-are_zero-clause-cr
 returns-then-are_zero-clause-cr g c = grind (arith, nat_tests, edge_none, c.requires.settings.value)
 
 pub returns-clause-cr : goal.returns-clause-cr
 returns-clause-cr g c =
-    let qp = chroma_qp_of c.args.place.chroma_qp_index_offset c.args.p.now c.args.q.now in
-    c.chroma_of.ensures.cr qp c.requires.settings.limits ∙ chroma_same c.args.place.column c.args.place.row c.args.n _ _ qp c.requires.settings.value true c.args.cr.now
+    let qp = chroma_qp_of c.args.at.place.chroma_qp_index_offset c.args.p.now c.args.q.now in
+    c.chroma_of.ensures.cr qp c.requires.settings.limits ∙ chroma_same c.args.at.place.column c.args.at.place.row c.args.at.n _ _ qp c.requires.settings.value true c.args.cr.now
 
 pub returns-clause-cb_width : goal.returns-clause-cb_width
 returns-clause-cb_width g c = grind (arith, edge_width, returns-clause-cb g c)

@@ -8,7 +8,7 @@ pub returns-clause-lines : goal.returns-clause-lines
 returns-clause-lines g c =
     let qp = luma_qp_of c.args.p.now c.args.q.now in
     c.luma_of.ensures qp c.requires.settings.limits
-    ∙ luma_same c.args.place.column c.args.place.row c.args.n _ _ qp c.requires.settings.value true c.args.luma.now
+    ∙ luma_same c.args.at.place.column c.args.at.place.row c.args.at.n _ _ qp c.requires.settings.value true c.args.luma.now
 
 pub returns-clause-width : goal.returns-clause-width
 returns-clause-width g c = grind (arith, edge_width, returns-clause-lines g c)

@@ -1,5 +1,5 @@
-use Rattle.avc_edges.proofs.EdgesOnPlane.{ℕ, true, ◌+◌, ◌*◌, ◌/◌, ◌≡◌, ◌<◌, arith, refl, sym, ap, ◌∙◌, slice_index, sample, filtered, line_of}
-use Rattle.avc_edges.proofs.EdgesOnPlane.{edge_as_block, same_samples, weak_reach, kept_by, within_block, weak_row}
+use Rattle.avc_edges.proofs.EdgesOnPlane.{ℕ, true, ◌+◌, ◌*◌, ◌≡◌, ◌<◌, arith, refl, sym, ap, ◌∙◌, slice_index, sample, filtered, line_of}
+use Rattle.avc_edges.proofs.EdgesOnPlane.{edge_as_block, same_samples, weak_reach, kept_by, within_block}
 use Rattle.avc_edges.proofs.kernels.one_vertical.Goals as goal
 
 pub returns : goal.returns
@@ -7,16 +7,14 @@ returns g c setting fits =
     let s = c.args.plane.now in
     let left = c.args.left in
     let top = c.args.top in
-    let before = c.columns-lines.result in
+    let before = c.transposed-lines.result in
     let after = c.weak_luma.new.t in
     let lines : (i : ℕ) → i < 16 → filtered (setting i) (line_of (λ k. sample s (left + k) (top + i))) ≡ line_of (λ k. slice_index after (16 * k + i)) =
     λ i low.
     ap (filtered (setting i))
     (same_samples (λ k. sample s (left + k) (top + i)) (λ k. slice_index before (16 * k + i))
-    (λ k less. sym (c.rectangle-block.ensures.samples k i less low) ∙ sym (c.columns-lines.ensures i k low less)))
-    ∙ c.weak_luma.ensures (setting i) i low (
-    weak_row true c.args.limits.now (setting i) (slice_index c.args.strengths.now (i / 4)) _ _ _ _ (slice_index c.luma_tc1s-tc1.result i)
-    (c.weak.ensures.alpha i low) (c.weak.ensures.beta i low) (c.weak.ensures.dead i low) (c.weak.ensures.tc0 i low) c.requires.spread.low (c.luma_tc1s-tc1.ensures.value i low) (fits i low)) in
+    (λ k less. sym (c.rectangle-block.ensures.samples k i less low) ∙ sym (c.transposed-lines.ensures i k low less)))
+    ∙ c.weak_luma.ensures (setting i) i low (c.of_luma.ensures (setting i) i low (fits i low)) in
     c.set_rectangle.ensures
     ∙ within_block s left top 8 16 2 0 4 16 (left + 2) top (λ x y. slice_index after (16 * x + y)) (λ x y. slice_index c.rows_of_middle-after.result (4 * y + x)) refl (omega arith) (omega arith) (omega arith)
     (λ x y x_low y_low. c.rows_of_middle-after.ensures y x y_low x_low ∙ ap (slice_index after) (omega arith))

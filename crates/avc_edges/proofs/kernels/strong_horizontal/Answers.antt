@@ -11,4 +11,4 @@ returns g c setting fits =
     (λ i low.
     ap (filtered (setting i))
     (same_samples (λ k. sample s (c.args.left + i) (c.args.top + k)) (λ k. slice_index before (16 * k + i)) (λ k less. sym (c.rectangle-lines.ensures.samples i k low less)))
-    ∙ c.strong_luma.ensures (setting i) i low (rw (c.strong.ensures.alpha i low, c.strong.ensures.beta i low) (fits i low))))
+    ∙ c.strong_luma.ensures (setting i) i low (rw (c.of_lines.ensures.alpha i low, c.of_lines.ensures.beta i low) (fits i low))))

@@ -10,5 +10,5 @@ returns g c setting fits =
     (λ i low.
     ap (filtered (setting i))
     (same_samples (λ k. sample s (c.args.left + k) (c.args.top + i)) (λ k. slice_index c.rectangle-block.result (8 * i + k)) (λ k less. sym (c.rectangle-block.ensures.samples k i less low)))
-    ∙ filtered_across (setting i) i c.rectangle-block.result c.columns-lines.result c.strong_luma.new.t after low c.columns-lines.ensures c.rows_of-after.ensures
-    (c.strong_luma.ensures (setting i) i low (rw (c.strong.ensures.alpha i low, c.strong.ensures.beta i low) (fits i low)))))
+    ∙ filtered_across (setting i) i c.rectangle-block.result c.transposed-lines.result c.strong_luma.new.t after low c.transposed-lines.ensures c.rows_of-after.ensures
+    (c.strong_luma.ensures (setting i) i low (rw (c.of_lines.ensures.alpha i low, c.of_lines.ensures.beta i low) (fits i low)))))

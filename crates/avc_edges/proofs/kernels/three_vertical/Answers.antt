@@ -1,4 +1,4 @@
-use Rattle.avc_edges.proofs.EdgesOnPlane.{ℕ, true, ◌+◌, ◌*◌, ◌/◌, ◌≡◌, ◌<◌, arith, refl, sym, ap, ◌∙◌, slice_index, edge_filtered, weak_row, with_block, within_block}
+use Rattle.avc_edges.proofs.EdgesOnPlane.{ℕ, true, ◌+◌, ◌*◌, ◌≡◌, ◌<◌, arith, refl, sym, ap, ◌∙◌, slice_index, edge_filtered, with_block, within_block}
 use Rattle.avc_edges.proofs.EdgesOnPlane.{Plane, List, square, square_itself, edge_on_square}
 use Rattle.avc_edges.proofs.kernels.three_vertical.Goals as goal
 
@@ -8,8 +8,7 @@ returns g c setting fits =
     let left = c.args.left in
     let top = c.args.top in
     let fit = λ (i : ℕ) (low : i < 16).
-    weak_row true c.args.limits.now (setting i) (slice_index c.args.strengths.now (i / 4)) _ _ _ _ (slice_index c.luma_tc1s-tc1.result i)
-    (c.weak-limits.ensures.alpha i low) (c.weak-limits.ensures.beta i low) (c.weak-limits.ensures.dead i low) (c.weak-limits.ensures.tc0 i low) c.requires.spread.low (c.luma_tc1s-tc1.ensures.value i low) (fits i low) in
+    c.of_luma-limits.ensures (setting i) i low (fits i low) in
     let first = c.filter_rows.new.t in
     let second = c.filter_rows-2.new.t in
     let third = c.filter_rows-3.new.t in

@@ -37,4 +37,3 @@ pub use Rattle.avc_inter.specs.Patch.{h_of, m_of, quarter_of}
 pub use Rattle.avc_inter.specs.SixRows.{place_of, HasPlaces, HasRoom, AreLanes, taps_of, half_of, centre_of, AreSumsOf}
 pub use Rattle.avc_inter.specs.SixTapRow.{taps_at}
 pub use Rattle.avc_inter.specs.Weight.{weighted}
-pub use Rattle.avc_inter.specs.declared.bilinear.BilinearWeights.{BilinearWeights}

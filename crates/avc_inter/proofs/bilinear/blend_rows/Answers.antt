@@ -1,4 +1,4 @@
-use Rattle.avc_inter.proofs.SixRows.{ap, ◌∙◌, blend_of, row_there, ◌+◌, ◌*◌, arith, row_first, row_room, rows_done, sixteen_more, place_in, row_begins}
+use Rattle.avc_inter.proofs.SixRows.{three_words, ap, ◌∙◌, blend_of, row_there, ◌+◌, ◌*◌, arith, row_first, row_room, rows_done, sixteen_more, place_in, row_begins}
 use Rattle.avc_inter.proofs.bilinear.blend_rows.Goals as goal
 
 pub overflow_mul-y : goal.overflow_mul-y
@@ -7,8 +7,8 @@ overflow_mul-y g c = omega (arith, row_begins _ _ c.args.to.lanes _ (c.args.from
 pub overflow_add-from : goal.overflow_add-from
 overflow_add-from g c = omega (arith, row_begins _ _ c.args.to.lanes _ (c.args.from.first + c.args.from.stride + 1) _ _ c.requires.samples c.loop-y-test.true)
 
-pub blend_row-row-requires-clause-samples : goal.blend_row-row-requires-clause-samples
-blend_row-row-requires-clause-samples g c k low = omega (arith, row_there _ _ c.args.to.lanes _ (c.args.from.first + c.args.from.stride + 1) _ k _ c.requires.samples c.loop-y-test.true low)
+pub blend_row-row-requires : goal.blend_row-row-requires
+blend_row-row-requires g c = (three_words, λ k low. omega (arith, row_there _ _ c.args.to.lanes _ (c.args.from.first + c.args.from.stride + 1) _ k _ c.requires.samples c.loop-y-test.true low))
 
 pub overflow_mul-y-in-loop-y : goal.overflow_mul-y-in-loop-y
 overflow_mul-y-in-loop-y g c = omega (arith, row_first _ _ _ c.args.to.lanes c.loop-y-test.true c.requires.room c.loop-y.invariant)

@@ -5,27 +5,25 @@ use Rattle.avc_inter.proofs.bilinear.sums_of.Goals as goal
 share : (m v r : List ℕ) (k w : ℕ) → slice_index m k ≡ slice_index v k * w → slice_index v k ≡ slice_index r k → slice_index m k ≡ w * slice_index r k
 share m v r k w is same = is ∙ ap (λ n. n * w) same ∙ mul_comm (slice_index r k) w
 
-pub sums-row-requires-clause-a_small : goal.sums-row-requires-clause-a_small
-sums-row-requires-clause-a_small c = addable (255 * c.args.w.here) _ (omega (arith, c.requires.whole)) (c.multiples-here.ensures.small 255 c.widened.ensures.small)
+pub sums-row-requires : goal.sums-row-requires
+sums-row-requires c = record {
+  first = addable (255 * c.args.w.here) _ (omega (arith, c.args.w.whole)) (c.multiples-here.ensures.small 255 c.widened.ensures.small);
+  second = addable (255 * c.args.w.right) _ (omega (arith, c.args.w.whole)) (c.multiples-right.ensures.small 255 c.widened-2.ensures.small);
+}
 
-pub sums-row-requires-clause-b_small : goal.sums-row-requires-clause-b_small
-sums-row-requires-clause-b_small c = addable (255 * c.args.w.right) _ (omega (arith, c.requires.whole)) (c.multiples-right.ensures.small 255 c.widened-2.ensures.small)
+pub sums-next-requires : goal.sums-next-requires
+sums-next-requires c = record {
+  first = addable (255 * c.args.w.below) _ (omega (arith, c.args.w.whole)) (c.multiples-below.ensures.small 255 c.widened-3.ensures.small);
+  second = addable (255 * c.args.w.across) _ (omega (arith, c.args.w.whole)) (c.multiples-across.ensures.small 255 c.widened-4.ensures.small);
+}
 
-pub sums-next-requires-clause-a_small : goal.sums-next-requires-clause-a_small
-sums-next-requires-clause-a_small c = addable (255 * c.args.w.below) _ (omega (arith, c.requires.whole)) (c.multiples-below.ensures.small 255 c.widened-3.ensures.small)
-
-pub sums-next-requires-clause-b_small : goal.sums-next-requires-clause-b_small
-sums-next-requires-clause-b_small c = addable (255 * c.args.w.across) _ (omega (arith, c.requires.whole)) (c.multiples-across.ensures.small 255 c.widened-4.ensures.small)
-
-pub sums-requires-clause-a_small : goal.sums-requires-clause-a_small
-sums-requires-clause-a_small c =
-    addable (255 * c.args.w.here + 255 * c.args.w.right) _ (omega (arith, c.requires.whole))
-    (c.sums-row.ensures.small (255 * c.args.w.here) (255 * c.args.w.right) (c.multiples-here.ensures.small 255 c.widened.ensures.small) (c.multiples-right.ensures.small 255 c.widened-2.ensures.small))
-
-pub sums-requires-clause-b_small : goal.sums-requires-clause-b_small
-sums-requires-clause-b_small c =
-    addable (255 * c.args.w.below + 255 * c.args.w.across) _ (omega (arith, c.requires.whole))
-    (c.sums-next.ensures.small (255 * c.args.w.below) (255 * c.args.w.across) (c.multiples-below.ensures.small 255 c.widened-3.ensures.small) (c.multiples-across.ensures.small 255 c.widened-4.ensures.small))
+pub sums-requires : goal.sums-requires
+sums-requires c = record {
+  first = addable (255 * c.args.w.here + 255 * c.args.w.right) _ (omega (arith, c.args.w.whole))
+      (c.sums-row.ensures.small (255 * c.args.w.here) (255 * c.args.w.right) (c.multiples-here.ensures.small 255 c.widened.ensures.small) (c.multiples-right.ensures.small 255 c.widened-2.ensures.small));
+  second = addable (255 * c.args.w.below + 255 * c.args.w.across) _ (omega (arith, c.args.w.whole))
+      (c.sums-next.ensures.small (255 * c.args.w.below) (255 * c.args.w.across) (c.multiples-below.ensures.small 255 c.widened-3.ensures.small) (c.multiples-across.ensures.small 255 c.widened-4.ensures.small));
+}
 
 pub returns-clause-value : goal.returns-clause-value
 returns-clause-value c k h =
@@ -43,4 +41,4 @@ returns-clause-small c k h =
     let next = c.sums-next.ensures.small (255 * c.args.w.below) (255 * c.args.w.across) (c.multiples-below.ensures.small 255 c.widened-3.ensures.small) (c.multiples-across.ensures.small 255 c.widened-4.ensures.small) in
     let all = c.sums.ensures.small (255 * w.here + 255 * w.right) (255 * w.below + 255 * w.across) row next in
     let low = Each1-get_or (λ x. x ≤ 255 * w.here + 255 * w.right + (255 * w.below + 255 * w.across)) c.sums.result k 0 (omega arith) all in
-    omega (arith, low, c.requires.whole)
+    omega (arith, low, c.args.w.whole)

@@ -1,8 +1,8 @@
-use Rattle.avc_inter.proofs.SixRows.{◌≡◌, ◌+◌, ◌*◌, ◌/◌, arith}
+use Rattle.avc_inter.proofs.SixRows.{three_words, ◌≡◌, ◌+◌, ◌*◌, ◌/◌, arith}
 use Rattle.avc_inter.proofs.centres.begin.Goals as goal
 
-pub put_sum_row-requires-clause-samples : goal.put_sum_row-requires-clause-samples
-put_sum_row-requires-clause-samples g c k low = c.requires.samples k (omega (arith, c.loop-row-test.true))
+pub put_sum_row-requires : goal.put_sum_row-requires
+put_sum_row-requires g c = (three_words, (omega (arith, c.args.source.lanes.most), (λ k low. c.requires k (omega (arith, c.loop-row-test.true)), c.loop-row.invariant)))
 
 pub returns : goal.returns
 returns g c =

@@ -1,32 +1,32 @@
-use Rattle.avc_inter.proofs.SixRows.{◌+◌, ◌*◌, arith, rules, ap, ◌∙◌, row_first, row_room, rows_done, sixteen_more, row_begins, samples_there, window_there, window_moved, sums_from, place_here, j_of}
+use Rattle.avc_inter.proofs.SixRows.{three_words, ◌+◌, ◌*◌, arith, rules, ap, ◌∙◌, row_first, row_room, rows_done, sixteen_more, row_begins, samples_there, window_there, window_moved, sums_from, place_here, j_of}
 use Rattle.avc_inter.proofs.centres.centre_rows.Goals as goal
 
 pub overflow_mul-y : goal.overflow_mul-y
-overflow_mul-y g c = omega (arith, row_begins _ _ c.args.to.lanes _ c.args.from.first _ _ (samples_there _ _ c.args.to.lanes _ c.args.from.first _ c.requires.samples) c.loop-y-test.true)
+overflow_mul-y g c = omega (arith, row_begins _ _ c.args.to.lanes _ c.args.block.from.first _ _ (samples_there _ _ c.args.to.lanes _ c.args.block.from.first _ c.args.block.room) c.loop-y-test.true)
 
 pub overflow_add-from : goal.overflow_add-from
-overflow_add-from g c = omega (arith, row_begins _ _ c.args.to.lanes _ c.args.from.first _ _ (samples_there _ _ c.args.to.lanes _ c.args.from.first _ c.requires.samples) c.loop-y-test.true)
+overflow_add-from g c = omega (arith, row_begins _ _ c.args.to.lanes _ c.args.block.from.first _ _ (samples_there _ _ c.args.to.lanes _ c.args.block.from.first _ c.args.block.room) c.loop-y-test.true)
 
 pub overflow_mul-y-in-loop-y : goal.overflow_mul-y-in-loop-y
-overflow_mul-y-in-loop-y g c = omega (arith, row_first _ _ _ c.args.to.lanes c.loop-y-test.true c.requires.room c.loop-y.invariant.set)
+overflow_mul-y-in-loop-y g c = omega (arith, row_first _ _ _ c.args.to.lanes c.loop-y-test.true c.requires c.loop-y.invariant.set)
 
 pub overflow_add-to : goal.overflow_add-to
-overflow_add-to g c = omega (arith, row_first _ _ _ c.args.to.lanes c.loop-y-test.true c.requires.room c.loop-y.invariant.set)
+overflow_add-to g c = omega (arith, row_first _ _ _ c.args.to.lanes c.loop-y-test.true c.requires c.loop-y.invariant.set)
 
-pub begin-requires-clause-samples : goal.begin-requires-clause-samples
-begin-requires-clause-samples g c k low = c.requires.samples k (omega arith)
+pub begin-requires : goal.begin-requires
+begin-requires g c = (three_words, λ k low. c.args.block.room k (omega arith))
 
-pub middle_row-row-requires-clause-samples : goal.middle_row-row-requires-clause-samples
-middle_row-row-requires-clause-samples g c = window_there _ _ c.args.to.lanes _ c.args.from.first _ _ c.requires.samples c.loop-y-test.true
+pub middle_row-row-requires : goal.middle_row-row-requires
+middle_row-row-requires g c = (three_words, (window_there _ _ c.args.to.lanes _ c.args.block.from.first _ _ c.args.block.room c.loop-y-test.true, c.loop-y.invariant.sums))
 
 pub put_rows-requires-clause-room : goal.put_rows-requires-clause-room
-put_rows-requires-clause-room g c r low = row_room _ _ _ _ c.args.to.lanes c.loop-y-test.true c.requires.room c.loop-y.invariant.set low
+put_rows-requires-clause-room g c r low = row_room _ _ _ _ c.args.to.lanes c.loop-y-test.true c.requires c.loop-y.invariant.set low
 
 pub loop-y-preserved : goal.loop-y-preserved
 loop-y-preserved g c = record {
-  sums = window_moved g.row.L c.args.from.stride c.args.to.lanes _ c.args.from.first c.loop-y.y c.args.p.now _ _ c.middle_row-row.ensures.sums c.move_on.ensures;
+  sums = window_moved g.row.L c.args.block.from.stride c.args.to.lanes _ c.args.block.from.first c.loop-y.y c.args.block.samples.now _ _ c.middle_row-row.ensures.sums c.move_on.ensures;
   set = sixteen_more c.loop-y.y c.middle_row-row.result c.args.to.lanes c.args.to.columns c.args.to.apart c.loop-y.invariant.set c.put_rows.ensures
-      (λ r x low column. c.middle_row-row.ensures.row (g.row.L * r + x) low ∙ ap (j_of c.args.p.now c.args.from.stride) (place_here _ c.args.from.stride c.args.to.lanes c.args.from.first c.loop-y.y r x column));
+      (λ r x low column. c.middle_row-row.ensures.row (g.row.L * r + x) low ∙ ap (j_of c.args.block.samples.now c.args.block.from.stride) (place_here _ c.args.block.from.stride c.args.to.lanes c.args.block.from.first c.loop-y.y r x column));
 }
 
 pub loop-y-init : goal.loop-y-init

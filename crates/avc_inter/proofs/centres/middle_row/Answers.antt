@@ -7,4 +7,4 @@ centre_row-requires-clause-small g c k low = c.put_sum_row.ensures.small k (omeg
 pub returns-clause-row : goal.returns-clause-row
 returns-clause-row g c k low =
     c.centre_row.ensures k low
-    ∙ middle_at g.row.L c.args.stride c.requires.lanes c.args.at k _ c.args.p.now _ c.put_sum_row.ensures (omega arith) low
+    ∙ middle_at g.row.L c.args.source.stride c.args.source.lanes c.args.at k _ c.args.source.samples.now _ c.put_sum_row.ensures (omega arith) low

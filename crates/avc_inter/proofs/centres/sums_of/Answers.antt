@@ -5,23 +5,23 @@ use Rattle.avc_inter.proofs.centres.sums_of.Goals as goal
 is_sum : (s m : ℕ) (z : ℤ) → s ≤ 10710 → m ≤ 2550 → z ≡ pos s -ℤ pos m → IsSum z
 is_sum s m z p q e = record { low = omega (arith, ints, e); high = omega (arith, ints, e) }
 
-pub sums-outer-requires-clause-a_small : goal.sums-outer-requires-clause-a_small
-sums-outer-requires-clause-a_small c = addable 255 _ (omega arith) c.widened.ensures.small
+pub sums-outer-requires : goal.sums-outer-requires
+sums-outer-requires c = record {
+  first = addable 255 _ (omega arith) c.widened.ensures.small;
+  second = addable 255 _ (omega arith) c.widened-2.ensures.small;
+}
 
-pub sums-outer-requires-clause-b_small : goal.sums-outer-requires-clause-b_small
-sums-outer-requires-clause-b_small c = addable 255 _ (omega arith) c.widened-2.ensures.small
+pub sums-middle-requires : goal.sums-middle-requires
+sums-middle-requires c = record {
+  first = addable 255 _ (omega arith) c.widened-3.ensures.small;
+  second = addable 255 _ (omega arith) c.widened-4.ensures.small;
+}
 
-pub sums-middle-requires-clause-a_small : goal.sums-middle-requires-clause-a_small
-sums-middle-requires-clause-a_small c = addable 255 _ (omega arith) c.widened-3.ensures.small
-
-pub sums-middle-requires-clause-b_small : goal.sums-middle-requires-clause-b_small
-sums-middle-requires-clause-b_small c = addable 255 _ (omega arith) c.widened-4.ensures.small
-
-pub sums-inner-requires-clause-a_small : goal.sums-inner-requires-clause-a_small
-sums-inner-requires-clause-a_small c = addable 255 _ (omega arith) c.widened-5.ensures.small
-
-pub sums-inner-requires-clause-b_small : goal.sums-inner-requires-clause-b_small
-sums-inner-requires-clause-b_small c = addable 255 _ (omega arith) c.widened-6.ensures.small
+pub sums-inner-requires : goal.sums-inner-requires
+sums-inner-requires c = record {
+  first = addable 255 _ (omega arith) c.widened-5.ensures.small;
+  second = addable 255 _ (omega arith) c.widened-6.ensures.small;
+}
 
 pub multiples-requires-clause-a_small : goal.multiples-requires-clause-a_small
 multiples-requires-clause-a_small c = c.sums-inner.ensures.small 255 255 c.widened-5.ensures.small c.widened-6.ensures.small
@@ -29,19 +29,18 @@ multiples-requires-clause-a_small c = c.sums-inner.ensures.small 255 255 c.widen
 pub multiples-requires-2-clause-a_small : goal.multiples-requires-2-clause-a_small
 multiples-requires-2-clause-a_small c = c.sums-middle.ensures.small 255 255 c.widened-3.ensures.small c.widened-4.ensures.small
 
-pub sums-requires-clause-a_small : goal.sums-requires-clause-a_small
-sums-requires-clause-a_small c = addable 510 _ (omega arith) (c.sums-outer.ensures.small 255 255 c.widened.ensures.small c.widened-2.ensures.small)
+pub sums-requires : goal.sums-requires
+sums-requires c = record {
+  first = addable 510 _ (omega arith) (c.sums-outer.ensures.small 255 255 c.widened.ensures.small c.widened-2.ensures.small);
+  second = addable 10200 _ (omega arith) (c.multiples.ensures.small 510 (c.sums-inner.ensures.small 255 255 c.widened-5.ensures.small c.widened-6.ensures.small));
+}
 
-pub sums-requires-clause-b_small : goal.sums-requires-clause-b_small
-sums-requires-clause-b_small c = addable 10200 _ (omega arith) (c.multiples.ensures.small 510 (c.sums-inner.ensures.small 255 255 c.widened-5.ensures.small c.widened-6.ensures.small))
-
-pub narrow_differences-requires-clause-a_small : goal.narrow_differences-requires-clause-a_small
-narrow_differences-requires-clause-a_small c =
-    addable 10710 _ (omega arith) (c.sums.ensures.small 510 10200 (c.sums-outer.ensures.small 255 255 c.widened.ensures.small c.widened-2.ensures.small)
-    (c.multiples.ensures.small 510 (c.sums-inner.ensures.small 255 255 c.widened-5.ensures.small c.widened-6.ensures.small)))
-
-pub narrow_differences-requires-clause-b_small : goal.narrow_differences-requires-clause-b_small
-narrow_differences-requires-clause-b_small c = addable 2550 _ (omega arith) (c.multiples-2.ensures.small 510 (c.sums-middle.ensures.small 255 255 c.widened-3.ensures.small c.widened-4.ensures.small))
+pub narrow_differences-requires : goal.narrow_differences-requires
+narrow_differences-requires c = record {
+  first = addable 10710 _ (omega arith) (c.sums.ensures.small 510 10200 (c.sums-outer.ensures.small 255 255 c.widened.ensures.small c.widened-2.ensures.small)
+      (c.multiples.ensures.small 510 (c.sums-inner.ensures.small 255 255 c.widened-5.ensures.small c.widened-6.ensures.small)));
+  second = addable 2550 _ (omega arith) (c.multiples-2.ensures.small 510 (c.sums-middle.ensures.small 255 255 c.widened-3.ensures.small c.widened-4.ensures.small));
+}
 
 pub returns : goal.returns
 returns c =

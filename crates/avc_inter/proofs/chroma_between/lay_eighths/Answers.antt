@@ -11,7 +11,7 @@ blend_rows-requires g c =
     let from = c.in-Some.from in
     let rows = c.padded_rows-rows.result.now in
     let there = there_in _ _ c.in-Some.is c.find_within.ensures rows c.padded_rows-rows.ensures in
-    (two_words, (c.new-weights.ensures.whole, (c.requires.room, places_for g.row.L from.stride c.args.to.lanes c.args.count from.first rows there.row)))
+    (two_words, (c.requires.room, places_for g.row.L from.stride c.args.to.lanes c.args.count from.first rows there.row))
 
 pub returns-in-Some : goal.returns-in-Some
 returns-in-Some g c =
@@ -21,5 +21,5 @@ returns-in-Some g c =
     let shares = c.new-weights.ensures in
     let there = there_in _ _ c.in-Some.is c.find_within.ensures rows c.padded_rows-rows.ensures in
     strided_as {f = λ x y. blend_of c.new-weights.result rows from.stride (from.first + (y * from.stride + x))} c.blend_rows.ensures refl (λ i j column row. blend_at (wide_of a.reference.now) a.at.left _ a.at.top _ (g.row.L + 1) (16 / g.row.L * a.count + 1)
-    from.first from.stride a.beyond.right a.beyond.down rows c.new-weights.result there.at (back_moved a.at.left a.at.column) (back_moved a.at.top a.at.row)
+    from.first from.stride a.beyond.right a.beyond.down rows _ _ _ _ there.at (back_moved a.at.left a.at.column) (back_moved a.at.top a.at.row)
     shares.here shares.right shares.below shares.across i j (omega (arith, column, a.to.columns)) (omega (arith, row)))

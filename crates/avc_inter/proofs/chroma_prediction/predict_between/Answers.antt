@@ -5,14 +5,14 @@ pub lay_eighths-requires : goal.lay_eighths-requires
 lay_eighths-requires g c =
     let r = c.requires in
     let to = c.padded_place-to.ensures in
-    let room = room_lent _ _ c.args.x c.args.y g.row.W g.row.H _ _ _ c.padded_rows_mut-out.ensures.rows r.columns.2 r.rows.2 to.first to.stride in
+    let room = room_lent _ _ c.args.x c.args.y g.row.W g.row.H _ _ _ c.padded_rows_mut-out.ensures.rows r.target.columns r.target.rows to.first to.stride in
     (below_half, (two_words, (omega arith, (omega arith, λ y low. room y (omega arith)))))
 
 pub lay_eighths-requires-else-this-le4 : goal.lay_eighths-requires-else-this-le4
 lay_eighths-requires-else-this-le4 g c =
     let r = c.requires in
     let to = c.padded_place-to.ensures in
-    let room = room_lent _ _ c.args.x c.args.y g.row.W g.row.H _ _ _ c.padded_rows_mut-out.ensures.rows r.columns.2 r.rows.2 to.first to.stride in
+    let room = room_lent _ _ c.args.x c.args.y g.row.W g.row.H _ _ _ c.padded_rows_mut-out.ensures.rows r.target.columns r.target.rows to.first to.stride in
     (below_half, (two_words, (omega arith, (omega arith, λ y low. room y (omega arith)))))
 
 pub returns-then-this-eq0 : goal.returns-then-this-eq0
@@ -20,7 +20,7 @@ returns-then-this-eq0 g c =
     let to = c.padded_place-to.ensures in
     let at = c.chroma_place-at.ensures in
     let beyond = c.chroma_fraction-beyond.ensures in
-    block_lent _ _ _ _ _ _ _ _ _ c.padded_rows_mut-out.ensures.rows c.requires.columns.2 c.requires.rows.2 to.first to.stride _ _
+    block_lent _ _ _ _ _ _ _ _ _ c.padded_rows_mut-out.ensures.rows c.requires.target.columns c.requires.target.rows to.first to.stride _ _
     (strided_as c.lay_eighths.ensures (omega arith) (λ i j column row. vector_at 3 (bilinear (wide_of c.args.reference.now)) c.args.mv _ _ _ _ _ _
     at.left at.top beyond.right beyond.down i j))
 
@@ -29,6 +29,6 @@ returns-else-this-le4 g c =
     let to = c.padded_place-to.ensures in
     let at = c.chroma_place-at.ensures in
     let beyond = c.chroma_fraction-beyond.ensures in
-    block_lent _ _ _ _ _ _ _ _ _ c.padded_rows_mut-out.ensures.rows c.requires.columns.2 c.requires.rows.2 to.first to.stride _ _
+    block_lent _ _ _ _ _ _ _ _ _ c.padded_rows_mut-out.ensures.rows c.requires.target.columns c.requires.target.rows to.first to.stride _ _
     (strided_as c.lay_eighths-else-this-le4.ensures (omega arith) (λ i j column row. vector_at 3 (bilinear (wide_of c.args.reference.now)) c.args.mv _ _ _ _ _ _
     at.left at.top beyond.right beyond.down i j))

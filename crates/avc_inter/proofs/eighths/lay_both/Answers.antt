@@ -27,15 +27,12 @@ lay_line-requires g c =
     let set = c.loop-y.invariant in (
       five_words,
       (
-        c.args.beyond.low,
+        set.along.small,
         (
-          set.along.small,
+          c.along_row-middle.ensures.small,
           (
-            c.along_row-middle.ensures.small,
-            (
-              omega (arith, r.room_cb (2 * y) (omega arith), set.cb.long),
-              omega (arith, r.room_cr (2 * y) (omega arith), set.cr.long),
-            ),
+            omega (arith, r.room_cb (2 * y) (omega arith), set.cb.long),
+            omega (arith, r.room_cr (2 * y) (omega arith), set.cr.long),
           ),
         ),
       ),
@@ -49,15 +46,12 @@ lay_line-requires-in-loop-y g c =
     let put = c.lay_line.ensures in (
       five_words,
       (
-        c.args.beyond.low,
+        c.along_row-middle.ensures.small,
         (
-          c.along_row-middle.ensures.small,
+          c.along_row-last.ensures.small,
           (
-            c.along_row-last.ensures.small,
-            (
-              omega (arith, r.room_cb (2 * y + 1) (omega arith), put.cb.long, set.cb.long),
-              omega (arith, r.room_cr (2 * y + 1) (omega arith), put.cr.long, set.cr.long),
-            ),
+            omega (arith, r.room_cb (2 * y + 1) (omega arith), put.cb.long, set.cb.long),
+            omega (arith, r.room_cr (2 * y + 1) (omega arith), put.cr.long, set.cr.long),
           ),
         ),
       ),

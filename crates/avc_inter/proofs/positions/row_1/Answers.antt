@@ -1,4 +1,4 @@
-use Rattle.avc_inter.proofs.SixRows.{◌≡◌, arith, room_for, refl, strided_as, mean_turned, two_words}
+use Rattle.avc_inter.proofs.SixRows.{five_words, ◌≡◌, arith, room_for, refl, strided_as, mean_turned, two_words}
 use Rattle.avc_inter.proofs.positions.row_1.Goals as goal
 
 pub quarter_rows-requires : goal.quarter_rows-requires
@@ -8,7 +8,7 @@ pub diagonal_rows-requires : goal.diagonal_rows-requires
 diagonal_rows-requires g c = (two_words, (c.requires.out, (room_for _ _ c.args.to.lanes _ c.args.from.first _ _ c.requires.room (omega arith), room_for _ _ c.args.to.lanes _ c.args.from.first _ _ c.requires.room (omega arith))))
 
 pub centre_rows_across-requires : goal.centre_rows_across-requires
-centre_rows_across-requires g c = (two_words, (c.requires.out, (c.requires.room, omega arith)))
+centre_rows_across-requires g c = (five_words, (two_words, (c.requires.out, omega arith)))
 
 pub diagonal_rows-requires-in_default : goal.diagonal_rows-requires-in_default
 diagonal_rows-requires-in_default g c = (two_words, (c.requires.out, (room_for _ _ c.args.to.lanes _ c.args.from.first _ _ c.requires.room (omega arith), room_for _ _ c.args.to.lanes _ c.args.from.first _ _ c.requires.room (omega arith))))

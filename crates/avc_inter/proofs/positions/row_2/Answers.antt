@@ -1,17 +1,17 @@
-use Rattle.avc_inter.proofs.SixRows.{◌≡◌, arith, room_for, refl, strided_as, mean_turned, two_words}
+use Rattle.avc_inter.proofs.SixRows.{five_words, ◌≡◌, arith, room_for, refl, strided_as, mean_turned, two_words}
 use Rattle.avc_inter.proofs.positions.row_2.Goals as goal
 
 pub half_rows-requires : goal.half_rows-requires
 half_rows-requires g c = (two_words, (c.requires.out, room_for _ _ c.args.to.lanes _ c.args.from.first _ _ c.requires.room (omega arith)))
 
 pub centre_rows_down-requires : goal.centre_rows_down-requires
-centre_rows_down-requires g c = (two_words, (c.requires.out, (c.requires.room, room_for _ _ c.args.to.lanes _ c.args.from.first _ _ c.requires.room (omega arith))))
+centre_rows_down-requires g c = (five_words, (two_words, (c.requires.out, room_for _ _ c.args.to.lanes _ c.args.from.first _ _ c.requires.room (omega arith))))
 
 pub centre_rows-requires : goal.centre_rows-requires
-centre_rows-requires g c = (two_words, (c.requires.out, c.requires.room))
+centre_rows-requires g c = (five_words, (two_words, c.requires.out))
 
 pub centre_rows_down-requires-in_default : goal.centre_rows_down-requires-in_default
-centre_rows_down-requires-in_default g c = (two_words, (c.requires.out, (c.requires.room, room_for _ _ c.args.to.lanes _ c.args.from.first _ _ c.requires.room (omega arith))))
+centre_rows_down-requires-in_default g c = (five_words, (two_words, (c.requires.out, room_for _ _ c.args.to.lanes _ c.args.from.first _ _ c.requires.room (omega arith))))
 
 pub returns-in-0 : goal.returns-in-0
 returns-in-0 g c = rw (c.in-0.is) c.half_rows.ensures

@@ -9,7 +9,7 @@ one_is : (x y : ℕ) → x ≤ 16383 → y ≤ 16383 → to_z w32 (of_z w32 (to_
 one_is x y p q = omega (arith, ints)
 
 pub overflow_sub-result : goal.overflow_sub-result
-overflow_sub-result c = fit w32 one_fits _ _ c.requires.a_small c.requires.b_small
+overflow_sub-result c = fit w32 one_fits _ _ c.requires.first c.requires.second
 
 difference_fits : (x y : ℕ) → x ≤ 16383 → y ≤ 16383 → FitsSigned w32 (pos x -ℤ pos y)
 difference_fits x y p q = search (arith, ints)
@@ -20,8 +20,8 @@ returns c =
     let b = c.args.b in
     let same : length a ≡ length b = omega arith in
     record {
-      long = ap length (are w32 one_is a b c.requires.a_small c.requires.b_small) ∙ length-zip2 (λ x y. pos x -ℤ pos y) a b same ∙ omega arith;
-      at = λ k h. value w32 one_is a b k c.requires.a_small c.requires.b_small (omega arith) (omega arith);
-      fits = λ k h. rw (value w32 one_is a b k c.requires.a_small c.requires.b_small (omega arith) (omega arith))
-          (difference_fits _ _ (Each1-get_or (λ x. x ≤ 16383) a k 0 (omega arith) c.requires.a_small) (Each1-get_or (λ x. x ≤ 16383) b k 0 (omega arith) c.requires.b_small));
+      long = ap length (are w32 one_is a b c.requires.first c.requires.second) ∙ length-zip2 (λ x y. pos x -ℤ pos y) a b same ∙ omega arith;
+      at = λ k h. value w32 one_is a b k c.requires.first c.requires.second (omega arith) (omega arith);
+      fits = λ k h. rw (value w32 one_is a b k c.requires.first c.requires.second (omega arith) (omega arith))
+          (difference_fits _ _ (Each1-get_or (λ x. x ≤ 16383) a k 0 (omega arith) c.requires.first) (Each1-get_or (λ x. x ≤ 16383) b k 0 (omega arith) c.requires.second));
     }

@@ -3,7 +3,7 @@ use Rattle.avc_inter.proofs.row.sums.Goals as goal
 
 pub overflow_add-result : goal.overflow_add-result
 overflow_add-result c =
-    Each2-of (λ x. x ≤ 16383) (λ y. y ≤ 16383) (λ x y. Fits w16 (x + y)) (λ x y p q. record { fits = omega arith }) _ _ c.requires.a_small c.requires.b_small
+    Each2-of (λ x. x ≤ 16383) (λ y. y ≤ 16383) (λ x y. Fits w16 (x + y)) (λ x y p q. record { fits = omega arith }) _ _ c.requires.first c.requires.second
 
 pub returns-clause-long : goal.returns-clause-long
 returns-clause-long c = let e : length c.args.a ≡ length c.args.b = omega arith in omega (arith, length-zip2 (λ x y. x + y) c.args.a c.args.b e)

@@ -1,4 +1,4 @@
-use Rattle.avc_inter.proofs.SixRows.{◌+◌, ◌*◌, arith, row_first, row_room, rows_done, sixteen_more, place_in, row_begins, row_within}
+use Rattle.avc_inter.proofs.SixRows.{three_words, ◌+◌, ◌*◌, arith, row_first, row_room, rows_done, sixteen_more, place_in, row_begins, row_within}
 use Rattle.avc_inter.proofs.rows.diagonal_rows.Goals as goal
 
 pub overflow_mul-y : goal.overflow_mul-y
@@ -13,11 +13,11 @@ overflow_mul-y-in-loop-y g c = omega (arith, row_begins _ _ c.args.to.lanes _ (c
 pub overflow_add-from-in-loop-y-3 : goal.overflow_add-from-in-loop-y-3
 overflow_add-from-in-loop-y-3 g c = omega (arith, row_begins _ _ c.args.to.lanes _ (c.args.from.first + c.args.down + 5 * c.args.from.stride) _ _ c.requires.down c.loop-y-test.true)
 
-pub half_row-b-requires-clause-samples : goal.half_row-b-requires-clause-samples
-half_row-b-requires-clause-samples g c k low = row_within _ _ c.args.to.lanes _ (c.args.from.first + c.args.across) (5) _ k _ c.requires.across c.loop-y-test.true low
+pub half_row-b-requires : goal.half_row-b-requires
+half_row-b-requires g c = (three_words, λ k low. row_within _ _ c.args.to.lanes _ (c.args.from.first + c.args.across) (5) _ k _ c.requires.across c.loop-y-test.true low)
 
-pub half_row-h-requires-clause-samples : goal.half_row-h-requires-clause-samples
-half_row-h-requires-clause-samples g c k low = row_within _ _ c.args.to.lanes _ (c.args.from.first + c.args.down) (5 * c.args.from.stride) _ k _ c.requires.down c.loop-y-test.true low
+pub half_row-h-requires : goal.half_row-h-requires
+half_row-h-requires g c = (three_words, λ k low. row_within _ _ c.args.to.lanes _ (c.args.from.first + c.args.down) (5 * c.args.from.stride) _ k _ c.requires.down c.loop-y-test.true low)
 
 pub overflow_mul-y-in-loop-y-2 : goal.overflow_mul-y-in-loop-y-2
 overflow_mul-y-in-loop-y-2 g c = omega (arith, row_first _ _ _ c.args.to.lanes c.loop-y-test.true c.requires.room c.loop-y.invariant)

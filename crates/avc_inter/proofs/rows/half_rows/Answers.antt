@@ -1,4 +1,4 @@
-use Rattle.avc_inter.proofs.SixRows.{◌+◌, ◌*◌, arith, row_first, row_room, rows_done, sixteen_more, place_in, row_begins, row_within}
+use Rattle.avc_inter.proofs.SixRows.{three_words, ◌+◌, ◌*◌, arith, row_first, row_room, rows_done, sixteen_more, place_in, row_begins, row_within}
 use Rattle.avc_inter.proofs.rows.half_rows.Goals as goal
 
 pub overflow_mul-y : goal.overflow_mul-y
@@ -7,8 +7,8 @@ overflow_mul-y g c = omega (arith, row_begins _ _ c.args.to.lanes _ (c.args.from
 pub overflow_add-from-in-loop-y : goal.overflow_add-from-in-loop-y
 overflow_add-from-in-loop-y g c = omega (arith, row_begins _ _ c.args.to.lanes _ (c.args.from.first + c.args.taps.by + 5 * c.args.taps.step) _ _ c.requires.samples c.loop-y-test.true)
 
-pub half_row-row-requires-clause-samples : goal.half_row-row-requires-clause-samples
-half_row-row-requires-clause-samples g c k low = row_within _ _ c.args.to.lanes _ (c.args.from.first + c.args.taps.by) (5 * c.args.taps.step) _ k _ c.requires.samples c.loop-y-test.true low
+pub half_row-row-requires : goal.half_row-row-requires
+half_row-row-requires g c = (three_words, λ k low. row_within _ _ c.args.to.lanes _ (c.args.from.first + c.args.taps.by) (5 * c.args.taps.step) _ k _ c.requires.samples c.loop-y-test.true low)
 
 pub overflow_mul-y-in-loop-y : goal.overflow_mul-y-in-loop-y
 overflow_mul-y-in-loop-y g c = omega (arith, row_first _ _ _ c.args.to.lanes c.loop-y-test.true c.requires.room c.loop-y.invariant)

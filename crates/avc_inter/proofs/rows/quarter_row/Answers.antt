@@ -1,24 +1,24 @@
 use Rattle.std.proofs.Common.{ap₂}
-use Rattle.avc_inter.proofs.SixRows.{arith, ap, ◌∙◌, mean_of_two, rounded_sum, sum_there}
+use Rattle.avc_inter.proofs.SixRows.{three_words, arith, ap, ◌∙◌, mean_of_two, rounded_sum, sum_there}
 use Rattle.avc_inter.proofs.rows.quarter_row.Goals as goal
 
-pub sixteen-e-requires-clause-samples : goal.sixteen-e-requires-clause-samples
-sixteen-e-requires-clause-samples g c k low = omega (arith, c.requires.samples k low)
+pub sixteen-e-requires : goal.sixteen-e-requires
+sixteen-e-requires g c = (three_words, λ k low. omega (arith, c.requires.samples k low))
 
-pub sixteen-f-requires-clause-samples : goal.sixteen-f-requires-clause-samples
-sixteen-f-requires-clause-samples g c k low = omega (arith, c.requires.samples k low)
+pub sixteen-f-requires : goal.sixteen-f-requires
+sixteen-f-requires g c = (three_words, λ k low. omega (arith, c.requires.samples k low))
 
-pub sixteen-g-requires-clause-samples : goal.sixteen-g-requires-clause-samples
-sixteen-g-requires-clause-samples g c k low = omega (arith, c.requires.samples k low)
+pub sixteen-g-requires : goal.sixteen-g-requires
+sixteen-g-requires g c = (three_words, λ k low. omega (arith, c.requires.samples k low))
 
-pub sixteen-h-requires-clause-samples : goal.sixteen-h-requires-clause-samples
-sixteen-h-requires-clause-samples g c k low = omega (arith, c.requires.samples k low)
+pub sixteen-h-requires : goal.sixteen-h-requires
+sixteen-h-requires g c = (three_words, λ k low. omega (arith, c.requires.samples k low))
 
-pub sixteen-i-requires-clause-samples : goal.sixteen-i-requires-clause-samples
-sixteen-i-requires-clause-samples g c k low = omega (arith, c.requires.samples k low)
+pub sixteen-i-requires : goal.sixteen-i-requires
+sixteen-i-requires g c = (three_words, λ k low. omega (arith, c.requires.samples k low))
 
-pub sixteen-j-requires-clause-samples : goal.sixteen-j-requires-clause-samples
-sixteen-j-requires-clause-samples g c k low = omega (arith, c.requires.samples k low)
+pub sixteen-j-requires : goal.sixteen-j-requires
+sixteen-j-requires g c = (three_words, λ k low. omega (arith, c.requires.samples k low))
 
 pub overflow_add-at : goal.overflow_add-at
 overflow_add-at g c = omega (arith, c.requires.samples 0 (omega arith))
@@ -51,5 +51,5 @@ pub returns : goal.returns
 returns g c k low =
     c.quarters_of.ensures k low
     ∙ ap₂ mean_of_two (c.sixteen-whole.ensures k low)
-    (ap rounded_sum (sum_there g.row.L c.args.stride c.args.step c.args.p.now _ _ _ _ _ _ c.args.at k low
+    (ap rounded_sum (sum_there g.row.L c.args.source.stride c.args.step c.args.source.samples.now _ _ _ _ _ _ c.args.at k low
     c.sixteen-e.ensures c.sixteen-f.ensures c.sixteen-g.ensures c.sixteen-h.ensures c.sixteen-i.ensures c.sixteen-j.ensures))

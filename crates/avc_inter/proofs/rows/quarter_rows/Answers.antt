@@ -1,4 +1,4 @@
-use Rattle.avc_inter.proofs.SixRows.{row_there, ◌+◌, ◌*◌, arith, row_first, row_room, rows_done, sixteen_more, place_in, row_begins, row_within}
+use Rattle.avc_inter.proofs.SixRows.{three_words, row_there, ◌+◌, ◌*◌, arith, row_first, row_room, rows_done, sixteen_more, place_in, row_begins, row_within}
 use Rattle.avc_inter.proofs.rows.quarter_rows.Goals as goal
 
 pub overflow_mul-y : goal.overflow_mul-y
@@ -13,11 +13,14 @@ overflow_mul-y-in-loop-y g c = omega (arith, row_begins _ _ c.args.to.lanes _ (c
 pub overflow_add-from-in-loop-y-3 : goal.overflow_add-from-in-loop-y-3
 overflow_add-from-in-loop-y-3 g c = omega (arith, row_begins _ _ c.args.to.lanes _ (c.args.from.first + c.args.whole) _ _ c.requires.whole c.loop-y-test.true)
 
-pub quarter_row-row-requires-clause-samples : goal.quarter_row-row-requires-clause-samples
-quarter_row-row-requires-clause-samples g c k low = row_within _ _ c.args.to.lanes _ (c.args.from.first + c.args.taps.by) (5 * c.args.taps.step) _ k _ c.requires.samples c.loop-y-test.true low
-
-pub quarter_row-row-requires-clause-whole : goal.quarter_row-row-requires-clause-whole
-quarter_row-row-requires-clause-whole g c k low = row_there _ _ c.args.to.lanes _ (c.args.from.first + c.args.whole) _ k _ c.requires.whole c.loop-y-test.true low
+pub quarter_row-row-requires : goal.quarter_row-row-requires
+quarter_row-row-requires g c = (
+  three_words,
+  (
+    λ k low. row_within _ _ c.args.to.lanes _ (c.args.from.first + c.args.taps.by) (5 * c.args.taps.step) _ k _ c.requires.samples c.loop-y-test.true low,
+    λ k low. row_there _ _ c.args.to.lanes _ (c.args.from.first + c.args.whole) _ k _ c.requires.whole c.loop-y-test.true low,
+  ),
+)
 
 pub overflow_mul-y-in-loop-y-2 : goal.overflow_mul-y-in-loop-y-2
 overflow_mul-y-in-loop-y-2 g c = omega (arith, row_first _ _ _ c.args.to.lanes c.loop-y-test.true c.requires.room c.loop-y.invariant)

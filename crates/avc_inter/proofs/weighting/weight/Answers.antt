@@ -6,7 +6,7 @@ pub loop-k-preserved : goal.loop-k-preserved
 loop-k-preserved g c =
     let old = c.as_slice-old.result.now in
     let long : length old ≡ g.row.W * g.row.H = c.as_slice-old.ensures.long in
-    let few : length old ≤ 256 = omega (arith, long, mul-le g.row.W g.row.H 16 16 c.requires.columns.1 c.requires.rows.1) in
+    let few : length old ≤ 256 = omega (arith, long, mul-le g.row.W g.row.H 16 16 c.requires.block.few_columns c.requires.block.few_rows) in
     let room : c.loop-k.k < length c.loop-k.samples = omega (arith, few) in
     record {
       long = length-set c.loop-k.samples c.loop-k.k c.weighted_sample.result ∙ c.loop-k.invariant.long;

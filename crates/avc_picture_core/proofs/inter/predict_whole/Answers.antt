@@ -1,26 +1,26 @@
-use Rattle.avc_picture_core.proofs.InterTiles.{◌≡◌, arith, refl, sym, ap, ◌∙◌, Some, is_some, option_copied, planes_of, block_motion, picture_in}
+use Rattle.avc_picture_core.proofs.InterTiles.{◌≡◌, refl, sym, ap, ◌∙◌, Some, is_some, option_copied, planes_of, block_motion, picture_in}
 use Rattle.avc_picture_core.proofs.InterTiles.{all_as_first, all_predicted, pictures_shown, usable_in, whole_is}
 use Rattle.avc_picture_core.proofs.inter.predict_whole.Goals as goal
 
-pub set_macroblock-requires : goal.set_macroblock-requires
-set_macroblock-requires g c =
+pub invariant_of-set_macroblock : goal.invariant_of-set_macroblock
+invariant_of-set_macroblock g c =
     let a = c.args in
-    let r = c.requires in
-    let usable =
-    usable_in a.size.width a.size.height a.place.column a.place.row a.references.now (block_motion a.motion.now 0) c.in-Some.picture.now r.usable r.column r.row
-    (sym c.picture_of.ensures ∙ ap option_copied c.in-Some.is) in
-    (omega arith, (omega arith, (r.macroblock, usable)))
+    let references = a.references in
+    record {
+      usable = usable_in references.size.width references.size.height a.place.column a.place.row references.pictures.now (block_motion a.motion.now 0) c.in-Some.picture.now references.usable
+          c.requires.at.column c.requires.at.row (sym c.picture_of.ensures ∙ ap option_copied c.in-Some.is);
+    }
 
 pub returns-in-Some-clause-built : goal.returns-in-Some-clause-built
 returns-in-Some-clause-built g c c' slice wide high are =
     let a = c.args in
-    let named : picture_in a.references.now (block_motion a.motion.now 0) ≡ Some c.in-Some.picture.now = sym c.picture_of.ensures ∙ ap option_copied c.in-Some.is in
-    let pictures = sym (all_as_first a.references.now a.motion.now c.told-motion c.requires.shape) ∙ ap is_some named in (
-      pictures_shown c' slice a.references.now a.motion.now are ∙ pictures,
-      all_predicted a.references.now a.size.width a.size.height a.place.column a.place.row a.motion.now (planes_of a.planes.now) (planes_of c.set_macroblock.new.planes) c' slice
-          c.told-motion c.requires.usable pictures
-          (whole_is a.references.now a.place.column a.place.row a.motion.now c.in-Some.picture.now c.vector.result (planes_of a.planes.now) (planes_of c.set_macroblock.new.planes)
-          c.requires.shape named c.vector.ensures c.set_macroblock.ensures)
+    let named : picture_in a.references.pictures.now (block_motion a.motion.now 0) ≡ Some c.in-Some.picture.now = sym c.picture_of.ensures ∙ ap option_copied c.in-Some.is in
+    let pictures = sym (all_as_first a.references.pictures.now a.motion.now c.told-motion c.requires.shape) ∙ ap is_some named in (
+      pictures_shown c' slice a.references.pictures.now a.motion.now are ∙ pictures,
+      all_predicted a.references.pictures.now a.references.size.width a.references.size.height a.place.column a.place.row a.motion.now (planes_of a.planes.now) (planes_of c.set_macroblock.new.planes) c' slice
+          c.told-motion a.references.usable pictures
+          (whole_is a.references.pictures.now a.place.column a.place.row a.motion.now c.in-Some.picture.now c.vector-mv.result (planes_of a.planes.now) (planes_of c.set_macroblock.new.planes)
+          c.requires.shape named c.vector-mv.ensures c.set_macroblock.ensures)
           wide high are,
     )
 
@@ -28,6 +28,6 @@ pub returns-in-None-clause-built : goal.returns-in-None-clause-built
 returns-in-None-clause-built g c c' slice wide high are =
     let a = c.args in (
       refl,
-      pictures_shown c' slice a.references.now a.motion.now are ∙ sym (all_as_first a.references.now a.motion.now c.told-motion c.requires.shape)
+      pictures_shown c' slice a.references.pictures.now a.motion.now are ∙ sym (all_as_first a.references.pictures.now a.motion.now c.told-motion c.requires.shape)
           ∙ ap is_some (sym c.picture_of.ensures ∙ ap option_copied c.in-None.is),
     )

@@ -4,5 +4,7 @@ use Rattle.avc_picture_core.proofs.inter.predict_wide_halves.Goals as goal
 pub returns : goal.returns
 returns g c =
     let a = c.args in
-    two_below a.place.column a.place.row a.corner.x a.corner.y g.row.S g.row.H g.row.S (wanted a.references.now a.place.column a.place.row a.motion.now) (planes_of a.planes.now) (planes_of c.predict_part.new.planes) (planes_of c.predict_part-2.new.planes)
-    c.requires.even.1 (omega (arith, c.requires.side)) (omega (arith, c.requires.side)) c.predict_part.ensures c.predict_part-2.ensures
+    let from = a.from.now in
+    let place = from.place in
+    two_below place.column place.row a.upper.x a.upper.y g.row.S g.row.H g.row.S (wanted from.references.now place.column place.row from.motion.now) (planes_of a.planes.now) (planes_of c.predict_part.new.planes) (planes_of c.predict_part-2.new.planes)
+    a.upper.even_y (omega (arith, a.upper.high)) (omega (arith, c.requires.square)) c.predict_part.ensures c.predict_part-2.ensures

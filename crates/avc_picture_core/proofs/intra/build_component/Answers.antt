@@ -10,4 +10,4 @@ returns-clause-samples g c = λ inside.
     let top = 8 * c.args.place.row in
     rw (c.add_chroma_residual.ensures, c.predict_component.ensures.samples inside)
     (residual_over c.args.plane.now left top 8 8 (λ x y. unwrap_or (intra_chroma c.args.sides (seen_from c.args.plane.now left top) c.args.mode x y) 0)
-    (chroma_residual c.args.qp c.args.dc.now c.args.ac.now) c.requires.columns c.requires.rows)
+    (chroma_residual c.args.qp.value c.args.levels.dc.now c.args.levels.ac.now) c.requires.macroblock.columns c.requires.macroblock.rows)

@@ -1,22 +1,7 @@
 use Rattle.avc_picture_core.proofs.InterTiles.{◌≡◌, ◌+◌, ◌*◌, true, false, refl, sym, subst, ◌∙◌, arith, i_16x16, planes_of, sides_of, has_sides}
-use Rattle.avc_picture_core.proofs.InterTiles.{AreInside, and_parts, inside_luma, luma_16x16, planes_intra, refused_by}
+use Rattle.avc_picture_core.proofs.InterTiles.{AreInside, inside_luma, luma_16x16, planes_intra, refused_by}
 use Rattle.avc_types.specs.MacroblockFields.{residual_of}
 use Rattle.avc_picture_core.proofs.intra.build_i_16x16.Goals as goal
-
-pub build_luma16x16-requires : goal.build_luma16x16-requires
-build_luma16x16-requires g c =
-    let r = c.requires in
-    (omega arith, (r.room.luma_columns, (r.room.luma_rows, ((and_parts _ _ (sym c.has_sides16x16.ensures ∙ c.if-not-has_sides16x16.false)).0, (c.args.qp.luma_qp, r.levels)))))
-
-pub build_component-requires : goal.build_component-requires
-build_component-requires g c =
-    let r = c.requires in
-    (omega arith, (r.room.cb_columns, (r.room.cb_rows, ((and_parts _ _ (sym c.has_sides16x16.ensures ∙ c.if-not-has_sides16x16.false)).1, (c.args.qp.chroma_qp, (r.levels.dc_of_cb, r.levels.blocks_of_cb))))))
-
-pub build_component-requires-2 : goal.build_component-requires-2
-build_component-requires-2 g c =
-    let r = c.requires in
-    (omega arith, (r.room.cr_columns, (r.room.cr_rows, ((and_parts _ _ (sym c.has_sides16x16.ensures ∙ c.if-not-has_sides16x16.false)).1, (c.args.qp.chroma_qp, (r.levels.dc_of_cr, r.levels.blocks_of_cr))))))
 
 pub returns-then-not-has_sides16x16-clause-built : goal.returns-then-not-has_sides16x16-clause-built
 returns-then-not-has_sides16x16-clause-built g c = λ p at may.
@@ -40,9 +25,9 @@ returns-clause-built g c = λ p at may.
     let mine : sides_of p.coded p.address 0 ≡ sides = may.sides 0 (omega arith) ∙ sym c.sides-sides.ensures in
     let within = subst (λ t. AreInside (16 * column + 0) (16 * row + 0) old.luma.width t) (sym c.sides-sides.ensures) (may.inside 0 (omega arith)) in
     let test : has_sides p syntax ≡ c.has_sides16x16.result = cc (mine, c.mode16x16-luma_mode.ensures, c.mode_chroma-mode.ensures, c.has_sides16x16.ensures) in
-    planes_intra p column row c.args.qp.luma c.args.qp.chroma chroma syntax r sides c.mode_chroma-mode.result (planes_of old) _ at mine c.mode_chroma-mode.ensures refl
-    (test ∙ c.if-not-has_sides16x16.false) within c.requires.room.cb_columns c.requires.room.cr_columns (λ k t. refl)
+    planes_intra p column row c.args.qp.luma.value c.args.qp.chroma.value chroma syntax r sides c.mode_chroma-mode.result (planes_of old) _ at mine c.mode_chroma-mode.ensures refl
+    (test ∙ c.if-not-has_sides16x16.false) within c.requires.macroblock.cb.columns c.requires.macroblock.cr.columns (λ k t. refl)
     (λ x y. rw (at.syntax_is, at.chroma_is) refl) (λ x y. rw (at.syntax_is, at.chroma_is) refl)
-    (luma_16x16 p column row m chroma c.args.qp.luma c.args.qp.chroma r sides old.luma c.build_luma16x16.new.plane c.mode16x16-luma_mode.result at mine c.mode16x16-luma_mode.ensures
+    (luma_16x16 p column row m chroma c.args.qp.luma.value c.args.qp.chroma.value r sides old.luma c.build_luma16x16.new.plane c.mode16x16-luma_mode.result at mine c.mode16x16-luma_mode.ensures
     (c.build_luma16x16.ensures.samples (inside_luma (16 * column) (16 * row) old.luma.width sides within)))
     c.build_component.ensures.samples c.build_component-2.ensures.samples

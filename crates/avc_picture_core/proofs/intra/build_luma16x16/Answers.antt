@@ -11,4 +11,4 @@ returns-clause-samples g c = λ inside.
     let top = 16 * c.args.place.row in
     rw (c.add_luma_residual_16x16.ensures, c.predict_luma16x16.ensures.samples inside)
     (residual_over c.args.plane.now left top 16 16 (λ x y. unwrap_or (intra16x16 c.args.sides (seen_from c.args.plane.now left top) c.args.mode x y) 0)
-    (luma_residual_16x16 c.args.qp (residual_of c.args.dc.now c.args.levels.now)) c.requires.columns c.requires.rows)
+    (luma_residual_16x16 c.args.qp.value (residual_of c.args.levels.dc.now c.args.levels.blocks.now)) c.requires.macroblock.columns c.requires.macroblock.rows)

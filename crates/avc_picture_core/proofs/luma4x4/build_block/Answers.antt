@@ -10,4 +10,4 @@ returns-clause-block g c = λ inside.
     let top = c.args.top in
     rw (c.add_block4x4.ensures, c.predict_block.ensures.samples inside)
     (residual_over c.args.plane.now left top 4 4 (λ x y. unwrap_or (intra4x4 c.args.sides (seen_from c.args.plane.now left top) c.args.mode x y) 0)
-    (residual4x4 c.args.qp c.args.levels.now) c.requires.columns c.requires.rows)
+    (residual4x4 c.args.qp.value c.args.levels.now) c.requires.block.columns c.requires.block.rows)

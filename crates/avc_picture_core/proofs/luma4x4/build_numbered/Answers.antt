@@ -10,10 +10,10 @@ returns-clause-block g c = λ p at.
     let cur = a.plane.now in
     let left = c.first_column.result + c.left_of_block.result in
     let top = c.first_row.result + c.top_of_block.result in
-    let blocks = a.levels.now.luma in
-    let levels = slice_index_or blocks k c.index-levels-k.result in
-    let mine : slice_index_or blocks k [] ≡ levels = get_or_default blocks k [] c.index-levels-k.result (search rules) in
-    let f = residual4x4 a.qp levels in
+    let blocks = a.levels.blocks.now.luma in
+    let levels = slice_index_or blocks k c.index-blocks-k.result in
+    let mine : slice_index_or blocks k [] ≡ levels = get_or_default blocks k [] c.index-blocks-k.result (search rules) in
+    let f = residual4x4 a.qp.value levels in
     let at_left : left ≡ 16 * a.place.column + block_x k = omega (arith, c.first_column.ensures, c.left_of_block.ensures.value) in
     let at_top : top ≡ 16 * a.place.row + block_y k = omega (arith, c.first_row.ensures, c.top_of_block.ensures.value) in
     let within : AreInside left top cur.width c.sides-sides.result =
@@ -23,4 +23,4 @@ returns-clause-block g c = λ p at.
     (ap (λ n. n + block_x k) at.left ∙ sym at_left) (ap (λ n. n + block_y k) at.top ∙ sym at_top)
     (at.may_read.sides k c.requires.number ∙ sym c.sides-sides.ensures)
     (ap (λ l. mode4x4_of (mode_number (slice_index_or l k absent))) at.modes_are ∙ sym c.mode4x4-mode.ensures)
-    (λ x y column row. nxn_residual a.qp k (residual_of [] a.levels.now) levels c.requires.number mine x y column row ∙ sym (at.residual_is (block_x k + x) (block_y k + y)))
+    (λ x y column row. nxn_residual a.qp.value k (residual_of [] a.levels.blocks.now) levels c.requires.number mine x y column row ∙ sym (at.residual_is (block_x k + x) (block_y k + y)))

@@ -6,5 +6,5 @@ returns-in_err-predict_inter-clause-built g c = λ p qp qp_of_chroma at width he
 
 pub returns-clause-built : goal.returns-clause-built
 returns-clause-built g c = λ p qp qp_of_chroma at width height motion are.
-    planes_skip p c.args.place.column c.args.place.row qp qp_of_chroma c.args.motion.now (planes_of c.args.planes.now) (planes_of c.predict_inter.new.planes) at motion c.requires.room
+    planes_skip p c.args.place.column c.args.place.row qp qp_of_chroma c.args.motion.now (planes_of c.args.planes.now) (planes_of c.predict_inter.new.planes) at motion c.requires.macroblock
     (c.in_ok-predict_inter.ensures.built p.coded p.slice width height are) c.holds_bytes.ensures.small c.holds_bytes-2.ensures.small c.holds_bytes-3.ensures.small

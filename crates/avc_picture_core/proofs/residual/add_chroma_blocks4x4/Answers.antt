@@ -12,7 +12,7 @@ loop-k-preserved g c =
     let k = c.loop-k.k in
     let l = 4 * (k % 2) in
     let t = 4 * (k / 2) in
-    let qp = c.args.qp in
+    let qp = c.args.qp.value in
     let blocks = c.args.ac.now in
     let levels = slice_index_or blocks k c.index-ac-k.result in
     let mine : slice_index_or blocks k [] ≡ levels = get_or_default blocks k [] c.index-ac-k.result (omega (arith, c.told-ac, c.loop-k-test.true)) in
@@ -23,7 +23,7 @@ loop-k-preserved g c =
     ap (λ i. slice_index_or c.chroma_dc-values.result i (pos 0)) (omega arith)
     ∙ c.chroma_dc-values.ensures.values (l / 4) (t / 4) (omega arith) (omega (arith, c.loop-k-test.true))
     ∙ ap (λ d. chroma_dc qp d (l / 4) (t / 4)) c.as_array.ensures in
-    added_more c.args.plane.now 8 c.args.place.column c.args.place.row _ _ chroma_number (residual_by_dc qp (chroma_dc qp c.args.dc.now) blocks) c.requires.columns c.requires.rows
+    added_more c.args.plane.now 8 c.args.place.column c.args.place.row _ _ chroma_number (residual_by_dc qp (chroma_dc qp c.args.dc.now) blocks) c.requires.macroblock.columns c.requires.macroblock.rows
     c.loop-k.plane c.add_block4x4_with_dc.new.plane k l t (residual4x4_with_dc qp (to_z w32 (of_z w32 dc)) levels) c.loop-k.invariant
     (chroma_tile k c.loop-k-test.true) (λ i j. rw (back, value, mine) refl) c.add_block4x4_with_dc.ensures
 
@@ -32,7 +32,7 @@ returns g c = search (rules, added_all)
 
 pub returns-then-not-has_ac_levels : goal.returns-then-not-has_ac_levels
 returns-then-not-has_ac_levels g c =
-    let qp = c.args.qp in
+    let qp = c.args.qp.value in
     let dc = c.args.dc.now in
     let ac = c.args.ac.now in
     let rounded = λ (z : ℤ). z +ℤ pos 32 >>ℤ 6 in

@@ -14,8 +14,8 @@ returns g c =
     let b = c.add_levels_to_row-2.new.plane in
     let d = c.add_levels_to_row-3.new.plane in
     let e = c.add_levels_to_row-4.new.plane in
-    let columns : left + 16 ≤ s.width = omega (arith, c.first_column-left.ensures, c.requires.columns) in
-    let rows : top + 16 ≤ s.height = omega (arith, c.first_row-top.ensures, c.requires.rows) in
+    let columns : left + 16 ≤ s.width = omega (arith, c.first_column-left.ensures, c.requires.macroblock.columns) in
+    let rows : top + 16 ≤ s.height = omega (arith, c.first_row-top.ensures, c.requires.macroblock.rows) in
     let one : a ≡ with_residual s left top 16 4 f =
     c.add_levels_to_row.ensures
     ∙ residual_same s left top 16 4 _ f (λ x y column row. c.residuals_of_dc.ensures.values (x / 4) (omega arith) ∙ ap v (omega arith)) in

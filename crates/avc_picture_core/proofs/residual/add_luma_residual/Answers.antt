@@ -35,11 +35,11 @@ pub loop-quarter-preserved : goal.loop-quarter-preserved
 loop-quarter-preserved g c =
     let a = c.args in
     let q = c.loop-quarter.quarter in
-    four_more a.plane.now a.place.column a.place.row (16 * a.place.column) (16 * a.place.row) a.qp a.levels.now.luma c.requires.columns c.requires.rows q c.loop-quarter-test.true
+    four_more a.plane.now a.place.column a.place.row (16 * a.place.column) (16 * a.place.row) a.qp.value a.levels.blocks.now.luma c.requires.macroblock.columns c.requires.macroblock.rows q c.loop-quarter-test.true
     c.loop-quarter.plane c.add_numbered.new.plane c.add_numbered-in-loop-quarter.new.plane c.add_numbered-in-loop-quarter-2.new.plane c.add_numbered-in-loop-quarter-3.new.plane
     c.loop-quarter.invariant c.add_numbered.ensures.block c.add_numbered-in-loop-quarter.ensures.block c.add_numbered-in-loop-quarter-2.ensures.block c.add_numbered-in-loop-quarter-3.ensures.block
 
 pub returns : goal.returns
 returns g c =
-    added_all c.args.plane.now 16 c.args.place.column c.args.place.row (16 * c.args.place.column) (16 * c.args.place.row) block_at (residual_by_levels c.args.qp c.args.levels.now.luma) c.loop-quarter.plane (4 * c.loop-quarter.quarter) c.loop-quarter.invariant
+    added_all c.args.plane.now 16 c.args.place.column c.args.place.row (16 * c.args.place.column) (16 * c.args.place.row) block_at (residual_by_levels c.args.qp.value c.args.levels.blocks.now.luma) c.loop-quarter.plane (4 * c.loop-quarter.quarter) c.loop-quarter.invariant
     (λ x y column row. omega (arith, c.loop-quarter-test.false))

@@ -3,4 +3,4 @@ use Rattle.avc_picture_core.proofs.residual.add_luma_residual_16x16.Given as goa
 
 abbrev pub invariant-loop-k : goal.invariant-loop-k
 invariant-loop-k g l =
-    AddedBefore l.fn.plane l.plane 16 l.fn.place.column l.fn.place.row l.column l.row block_at (residual_by_dc l.qp (luma_dc l.qp l.dc) l.levels.luma) l.k
+    AddedBefore l.fn.plane l.plane 16 l.fn.place.column l.fn.place.row l.column l.row block_at (residual_by_dc l.qp.value (luma_dc l.qp.value l.levels.dc.now) l.levels.blocks.now.luma) l.k

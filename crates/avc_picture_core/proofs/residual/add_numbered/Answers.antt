@@ -13,6 +13,6 @@ returns-clause-block g c =
     let at_left : left ≡ 16 * a.place.column + block_x a.k = omega (arith, c.first_column.ensures, c.left_of_block.ensures.value) in
     let at_top : top ≡ 16 * a.place.row + block_y a.k = omega (arith, c.first_row.ensures, c.top_of_block.ensures.value) in
     c.add_block4x4.ensures
-    ∙ ap (λ n. with_residual s n top 4 4 (residual4x4 a.qp levels)) at_left
-    ∙ ap (λ n. with_residual s (16 * a.place.column + block_x a.k) n 4 4 (residual4x4 a.qp levels)) at_top
-    ∙ ap (λ l. with_residual s (16 * a.place.column + block_x a.k) (16 * a.place.row + block_y a.k) 4 4 (residual4x4 a.qp l)) (sym mine)
+    ∙ ap (λ n. with_residual s n top 4 4 (residual4x4 a.qp.value levels)) at_left
+    ∙ ap (λ n. with_residual s (16 * a.place.column + block_x a.k) n 4 4 (residual4x4 a.qp.value levels)) at_top
+    ∙ ap (λ l. with_residual s (16 * a.place.column + block_x a.k) (16 * a.place.row + block_y a.k) 4 4 (residual4x4 a.qp.value l)) (sym mine)

@@ -1,4 +1,4 @@
-use Rattle.std.specs.Prelude.{ℕ, ◌≡◌, ◌*◌, ◌+◌, ◌-◌, ◌/◌}
+use Rattle.std.specs.Prelude.{◌≡◌, ◌*◌, ◌+◌, ◌-◌, ◌/◌}
 use Rattle.avc_picture_core.proofs.InterTiles.{arith, subst}
 use Rattle.avc_picture_core.specs.Still.{IsPieceOf}
 use Rattle.avc_picture_core.proofs.StillMacroblocks.{piece_more}

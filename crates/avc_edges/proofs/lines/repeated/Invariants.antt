@@ -1,8 +1,0 @@
-use Rattle.avc_edges.proofs.EdgesOnPlane.{◌≡◌, ◌<◌, ℕ, length, slice_index}
-use Rattle.avc_edges.proofs.lines.repeated.Given as goal
-
-abbrev pub invariant-loop-k : goal.invariant-loop-k
-invariant-loop-k l = record {
-  long : length l.out ≡ 16;
-  done : (k : ℕ) → k < l.k → slice_index l.out k ≡ l.v;
-}
