@@ -34,6 +34,7 @@ fn block_at(x: usize, y: usize) -> usize
 }
 
 /// What a block of a neighbouring macroblock has.
+#[inline(always)]
 fn block_of(info: Option<&NeighbourInfo>, block: usize) -> Motion
     requires { block < 16 }
     ensures { result ≡ block_of absent (λ f. f.motion) (option_copied info.entry) block }
@@ -45,6 +46,7 @@ fn block_of(info: Option<&NeighbourInfo>, block: usize) -> Motion
 }
 
 /// What stands left of the sample (x, y).
+#[inline(always)]
 pub(crate) fn left_of(
     neighbours: &Neighbours<'_>,
     mine: &[Motion; 16],
@@ -63,6 +65,7 @@ pub(crate) fn left_of(
 }
 
 /// What stands above the sample (x, y), which may be the first one right of the macroblock.
+#[inline(always)]
 pub(crate) fn above(neighbours: &Neighbours<'_>, mine: &[Motion; 16], x: usize, y: usize) -> Motion
     requires column { x ≤ 16 }
     requires row { y < 16 }
@@ -77,6 +80,7 @@ pub(crate) fn above(neighbours: &Neighbours<'_>, mine: &[Motion; 16], x: usize, 
 }
 
 /// What stands above on the left of the sample (x, y).
+#[inline(always)]
 fn above_left(neighbours: &Neighbours<'_>, mine: &[Motion; 16], x: usize, y: usize) -> Motion
     requires column { x < 16 }
     requires row { y < 16 }
@@ -94,6 +98,7 @@ fn above_left(neighbours: &Neighbours<'_>, mine: &[Motion; 16], x: usize, y: usi
 
 impl NeighbouringPartitions {
     /// The neighbours of the part of this width whose upper left luma sample is (x, y).
+    #[inline(always)]
     pub(crate) fn of(
         neighbours: &Neighbours<'_>,
         mine: &[Motion; 16],

@@ -1,7 +1,7 @@
 //! Parts of a macroblock whose vectors are coded (8.4.1.3, 7.4.5.1).
 
 ghost use Rattle.std.specs.Prelude.{◌≡◌, ℕ, ◌≤◌, ◌<◌, ◌+◌, ◌*◌, pos, ◌+ℤ◌, true, false};
-ghost use Rattle.std.specs.Prelude.{if◌then◌else◌, length, slice_index_or, Some, None};
+ghost use Rattle.std.specs.Prelude.{[], ◌∷◌, if◌then◌else◌, length, slice_index_or, Some, None};
 ghost use Rattle.std.specs.List.{All};
 ghost use Rattle.avc_neigh.specs.declared.neighbour_info.Motion.TheVariants.{Absent as absent};
 ghost use Rattle.avc_neigh.specs.declared.neighbour_info.Motion.TheVariants.{Inter as inter};
@@ -38,7 +38,7 @@ fn motion_by(ref_idx: u8, predicted: Mv, mvd: Mvd) -> Result<Motion, Fault>
 {
     match (sum(predicted.x, mvd.x), sum(predicted.y, mvd.y)) {
         (Some(x), Some(y)) => Ok(Motion::Inter {
-            ref_idx,
+            ref_idx: u16::from(ref_idx),
             mv: Mv { x, y },
         }),
         _ => Err(Fault::VectorRange),
@@ -66,6 +66,7 @@ fn pick(is_first: bool, first: Motion, second: Motion) -> Motion
 }
 
 /// All blocks of a quarter lie in the part.
+#[inline(always)]
 fn has_quarter(part: Part, quarter: usize) -> bool
     requires { quarter < 4 }
     ensures { result ≡ true → (k : ℕ) → IsOfQuarter quarter k → motions.is_in_part part k ≡ true }
@@ -78,6 +79,7 @@ fn has_quarter(part: Part, quarter: usize) -> bool
 }
 
 /// No block of a quarter lies in the part.
+#[inline(always)]
 fn is_apart(part: Part, quarter: usize) -> bool
     requires { quarter < 4 }
     ensures { result ≡ true → (k : ℕ) → IsOfQuarter quarter k → motions.is_in_part part k ≡ false }
@@ -90,6 +92,7 @@ fn is_apart(part: Part, quarter: usize) -> bool
 }
 
 /// Gives all blocks of a quarter their motion.
+#[inline(always)]
 fn fill_whole(mine: &mut [Motion; 16], quarter: usize, motion: Motion)
     requires { quarter < 4 }
     ensures here { (k : ℕ) → IsOfQuarter quarter k → slice_index_or mine.new k absent ≡ motion }
@@ -128,6 +131,7 @@ fn fill_quarter(mine: &mut [Motion; 16], part: Part, quarter: usize, motion: Mot
 }
 
 /// Gives the blocks of a part their motion.
+#[inline(always)]
 fn fill(mine: &mut [Motion; 16], part: Part, motion: Motion)
     ensures { mine.new ≡ motions.with_part mine.old part motion }
 {
@@ -165,6 +169,7 @@ impl Inter<'_> {
     ghost use Rattle.avc_motion.specs.Decoding.{moved_by, parts_in_quarter};
 
     /// What the blocks of a part have.
+    #[inline(always)]
     fn motion_of_part(&self, mine: &[Motion; 16], part: Part, mvd: Mvd) -> Result<Motion, Fault>
         requires { IsInside part }
         ensures { result ≡ in_range_only (moved_by self.now mine.now part mvd) }
@@ -184,6 +189,8 @@ impl Inter<'_> {
 
     /// Gives the blocks of these parts their motion, one part after another, up to the first vector
     /// that leaves 16 bits.
+    // where a partition lies is known where it is named: nothing is asked of it then
+    #[inline(always)]
     fn decode_parts(
         &self,
         mine: &mut [Motion; 16],
@@ -199,6 +206,39 @@ impl Inter<'_> {
             fill(mine, parts[i], motion);
         }
         Ok(())
+    }
+
+    /// The two partitions of a macroblock in halves.
+    #[inline(always)]
+    fn decode_halves(
+        &self,
+        mine: &mut [Motion; 16],
+        first: Part,
+        second: Part,
+        mvd: &[Mvd; 16],
+    ) -> Result<(), Fault>
+        requires first { IsInside first }
+        requires second { IsInside second }
+        ensures { Decodes result mine.new
+            (decoded_by self.now mine.old (first ∷ second ∷ []) mvd.now) }
+    {
+        self.decode_parts(mine, &[first], mvd)?;
+        self.decode_parts(mine, &[second], &mvd[1..])
+    }
+
+    /// The parts of a sub-macroblock, wherever they lie.
+    #[inline(never)]
+    fn decode_sub_parts(
+        &self,
+        mine: &mut [Motion; 16],
+        parts: &[Part],
+        mvd: &[Mvd],
+    ) -> Result<(), Fault>
+        requires enough { length parts.now ≤ length mvd.now }
+        requires inside { All IsInside parts.now }
+        ensures { Decodes result mine.new (decoded_by self.now mine.old parts.now mvd.now) }
+    {
+        self.decode_parts(mine, parts, mvd)
     }
 
     /// The parts of a quarter (6.4.2.2).
@@ -218,15 +258,15 @@ impl Inter<'_> {
         match sub_mb_type {
             SubMbType::Sub8x8 => {
                 let parts = [part(x, y, 8, 8, quarter)];
-                self.decode_parts(mine, &parts, mvd)
+                self.decode_sub_parts(mine, &parts, mvd)
             }
             SubMbType::Sub8x4 => {
                 let parts = [part(x, y, 8, 4, quarter), part(x, y + 4, 8, 4, quarter)];
-                self.decode_parts(mine, &parts, mvd)
+                self.decode_sub_parts(mine, &parts, mvd)
             }
             SubMbType::Sub4x8 => {
                 let parts = [part(x, y, 4, 8, quarter), part(x + 4, y, 4, 8, quarter)];
-                self.decode_parts(mine, &parts, mvd)
+                self.decode_sub_parts(mine, &parts, mvd)
             }
             SubMbType::Sub4x4 => {
                 let parts = [
@@ -235,7 +275,7 @@ impl Inter<'_> {
                     part(x, y + 4, 4, 4, quarter),
                     part(x + 4, y + 4, 4, 4, quarter),
                 ];
-                self.decode_parts(mine, &parts, mvd)
+                self.decode_sub_parts(mine, &parts, mvd)
             }
         }
     }
@@ -273,12 +313,10 @@ impl Inter<'_> {
                 self.decode_parts(mine, &parts, mvd)
             }
             PMbType::P16x8 => {
-                let parts = [part(0, 0, 16, 8, 0), part(0, 8, 16, 8, 1)];
-                self.decode_parts(mine, &parts, mvd)
+                self.decode_halves(mine, part(0, 0, 16, 8, 0), part(0, 8, 16, 8, 1), mvd)
             }
             PMbType::P8x16 => {
-                let parts = [part(0, 0, 8, 16, 0), part(8, 0, 8, 16, 1)];
-                self.decode_parts(mine, &parts, mvd)
+                self.decode_halves(mine, part(0, 0, 8, 16, 0), part(8, 0, 8, 16, 1), mvd)
             }
             PMbType::P8x8(sub_mb_type) => self.decode_quarters(mine, sub_mb_type, mvd),
             PMbType::P8x8Ref0(sub_mb_type) => self.decode_quarters(mine, sub_mb_type, mvd),

@@ -22,7 +22,7 @@ fn has_reference(ref_idx: u8, motion: Motion) -> bool
 {
     match motion {
         Motion::Absent | Motion::Intra => false,
-        Motion::Inter { ref_idx: other, .. } => other == ref_idx,
+        Motion::Inter { ref_idx: other, .. } => other == u16::from(ref_idx),
     }
 }
 
@@ -87,6 +87,7 @@ impl NeighbouringPartitions {
     }
 
     /// The neighbour that a partition of a macroblock in two halves asks first (8.4.1.3).
+    #[inline(always)]
     fn first_asked(self, mb_type: &PMbType, partition: usize) -> Motion
         ensures { result ≡ motions.first_asked mb_type.now partition self }
     {
@@ -99,6 +100,7 @@ impl NeighbouringPartitions {
 
     /// The prediction of the vector of a part with this reference index, in quarter luma samples
     /// (8.4.1.3).
+    #[inline(always)]
     pub(crate) fn predicted_vector(self, mb_type: &PMbType, partition: usize, ref_idx: u8) -> Mv
         ensures { result ≡ motions.predicted_vector mb_type.now partition ref_idx self }
     {

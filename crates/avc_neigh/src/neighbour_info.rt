@@ -41,7 +41,8 @@ pub enum Motion {
     Intra,
 
     /// The reference index and the vector.
-    Inter { ref_idx: u8, mv: Mv },
+    // the index in sixteen bits: a motion has eight bytes then, of which a vector holds whole ones
+    Inter { ref_idx: u16, mv: Mv },
 }
 
 /// What later macroblocks ask of a decoded one.
