@@ -69,6 +69,10 @@ fn lay_eighths<const W: usize, const PAD: usize>(
     ensures cr { IsLaid W (2 * to.entry.pairs) to.entry.cr
         (eighths_from from.entry.cr.now at beyond) cr.old cr.new }
 {
+    // planes of a picture have one stride: where it is known, each place is found once for both
+    if from.cb.stride() != from.cr.stride() || to.cb.stride != to.cr.stride {
+        return lay_far::<W, PAD>(from, at, beyond, cb, cr, to);
+    }
     let lines = 2 * to.pairs + 1;
     let Some(at_cb) = find_within(from.cb, at.left, at.top, 9, lines) else {
         return lay_far::<W, PAD>(from, at, beyond, cb, cr, to);

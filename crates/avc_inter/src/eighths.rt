@@ -12,9 +12,9 @@ use crate::both::{BothPlaces, BothTargets};
 use crate::rows::{load, put_row};
 use crate::vector::Eighths;
 
-/// How many eighths of the way it is from a number to the next.
+/// How far it is from a number to the next.
 #[derive(Clone, Copy)]
-struct Part {
+struct Fraction {
     eighths: u16,
 
     ghost few: { eighths < 8 },
@@ -22,7 +22,7 @@ struct Part {
 
 /// Between two samples, in eighths.
 #[inline(always)]
-fn share(by: Part, first: u8, second: u8) -> u16
+fn share(by: Fraction, first: u8, second: u8) -> u16
     ensures value { result ≡ share_of by.eighths first second }
     ensures small { result ≤ 2040 }
 {
@@ -31,7 +31,7 @@ fn share(by: Part, first: u8, second: u8) -> u16
 
 /// Between two numbers in eighths, rounded.
 #[inline(always)]
-fn rounded(by: Part, first: u16, second: u16) -> u8
+fn rounded(by: Fraction, first: u16, second: u16) -> u8
     requires first { first ≤ 2040 }
     requires second { second ≤ 2040 }
     ensures { result ≡ rounded_share by.eighths first second }
@@ -55,7 +55,7 @@ fn eight_of_both(cb: &[u8], i: usize, cr: &[u8], j: usize) -> [u8; 16]
 
 /// Between each sample and that right of it.
 #[inline(always)]
-fn shares_of(by: Part, first: &[u8; 16], second: &[u8; 16]) -> [u16; 16]
+fn shares_of(by: Fraction, first: &[u8; 16], second: &[u8; 16]) -> [u16; 16]
     ensures value { (k : ℕ) → k < 16 → slice_index result k
         ≡ share_of by.eighths (slice_index first.now k) (slice_index second.now k) }
     ensures small { AreShares result }
@@ -70,7 +70,7 @@ fn shares_of(by: Part, first: &[u8; 16], second: &[u8; 16]) -> [u16; 16]
 
 /// Between two rows.
 #[inline(always)]
-fn rounded_shares_of(by: Part, first: &[u16; 16], second: &[u16; 16]) -> [u8; 16]
+fn rounded_shares_of(by: Fraction, first: &[u16; 16], second: &[u16; 16]) -> [u8; 16]
     requires first { AreShares first.now }
     requires second { AreShares second.now }
     ensures { (k : ℕ) → k < 16 →
@@ -87,7 +87,7 @@ fn rounded_shares_of(by: Part, first: &[u16; 16], second: &[u16; 16]) -> [u8; 16
 
 /// Row n of both, blended along itself.
 #[inline(always)]
-fn along_row(cb: &[u8], cr: &[u8], from: BothPlaces, n: usize, right: Part) -> [u16; 16]
+fn along_row(cb: &[u8], cr: &[u8], from: BothPlaces, n: usize, right: Fraction) -> [u16; 16]
     requires cb { from.cb.first + n * from.cb.stride + 9 ≤ length cb.now }
     requires cr { from.cr.first + n * from.cr.stride + 9 ≤ length cr.now }
     ensures { AreAlong right.eighths cb.now (from.cb.first + n * from.cb.stride)
@@ -103,7 +103,7 @@ fn along_row(cb: &[u8], cr: &[u8], from: BothPlaces, n: usize, right: Part) -> [
 /// Lays row n of both, between two rows.
 #[inline(always)]
 fn lay_line<const W: usize>(
-    down: Part,
+    down: Fraction,
     above: &[u16; 16],
     below: &[u16; 16],
     n: usize,
@@ -149,10 +149,10 @@ pub fn lay_both<const W: usize>(
         (λ x y. eighth_at beyond.right beyond.down from.cr.stride cr.now (sample_place from.cr x y))
         out_cr.old out_cr.new }
 {
-    let right = Part {
+    let right = Fraction {
         eighths: beyond.right,
     };
-    let down = Part {
+    let down = Fraction {
         eighths: beyond.down,
     };
     let mut row = along_row(cb, cr, from, 0, right);

@@ -92,21 +92,25 @@ pub fn luma<const W: usize, const H: usize, const PAD: usize>(
     }
 }
 
-/// Lays the prediction of a luma block into its place in a plane, by all samples that one between
-/// whole ones needs.
+/// Lays the prediction of a luma block between whole samples into its place in a plane: W columns,
+/// which are found in rows of L.
+// its height is no constant: code for each would take room in the first cache
 #[inline(never)]
-fn predict_between<const W: usize, const H: usize, const PAD: usize>(
+fn predict_between<const L: usize, const W: usize, const PAD: usize, const P: usize>(
     reference: &PaddedPlane<PAD>,
     x: usize,
     y: usize,
     mv: Mv,
+    extent: Extent<L, P>,
     plane: &mut Plane<PAD>,
 )
-    requires block { IsBlock 16 W H }
-    requires even { H % 2 ≡ 0 }
+    requires lanes { AreLanes L }
+    requires columns { W ≤ L }
+    requires block { IsBlock 16 W (16 / L * extent.count) }
     requires at { HasSample x y reference.now }
-    requires target { HasRectangle x y W H plane.old }
-    ensures { plane.new ≡ with_block plane.old x y W H (predicted_luma reference.now x y mv) }
+    requires target { HasRectangle x y W (16 / L * extent.count) plane.old }
+    ensures { plane.new ≡ with_block plane.old x y W (16 / L * extent.entry.count)
+        (predicted_luma reference.now x y mv) }
 {
     let width = reference.width();
     let height = reference.height();
@@ -116,16 +120,7 @@ fn predict_between<const W: usize, const H: usize, const PAD: usize>(
     let beyond = luma_fraction(mv);
     let to = plane.padded_place(x, y);
     let out = plane.padded_rows_mut();
-    if W <= 4 && H % 4 == 0 {
-        let extent = Extent { count: H / 4 };
-        lay_between::<4, W, PAD, 216>(reference, at, beyond, extent, out, Target { rows: to });
-    } else if W <= 8 {
-        let extent = Extent { count: H / 2 };
-        lay_between::<8, W, PAD, 286>(reference, at, beyond, extent, out, Target { rows: to });
-    } else {
-        let extent = Extent { count: H };
-        lay_between::<16, W, PAD, 441>(reference, at, beyond, extent, out, Target { rows: to });
-    }
+    lay_between::<L, W, PAD, P>(reference, at, beyond, extent, out, Target { rows: to });
 }
 
 /// The prediction of an even number of rows, laid into its place in the luma plane of the picture.
@@ -150,8 +145,12 @@ pub fn predict_luma<const W: usize, const H: usize, const PAD: usize>(
     if right == 0 && down == 0 {
         let at = luma_place(x, y, mv);
         predict_whole::<W, H, PAD>(reference, WholeBlock { at }, x, y, plane);
+    } else if W <= 4 && H % 4 == 0 {
+        predict_between::<4, W, PAD, 216>(reference, x, y, mv, Extent { count: H / 4 }, plane);
+    } else if W <= 8 {
+        predict_between::<8, W, PAD, 286>(reference, x, y, mv, Extent { count: H / 2 }, plane);
     } else {
-        predict_between::<W, H, PAD>(reference, x, y, mv, plane);
+        predict_between::<16, W, PAD, 441>(reference, x, y, mv, Extent { count: H }, plane);
     }
 }
 
