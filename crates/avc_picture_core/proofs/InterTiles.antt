@@ -694,6 +694,16 @@ usable_in w h column row references (motions.Inter r v) p all a b e =
     usable_on w h column row p a b (subst (λ o. IfSome o (IsUsable w h)) e (some_at (IsUsable w h) references r all))
 usable_in w h column row references m p all a b e = cc
 
+some_usable_on : {PAD : ℕ} (w h column row : ℕ) (o : Option (ReferencePicture PAD)) → column < w → row < h → IfSome o (IsUsable w h) → IfSome o (IsUsableAt column row)
+some_usable_on w h column row (Some p) a b u = usable_on w h column row p a b u
+some_usable_on w h column row None a b u = tt
+
+-- each of them can be predicted from
+pub usable_each : {PAD : ℕ} (w h column row : ℕ) (references : List (Option (ReferencePicture PAD))) → AreUsable w h references → column < w → row < h
+    → AreUsableAt column row references
+usable_each w h column row references all a b =
+    record { each = λ r. some_usable_on w h column row (slice_index_or references r None) a b (some_at (IsUsable w h) references r all) }
+
 -- a macroblock that is predicted at once, by the picture and the vector of its first block
 pub whole_is : {PAD : ℕ} (references : List (Option (ReferencePicture PAD))) (column row : ℕ) (motion : List Motion) (p : ReferencePicture PAD) (v : Mv) (old new : Planes)
     → IsMacroblockShape motion Whole → picture_in references (block_motion motion 0) ≡ Some p → v ≡ vector_of (block_motion motion 0)

@@ -105,7 +105,7 @@ impl Canvas {
         };
         // there is nothing to scale
         if let Syntax::PSkip = &mb.syntax {
-            return build_p_skip(planes, place, &info.motion, references);
+            return build_p_skip(planes, place, &info.motion, &references);
         }
         let qp = Quantisers {
             luma: Quantiser { value: mb.qp },
@@ -118,6 +118,6 @@ impl Canvas {
             &sources.neighbours,
             self.constrained_intra_pred,
         );
-        build_macroblock(planes, place, &mb.syntax, qp, info, readable, references)
+        build_macroblock(planes, place, &mb.syntax, qp, info, readable, &references)
     }
 }

@@ -238,19 +238,19 @@ fn predict_macroblock<const PAD: usize>(
 // apart from one that is predicted at once: what its parts need is not laid by for that
 #[inline(never)]
 fn predict_parts<const PAD: usize>(
-    references: References<'_, PAD>,
+    references: &References<'_, PAD>,
     place: MbPlace,
     motion: &[Motion; 16],
     shape: Shape,
     planes: &mut Planes<PAD>,
 ) -> Result<(), Fault>
     requires macroblock { CoverPlace place (planes_of planes.old) }
-    requires at { IsIn place references.size }
+    requires at { IsIn place references.now.size }
     requires shape { IsMacroblockShape motion.now shape }
     ensures size { AreSameSize (planes_of planes.old) (planes_of planes.new) }
     ensures built { (c : Coded) (slice : ℕ) →
-        c.width ≡ references.entry.size.width → c.height ≡ references.entry.size.height →
-        AreReferences c slice references.entry.pictures.now →
+        c.width ≡ references.now.size.width → c.height ≡ references.now.size.height →
+        AreReferences c slice references.now.pictures.now →
         IsInterPredicted c slice place.column place.row motion.now result (planes_of planes.old)
         (planes_of planes.new) }
 {
@@ -268,18 +268,18 @@ fn predict_parts<const PAD: usize>(
 
 /// Predicts a macroblock whose blocks have one motion, at once.
 fn predict_whole<const PAD: usize>(
-    references: References<'_, PAD>,
+    references: &References<'_, PAD>,
     place: MbPlace,
     motion: &[Motion; 16],
     planes: &mut Planes<PAD>,
 ) -> Result<(), Fault>
     requires macroblock { CoverPlace place (planes_of planes.old) }
-    requires at { IsIn place references.size }
+    requires at { IsIn place references.now.size }
     requires shape { IsMacroblockShape motion.now Whole }
     ensures size { AreSameSize (planes_of planes.old) (planes_of planes.new) }
     ensures built { (c : Coded) (slice : ℕ) →
-        c.width ≡ references.entry.size.width → c.height ≡ references.entry.size.height →
-        AreReferences c slice references.entry.pictures.now →
+        c.width ≡ references.now.size.width → c.height ≡ references.now.size.height →
+        AreReferences c slice references.now.pictures.now →
         IsInterPredicted c slice place.column place.row motion.now result (planes_of planes.old)
         (planes_of planes.new) }
 {
@@ -297,19 +297,19 @@ fn predict_whole<const PAD: usize>(
 /// planes (8.4.2). RefMissing where a block has no reference picture; nothing is changed then.
 /// `has_one_motion` says that all blocks are known to have one motion.
 pub(crate) fn predict_inter<const PAD: usize>(
-    references: References<'_, PAD>,
+    references: &References<'_, PAD>,
     place: MbPlace,
     motion: &[Motion; 16],
     has_one_motion: bool,
     planes: &mut Planes<PAD>,
 ) -> Result<(), Fault>
     requires macroblock { CoverPlace place (planes_of planes.old) }
-    requires at { IsIn place references.size }
+    requires at { IsIn place references.now.size }
     requires one { has_one_motion ≡ true → AreOfOneMotion motion.now }
     ensures size { AreSameSize (planes_of planes.old) (planes_of planes.new) }
     ensures built { (c : Coded) (slice : ℕ) →
-        c.width ≡ references.entry.size.width → c.height ≡ references.entry.size.height →
-        AreReferences c slice references.entry.pictures.now →
+        c.width ≡ references.now.size.width → c.height ≡ references.now.size.height →
+        AreReferences c slice references.now.pictures.now →
         IsInterPredicted c slice place.column place.row motion.now result (planes_of planes.old)
         (planes_of planes.new) }
 {

@@ -129,17 +129,17 @@ pub(crate) fn build_p_skip<const PAD: usize>(
     planes: &mut Planes<PAD>,
     place: MbPlace,
     motion: &[Motion; 16],
-    references: References<'_, PAD>,
+    references: &References<'_, PAD>,
 ) -> Result<(), Fault>
     requires macroblock { CoverPlace place (planes_of planes.old) }
-    requires at { IsIn place references.size }
+    requires at { IsIn place references.now.size }
     requires one { AreOfOneMotion motion.now }
     ensures size { AreSameSize (planes_of planes.old) (planes_of planes.new) }
     ensures built { (p : Place) (qp qp_of_chroma : ℕ) →
         IsAt place.column place.row p_skip qp qp_of_chroma p →
-        p.coded.width ≡ references.entry.size.width →
-        p.coded.height ≡ references.entry.size.height →
-        p.motion ≡ motion.now → AreReferences p.coded p.slice references.entry.pictures.now →
+        p.coded.width ≡ references.now.size.width →
+        p.coded.height ≡ references.now.size.height →
+        p.motion ≡ motion.now → AreReferences p.coded p.slice references.now.pictures.now →
         ArePlanesBuilt p result (planes_of planes.old) (planes_of planes.new) }
 {
     predict_inter(references, place, motion, true, planes)?;
@@ -157,19 +157,19 @@ fn build_p_inter<const PAD: usize>(
     mb_type: &PMbType,
     levels: Levels4x4<'_>,
     qp: Quantisers,
-    references: References<'_, PAD>,
+    references: &References<'_, PAD>,
 ) -> Result<(), Fault>
     requires macroblock { CoverPlace place (planes_of planes.old) }
-    requires at { IsIn place references.size }
+    requires at { IsIn place references.now.size }
     requires one { is_one_partition_by mb_type.now ≡ true → AreOfOneMotion motion.now }
     ensures size { AreSameSize (planes_of planes.old) (planes_of planes.new) }
     ensures built { (p : Place) (ref_idx : List ℕ) (mvd : List Mvd) →
         IsAt place.column place.row
         (p_inter mb_type.now ref_idx mvd (residual_of [] levels.entry.blocks.now))
         qp.luma.value qp.chroma.value p →
-        p.coded.width ≡ references.entry.size.width →
-        p.coded.height ≡ references.entry.size.height →
-        p.motion ≡ motion.now → AreReferences p.coded p.slice references.entry.pictures.now →
+        p.coded.width ≡ references.now.size.width →
+        p.coded.height ≡ references.now.size.height →
+        p.motion ≡ motion.now → AreReferences p.coded p.slice references.now.pictures.now →
         ArePlanesBuilt p result (planes_of planes.old) (planes_of planes.new) }
 {
     predict_inter(references, place, motion, is_one_partition(mb_type), planes)?;
@@ -185,18 +185,18 @@ pub(crate) fn build_macroblock<const PAD: usize>(
     qp: Quantisers,
     info: &NeighbourInfo,
     readable: ReadableNeighbours,
-    references: References<'_, PAD>,
+    references: &References<'_, PAD>,
 ) -> Result<(), Fault>
-    requires sized { AreSized references.size.width references.size.height (planes_of planes.old) }
-    requires at { IsIn place references.size }
+    requires sized { AreSized references.now.size.width references.now.size.height (planes_of planes.old) }
+    requires at { IsIn place references.now.size }
     requires syntax { IsInRange (syntax_of syntax.now) }
     requires modes { All IsMode info.now.modes }
     requires one { has_one_motion (syntax_of syntax.now) ≡ true → AreOfOneMotion info.now.motion }
     ensures size { AreSameSize (planes_of planes.old) (planes_of planes.new) }
     ensures built { (p : Place) →
-        IsPlaceIn place.column place.row references.entry.size.width references.entry.size.height
+        IsPlaceIn place.column place.row references.now.size.width references.now.size.height
         (syntax_of syntax.now) qp.luma.value qp.chroma.value info.now readable
-        references.entry.pictures.now p →
+        references.now.pictures.now p →
         ArePlanesBuilt p result (planes_of planes.old) (planes_of planes.new) }
 {
     match syntax {

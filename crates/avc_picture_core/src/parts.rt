@@ -160,14 +160,14 @@ fn is_copied<const PAD: usize>(from: &MovedPicture<'_, '_, PAD>) -> bool
 /// Predicts a part of a macroblock by a vector of 0, without weights.
 #[inline(never)]
 fn copy_part<const W: usize, const H: usize, const CW: usize, const CH: usize, const PAD: usize>(
-    from: &MovedPicture<'_, '_, PAD>,
+    from: MovedPicture<'_, '_, PAD>,
     part: Part<W, H, CW, CH>,
     planes: &mut Planes<PAD>,
 )
-    requires macroblock { CoverPlace from.now.place (planes_of planes.old) }
-    requires copied { IsCopied from.now.picture.now from.now.mv }
+    requires macroblock { CoverPlace from.place (planes_of planes.old) }
+    requires copied { IsCopied from.picture.now from.mv }
     ensures { planes_of planes.new
-        ≡ with_moved from.now part.entry.x part.entry.y W H (planes_of planes.old) }
+        ≡ with_moved from.entry part.entry.x part.entry.y W H (planes_of planes.old) }
 {
     let reference = from.picture.planes;
     let place = from.place;
@@ -228,10 +228,10 @@ fn set_weighted_part<
     const CW: usize,
     const CH: usize,
     const PAD: usize,
->(from: &MovedPicture<'_, '_, PAD>, part: Part<W, H, CW, CH>, planes: &mut Planes<PAD>)
-    requires macroblock { CoverPlace from.now.place (planes_of planes.old) }
+>(from: MovedPicture<'_, '_, PAD>, part: Part<W, H, CW, CH>, planes: &mut Planes<PAD>)
+    requires macroblock { CoverPlace from.place (planes_of planes.old) }
     ensures { planes_of planes.new
-        ≡ with_moved from.now part.entry.x part.entry.y W H (planes_of planes.old) }
+        ≡ with_moved from.entry part.entry.x part.entry.y W H (planes_of planes.old) }
 {
     let picture = from.picture;
     let corner = Corner {
@@ -269,6 +269,7 @@ fn set_weighted_part<
 }
 
 /// Predicts a part of a macroblock from one picture, with weights where it has them.
+#[inline(always)]
 pub(crate) fn set_part<
     const W: usize,
     const H: usize,
@@ -283,7 +284,7 @@ pub(crate) fn set_part<
     if from.picture.weights.is_none() {
         set_plain_part::<W, H, CW, CH, PAD>(from, part, planes);
     } else {
-        set_weighted_part::<W, H, CW, CH, PAD>(from, part, planes);
+        set_weighted_part::<W, H, CW, CH, PAD>(*from, part, planes);
     }
 }
 
@@ -296,7 +297,7 @@ pub(crate) fn set_macroblock<const PAD: usize>(
     ensures { planes_of planes.new ≡ with_moved from.now 0 0 16 16 (planes_of planes.old) }
 {
     if is_copied(from) {
-        copy_part::<16, 16, 8, 8, PAD>(from, Part { x: 0, y: 0 }, planes);
+        copy_part::<16, 16, 8, 8, PAD>(*from, Part { x: 0, y: 0 }, planes);
     } else {
         set_part::<16, 16, 8, 8, PAD>(from, Part { x: 0, y: 0 }, planes);
     }

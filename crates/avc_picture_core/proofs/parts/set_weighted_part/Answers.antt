@@ -4,7 +4,7 @@ use Rattle.avc_picture_core.proofs.parts.set_weighted_part.Goals as goal
 pub returns : goal.returns
 returns g c =
     let a = c.args in
-    let from = a.from.now in
+    let from = a.from in
     part_predicted from.picture.now from.mv from.place.column from.place.row a.part.x a.part.y g.row.W g.row.H g.row.CW g.row.CH
     c.component_weight.result c.component_weight-2.result c.component_weight-3.result
     (planes_of a.planes.now) (record { luma = c.set_luma.new.plane; cb = c.set_chroma.new.plane; cr = c.set_chroma-2.new.plane })
