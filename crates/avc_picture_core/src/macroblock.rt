@@ -187,7 +187,8 @@ pub(crate) fn build_macroblock<const PAD: usize>(
     readable: ReadableNeighbours,
     references: &References<'_, PAD>,
 ) -> Result<(), Fault>
-    requires sized { AreSized references.now.size.width references.now.size.height (planes_of planes.old) }
+    requires sized { AreSized references.now.size.width references.now.size.height
+        (planes_of planes.old) }
     requires at { IsIn place references.now.size }
     requires syntax { IsInRange (syntax_of syntax.now) }
     requires modes { All IsMode info.now.modes }

@@ -5,6 +5,7 @@ ghost use Rattle.std.specs.Prelude.{length, map, slice_index};
 ghost use Rattle.std.specs.Option.{option_map};
 ghost use Rattle.avc_plane.specs.Frames.{planes_of};
 ghost use Rattle.avc_plane.specs.Plane.{HasRectangle, sample, with_block};
+ghost use Rattle.avc_inter.specs.Bounds.{IsBlock};
 ghost use Rattle.avc_inter.specs.Luma.{inter_luma};
 ghost use Rattle.avc_inter.specs.Chroma.{inter_chroma};
 ghost use Rattle.avc_picture_core.specs.Built.{component_weight, weighted_by};
@@ -41,8 +42,7 @@ fn component_weight(weights: Option<Weights>, component: usize) -> Option<Weight
 /// The weighted samples of a predicted block (8.4.2.3).
 #[inline(always)]
 fn weighted<const W: usize, const H: usize>(block: &Block<W, H>, by: Weight) -> Block<W, H>
-    requires columns { (1 ≤ W) × (W ≤ 16) }
-    requires rows { (1 ≤ H) × (H ≤ 16) }
+    requires block { IsBlock 16 W H }
     requires weight { IsWeight by }
     ensures { result ≡ map (weighted_by (Some by)) block.now }
 {
@@ -57,8 +57,7 @@ fn set_weighted<const W: usize, const H: usize, const PAD: usize>(
     block: &Block<W, H>,
     by: Weight,
 )
-    requires columns { (1 ≤ W) × (W ≤ 16) }
-    requires rows { (1 ≤ H) × (H ≤ 16) }
+    requires block { IsBlock 16 W H }
     requires room { HasRectangle x y W H plane.old }
     requires weight { IsWeight by }
     requires long { length block.now ≡ W * H }
