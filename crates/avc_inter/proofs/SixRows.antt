@@ -114,6 +114,24 @@ sixteen_more {columns} {w} {first} {stride} {f} {old} {mid} {new} y row lanes na
     strided_more w (16 / columns) y first stride f (λ x r. slice_index row (columns * r + x)) old mid new apart so_far put
     (λ r x low column. is r x (omega (arith, line_ends columns lanes r low, narrow)) (omega (arith, narrow)))
 
+-- sixteen half samples more, or their means
+pub sixteen_between : {columns w first stride : ℕ} {old mid new : List ℕ} (y : ℕ) (from : RowsPlace) (by : ℕ) (whole : Option ℕ) (p : List ℕ) (half : ℕ → ℕ) → AreLanes columns → w ≤ columns → w ≤ stride →
+    IsStridedSet w (16 / columns * y) first stride (λ x n. half_or_mean whole p (sample_place from x n) (half_along p (by + sample_place from x n) from.stride)) old mid →
+    IsStridedSet w (16 / columns) (first + y * (16 / columns * stride)) stride
+    (λ x r. half_or_mean whole p (from.first + y * (16 / columns * from.stride) + place_of columns from.stride (columns * r + x)) (half (columns * r + x))) mid new →
+    ((k : ℕ) → k < 16 → half k ≡ half_along p (from.first + y * (16 / columns * from.stride) + by + place_of columns from.stride k) from.stride) →
+    IsStridedSet w (16 / columns * (y + 1)) first stride (λ x n. half_or_mean whole p (sample_place from x n) (half_along p (by + sample_place from x n) from.stride)) old new
+sixteen_between {columns} {w} {first} {stride} {old} {mid} {new} y from by whole p half lanes narrow apart so_far put are =
+    strided_more w (16 / columns) y first stride _ _ old mid new apart so_far put
+    (λ r x low column.
+    let here : from.first + y * (16 / columns * from.stride) + by + place_of columns from.stride (columns * r + x) ≡ by + (from.first + ((16 / columns * y + r) * from.stride + x)) =
+    omega (arith, place_in columns from.stride lanes from.first by y r x (omega (arith, narrow, column))) in
+    cc (
+      are (columns * r + x) (omega (arith, line_ends columns lanes r low, narrow, column)),
+      place_here columns from.stride lanes from.first y r x (omega (arith, narrow, column)),
+      here,
+    ))
+
 -- there is room for them
 pub row_room : (columns y count r : ℕ) {w h first stride : ℕ} {f : ℕ → ℕ → ℕ} {old mid : List ℕ} → AreLanes columns → y < count →
     IsRoom w (16 / columns * count) first stride (length old) → IsStridedSet w h first stride f old mid → r < 16 / columns →
@@ -131,6 +149,10 @@ row_room columns y count r {w} {h} {first} {stride} lanes less room set low =
 pub row_first : (columns y count : ℕ) {w h first stride : ℕ} {f : ℕ → ℕ → ℕ} {old mid : List ℕ} → AreLanes columns → y < count →
     IsRoom w (16 / columns * count) first stride (length old) → IsStridedSet w h first stride f old mid → first + y * (16 / columns * stride) + w ≤ length mid
 row_first columns y count lanes less room set = omega (arith, row_room columns y count 0 lanes less room set (some_lines columns lanes))
+
+-- sixteen samples of a block of 16 columns are one line
+pub one_line : (columns stride : ℕ) → columns ≡ 16 → 16 / columns * stride ≡ stride
+one_line columns stride is = ap (λ c. 16 / c * stride) is ∙ omega arith
 
 -- as many as are wanted
 pub rows_done : (n y count : ℕ) {w first stride : ℕ} {f : ℕ → ℕ → ℕ} {old new : List ℕ} → IsStridedSet w (n * y) first stride f old new → count ≤ y → y ≤ count →
@@ -169,6 +191,15 @@ sum_there columns stride step p e f g h i j at k low se sf sg sh si sj =
     (sh k low ∙ ap (slice_index p) (omega arith))
     (si k low ∙ ap (slice_index p) (omega arith))
     (sj k low ∙ ap (slice_index p) (omega arith))
+
+-- the half samples of the row below are those of the last six of seven rows
+pub halves_below : (columns stride : ℕ) (p f g h i j l : List ℕ) (at : ℕ) → Shows columns stride f p (at + stride) → Shows columns stride g p (at + 2 * stride) →
+    Shows columns stride h p (at + 3 * stride) → Shows columns stride i p (at + 4 * stride) → Shows columns stride j p (at + 5 * stride) → Shows columns stride l p (at + 6 * stride) →
+    (k : ℕ) → k < 16 → half_of f g h i j l k ≡ half_along p (at + stride + place_of columns stride k) stride
+halves_below columns stride p f g h i j l at sf sg sh si sj sl k low =
+    ap rounded_sum (sum_there columns stride stride p f g h i j l (at + stride) k low sf
+    (λ k low. sg k low ∙ ap (slice_index p) (omega arith)) (λ k low. sh k low ∙ ap (slice_index p) (omega arith)) (λ k low. si k low ∙ ap (slice_index p) (omega arith))
+    (λ k low. sj k low ∙ ap (slice_index p) (omega arith)) (λ k low. sl k low ∙ ap (slice_index p) (omega arith)))
 
 pub mean_turned : (a b : ℕ) → mean_of_two a b ≡ mean_of_two b a
 mean_turned a b = omega arith

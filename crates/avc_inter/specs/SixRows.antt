@@ -22,6 +22,11 @@ place_of columns stride k = k / columns * stride + k % columns
 abbrev pub HasPlaces : (columns stride n at : ℕ) → List ℕ → Type 0
 HasPlaces columns stride n at p = (k : ℕ) → k < n → at + place_of columns stride k < length p
 
+-- a row has the sixteen samples of a block whose first one is at this place
+abbrev pub AreSixteenOf : (columns stride : ℕ) → (row p : List ℕ) → (at : ℕ) → Type 0
+AreSixteenOf columns stride row p at =
+    AreSixteen row (λ k. slice_index p (at + place_of columns stride k))
+
 -- whole rows of so many columns are sixteen samples
 pub record AreLanes (columns : ℕ) : Type 0 where
   pub some : 0 < columns

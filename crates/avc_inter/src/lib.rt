@@ -8,6 +8,7 @@ mod centres;
 mod chroma_between;
 mod chroma_both;
 mod chroma_prediction;
+mod columns;
 mod eighths;
 mod lines;
 mod luma_prediction;

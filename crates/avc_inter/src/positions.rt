@@ -11,6 +11,7 @@ ghost use Rattle.avc_inter.specs.SixRows.{HasRoom};
 ghost use Rattle.avc_inter.specs.Laid.{sample_place, HasRows, IsLaid};
 
 use crate::centres::{centre_rows, centre_rows_across, centre_rows_down};
+use crate::columns::rows_between;
 use crate::rows::{Taps, diagonal_rows, half_rows, quarter_rows, whole_rows};
 use crate::source::Surrounded;
 use crate::target::Target;
@@ -74,18 +75,7 @@ fn row_1<const L: usize, const W: usize>(
         count,
     };
     match beyond.right {
-        0 => quarter_rows::<L, W>(
-            p,
-            from,
-            Taps {
-                by: 2,
-                step: from.stride,
-            },
-            b + 2,
-            count,
-            out,
-            to,
-        ),
+        0 => rows_between::<L, W>(p, from, 2, Some(b + 2), count, out, to),
         1 => diagonal_rows::<L, W>(p, from, b, 2, count, out, to),
         2 => centre_rows_across::<L, W>(block, 2, out, to),
         _ => diagonal_rows::<L, W>(p, from, b, 3, count, out, to),
@@ -113,17 +103,7 @@ fn row_2<const L: usize, const W: usize>(
         count,
     };
     match beyond.right {
-        0 => half_rows::<L, W>(
-            p,
-            from,
-            Taps {
-                by: 2,
-                step: from.stride,
-            },
-            count,
-            out,
-            to,
-        ),
+        0 => rows_between::<L, W>(p, from, 2, None, count, out, to),
         1 => centre_rows_down::<L, W>(block, 2, out, to),
         2 => centre_rows::<L, W>(block, out, to),
         _ => centre_rows_down::<L, W>(block, 3, out, to),
@@ -152,18 +132,7 @@ fn row_3<const L: usize, const W: usize>(
         count,
     };
     match beyond.right {
-        0 => quarter_rows::<L, W>(
-            p,
-            from,
-            Taps {
-                by: 2,
-                step: from.stride,
-            },
-            s + 2,
-            count,
-            out,
-            to,
-        ),
+        0 => rows_between::<L, W>(p, from, 2, Some(s + 2), count, out, to),
         1 => diagonal_rows::<L, W>(p, from, s, 2, count, out, to),
         2 => centre_rows_across::<L, W>(block, 3, out, to),
         _ => diagonal_rows::<L, W>(p, from, s, 3, count, out, to),

@@ -45,7 +45,7 @@ pub fn sixteen<const L: usize>(source: Source<'_, L>, at: usize) -> [u8; 16]
 
 /// The half samples of six rows.
 #[inline(always)]
-fn halves_of(
+pub fn halves_of(
     e: &[u8; 16],
     f: &[u8; 16],
     g: &[u8; 16],
@@ -191,7 +191,7 @@ pub fn means_of(a: &[u8; 16], b: &[u8; 16]) -> [u8; 16]
 
 /// The means of sixteen whole samples and the half samples of six rows.
 #[inline(always)]
-fn quarters_of(
+pub fn quarters_of(
     whole: &[u8; 16],
     e: &[u8; 16],
     f: &[u8; 16],

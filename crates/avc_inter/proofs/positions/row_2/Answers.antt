@@ -1,8 +1,8 @@
 use Rattle.avc_inter.proofs.SixRows.{five_words, ◌≡◌, arith, room_for, refl, strided_as, mean_turned, two_words}
 use Rattle.avc_inter.proofs.positions.row_2.Goals as goal
 
-pub half_rows-requires : goal.half_rows-requires
-half_rows-requires g c = (two_words, (c.requires.out, room_for _ _ c.args.to.lanes _ c.args.from.first _ _ c.requires.room (omega arith)))
+pub rows_between-requires : goal.rows_between-requires
+rows_between-requires g c = (two_words, (c.requires.out, (room_for _ _ c.args.to.lanes _ c.args.from.first _ _ c.requires.room (omega arith), room_for _ _ c.args.to.lanes _ c.args.from.first _ _ c.requires.room (omega arith))))
 
 pub centre_rows_down-requires : goal.centre_rows_down-requires
 centre_rows_down-requires g c = (five_words, (two_words, (c.requires.out, room_for _ _ c.args.to.lanes _ c.args.from.first _ _ c.requires.room (omega arith))))
@@ -14,7 +14,7 @@ pub centre_rows_down-requires-in_default : goal.centre_rows_down-requires-in_def
 centre_rows_down-requires-in_default g c = (five_words, (two_words, (c.requires.out, room_for _ _ c.args.to.lanes _ c.args.from.first _ _ c.requires.room (omega arith))))
 
 pub returns-in-0 : goal.returns-in-0
-returns-in-0 g c = rw (c.in-0.is) c.half_rows.ensures
+returns-in-0 g c = rw (c.in-0.is) c.rows_between.ensures
 
 pub returns-in-1 : goal.returns-in-1
 returns-in-1 g c = rw (c.in-1.is) (strided_as c.centre_rows_down.ensures refl (λ x y column low. mean_turned _ _))

@@ -1,8 +1,8 @@
 use Rattle.avc_inter.proofs.SixRows.{five_words, ◌≡◌, arith, room_for, refl, strided_as, mean_turned, two_words}
 use Rattle.avc_inter.proofs.positions.row_3.Goals as goal
 
-pub quarter_rows-requires : goal.quarter_rows-requires
-quarter_rows-requires g c = (two_words, (c.requires.out, (room_for _ _ c.args.to.lanes _ c.args.from.first _ _ c.requires.room (omega arith), room_for _ _ c.args.to.lanes _ c.args.from.first _ _ c.requires.room (omega arith))))
+pub rows_between-requires : goal.rows_between-requires
+rows_between-requires g c = (two_words, (c.requires.out, (room_for _ _ c.args.to.lanes _ c.args.from.first _ _ c.requires.room (omega arith), room_for _ _ c.args.to.lanes _ c.args.from.first _ _ c.requires.room (omega arith))))
 
 pub diagonal_rows-requires : goal.diagonal_rows-requires
 diagonal_rows-requires g c = (two_words, (c.requires.out, (room_for _ _ c.args.to.lanes _ c.args.from.first _ _ c.requires.room (omega arith), room_for _ _ c.args.to.lanes _ c.args.from.first _ _ c.requires.room (omega arith))))
@@ -14,7 +14,7 @@ pub diagonal_rows-requires-in_default : goal.diagonal_rows-requires-in_default
 diagonal_rows-requires-in_default g c = (two_words, (c.requires.out, (room_for _ _ c.args.to.lanes _ c.args.from.first _ _ c.requires.room (omega arith), room_for _ _ c.args.to.lanes _ c.args.from.first _ _ c.requires.room (omega arith))))
 
 pub returns-in-0 : goal.returns-in-0
-returns-in-0 g c = rw (c.in-0.is) c.quarter_rows.ensures
+returns-in-0 g c = rw (c.in-0.is) c.rows_between.ensures
 
 pub returns-in-1 : goal.returns-in-1
 returns-in-1 g c = rw (c.in-1.is) (strided_as c.diagonal_rows.ensures refl (λ x y column low. mean_turned _ _))
