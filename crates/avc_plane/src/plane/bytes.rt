@@ -1,9 +1,17 @@
 //! That a plane's samples are bytes.
 
-ghost use Rattle.std.specs.Prelude.{◌≡◌, ℕ, ◌*◌, ◌<◌, ◌≤◌, length};
+ghost use Rattle.std.specs.Prelude.{◌≡◌, ℕ, ◌*◌, ◌<◌, ◌≤◌, length, slice_index};
 ghost use Rattle.avc_plane.specs.Plane.{sample};
 
 use super::Plane;
+
+/// Does nothing. Each sample is a byte.
+#[inline(always)]
+fn are_bytes(samples: &[u8])
+    ensures { (k : ℕ) → slice_index samples.now k ≤ 255 }
+{
+    let _ = samples;
+}
 
 impl<const PAD: usize> Plane<PAD> {
     /// Does nothing. Each sample is a byte, and there are as many as columns and rows say.
@@ -13,11 +21,6 @@ impl<const PAD: usize> Plane<PAD> {
             sample self.now x y ≤ 255 }
         ensures all { length self.now.samples ≡ self.now.width * self.now.height }
     {
-        let _ = &self.stored;
-        for y in 0..self.height() {
-            for x in 0..self.width() {
-                let _sample = self.get(x, y);
-            }
-        }
+        are_bytes(self.stored.as_slice());
     }
 }
