@@ -232,13 +232,13 @@ pub sums_from : {columns stride n at first : ℕ} {p : List ℕ} {m : List ℤ} 
 sums_from e sums = rw (← e) sums
 
 by_fractions : (p : List ℕ) (stride k : ℕ) (s : Wide) (u v : ℤ) →
-    whole p stride k ≡ s u v → whole_right p stride k ≡ s (u +ℤ pos 1) v → whole_below p stride k ≡ s u (v +ℤ pos 1) →
-    b_of p stride k ≡ half_b s u v → s_of p stride k ≡ half_s s u v → h_of p stride k ≡ half_h s u v → m_of p stride k ≡ half_m s u v → j_of p stride k ≡ half_j s u v →
+    whole p stride 2 k ≡ s u v → whole_right p stride k ≡ s (u +ℤ pos 1) v → whole p stride 3 k ≡ s u (v +ℤ pos 1) →
+    b_of p stride 2 k ≡ half_b s u v → b_of p stride 3 k ≡ half_s s u v → h_of p stride k ≡ half_h s u v → m_of p stride k ≡ half_m s u v → j_of p stride k ≡ half_j s u v →
     (fx fy : ℕ) → quarter_of p stride k fx fy ≡ quarter s u v fx fy
 by_fractions p stride k s u v g right below b s' h m j zero (suc (suc (suc f))) = cc
-by_fractions p stride k s u v g right below b s' h m j (suc zero) (suc (suc (suc f))) = cc
-by_fractions p stride k s u v g right below b s' h m j (suc (suc zero)) (suc (suc (suc f))) = cc
-by_fractions p stride k s u v g right below b s' h m j (suc (suc (suc f))) (suc (suc (suc f'))) = cc
+by_fractions p stride k s u v g right below b s' h m j (suc zero) (suc (suc (suc f))) = mean_turned _ _ ∙ cc
+by_fractions p stride k s u v g right below b s' h m j (suc (suc zero)) (suc (suc (suc f))) = mean_turned _ _ ∙ cc
+by_fractions p stride k s u v g right below b s' h m j (suc (suc (suc f))) (suc (suc (suc f'))) = mean_turned _ _ ∙ cc
 by_fractions p stride k s u v g right below b s' h m j fx fy = cc
 
 -- ---- the positions over a list of samples that shows a map are those of the map

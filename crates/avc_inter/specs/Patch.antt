@@ -35,25 +35,17 @@ centre_along m at step = clip1 (sums_along m at step +ℤ pos 512 >>ℤ 10)
 -- samples more in front and three behind. k is the place of a sample's two rows and columns before
 -- it.
 
--- the sample itself, that right of it, and that below it
-abbrev pub whole : List ℕ → (stride k : ℕ) → ℕ
-whole p stride k = slice_index p (2 * stride + 2 + k)
+-- in the row that is so many rows down: the sample itself in row 2, that below it in row 3
+abbrev pub whole : List ℕ → (stride row k : ℕ) → ℕ
+whole p stride row k = slice_index p (row * stride + 2 + k)
 
--- that right of it
+-- that right of the sample
 abbrev pub whole_right : List ℕ → (stride k : ℕ) → ℕ
 whole_right p stride k = slice_index p (2 * stride + 3 + k)
 
--- that below it
-abbrev pub whole_below : List ℕ → (stride k : ℕ) → ℕ
-whole_below p stride k = slice_index p (3 * stride + 2 + k)
-
--- the half samples
-abbrev pub b_of : List ℕ → (stride k : ℕ) → ℕ
-b_of p stride k = half_along p (2 * stride + k) 1
-
--- s, a row below b
-abbrev pub s_of : List ℕ → (stride k : ℕ) → ℕ
-s_of p stride k = half_along p (3 * stride + k) 1
+-- the half samples: b in row 2, and s in row 3
+abbrev pub b_of : List ℕ → (stride row k : ℕ) → ℕ
+b_of p stride row k = half_along p (row * stride + k) 1
 
 -- h, between the sample and that below it
 abbrev pub h_of : List ℕ → (stride k : ℕ) → ℕ
@@ -74,17 +66,19 @@ j_of p stride k =
 
 -- the sixteen positions by the fraction of x, for each fraction of y, as in `quarter`
 abbrev pub row_0_of : List ℕ → (stride k fx : ℕ) → ℕ
-row_0_of p stride k zero = whole p stride k
-row_0_of p stride k (suc zero) = mean_of_two (whole p stride k) (b_of p stride k)
-row_0_of p stride k (suc (suc zero)) = b_of p stride k
-row_0_of p stride k (suc (suc (suc f))) = mean_of_two (whole_right p stride k) (b_of p stride k)
+row_0_of p stride k zero = whole p stride 2 k
+row_0_of p stride k (suc zero) = mean_of_two (whole p stride 2 k) (b_of p stride 2 k)
+row_0_of p stride k (suc (suc zero)) = b_of p stride 2 k
+row_0_of p stride k (suc (suc (suc f))) = mean_of_two (whole_right p stride k) (b_of p stride 2 k)
 
--- a quarter of a sample down
-abbrev pub row_1_of : List ℕ → (stride k fx : ℕ) → ℕ
-row_1_of p stride k zero = mean_of_two (whole p stride k) (h_of p stride k)
-row_1_of p stride k (suc zero) = mean_of_two (b_of p stride k) (h_of p stride k)
-row_1_of p stride k (suc (suc zero)) = mean_of_two (b_of p stride k) (j_of p stride k)
-row_1_of p stride k (suc (suc (suc f))) = mean_of_two (b_of p stride k) (m_of p stride k)
+-- a quarter of a sample above or below the middle, towards the row that is so many rows down
+abbrev pub row_beside_of : List ℕ → (stride row k fx : ℕ) → ℕ
+row_beside_of p stride row k zero = mean_of_two (whole p stride row k) (h_of p stride k)
+row_beside_of p stride row k (suc zero) = mean_of_two (b_of p stride row k) (h_of p stride k)
+row_beside_of p stride row k (suc (suc zero)) =
+    mean_of_two (b_of p stride row k) (j_of p stride k)
+row_beside_of p stride row k (suc (suc (suc f))) =
+    mean_of_two (b_of p stride row k) (m_of p stride k)
 
 -- a half of a sample down
 abbrev pub row_2_of : List ℕ → (stride k fx : ℕ) → ℕ
@@ -93,19 +87,12 @@ row_2_of p stride k (suc zero) = mean_of_two (h_of p stride k) (j_of p stride k)
 row_2_of p stride k (suc (suc zero)) = j_of p stride k
 row_2_of p stride k (suc (suc (suc f))) = mean_of_two (j_of p stride k) (m_of p stride k)
 
--- three quarters of a sample down
-abbrev pub row_3_of : List ℕ → (stride k fx : ℕ) → ℕ
-row_3_of p stride k zero = mean_of_two (whole_below p stride k) (h_of p stride k)
-row_3_of p stride k (suc zero) = mean_of_two (h_of p stride k) (s_of p stride k)
-row_3_of p stride k (suc (suc zero)) = mean_of_two (j_of p stride k) (s_of p stride k)
-row_3_of p stride k (suc (suc (suc f))) = mean_of_two (m_of p stride k) (s_of p stride k)
-
 -- the sample at xFrac and yFrac (Table 8-12)
 abbrev pub quarter_of : List ℕ → (stride k fx fy : ℕ) → ℕ
 quarter_of p stride k fx zero = row_0_of p stride k fx
-quarter_of p stride k fx (suc zero) = row_1_of p stride k fx
+quarter_of p stride k fx (suc zero) = row_beside_of p stride 2 k fx
 quarter_of p stride k fx (suc (suc zero)) = row_2_of p stride k fx
-quarter_of p stride k fx (suc (suc (suc f))) = row_3_of p stride k fx
+quarter_of p stride k fx (suc (suc (suc f))) = row_beside_of p stride 3 k fx
 
 -- by four weights, the mean of a sample, that right of it and the two below them
 abbrev pub blend_of : BilinearWeights → List ℕ → (stride k : ℕ) → ℕ

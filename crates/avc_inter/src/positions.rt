@@ -6,7 +6,7 @@
 //! block are written into rows, from the place `to` on.
 
 ghost use Rattle.std.specs.Prelude.{◌≡◌, ℕ, ◌+◌, ◌*◌, ◌/◌, ◌<◌, ◌≤◌, ◌^◌, length};
-ghost use Rattle.avc_inter.specs.Patch.{row_0_of, row_1_of, row_2_of, row_3_of, quarter_of};
+ghost use Rattle.avc_inter.specs.Patch.{row_0_of, row_beside_of, row_2_of, quarter_of};
 ghost use Rattle.avc_inter.specs.SixRows.{HasRoom};
 ghost use Rattle.avc_inter.specs.Laid.{sample_place, HasRows, IsLaid};
 
@@ -53,9 +53,10 @@ fn row_0<const L: usize, const W: usize>(
     }
 }
 
-/// The positions a quarter below a whole row.
+/// The positions a quarter below a whole row, where ROW is 2, or a quarter above the next, where
+/// it is 3.
 #[inline(always)]
-fn row_1<const L: usize, const W: usize>(
+fn row_beside<const ROW: usize, const L: usize, const W: usize>(
     p: &[u8],
     from: RowsPlace,
     count: usize,
@@ -63,12 +64,14 @@ fn row_1<const L: usize, const W: usize>(
     out: &mut [u8],
     to: Target<L, W>,
 )
+    requires row { ROW ≤ 3 }
     requires out { HasRows W (16 / L * count) to.rows out.old }
     requires room { HasRoom L from.stride count from.first p.now }
     ensures { IsLaid W (16 / L * count) to.entry.rows
-        (λ x y. row_1_of p.now from.stride (sample_place from x y) beyond.right) out.old out.new }
+        (λ x y. row_beside_of p.now from.stride ROW (sample_place from x y) beyond.right)
+        out.old out.new }
 {
-    let b = 2 * from.stride;
+    let b = ROW * from.stride;
     let block = Surrounded {
         samples: p,
         from,
@@ -77,7 +80,7 @@ fn row_1<const L: usize, const W: usize>(
     match beyond.right {
         0 => rows_between::<L, W>(p, from, 2, Some(b + 2), count, out, to),
         1 => diagonal_rows::<L, W>(p, from, b, 2, count, out, to),
-        2 => centre_rows_across::<L, W>(block, 2, out, to),
+        2 => centre_rows_across::<L, W>(block, ROW, out, to),
         _ => diagonal_rows::<L, W>(p, from, b, 3, count, out, to),
     }
 }
@@ -110,35 +113,6 @@ fn row_2<const L: usize, const W: usize>(
     }
 }
 
-/// The positions three quarters below a whole row.
-#[inline(always)]
-fn row_3<const L: usize, const W: usize>(
-    p: &[u8],
-    from: RowsPlace,
-    count: usize,
-    beyond: Quarters,
-    out: &mut [u8],
-    to: Target<L, W>,
-)
-    requires out { HasRows W (16 / L * count) to.rows out.old }
-    requires room { HasRoom L from.stride count from.first p.now }
-    ensures { IsLaid W (16 / L * count) to.entry.rows
-        (λ x y. row_3_of p.now from.stride (sample_place from x y) beyond.right) out.old out.new }
-{
-    let s = 3 * from.stride;
-    let block = Surrounded {
-        samples: p,
-        from,
-        count,
-    };
-    match beyond.right {
-        0 => rows_between::<L, W>(p, from, 2, Some(s + 2), count, out, to),
-        1 => diagonal_rows::<L, W>(p, from, s, 2, count, out, to),
-        2 => centre_rows_across::<L, W>(block, 3, out, to),
-        _ => diagonal_rows::<L, W>(p, from, s, 3, count, out, to),
-    }
-}
-
 /// The samples of a block by the fractions of a vector.
 #[inline(always)]
 pub fn quarters<const L: usize, const W: usize>(
@@ -157,8 +131,8 @@ pub fn quarters<const L: usize, const W: usize>(
 {
     match beyond.down {
         0 => row_0::<L, W>(p, from, count, beyond, out, to),
-        1 => row_1::<L, W>(p, from, count, beyond, out, to),
+        1 => row_beside::<2, L, W>(p, from, count, beyond, out, to),
         2 => row_2::<L, W>(p, from, count, beyond, out, to),
-        _ => row_3::<L, W>(p, from, count, beyond, out, to),
+        _ => row_beside::<3, L, W>(p, from, count, beyond, out, to),
     }
 }

@@ -32,7 +32,7 @@ pub use Rattle.avc_samples.specs.Patch.{Wide}
 pub use Rattle.avc_inter.specs.Bounds.{IsPair, IsWithin, IsMoved}
 pub use Rattle.avc_inter.specs.Chroma.{bilinear, inter_chroma}
 pub use Rattle.avc_inter.specs.Luma.{six_taps, across, down, half_b, half_h, half_j, half_m, half_s, quarter, inter_luma}
-pub use Rattle.avc_inter.specs.Patch.{blend_of, half_along, taps_along, centre_along, j_of, rounded_sum, whole, whole_right, whole_below, b_of, s_of}
+pub use Rattle.avc_inter.specs.Patch.{blend_of, half_along, taps_along, centre_along, j_of, rounded_sum, whole, whole_right, b_of}
 pub use Rattle.avc_inter.specs.Patch.{h_of, m_of, quarter_of}
 pub use Rattle.avc_inter.specs.Laid.{sample_place}
 pub use Rattle.avc_inter.specs.Means.{half_or_mean}

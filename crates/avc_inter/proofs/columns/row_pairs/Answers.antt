@@ -1,4 +1,4 @@
-use Rattle.avc_inter.proofs.SixRows.{three_words, two_words, ◌+◌, ◌*◌, ◌/◌, ◌-◌, ◌≡◌, arith, ap, refl, ◌∙◌, sum_there, rounded_sum, half_along, half_of, place_of, row_first, row_room, sixteen_between, halves_below, row_begins, row_within, add-mul, one_line, strided_to}
+use Rattle.avc_inter.proofs.SixRows.{three_words, two_words, ◌+◌, ◌*◌, ◌/◌, ◌≡◌, arith, ap, ◌∙◌, sum_there, rounded_sum, half_along, half_of, place_of, row_first, row_room, sixteen_between, halves_below, row_begins, row_within, add-mul, one_line, strided_to}
 use Rattle.avc_inter.proofs.columns.row_pairs.Goals as goal
 
 pub of-seven-requires : goal.of-seven-requires
