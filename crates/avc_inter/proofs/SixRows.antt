@@ -175,31 +175,21 @@ strided_as set e same = strided_to e (strided_same _ _ _ _ _ _ _ _ set same)
 
 -- ---- six rows
 
--- a row shows sixteen samples of a list
-abbrev pub Shows : (columns stride : ℕ) → List ℕ → List ℕ → ℕ → Type 0
-Shows columns stride r p at = (k : ℕ) → k < 16 → slice_index r k ≡ slice_index p (at + place_of columns stride k)
-
--- six rows a step apart
-pub sum_there : (columns stride step : ℕ) (p e f g h i j : List ℕ) (at k : ℕ) → k < 16 → Shows columns stride e p at → Shows columns stride f p (at + step) →
-    Shows columns stride g p (at + 2 * step) → Shows columns stride h p (at + 3 * step) → Shows columns stride i p (at + 4 * step) → Shows columns stride j p (at + 5 * step) →
-    taps_of e f g h i j k ≡ taps_along p (at + place_of columns stride k) step
-sum_there columns stride step p e f g h i j at k low se sf sg sh si sj =
+-- their sums and half samples
+pub sum_there : {columns stride : ℕ} {rows : SixRows} {p : List ℕ} {at step : ℕ} → AreSixRows columns stride rows p at step →
+    (k : ℕ) → k < 16 → taps_of rows k ≡ taps_along p (at + place_of columns stride k) step
+sum_there {p = p} six k low =
     same_taps _ _ _ _ _ _ _ _ _ _ _ _
-    (se k low)
-    (sf k low ∙ ap (slice_index p) (omega arith))
-    (sg k low ∙ ap (slice_index p) (omega arith))
-    (sh k low ∙ ap (slice_index p) (omega arith))
-    (si k low ∙ ap (slice_index p) (omega arith))
-    (sj k low ∙ ap (slice_index p) (omega arith))
+    (six.e k low)
+    (six.f k low ∙ ap (slice_index p) (omega arith))
+    (six.g k low ∙ ap (slice_index p) (omega arith))
+    (six.h k low ∙ ap (slice_index p) (omega arith))
+    (six.i k low ∙ ap (slice_index p) (omega arith))
+    (six.j k low ∙ ap (slice_index p) (omega arith))
 
--- the half samples of the row below are those of the last six of seven rows
-pub halves_below : (columns stride : ℕ) (p f g h i j l : List ℕ) (at : ℕ) → Shows columns stride f p (at + stride) → Shows columns stride g p (at + 2 * stride) →
-    Shows columns stride h p (at + 3 * stride) → Shows columns stride i p (at + 4 * stride) → Shows columns stride j p (at + 5 * stride) → Shows columns stride l p (at + 6 * stride) →
-    (k : ℕ) → k < 16 → half_of f g h i j l k ≡ half_along p (at + stride + place_of columns stride k) stride
-halves_below columns stride p f g h i j l at sf sg sh si sj sl k low =
-    ap rounded_sum (sum_there columns stride stride p f g h i j l (at + stride) k low sf
-    (λ k low. sg k low ∙ ap (slice_index p) (omega arith)) (λ k low. sh k low ∙ ap (slice_index p) (omega arith)) (λ k low. si k low ∙ ap (slice_index p) (omega arith))
-    (λ k low. sj k low ∙ ap (slice_index p) (omega arith)) (λ k low. sl k low ∙ ap (slice_index p) (omega arith)))
+pub half_there : {columns stride : ℕ} {rows : SixRows} {p : List ℕ} {at step : ℕ} → AreSixRows columns stride rows p at step →
+    (k : ℕ) → k < 16 → half_of rows k ≡ half_along p (at + place_of columns stride k) step
+half_there six k low = ap rounded_sum (sum_there six k low)
 
 pub mean_turned : (a b : ℕ) → mean_of_two a b ≡ mean_of_two b a
 mean_turned a b = omega arith

@@ -5,6 +5,7 @@ use Rattle.avc_types.specs.Arithmetic.{◌>>ℤ◌, clip1}
 use Rattle.avc_samples.specs.Sums.{AreSums}
 use Rattle.avc_inter.specs.Luma.{six_taps}
 use Rattle.avc_inter.specs.Patch.{taps_along}
+use Rattle.avc_inter.specs.declared.six_rows.SixRows.{SixRows}
 
 -- a row has sixteen samples by a function of their number, and sixteen unrounded sums
 abbrev pub AreSixteen : List ℕ → (f : ℕ → ℕ) → Type 0
@@ -39,15 +40,25 @@ abbrev pub HasRoom : (columns stride count at : ℕ) → List ℕ → Type 0
 HasRoom columns stride count at p =
     HasPlaces columns stride (16 * (count + (5 * columns + 15) / 16)) (at + 5) p
 
+-- six rows have the sixteen samples each of a block, the first from this place on, each of the
+-- others a step behind the last
+pub record AreSixRows (columns stride : ℕ) (rows : SixRows) (p : List ℕ) (at step : ℕ) : Type 0 where
+  pub e : AreSixteenOf columns stride rows.e p at
+  pub f : AreSixteenOf columns stride rows.f p (at + step)
+  pub g : AreSixteenOf columns stride rows.g p (at + 2 * step)
+  pub h : AreSixteenOf columns stride rows.h p (at + 3 * step)
+  pub i : AreSixteenOf columns stride rows.i p (at + 4 * step)
+  pub j : AreSixteenOf columns stride rows.j p (at + 5 * step)
+
 -- the unrounded sum at place k of the rows (8.4.2.2.1)
-abbrev pub taps_of : (e f g h i j : List ℕ) → ℕ → ℤ
-taps_of e f g h i j k =
-    six_taps (pos (slice_index e k)) (pos (slice_index f k)) (pos (slice_index g k))
-    (pos (slice_index h k)) (pos (slice_index i k)) (pos (slice_index j k))
+abbrev pub taps_of : SixRows → ℕ → ℤ
+taps_of rows k = six_taps
+    (pos (slice_index rows.e k)) (pos (slice_index rows.f k)) (pos (slice_index rows.g k))
+    (pos (slice_index rows.h k)) (pos (slice_index rows.i k)) (pos (slice_index rows.j k))
 
 -- the half sample there
-abbrev pub half_of : (e f g h i j : List ℕ) → ℕ → ℕ
-half_of e f g h i j k = clip1 (taps_of e f g h i j k +ℤ pos 16 >>ℤ 5)
+abbrev pub half_of : SixRows → ℕ → ℕ
+half_of rows k = clip1 (taps_of rows k +ℤ pos 16 >>ℤ 5)
 
 -- the half sample j of six rows of unrounded sums
 abbrev pub centre_of : (e f g h i j : List ℤ) → ℕ → ℕ

@@ -15,7 +15,8 @@ ghost use Rattle.avc_inter.specs.SixRows.{centre_of, AreSumsOf, AreSixteen, AreS
 ghost use Rattle.avc_inter.specs.Laid.{sample_place, HasRows, IsLaid};
 
 use crate::row::{multiples, narrow_differences, sums, widened};
-use crate::rows::{half_row, means_of, put_rows, sixteen};
+use crate::rows::{half_row, means_of, put_rows};
+use crate::six_rows::SixRows;
 use crate::source::{Source, Surrounded};
 use crate::taps::{centre, rounded_half};
 use crate::target::Target;
@@ -23,20 +24,13 @@ use avc_samples::{move_on, put_sums, sixteen_sums};
 
 /// The unrounded sums of six rows.
 #[inline(always)]
-fn sums_of(
-    e: &[u8; 16],
-    f: &[u8; 16],
-    g: &[u8; 16],
-    h: &[u8; 16],
-    i: &[u8; 16],
-    j: &[u8; 16],
-) -> [i16; 16]
-    ensures value { AreSixteenSums result (taps_of e.now f.now g.now h.now i.now j.now) }
+fn sums_of(rows: SixRows) -> [i16; 16]
+    ensures value { AreSixteenSums result (taps_of rows) }
     ensures small { (k : ℕ) → k < 16 → IsSum (slice_index_or result k (pos 0)) }
 {
-    let outer = sums(widened(e.as_slice(), 0), widened(j.as_slice(), 0));
-    let middle = sums(widened(f.as_slice(), 0), widened(i.as_slice(), 0));
-    let inner = sums(widened(g.as_slice(), 0), widened(h.as_slice(), 0));
+    let outer = sums(widened(rows.e.as_slice(), 0), widened(rows.j.as_slice(), 0));
+    let middle = sums(widened(rows.f.as_slice(), 0), widened(rows.i.as_slice(), 0));
+    let inner = sums(widened(rows.g.as_slice(), 0), widened(rows.h.as_slice(), 0));
     narrow_differences(sums(outer, multiples(inner, 20)), multiples(middle, 5)).to_array()
 }
 
@@ -48,13 +42,7 @@ fn sum_row<const L: usize>(source: Source<'_, L>, at: usize) -> [i16; 16]
         (λ k. taps_along source.entry.samples.now (at + place_of L source.entry.stride k) 1) }
     ensures small { (k : ℕ) → k < 16 → IsSum (slice_index_or result k (pos 0)) }
 {
-    let e = sixteen::<L>(source, at);
-    let f = sixteen::<L>(source, at + 1);
-    let g = sixteen::<L>(source, at + 2);
-    let h = sixteen::<L>(source, at + 3);
-    let i = sixteen::<L>(source, at + 4);
-    let j = sixteen::<L>(source, at + 5);
-    sums_of(&e, &f, &g, &h, &i, &j)
+    sums_of(SixRows::of::<L>(source, at, 1))
 }
 
 /// Puts the next sixteen sums behind those that the window has.

@@ -16,6 +16,7 @@ mod positions;
 mod reference;
 mod row;
 mod rows;
+mod six_rows;
 mod source;
 mod taps;
 mod target;

@@ -8,11 +8,12 @@ ghost use Rattle.std.specs.Prelude.{◌≡◌, ℕ, ◌+◌, ◌*◌, ◌/◌, �
 ghost use Rattle.avc_types.specs.Arithmetic.{mean_of_two};
 ghost use Rattle.avc_plane.specs.Strided.{IsRoom, IsStridedSet};
 ghost use Rattle.avc_inter.specs.Patch.{half_along};
-ghost use Rattle.avc_inter.specs.SixRows.{place_of, HasPlaces, AreLanes, AreSixteen, half_of};
+ghost use Rattle.avc_inter.specs.SixRows.{place_of, HasPlaces, AreLanes, AreSixteen};
 ghost use Rattle.avc_inter.specs.Laid.{sample_place, HasRows, IsLaid};
 
+use crate::six_rows::SixRows;
 use crate::source::Source;
-use crate::taps::{half, mean};
+use crate::taps::mean;
 use crate::target::Target;
 use avc_plane::RowsPlace;
 
@@ -43,26 +44,6 @@ pub fn sixteen<const L: usize>(source: Source<'_, L>, at: usize) -> [u8; 16]
     out
 }
 
-/// The half samples of six rows.
-#[inline(always)]
-pub fn halves_of(
-    e: &[u8; 16],
-    f: &[u8; 16],
-    g: &[u8; 16],
-    h: &[u8; 16],
-    i: &[u8; 16],
-    j: &[u8; 16],
-) -> [u8; 16]
-    ensures { AreSixteen result (half_of e.now f.now g.now h.now i.now j.now) }
-{
-    let (e, f, g, h, i, j) = (*e, *f, *g, *h, *i, *j);
-    let mut out = [0; 16];
-    for k in 0..16 {
-        out[k] = half(e[k], f[k], g[k], h[k], i[k], j[k]);
-    }
-    out
-}
-
 /// The half samples between each third and fourth of six samples a step apart.
 #[inline(always)]
 pub fn half_row<const L: usize>(source: Source<'_, L>, at: usize, step: usize) -> [u8; 16]
@@ -70,13 +51,7 @@ pub fn half_row<const L: usize>(source: Source<'_, L>, at: usize, step: usize) -
     ensures { AreSixteen result
         (λ k. half_along source.entry.samples.now (at + place_of L source.entry.stride k) step) }
 {
-    let e = sixteen::<L>(source, at);
-    let f = sixteen::<L>(source, at + step);
-    let g = sixteen::<L>(source, at + 2 * step);
-    let h = sixteen::<L>(source, at + 3 * step);
-    let i = sixteen::<L>(source, at + 4 * step);
-    let j = sixteen::<L>(source, at + 5 * step);
-    halves_of(&e, &f, &g, &h, &i, &j)
+    SixRows::of::<L>(source, at, step).halves()
 }
 
 /// Puts W of sixteen samples into a row.
@@ -189,29 +164,6 @@ pub fn means_of(a: &[u8; 16], b: &[u8; 16]) -> [u8; 16]
     out
 }
 
-/// The means of sixteen whole samples and the half samples of six rows.
-#[inline(always)]
-pub fn quarters_of(
-    whole: &[u8; 16],
-    e: &[u8; 16],
-    f: &[u8; 16],
-    g: &[u8; 16],
-    h: &[u8; 16],
-    i: &[u8; 16],
-    j: &[u8; 16],
-) -> [u8; 16]
-    ensures { AreSixteen result (λ k. mean_of_two (slice_index whole.now k)
-        (half_of e.now f.now g.now h.now i.now j.now k)) }
-{
-    let (whole, e, f, g, h, i, j) = (*whole, *e, *f, *g, *h, *i, *j);
-    let mut out = [0; 16];
-    // one loop: the compiler takes a loop of means alone apart
-    for k in 0..16 {
-        out[k] = mean(whole[k], half(e[k], f[k], g[k], h[k], i[k], j[k]));
-    }
-    out
-}
-
 /// The means of whole samples, from place `whole` on, and the half samples between each third and
 /// fourth of six samples a step apart.
 #[inline(always)]
@@ -227,14 +179,8 @@ fn quarter_row<const L: usize>(
         (slice_index source.entry.samples.now (whole + place_of L source.entry.stride k))
         (half_along source.entry.samples.now (at + place_of L source.entry.stride k) step)) }
 {
-    let e = sixteen::<L>(source, at);
-    let f = sixteen::<L>(source, at + step);
-    let g = sixteen::<L>(source, at + 2 * step);
-    let h = sixteen::<L>(source, at + 3 * step);
-    let i = sixteen::<L>(source, at + 4 * step);
-    let j = sixteen::<L>(source, at + 5 * step);
     let whole = sixteen::<L>(source, whole);
-    quarters_of(&whole, &e, &f, &g, &h, &i, &j)
+    SixRows::of::<L>(source, at, step).quarters(&whole)
 }
 
 /// Half samples, each with its mean with a whole sample, which is `whole` behind its place.

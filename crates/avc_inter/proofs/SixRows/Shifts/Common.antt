@@ -36,8 +36,9 @@ pub use Rattle.avc_inter.specs.Patch.{blend_of, half_along, taps_along, centre_a
 pub use Rattle.avc_inter.specs.Patch.{h_of, m_of, quarter_of}
 pub use Rattle.avc_inter.specs.Laid.{sample_place}
 pub use Rattle.avc_inter.specs.Means.{half_or_mean}
+pub use Rattle.avc_inter.specs.declared.six_rows.SixRows.{SixRows}
 pub use Rattle.avc_plane.specs.declared.plane.lending.RowsPlace.{RowsPlace}
 pub use Rattle.std.specs.Prelude.{Option}
-pub use Rattle.avc_inter.specs.SixRows.{place_of, HasPlaces, HasRoom, AreLanes, taps_of, half_of, centre_of, AreSumsOf}
+pub use Rattle.avc_inter.specs.SixRows.{place_of, HasPlaces, HasRoom, AreLanes, AreSixRows, taps_of, half_of, centre_of, AreSumsOf}
 pub use Rattle.avc_inter.specs.SixTapRow.{taps_at}
 pub use Rattle.avc_inter.specs.Weight.{weighted}

@@ -44,7 +44,7 @@ narrow_differences-requires c = record {
 
 pub returns : goal.returns
 returns c =
-    let a = c.args in
+    let rows = c.args.rows in
     let diff = c.narrow_differences.result in
     let back : (k : ℕ) → k < 16 → slice_index_or (map (to_z w16) (map (of_z w16) diff)) k (pos 0) ≡ pos (slice_index c.sums.result k) -ℤ pos (slice_index c.multiples-2.result k) = λ k h.
     get_or-through_bits w16 diff k (c.narrow_differences.ensures.fits k h) ∙ c.narrow_differences.ensures.at k h in
@@ -55,14 +55,14 @@ returns c =
     let five_small = c.multiples-2.ensures.small 510 middle_small in
     record {
       value = λ k h.
-          let e = lane_of_row a.e.now _ _ k c.widened.ensures.value c.as_slice.ensures h in
-          let j = lane_of_row a.j.now _ _ k c.widened-2.ensures.value c.as_slice-2.ensures h in
-          let f = lane_of_row a.f.now _ _ k c.widened-3.ensures.value c.as_slice-3.ensures h in
-          let i = lane_of_row a.i.now _ _ k c.widened-4.ensures.value c.as_slice-4.ensures h in
-          let g = lane_of_row a.g.now _ _ k c.widened-5.ensures.value c.as_slice-5.ensures h in
-          let m = lane_of_row a.h.now _ _ k c.widened-6.ensures.value c.as_slice-6.ensures h in
-          back k h ∙ six_taps_apart (slice_index a.e.now k) (slice_index a.f.now k) (slice_index a.g.now k)
-          (slice_index a.h.now k) (slice_index a.i.now k) (slice_index a.j.now k) (slice_index c.sums.result k) (slice_index c.multiples-2.result k)
+          let e = lane_of_row rows.e _ _ k c.widened.ensures.value c.as_slice.ensures h in
+          let j = lane_of_row rows.j _ _ k c.widened-2.ensures.value c.as_slice-2.ensures h in
+          let f = lane_of_row rows.f _ _ k c.widened-3.ensures.value c.as_slice-3.ensures h in
+          let i = lane_of_row rows.i _ _ k c.widened-4.ensures.value c.as_slice-4.ensures h in
+          let g = lane_of_row rows.g _ _ k c.widened-5.ensures.value c.as_slice-5.ensures h in
+          let m = lane_of_row rows.h _ _ k c.widened-6.ensures.value c.as_slice-6.ensures h in
+          back k h ∙ six_taps_apart (slice_index rows.e k) (slice_index rows.f k) (slice_index rows.g k)
+          (slice_index rows.h k) (slice_index rows.i k) (slice_index rows.j k) (slice_index c.sums.result k) (slice_index c.multiples-2.result k)
           (omega (arith, c.sums-outer.ensures.at k h, c.sums-inner.ensures.at k h, c.multiples.ensures.at k h, c.sums.ensures.at k h))
           (omega (arith, c.sums-middle.ensures.at k h, c.multiples-2.ensures.at k h));
       small = λ k h. is_sum (slice_index c.sums.result k) (slice_index c.multiples-2.result k) _
