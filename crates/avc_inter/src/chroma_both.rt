@@ -110,11 +110,7 @@ fn predict_between<const W: usize, const PAD: usize>(
     ensures cr { cr.new ≡ with_block cr.old x y W (2 * pairs)
         (predicted_chroma from.entry.cr.now x y mv) }
 {
-    let width = from.cb.width();
-    let height = from.cb.height();
-    prove!(x < width);
-    prove!(y < height);
-    let at = chroma_place(x, y, mv);
+    let at = chroma_place(from.cb, x, y, mv);
     let beyond = chroma_fraction(mv);
     let to_cb = cb.padded_place(x, y);
     let to_cr = cr.padded_place(x, y);
@@ -148,13 +144,9 @@ pub fn predict_both_chroma<const W: usize, const H: usize, const PAD: usize>(
     ensures cb { cb.new ≡ with_block cb.old x y W H (predicted_chroma from_cb.now x y mv) }
     ensures cr { cr.new ≡ with_block cr.old x y W H (predicted_chroma from_cr.now x y mv) }
 {
-    let width = from_cb.width();
-    let height = from_cb.height();
-    prove!(x < width);
-    prove!(y < height);
     let beyond = chroma_fraction(mv);
     if beyond.right == 0 && beyond.down == 0 {
-        let at = chroma_place(x, y, mv);
+        let at = chroma_place(from_cb, x, y, mv);
         predict_whole::<W, H, PAD>(from_cb, WholeBlock { at }, x, y, cb);
         predict_whole::<W, H, PAD>(from_cr, WholeBlock { at }, x, y, cr);
     } else {

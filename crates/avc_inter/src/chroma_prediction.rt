@@ -48,11 +48,7 @@ pub fn chroma<const W: usize, const H: usize, const PAD: usize>(
     requires at { HasSample x y reference.now }
     ensures { block.new ≡ block_of W H (predicted_chroma reference.now x y mv) }
 {
-    let width = reference.width();
-    let height = reference.height();
-    prove!(x < width);
-    prove!(y < height);
-    let at = chroma_place(x, y, mv);
+    let at = chroma_place(reference, x, y, mv);
     let beyond = chroma_fraction(mv);
     if beyond.right == 0 && beyond.down == 0 {
         set_whole(reference, WholeBlock { at }, block)
@@ -77,11 +73,7 @@ fn predict_between<const W: usize, const H: usize, const PAD: usize>(
     requires target { HasRectangle x y W H plane.old }
     ensures { plane.new ≡ with_block plane.old x y W H (predicted_chroma reference.now x y mv) }
 {
-    let width = reference.width();
-    let height = reference.height();
-    prove!(x < width);
-    prove!(y < height);
-    let at = chroma_place(x, y, mv);
+    let at = chroma_place(reference, x, y, mv);
     let beyond = chroma_fraction(mv);
     let to = plane.padded_place(x, y);
     let out = plane.padded_rows_mut();
@@ -107,13 +99,9 @@ pub fn predict_chroma<const W: usize, const H: usize, const PAD: usize>(
     requires target { HasRectangle x y W H plane.old }
     ensures { plane.new ≡ with_block plane.old x y W H (predicted_chroma reference.now x y mv) }
 {
-    let width = reference.width();
-    let height = reference.height();
-    prove!(x < width);
-    prove!(y < height);
     let beyond = chroma_fraction(mv);
     if beyond.right == 0 && beyond.down == 0 {
-        let at = chroma_place(x, y, mv);
+        let at = chroma_place(reference, x, y, mv);
         predict_whole::<W, H, PAD>(reference, WholeBlock { at }, x, y, plane);
     } else {
         predict_between::<W, H, PAD>(reference, x, y, mv, plane);

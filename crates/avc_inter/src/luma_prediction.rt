@@ -77,11 +77,7 @@ pub fn luma<const W: usize, const H: usize, const PAD: usize>(
     requires at { HasSample x y reference.now }
     ensures { block.new ≡ block_of W H (predicted_luma reference.now x y mv) }
 {
-    let width = reference.width();
-    let height = reference.height();
-    prove!(x < width);
-    prove!(y < height);
-    let at = luma_place(x, y, mv);
+    let at = luma_place(reference, x, y, mv);
     let beyond = luma_fraction(mv);
     if beyond.right == 0 && beyond.down == 0 {
         set_whole(reference, WholeBlock { at }, block)
@@ -112,11 +108,7 @@ fn predict_between<const L: usize, const W: usize, const PAD: usize, const P: us
     ensures { plane.new ≡ with_block plane.old x y W (16 / L * extent.entry.count)
         (predicted_luma reference.now x y mv) }
 {
-    let width = reference.width();
-    let height = reference.height();
-    prove!(x < width);
-    prove!(y < height);
-    let at = luma_place(x, y, mv);
+    let at = luma_place(reference, x, y, mv);
     let beyond = luma_fraction(mv);
     let to = plane.padded_place(x, y);
     let out = plane.padded_rows_mut();
@@ -137,13 +129,9 @@ pub fn predict_luma<const W: usize, const H: usize, const PAD: usize>(
     requires target { HasRectangle x y W H plane.old }
     ensures { plane.new ≡ with_block plane.old x y W H (predicted_luma reference.now x y mv) }
 {
-    let width = reference.width();
-    let height = reference.height();
-    prove!(x < width);
-    prove!(y < height);
     let Quarters { right, down } = luma_fraction(mv);
     if right == 0 && down == 0 {
-        let at = luma_place(x, y, mv);
+        let at = luma_place(reference, x, y, mv);
         predict_whole::<W, H, PAD>(reference, WholeBlock { at }, x, y, plane);
     } else if W <= 4 && H % 4 == 0 {
         predict_between::<4, W, PAD, 216>(reference, x, y, mv, Extent { count: H / 4 }, plane);

@@ -2,8 +2,10 @@
 
 ghost use Rattle.std.specs.Prelude.{◌≡◌, ◌^◌, ◌<◌, pos, ◌+ℤ◌};
 ghost use Rattle.avc_types.specs.Arithmetic.{◌>>ℤ◌, low_bits};
+ghost use Rattle.avc_plane.specs.Plane.{HasSample};
 ghost use Rattle.avc_inter.specs.Bounds.{IsMoved};
 
+use avc_plane::PaddedPlane;
 use avc_types::Mv;
 
 /// A column and a row of whole samples that a vector leads to.
@@ -46,12 +48,19 @@ fn whole_luma(place: usize, component: i16) -> i64
 
 /// The place that the vector of a luma sample leads to.
 #[inline(always)]
-pub fn luma_place(x: usize, y: usize, mv: Mv) -> MovedPlace
-    requires column { x < 2 ^ 31 }
-    requires row { y < 2 ^ 31 }
+pub fn luma_place<const PAD: usize>(
+    plane: &PaddedPlane<PAD>,
+    x: usize,
+    y: usize,
+    mv: Mv,
+) -> MovedPlace
+    requires { HasSample x y plane.now }
     ensures left { result.left ≡ pos x +ℤ (mv.x >>ℤ 2) }
     ensures top { result.top ≡ pos y +ℤ (mv.y >>ℤ 2) }
 {
+    let (width, height) = (plane.width(), plane.height());
+    prove!(x < width);
+    prove!(y < height);
     MovedPlace {
         left: whole_luma(x, mv.x),
         top: whole_luma(y, mv.y),
@@ -87,12 +96,19 @@ fn whole_chroma(place: usize, component: i16) -> i64
 
 /// The place that the luma vector of a chroma sample leads to.
 #[inline(always)]
-pub fn chroma_place(x: usize, y: usize, mv: Mv) -> MovedPlace
-    requires column { x < 2 ^ 31 }
-    requires row { y < 2 ^ 31 }
+pub fn chroma_place<const PAD: usize>(
+    plane: &PaddedPlane<PAD>,
+    x: usize,
+    y: usize,
+    mv: Mv,
+) -> MovedPlace
+    requires { HasSample x y plane.now }
     ensures left { result.left ≡ pos x +ℤ (mv.x >>ℤ 3) }
     ensures top { result.top ≡ pos y +ℤ (mv.y >>ℤ 3) }
 {
+    let (width, height) = (plane.width(), plane.height());
+    prove!(x < width);
+    prove!(y < height);
     MovedPlace {
         left: whole_chroma(x, mv.x),
         top: whole_chroma(y, mv.y),
