@@ -142,25 +142,6 @@ get_or-through_bits w [] k h = refl
 get_or-through_bits w (d ∷ ds) zero h = to_z-of_z w d h
 get_or-through_bits w (d ∷ ds) (suc k) h = get_or-through_bits w ds k h
 
--- differences that fit, one by one
-module _ (w : Width) where
-  pub fit : ((x y : ℕ) → x ≤ 16383 → y ≤ 16383 → FitsSigned w (to_z w x -ℤ to_z w y)) → (xs ys : List ℕ) → Each1 (λ x. x ≤ 16383) xs → Each1 (λ x. x ≤ 16383) ys →
-      Each2 (λ x y. FitsSigned w (to_z w x -ℤ to_z w y)) (map (λ x. x) xs) (map (λ y. y) ys)
-  fit one [] ys p q = tt
-  fit one (x ∷ xs) [] p q = tt
-  fit one (x ∷ xs) (y ∷ ys) p q = (one x y p.0 q.0, fit one xs ys p.1 q.1)
-
-  module _ (one : (x y : ℕ) → x ≤ 16383 → y ≤ 16383 → to_z w (of_z w (to_z w x -ℤ to_z w y)) ≡ pos x -ℤ pos y) where
-    pub are : (xs ys : List ℕ) → Each1 (λ x. x ≤ 16383) xs → Each1 (λ x. x ≤ 16383) ys →
-        map (to_z w) (zip2 (λ (x y : ℕ). of_z w (to_z w x -ℤ to_z w y)) (map (λ x. x) xs) (map (λ y. y) ys)) ≡ zip2 (λ x y. pos x -ℤ pos y) xs ys
-    are [] ys p q = refl
-    are (x ∷ xs) [] p q = refl
-    are (x ∷ xs) (y ∷ ys) p q = cc (one x y p.0 q.0, are xs ys p.1 q.1)
-
-    pub value : (xs ys : List ℕ) (k : ℕ) → Each1 (λ x. x ≤ 16383) xs → Each1 (λ x. x ≤ 16383) ys → k < length xs → k < length ys →
-        get_or (map (to_z w) (zip2 (λ (x y : ℕ). of_z w (to_z w x -ℤ to_z w y)) (map (λ x. x) xs) (map (λ y. y) ys))) k (pos 0) ≡ pos (get_or xs k 0) -ℤ pos (get_or ys k 0)
-    value xs ys k p q h j = ap (λ (v : List ℤ). get_or v k (pos 0)) (are xs ys p q) ∙ get_or-zip2 (λ x y. pos x -ℤ pos y) xs ys k 0 0 (pos 0) h j
-
 -- lane k of a row that was loaded
 pub lane_of_row : (r q v : List ℕ) (k : ℕ) → v ≡ chunk 0 16 q → q ≡ r → k < 16 → get_or v k 0 ≡ get_or r k 0
 lane_of_row r q v k e same h =
