@@ -32,19 +32,7 @@ slope-same n f g same corner =
     ap (λ (a : ℕ). pos (i + 1) *ℤ (pos a -ℤ pos (f (pos n -ℤ pos (i + 2))))) (same (n + i) (omega arith))
     ∙ ap (λ (b : ℕ). pos (i + 1) *ℤ (pos (g (pos (n + i))) -ℤ pos b)) (same_before n i f g less same corner))
 
--- ---- the plane of the code is that of the standard: the same height, and the same slopes of the two sides
-
--- by m times the slope of the 2 * n samples of a side f
-pub gradient_of_side : (m n : ℕ) (f : ℤ → ℕ) (side : List ℕ) (corner : ℕ) (gradient found : ℤ)
-    → ((i : ℕ) → i < 2 * n → f (pos i) ≡ slice_index side i) → f (negsuc 0) ≡ corner
-    → found ≡ slope n (side_of side corner) → IsWithin 16320 found
-    → gradient ≡ (pos m *ℤ to_z w32 (of_z w32 found) +ℤ pos 32 >>ℤ 6) → IsWithin 5000 gradient
-    → to_z w32 (of_z w32 gradient) ≡ (pos m *ℤ slope n f +ℤ pos 32 >>ℤ 6)
-gradient_of_side m n f side corner gradient found samples at_corner value small of_slope narrow =
-    let whole : to_z w32 (of_z w32 gradient) ≡ gradient = omega (arith, ints) in
-    let kept : to_z w32 (of_z w32 found) ≡ found = omega (arith, ints) in
-    rw (whole, of_slope, kept, value, slope-same n f (side_of side corner) samples at_corner)
-
+-- the same plane: of the same height, and the same slopes of the two sides
 pub same_plane : (m x y : ℕ) (h a d h' a' d' : ℤ) → h ≡ h' → a ≡ a' → d ≡ d'
     → clip1 (h +ℤ a *ℤ (pos x -ℤ pos m) +ℤ d *ℤ (pos y -ℤ pos m) +ℤ pos 16 >>ℤ 5) ≡ clip1 (h' +ℤ a' *ℤ (pos x -ℤ pos m) +ℤ d' *ℤ (pos y -ℤ pos m) +ℤ pos 16 >>ℤ 5)
 same_plane m x y h a d h' a' d' height across down = rw (height, across, down) refl
@@ -148,6 +136,9 @@ module _ (m n : ℕ) (s : ℤ) (few : m * n ≤ 300000) (fits : n < 2 ^ 31) (sma
   shifted = shift_within _ half_more
 
   -- the same through the bits of each step
+  pub gradient_fits : FitsSigned w32 (to_z w32 (of_z w32 (pos m *ℤ to_z w32 (of_z w32 s))) +ℤ pos 32)
+  gradient_fits = rw (cast_within fits small, cast_within (omega arith) times) (fits_within (omega arith) half_more)
+
   pub gradient_is : to_z w32 (of_z w32 (to_z w32 (of_z w32 (to_z w32 (of_z w32 (pos m *ℤ to_z w32 (of_z w32 s))) +ℤ pos 32)) >>ℤ 6)) ≡ (pos m *ℤ s +ℤ pos 32 >>ℤ 6)
   gradient_is =
       let product : to_z w32 (of_z w32 (pos m *ℤ to_z w32 (of_z w32 s))) ≡ pos m *ℤ s = rw (cast_within fits small) (cast_within (omega arith) times) in
@@ -169,9 +160,9 @@ all_three true true false all = absurd (false≢true all)
 all_three true false d all = absurd (false≢true all)
 all_three false b d all = absurd (false≢true all)
 
--- the sides that meet at the corner, in what was read beside the block
-pub corner_sides : (found sides : Sides) → found ≡ sides → has_corner_sides sides ≡ true → (found.above ≡ true) × (found.left ≡ true) × (found.corner ≡ true)
-corner_sides found sides is all = rw is (all_three sides.above sides.left sides.corner all)
+-- the sides that meet at the corner
+pub corner_sides : (sides : Sides) → has_corner_sides sides ≡ true → (sides.above ≡ true) × (sides.left ≡ true) × (sides.corner ≡ true)
+corner_sides sides all = all_three sides.above sides.left sides.corner all
 
 -- ---- the column left of a block that is laid line by line stays
 

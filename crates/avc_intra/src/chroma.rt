@@ -1,22 +1,19 @@
 //! The prediction of chroma (8.3.4).
 
-ghost use Rattle.std.specs.Prelude.{◌≡◌, ℕ, ◌+◌, ◌*◌, ◌/◌, ◌<◌, ◌≤◌, pos, ◌+ℤ◌, ◌*ℤ◌, true, length};
-ghost use Rattle.std.specs.Prelude.{slice_index};
-ghost use Rattle.avc_types.specs.Arithmetic.{◌>>ℤ◌};
+ghost use Rattle.std.specs.Prelude.{◌≡◌, ℕ, ◌+◌, ◌*◌, ◌/◌, ◌<◌, ◌≤◌, true, length, slice_index};
 ghost use Rattle.avc_intra.specs.Neighbourhood.{Around, Predicts};
 ghost use Rattle.avc_intra.specs.Chroma.{ShowsChroma, can_predict_chroma, intra_chroma};
-ghost use Rattle.avc_intra.specs.Chroma.{predict_chroma, predict_dc_chroma, predict_plane_chroma};
-ghost use Rattle.avc_intra.specs.Chroma.{sum_above, sum_left};
-ghost use Rattle.avc_intra.specs.Slopes.{IsWithin};
+ghost use Rattle.avc_intra.specs.Chroma.{predict_chroma, predict_dc_chroma, sum_above, sum_left};
 ghost use Rattle.avc_intra.specs.InRows.{IsSeen};
 ghost use Rattle.avc_plane.specs.Strided.{IsRoom, IsStridedSet};
 
-use crate::beside::{above, corner, left, sum_above4, sum_left4};
-use crate::lines::{lay_same_columns, lay_same_lines};
+use crate::beside::{sum_above4, sum_left4};
+use crate::lines::lay_same_lines;
 use crate::means::{mean_of_sides4, sum_of_four};
-use crate::plane::{height_between, lay_plane, slope};
+use crate::plane::{lay_plane_beside, plane};
 use crate::rows::{same_columns, same_rows, set_row};
 use crate::sides::Sides;
+use crate::straight::{lay_horizontal, lay_vertical};
 use avc_plane::RowsPlace;
 use avc_types::Fault;
 
@@ -55,15 +52,6 @@ pub struct AroundChroma {
     pub corner: u8,
     /// Which of them are available.
     pub sides: Sides,
-}
-
-/// What the plane rises from a column or a row to the next, in 32nds, by the slope of a side.
-fn gradient(slope: i32) -> i32
-    requires { IsWithin 8160 slope }
-    ensures value { result ≡ (pos 34 *ℤ slope +ℤ pos 32 >>ℤ 6) }
-    ensures small { IsWithin 5000 result }
-{
-    (34 * slope + 32) >> 6
 }
 
 /// The DC of the 4x4 block in this column and row of blocks, from the sums of its sides: off the
@@ -127,40 +115,6 @@ impl AroundChroma {
         samples
     }
 
-    /// Intra_Chroma_Plane, laid into rows.
-    fn lay_plane(&self, rows: &mut [u8], at: RowsPlace)
-        requires above { self.now.sides.above ≡ true }
-        requires left { self.now.sides.left ≡ true }
-        requires corner { self.now.sides.corner ≡ true }
-        requires apart { 8 ≤ at.stride }
-        requires room { IsRoom 8 8 at.first at.stride (length rows.old) }
-        ensures long { length rows.new ≡ length rows.old }
-        ensures samples { (p : Around) → ShowsChroma p self.now →
-            IsStridedSet 8 8 at.first at.stride (predict_plane_chroma p) rows.old rows.new }
-    {
-        let height = height_between(self.left[7], self.above[7]);
-        let across = gradient(slope(&self.above, self.corner));
-        let down = gradient(slope(&self.left, self.corner));
-        lay_plane::<8>(height, across, down, rows, at);
-    }
-
-    /// Intra_Chroma_Plane.
-    fn plane(&self) -> [u8; 64]
-        requires above { self.now.sides.above ≡ true }
-        requires left { self.now.sides.left ≡ true }
-        requires corner { self.now.sides.corner ≡ true }
-        ensures { (p : Around) → ShowsChroma p self.now → (x y : ℕ) → x < 8 → y < 8 →
-            slice_index result (8 * y + x) ≡ predict_plane_chroma p x y }
-    {
-        let mut samples = [0; 64];
-        let at = RowsPlace {
-            first: 0,
-            stride: 8,
-        };
-        self.lay_plane(&mut samples, at);
-        samples
-    }
-
     /// The prediction by a mode whose sides are available.
     pub fn predicted(&self, mode: ModeChroma) -> [u8; 64]
         requires { can_predict_chroma self.now.sides mode ≡ true }
@@ -171,7 +125,7 @@ impl AroundChroma {
             ModeChroma::Dc => self.dc_samples(),
             ModeChroma::Horizontal => same_columns(&self.left),
             ModeChroma::Vertical => same_rows(&self.above),
-            ModeChroma::Plane => self.plane(),
+            ModeChroma::Plane => plane::<8, 34, 64>(&self.above, &self.left, self.corner),
         }
     }
 }
@@ -186,23 +140,6 @@ pub fn predict_chroma(around: &AroundChroma, mode: ModeChroma) -> Result<[u8; 64
         return Err(Fault::IntraUnavailable);
     }
     Ok(around.predicted(mode))
-}
-
-/// The samples around the component of the macroblock at this place in rows.
-#[inline(always)]
-fn read_around(rows: &[u8], at: RowsPlace, sides: Sides) -> AroundChroma
-    requires apart { 8 ≤ at.stride }
-    requires room { IsRoom 8 8 at.first at.stride (length rows.now) }
-    ensures sides { result.sides ≡ sides }
-    ensures shows { (p : Around) → IsSeen p sides 8 at.first at.stride rows.now →
-        ShowsChroma p result }
-{
-    AroundChroma {
-        above: above::<8>(rows, at),
-        left: left::<8, 8>(rows, at),
-        corner: corner(rows, at),
-        sides,
-    }
 }
 
 /// Lays Intra_Chroma_DC.
@@ -244,14 +181,8 @@ pub fn lay_chroma(rows: &mut [u8], at: RowsPlace, sides: Sides, mode: ModeChroma
 {
     match mode {
         ModeChroma::Dc => lay_dc(rows, at, sides),
-        ModeChroma::Horizontal => lay_same_columns::<8, 8>(rows, at),
-        ModeChroma::Vertical => {
-            let line = above::<8>(rows, at);
-            lay_same_lines::<8, 8>(&line, rows, at);
-        }
-        ModeChroma::Plane => {
-            let around = read_around(rows, at, sides);
-            around.lay_plane(rows, at);
-        }
+        ModeChroma::Horizontal => lay_horizontal::<8>(rows, at),
+        ModeChroma::Vertical => lay_vertical::<8>(rows, at),
+        ModeChroma::Plane => lay_plane_beside::<8, 34>(rows, at),
     }
 }

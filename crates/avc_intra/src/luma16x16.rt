@@ -1,21 +1,19 @@
 //! The prediction of Intra 16x16 macroblocks (8.3.3).
 
-ghost use Rattle.std.specs.Prelude.{◌≡◌, ℕ, ◌+◌, ◌*◌, ◌<◌, ◌≤◌, pos, ◌+ℤ◌, ◌*ℤ◌, true, length};
-ghost use Rattle.std.specs.Prelude.{slice_index};
-ghost use Rattle.avc_types.specs.Arithmetic.{◌>>ℤ◌};
+ghost use Rattle.std.specs.Prelude.{◌≡◌, ℕ, ◌+◌, ◌*◌, ◌<◌, ◌≤◌, true, length, slice_index};
 ghost use Rattle.avc_intra.specs.Neighbourhood.{Around, Predicts};
 ghost use Rattle.avc_intra.specs.Luma16x16.{Shows16x16, can_predict16x16, intra16x16, predict16x16};
-ghost use Rattle.avc_intra.specs.Luma16x16.{predict_dc16x16, predict_plane16x16};
-ghost use Rattle.avc_intra.specs.Slopes.{IsWithin};
+ghost use Rattle.avc_intra.specs.Luma16x16.{predict_dc16x16};
 ghost use Rattle.avc_intra.specs.InRows.{IsSeen};
 ghost use Rattle.avc_plane.specs.Strided.{IsRoom, IsStridedSet};
 
-use crate::beside::{above, corner, left, sum_above16, sum_left16};
-use crate::lines::{lay_same_columns, lay_same_lines};
+use crate::beside::{sum_above16, sum_left16};
+use crate::lines::lay_same_lines;
 use crate::means::{mean_of_sides16, sum_of_sixteen};
-use crate::plane::{height_between, lay_plane, slope};
+use crate::plane::{lay_plane_beside, plane};
 use crate::rows::{level, same_columns, same_rows};
 use crate::sides::Sides;
+use crate::straight::{lay_horizontal, lay_vertical};
 use avc_plane::RowsPlace;
 use avc_types::Fault;
 
@@ -56,15 +54,6 @@ pub struct Around16x16 {
     pub sides: Sides,
 }
 
-/// What the plane rises from a column or a row to the next, in 32nds, by the slope of a side.
-fn gradient(slope: i32) -> i32
-    requires { IsWithin 16320 slope }
-    ensures value { result ≡ (pos 5 *ℤ slope +ℤ pos 32 >>ℤ 6) }
-    ensures small { IsWithin 5000 result }
-{
-    (5 * slope + 32) >> 6
-}
-
 impl Around16x16 {
     /// Intra_16x16_DC.
     fn dc(&self) -> u8
@@ -73,40 +62,6 @@ impl Around16x16 {
         let above = sum_of_sixteen(&self.above);
         let left = sum_of_sixteen(&self.left);
         mean_of_sides16(self.sides.above, self.sides.left, above, left)
-    }
-
-    /// Intra_16x16_Plane, laid into rows.
-    fn lay_plane(&self, rows: &mut [u8], at: RowsPlace)
-        requires above { self.now.sides.above ≡ true }
-        requires left { self.now.sides.left ≡ true }
-        requires corner { self.now.sides.corner ≡ true }
-        requires apart { 16 ≤ at.stride }
-        requires room { IsRoom 16 16 at.first at.stride (length rows.old) }
-        ensures long { length rows.new ≡ length rows.old }
-        ensures samples { (p : Around) → Shows16x16 p self.now →
-            IsStridedSet 16 16 at.first at.stride (predict_plane16x16 p) rows.old rows.new }
-    {
-        let height = height_between(self.left[15], self.above[15]);
-        let across = gradient(slope(&self.above, self.corner));
-        let down = gradient(slope(&self.left, self.corner));
-        lay_plane::<16>(height, across, down, rows, at);
-    }
-
-    /// Intra_16x16_Plane.
-    fn plane(&self) -> [u8; 256]
-        requires above { self.now.sides.above ≡ true }
-        requires left { self.now.sides.left ≡ true }
-        requires corner { self.now.sides.corner ≡ true }
-        ensures { (p : Around) → Shows16x16 p self.now → (x y : ℕ) → x < 16 → y < 16 →
-            slice_index result (16 * y + x) ≡ predict_plane16x16 p x y }
-    {
-        let mut samples = [0; 256];
-        let at = RowsPlace {
-            first: 0,
-            stride: 16,
-        };
-        self.lay_plane(&mut samples, at);
-        samples
     }
 
     /// The prediction by a mode whose sides are available.
@@ -119,7 +74,7 @@ impl Around16x16 {
             Mode16x16::Vertical => same_rows(&self.above),
             Mode16x16::Horizontal => same_columns(&self.left),
             Mode16x16::Dc => level(self.dc()),
-            Mode16x16::Plane => self.plane(),
+            Mode16x16::Plane => plane::<16, 5, 256>(&self.above, &self.left, self.corner),
         }
     }
 }
@@ -136,23 +91,6 @@ pub fn predict16(around: &Around16x16, mode: Mode16x16) -> Result<[u8; 256], Fau
     Ok(around.predicted(mode))
 }
 
-/// The samples around the macroblock at this place in rows.
-#[inline(always)]
-fn read_around(rows: &[u8], at: RowsPlace, sides: Sides) -> Around16x16
-    requires apart { 16 ≤ at.stride }
-    requires room { IsRoom 16 16 at.first at.stride (length rows.now) }
-    ensures sides { result.sides ≡ sides }
-    ensures shows { (p : Around) → IsSeen p sides 16 at.first at.stride rows.now →
-        Shows16x16 p result }
-{
-    Around16x16 {
-        above: above::<16>(rows, at),
-        left: left::<16, 16>(rows, at),
-        corner: corner(rows, at),
-        sides,
-    }
-}
-
 /// Lays the prediction of the luma of a macroblock (clause 8.3.3) into its place in rows, by a mode
 /// whose sides are available, from the samples that stand around it there.
 pub fn lay16x16(rows: &mut [u8], at: RowsPlace, sides: Sides, mode: Mode16x16)
@@ -164,20 +102,14 @@ pub fn lay16x16(rows: &mut [u8], at: RowsPlace, sides: Sides, mode: Mode16x16)
         IsStridedSet 16 16 at.first at.stride (predict16x16 sides p mode) rows.old rows.new }
 {
     match mode {
-        Mode16x16::Vertical => {
-            let line = above::<16>(rows, at);
-            lay_same_lines::<16, 16>(&line, rows, at);
-        }
-        Mode16x16::Horizontal => lay_same_columns::<16, 16>(rows, at),
+        Mode16x16::Vertical => lay_vertical::<16>(rows, at),
+        Mode16x16::Horizontal => lay_horizontal::<16>(rows, at),
         Mode16x16::Dc => {
             let above = sum_above16(rows, at);
             let left = sum_left16(rows, at);
             let sample = mean_of_sides16(sides.above, sides.left, above, left);
             lay_same_lines::<16, 16>(&[sample; 16], rows, at);
         }
-        Mode16x16::Plane => {
-            let around = read_around(rows, at, sides);
-            around.lay_plane(rows, at);
-        }
+        Mode16x16::Plane => lay_plane_beside::<16, 5>(rows, at),
     }
 }

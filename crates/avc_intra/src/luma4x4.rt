@@ -10,9 +10,10 @@ ghost use Rattle.avc_intra.specs.Lines.{block4x4, line_above, line_left, line_ro
 
 use crate::beside::{above, corner, left, sum_above4, sum_left4};
 use crate::directional;
-use crate::lines::{lay_block, lay_same_columns, lay_same_lines};
+use crate::lines::{lay_block, lay_same_lines};
 use crate::means::{mean_of_sides4, sum_of_four};
 use crate::sides::Sides;
+use crate::straight::{lay_horizontal, lay_vertical};
 use avc_plane::RowsPlace;
 use avc_types::Fault;
 
@@ -190,11 +191,8 @@ pub fn lay4x4(rows: &mut [u8], at: RowsPlace, sides: Sides, mode: Mode4x4)
         rows.new }
 {
     match mode {
-        Mode4x4::Vertical => {
-            let line = above::<4>(rows, at);
-            lay_same_lines::<4, 4>(&line, rows, at);
-        }
-        Mode4x4::Horizontal => lay_same_columns::<4, 4>(rows, at),
+        Mode4x4::Vertical => lay_vertical::<4>(rows, at),
+        Mode4x4::Horizontal => lay_horizontal::<4>(rows, at),
         Mode4x4::Dc => {
             let above = sum_above4(rows, at, 0);
             let left = sum_left4(rows, at, 0);

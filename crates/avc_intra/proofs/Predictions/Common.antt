@@ -15,13 +15,14 @@ pub use Rattle.std.specs.Prelude.{nat_lt, not, ◌&&◌, map}
 pub use Rattle.avc_plane.proofs.PlaneMaps.{strided_same, strided_more, strided_line, strided_rows}
 pub use Rattle.avc_plane.specs.Strided.{IsRoom, IsStridedSet}
 pub use Rattle.avc_types.specs.Arithmetic.{sum_below, sum_below_ℤ, ◌>>ℤ◌, clip1, mean_of_two, mean_of_three}
-pub use Rattle.avc_intra.specs.Chroma.{sum_above, sum_left, intra_chroma, mode_chroma_of, predict_dc_chroma, predict_plane_chroma, predict_chroma}
+pub use Rattle.avc_intra.specs.Chroma.{sum_above, sum_left, intra_chroma, mode_chroma_of, predict_dc_chroma, predict_chroma}
 pub use Rattle.avc_intra.specs.InRows.{IsSeen}
 pub use Rattle.avc_intra.specs.Lines.{block4x4}
-pub use Rattle.avc_intra.specs.Luma16x16.{slope, intra16x16, mode16x16_of, predict16x16, predict_plane16x16}
+pub use Rattle.avc_intra.specs.Luma16x16.{intra16x16, mode16x16_of, predict16x16}
+pub use Rattle.avc_intra.specs.Plane.{slope, gradient, plane_sample, predict_plane}
 pub use Rattle.avc_intra.specs.Luma4x4.{extended, intra4x4, mode4x4_of, can_predict4x4, predict4x4}
-pub use Rattle.avc_intra.specs.Neighbourhood.{Around, top, left_of, has_corner_sides}
-pub use Rattle.avc_intra.specs.Slopes.{IsWithin, side_of, plane_sample}
+pub use Rattle.avc_intra.specs.Neighbourhood.{Around, Shows, top, left_of, has_corner_sides}
+pub use Rattle.avc_intra.specs.Slopes.{IsWithin, side_of}
 pub use Rattle.avc_intra.specs.declared.luma4x4.Mode4x4.TheVariants.{Vertical, Horizontal, DiagonalDownLeft, DiagonalDownRight, VerticalRight}
 pub use Rattle.avc_intra.specs.declared.luma4x4.Mode4x4.TheVariants.{HorizontalDown, VerticalLeft, HorizontalUp}
 pub use Rattle.avc_intra.specs.declared.sides.Sides.{Sides}

@@ -1,5 +1,5 @@
 use Rattle.avc_intra.proofs.Predictions.{◌≡◌, ◌+◌, ◌*◌, ◌/◌, true, arith, sym, ◌∙◌, get_or-replicate, strided_same}
-use Rattle.avc_intra.proofs.Predictions.{sum_above, sum_left, extended, predict4x4, sum_above_seen, sum_left_seen, mean_of_sides, near, Vertical, Horizontal}
+use Rattle.avc_intra.proofs.Predictions.{sum_above, sum_left, extended, predict4x4, sum_above_seen, sum_left_seen, mean_of_sides, near, Vertical}
 use Rattle.avc_intra.proofs.Predictions.{DiagonalDownLeft, DiagonalDownRight, VerticalRight, HorizontalDown, VerticalLeft, HorizontalUp, laid4x4}
 use Rattle.avc_intra.specs.declared.luma4x4.Mode4x4.TheVariants.{Dc}
 use Rattle.avc_intra.proofs.luma4x4.lay4x4.Goals as goal
@@ -7,16 +7,8 @@ use Rattle.avc_intra.proofs.luma4x4.lay4x4.Goals as goal
 pub returns-in-Vertical-clause-samples : goal.returns-in-Vertical-clause-samples
 returns-in-Vertical-clause-samples c p seen =
     let sides = c.args.sides in
-    let tops = seen.beside.tops (rw c.in-Vertical.is at c.requires.mode) in
-    rw c.in-Vertical.is (strided_same 4 4 _ _ _ (predict4x4 sides (extended sides p) Vertical) _ _ c.lay_same_lines.ensures
-    (λ x y column row. c.above-line.ensures tops.0 x column ∙ sym (tops.1 x column) ∙ sym (near sides p x column)))
-
-pub returns-in-Horizontal-clause-samples : goal.returns-in-Horizontal-clause-samples
-returns-in-Horizontal-clause-samples c p seen =
-    let sides = c.args.sides in
-    let lefts = seen.beside.lefts (rw c.in-Horizontal.is at c.requires.mode) in
-    rw c.in-Horizontal.is (strided_same 4 4 _ _ _ (predict4x4 sides (extended sides p) Horizontal) _ _
-    (c.lay_same_columns.ensures.lines lefts.0 lefts.1) (λ x y column row. sym (lefts.2 y row)))
+    rw c.in-Vertical.is (strided_same 4 4 _ _ _ (predict4x4 sides (extended sides p) Vertical) _ _
+    (c.lay_vertical.ensures p sides seen.beside (rw c.in-Vertical.is at c.requires.mode)) (λ x y column row. sym (near sides p x column)))
 
 pub returns-in-Dc-clause-samples : goal.returns-in-Dc-clause-samples
 returns-in-Dc-clause-samples c p seen =
@@ -27,7 +19,7 @@ returns-in-Dc-clause-samples c p seen =
     let left : sides.left ≡ true → c.sum_left4-left.result ≡ sum_left p 0 =
     λ there. c.sum_left4-left.ensures.sum (seen.beside.lefts there).0
     ∙ sum_left_seen p sides 4 _ _ _ seen.beside 4 (λ i. 4 * 0 + i) (λ i low. omega arith) there in
-    rw c.in-Dc.is (strided_same 4 4 _ _ _ (predict4x4 sides (extended sides p) Dc) _ _ c.lay_same_lines-in-Dc.ensures
+    rw c.in-Dc.is (strided_same 4 4 _ _ _ (predict4x4 sides (extended sides p) Dc) _ _ c.lay_same_lines.ensures
     (λ x y column row. get_or-replicate 4 x c.mean_of_sides4-sample.result 0 column ∙ c.mean_of_sides4-sample.ensures
     ∙ mean_of_sides (λ a l. (a + l + 4) / 8) (λ a. (a + 2) / 4) (λ l. (l + 2) / 4) 128 sides.above sides.left _ _ _ _ above left))
 
