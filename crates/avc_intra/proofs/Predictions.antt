@@ -191,11 +191,11 @@ row_of_two f a b left right x column =
     rw (left, right) (get_or-map-range_with_len (λ i. f (i / 4)) 0 8 x x 0 column (zero-add x))
 
 -- a block that was laid, by its columns and rows
-pub laid4x4 : (first stride : ℕ) (f : Sides → ℕ → ℕ → ℕ) (found sides : Sides) (samples old new : List ℕ) → found ≡ sides → samples ≡ block4x4 (f found)
-    → IsStridedSet 4 4 first stride (λ x y. slice_index samples (4 * y + x)) old new → IsStridedSet 4 4 first stride (f sides) old new
-laid4x4 first stride f found sides samples old new is same set =
-    strided_same 4 4 first stride (λ x y. slice_index samples (4 * y + x)) (f sides) old new set
-    (λ x y column row. rw (same, ← is) (slice_index-block4x4 (f found) x y column row))
+pub laid4x4 : (first stride : ℕ) (f : ℕ → ℕ → ℕ) (samples old new : List ℕ) → samples ≡ block4x4 f
+    → IsStridedSet 4 4 first stride (λ x y. slice_index samples (4 * y + x)) old new → IsStridedSet 4 4 first stride f old new
+laid4x4 first stride f samples old new same set =
+    strided_same 4 4 first stride (λ x y. slice_index samples (4 * y + x)) f old new set
+    (λ x y column row. rw same (slice_index-block4x4 f x y column row))
 
 -- ---- a loop that fills a list from the front
 

@@ -1,6 +1,7 @@
 //! The prediction of 4x4 luma blocks (8.3.1.2).
 
 ghost use Rattle.std.specs.Prelude.{◌≡◌, ℕ, ◌≤◌, length, pos, true};
+ghost use Rattle.avc_intra.specs.declared.sides.Sides.{Sides};
 ghost use Rattle.avc_plane.specs.Strided.{IsRoom, IsStridedSet};
 ghost use Rattle.avc_intra.specs.InRows.{IsSeen4x4};
 ghost use Rattle.avc_intra.specs.Neighbourhood.{Around, Predicts, top, left_of};
@@ -66,8 +67,8 @@ impl Around4x4 {
     /// available, the last one above the block stands for them.
     fn line_above(&self) -> [u8; 9]
         requires { self.now.sides.above ≡ true }
-        ensures { (p : Around) → Shows4x4 p self.now →
-            result ≡ line_above (extended self.now.sides p) }
+        ensures { (p : Around) (sides : Sides) → self.now.sides ≡ sides → Shows4x4 p self.now →
+            result ≡ line_above (extended sides p) }
     {
         let t = &self.above;
         if self.sides.above_right {
@@ -80,8 +81,8 @@ impl Around4x4 {
     /// The samples on the left, with the last going on.
     fn line_left(&self) -> [u8; 9]
         requires { self.now.sides.left ≡ true }
-        ensures { (p : Around) → Shows4x4 p self.now →
-            result ≡ line_left (extended self.now.sides p) }
+        ensures { (p : Around) (sides : Sides) → self.now.sides ≡ sides → Shows4x4 p self.now →
+            result ≡ line_left (extended sides p) }
     {
         let l = &self.left;
         [l[0], l[1], l[2], l[3], l[3], l[3], l[3], l[3], l[3]]
@@ -92,8 +93,8 @@ impl Around4x4 {
         requires above { self.now.sides.above ≡ true }
         requires left { self.now.sides.left ≡ true }
         requires corner { self.now.sides.corner ≡ true }
-        ensures { (p : Around) → Shows4x4 p self.now →
-            result ≡ line_round (extended self.now.sides p) }
+        ensures { (p : Around) (sides : Sides) → self.now.sides ≡ sides → Shows4x4 p self.now →
+            result ≡ line_round (extended sides p) }
     {
         let t = &self.above;
         let l = &self.left;
@@ -179,6 +180,17 @@ fn read_around(rows: &[u8], at: RowsPlace, sides: Sides) -> Around4x4
     }
 }
 
+/// Lays the samples of a block, row by row.
+#[inline(always)]
+fn lay_samples(samples: &[u8; 16], rows: &mut [u8], at: RowsPlace)
+    requires apart { 4 ≤ at.stride }
+    requires room { IsRoom 4 4 at.first at.stride (length rows.old) }
+    ensures { (f : ℕ → ℕ → ℕ) → samples.now ≡ block4x4 f →
+        IsStridedSet 4 4 at.first at.stride f rows.old rows.new }
+{
+    lay_block::<4, 4, 16>(samples, rows, at);
+}
+
 /// Lays the prediction of a 4x4 luma block (clause 8.3.1.2) into its place in rows, by a mode whose
 /// sides are available, from the samples that stand around it there.
 pub fn lay4x4(rows: &mut [u8], at: RowsPlace, sides: Sides, mode: Mode4x4)
@@ -201,27 +213,27 @@ pub fn lay4x4(rows: &mut [u8], at: RowsPlace, sides: Sides, mode: Mode4x4)
         }
         Mode4x4::DiagonalDownLeft => {
             let line = read_around(rows, at, sides).line_above();
-            lay_block::<4, 4, 16>(&directional::diagonal_down_left(&line), rows, at);
+            lay_samples(&directional::diagonal_down_left(&line), rows, at);
         }
         Mode4x4::DiagonalDownRight => {
             let line = read_around(rows, at, sides).line_round();
-            lay_block::<4, 4, 16>(&directional::diagonal_down_right(&line), rows, at);
+            lay_samples(&directional::diagonal_down_right(&line), rows, at);
         }
         Mode4x4::VerticalRight => {
             let line = read_around(rows, at, sides).line_round();
-            lay_block::<4, 4, 16>(&directional::vertical_right(&line), rows, at);
+            lay_samples(&directional::vertical_right(&line), rows, at);
         }
         Mode4x4::HorizontalDown => {
             let line = read_around(rows, at, sides).line_round();
-            lay_block::<4, 4, 16>(&directional::horizontal_down(&line), rows, at);
+            lay_samples(&directional::horizontal_down(&line), rows, at);
         }
         Mode4x4::VerticalLeft => {
             let line = read_around(rows, at, sides).line_above();
-            lay_block::<4, 4, 16>(&directional::vertical_left(&line), rows, at);
+            lay_samples(&directional::vertical_left(&line), rows, at);
         }
         Mode4x4::HorizontalUp => {
             let line = read_around(rows, at, sides).line_left();
-            lay_block::<4, 4, 16>(&directional::horizontal_up(&line), rows, at);
+            lay_samples(&directional::horizontal_up(&line), rows, at);
         }
     }
 }

@@ -1,6 +1,6 @@
 use Rattle.avc_intra.proofs.Predictions.{◌≡◌, ◌+◌, ◌*◌, ◌/◌, true, arith, sym, ◌∙◌, get_or-replicate, strided_same}
 use Rattle.avc_intra.proofs.Predictions.{sum_above, sum_left, extended, predict4x4, sum_above_seen, sum_left_seen, mean_of_sides, near, Vertical}
-use Rattle.avc_intra.proofs.Predictions.{DiagonalDownLeft, DiagonalDownRight, VerticalRight, HorizontalDown, VerticalLeft, HorizontalUp, laid4x4}
+use Rattle.avc_intra.proofs.Predictions.{DiagonalDownLeft, DiagonalDownRight, VerticalRight, HorizontalDown, VerticalLeft, HorizontalUp}
 use Rattle.avc_intra.specs.declared.luma4x4.Mode4x4.TheVariants.{Dc}
 use Rattle.avc_intra.proofs.luma4x4.lay4x4.Goals as goal
 
@@ -25,39 +25,36 @@ returns-in-Dc-clause-samples c p seen =
 
 pub returns-in-DiagonalDownLeft-clause-samples : goal.returns-in-DiagonalDownLeft-clause-samples
 returns-in-DiagonalDownLeft-clause-samples c p seen =
-    let r = c.read_around in
-    rw c.in-DiagonalDownLeft.is (laid4x4 _ _ (λ t. predict4x4 t (extended t p) DiagonalDownLeft) _ _ _ _ _ r.ensures.sides
-    (c.diagonal_down_left.ensures (extended r.result.sides p) (c.line_above-line.ensures p (r.ensures.shows p seen))) c.lay_block.ensures)
+    let around = c.read_around.ensures in
+    let line = c.line_above-line.ensures p c.args.sides around.sides (around.shows p seen) in
+    rw c.in-DiagonalDownLeft.is (c.lay_samples.ensures (predict4x4 c.args.sides (extended c.args.sides p) DiagonalDownLeft) (c.diagonal_down_left.ensures (extended c.args.sides p) line))
 
 pub returns-in-DiagonalDownRight-clause-samples : goal.returns-in-DiagonalDownRight-clause-samples
 returns-in-DiagonalDownRight-clause-samples c p seen =
-    let r = c.read_around-in-DiagonalDownRight in
-    rw c.in-DiagonalDownRight.is (laid4x4 _ _ (λ t. predict4x4 t (extended t p) DiagonalDownRight) _ _ _ _ _ r.ensures.sides
-    (c.diagonal_down_right.ensures (extended r.result.sides p) (c.line_round-line.ensures p (r.ensures.shows p seen))) c.lay_block-in-DiagonalDownRight.ensures)
+    let around = c.read_around-in-DiagonalDownRight.ensures in
+    let line = c.line_round-line.ensures p c.args.sides around.sides (around.shows p seen) in
+    rw c.in-DiagonalDownRight.is (c.lay_samples-in-DiagonalDownRight.ensures (predict4x4 c.args.sides (extended c.args.sides p) DiagonalDownRight) (c.diagonal_down_right.ensures (extended c.args.sides p) line))
 
 pub returns-in-VerticalRight-clause-samples : goal.returns-in-VerticalRight-clause-samples
 returns-in-VerticalRight-clause-samples c p seen =
-    let r = c.read_around-in-VerticalRight in
-    rw c.in-VerticalRight.is (laid4x4 _ _ (λ t. predict4x4 t (extended t p) VerticalRight) _ _ _ _ _ r.ensures.sides
-    (c.vertical_right.ensures (extended r.result.sides p) (c.line_round-line-in-VerticalRight.ensures p (r.ensures.shows p seen)))
-    c.lay_block-in-VerticalRight.ensures)
+    let around = c.read_around-in-VerticalRight.ensures in
+    let line = c.line_round-line-in-VerticalRight.ensures p c.args.sides around.sides (around.shows p seen) in
+    rw c.in-VerticalRight.is (c.lay_samples-in-VerticalRight.ensures (predict4x4 c.args.sides (extended c.args.sides p) VerticalRight) (c.vertical_right.ensures (extended c.args.sides p) line))
 
 pub returns-in-HorizontalDown-clause-samples : goal.returns-in-HorizontalDown-clause-samples
 returns-in-HorizontalDown-clause-samples c p seen =
-    let r = c.read_around-in-HorizontalDown in
-    rw c.in-HorizontalDown.is (laid4x4 _ _ (λ t. predict4x4 t (extended t p) HorizontalDown) _ _ _ _ _ r.ensures.sides
-    (c.horizontal_down.ensures (extended r.result.sides p) (c.line_round-line-in-HorizontalDown.ensures p (r.ensures.shows p seen)))
-    c.lay_block-in-HorizontalDown.ensures)
+    let around = c.read_around-in-HorizontalDown.ensures in
+    let line = c.line_round-line-in-HorizontalDown.ensures p c.args.sides around.sides (around.shows p seen) in
+    rw c.in-HorizontalDown.is (c.lay_samples-in-HorizontalDown.ensures (predict4x4 c.args.sides (extended c.args.sides p) HorizontalDown) (c.horizontal_down.ensures (extended c.args.sides p) line))
 
 pub returns-in-VerticalLeft-clause-samples : goal.returns-in-VerticalLeft-clause-samples
 returns-in-VerticalLeft-clause-samples c p seen =
-    let r = c.read_around-in-VerticalLeft in
-    rw c.in-VerticalLeft.is (laid4x4 _ _ (λ t. predict4x4 t (extended t p) VerticalLeft) _ _ _ _ _ r.ensures.sides
-    (c.vertical_left.ensures (extended r.result.sides p) (c.line_above-line-in-VerticalLeft.ensures p (r.ensures.shows p seen)))
-    c.lay_block-in-VerticalLeft.ensures)
+    let around = c.read_around-in-VerticalLeft.ensures in
+    let line = c.line_above-line-in-VerticalLeft.ensures p c.args.sides around.sides (around.shows p seen) in
+    rw c.in-VerticalLeft.is (c.lay_samples-in-VerticalLeft.ensures (predict4x4 c.args.sides (extended c.args.sides p) VerticalLeft) (c.vertical_left.ensures (extended c.args.sides p) line))
 
 pub returns-in-HorizontalUp-clause-samples : goal.returns-in-HorizontalUp-clause-samples
 returns-in-HorizontalUp-clause-samples c p seen =
-    let r = c.read_around-in-HorizontalUp in
-    rw c.in-HorizontalUp.is (laid4x4 _ _ (λ t. predict4x4 t (extended t p) HorizontalUp) _ _ _ _ _ r.ensures.sides
-    (c.horizontal_up.ensures (extended r.result.sides p) (c.line_left-line.ensures p (r.ensures.shows p seen))) c.lay_block-in-HorizontalUp.ensures)
+    let around = c.read_around-in-HorizontalUp.ensures in
+    let line = c.line_left-line.ensures p c.args.sides around.sides (around.shows p seen) in
+    rw c.in-HorizontalUp.is (c.lay_samples-in-HorizontalUp.ensures (predict4x4 c.args.sides (extended c.args.sides p) HorizontalUp) (c.horizontal_up.ensures (extended c.args.sides p) line))
