@@ -1,5 +1,5 @@
 -- What the lines of one edge are filtered with, ITU-T H.264 clause 8.7.2.
-use Rattle.std.specs.Prelude.{ℕ, ◌+◌, ◌/◌, ◌<◌, true, false, slice_index}
+use Rattle.std.specs.Prelude.{ℕ, ◌+◌, ◌/◌, ◌<◌, true, slice_index}
 use Rattle.avc_edges.specs.Line.{Setting}
 use Rattle.avc_edges.specs.Rows.{IsStrong}
 use Rattle.avc_edges.specs.OneEdge.{strength_along, FitsWeak}
@@ -21,14 +21,3 @@ abbrev pub AreStrongLuma : StrongSettings → (ℕ → Setting) → Type 0
 AreStrongLuma w setting =
     (i : ℕ) → i < 16 →
     IsStrong true (setting i) (w.limits.now.alpha1 + 1) (w.limits.now.beta1 + 1)
-
--- those of eight lines of chroma at strengths below 4
-abbrev pub AreWeakChroma : WeakSettings → (ℕ → Setting) → Type 0
-AreWeakChroma w setting =
-    (i : ℕ) → i < 8 → FitsWeak false w.limits.now (slice_index w.strengths.now (i / 2)) (setting i)
-
--- and at strength 4
-abbrev pub AreStrongChroma : StrongSettings → (ℕ → Setting) → Type 0
-AreStrongChroma w setting =
-    (i : ℕ) → i < 8 →
-    IsStrong false (setting i) (w.limits.now.alpha1 + 1) (w.limits.now.beta1 + 1)

@@ -1,12 +1,10 @@
 //! Edges of both chroma components together (8.7.2.2 to 8.7.2.4).
 
 ghost use Rattle.std.specs.Prelude.{◌≡◌, ℕ, ◌+◌, ◌≤◌, true, false};
-ghost use Rattle.avc_edges.specs.Line.{Setting};
 ghost use Rattle.avc_edges.specs.Rows.{IsNearSet};
-ghost use Rattle.avc_plane.specs.Plane.{HasRectangle};
-ghost use Rattle.avc_edges.specs.OneEdge.{chroma_filtered, chroma_setting, edge_filtered};
+ghost use Rattle.avc_edges.specs.OneEdge.{chroma_filtered, chroma_setting};
 ghost use Rattle.avc_edges.specs.OneEdge.{AreChromaFiltered, AreLimits};
-ghost use Rattle.avc_edges.specs.Settings.{strengths_of, AreStrongChroma, AreWeakChroma};
+ghost use Rattle.avc_edges.specs.Settings.{strengths_of};
 ghost use Rattle.avc_edges.specs.declared.thresholds.EdgeQp.{EdgeQp as Qps};
 
 use crate::block::{FourRows, rows_of, strong_chroma, transposed, weak_chroma};
@@ -16,28 +14,8 @@ use crate::strengths::Strengths;
 use crate::table::samples_from;
 use avc_plane::Plane;
 
-/// Filters the lines of chroma down four rows of sixteen samples at strengths of 0 to 3: eight
-/// lines of Cb, and then eight of Cr.
-#[inline(always)]
-fn filter_below_four(t: &mut [u8; 128], rows: FourRows, settings: WeakSettings<'_>)
-    ensures lines { (setting : ℕ → Setting) → AreWeakChroma settings.entry setting →
-        AreChromaFiltered setting rows.from t.old t.new }
-    ensures others { IsNearSet rows.from t.old t.new }
-{
-    weak_chroma(t, rows, &settings.of_chroma());
-}
-
-/// Filters the lines of chroma down four rows of sixteen samples at strength 4.
-#[inline(always)]
-fn filter_at_four(t: &mut [u8; 128], rows: FourRows, settings: StrongSettings<'_>)
-    ensures lines { (setting : ℕ → Setting) → AreStrongChroma settings.entry setting →
-        AreChromaFiltered setting rows.from t.old t.new }
-    ensures others { IsNearSet rows.from t.old t.new }
-{
-    strong_chroma(t, rows, &settings.of_lines());
-}
-
-/// Filters the lines of chroma down four rows of sixteen samples at any strengths.
+/// Filters the lines of chroma down four rows of sixteen samples: eight lines of Cb, and then eight
+/// of Cr.
 #[inline(always)]
 fn filter_chroma(t: &mut [u8; 128], rows: FourRows, settings: EdgeSettings<'_>)
     requires { settings.limits.now.is_on ≡ true }
@@ -47,9 +25,9 @@ fn filter_chroma(t: &mut [u8; 128], rows: FourRows, settings: EdgeSettings<'_>)
 {
     let limits = settings.limits;
     match settings.strengths {
-        Strengths::Four => filter_at_four(t, rows, StrongSettings { limits }),
+        Strengths::Four => strong_chroma(t, rows, &StrongSettings { limits }.of_lines()),
         Strengths::BelowFour(strengths) => {
-            filter_below_four(t, rows, WeakSettings { strengths, limits })
+            weak_chroma(t, rows, &WeakSettings { strengths, limits }.of_chroma())
         }
     }
 }
@@ -129,63 +107,9 @@ pub fn two_vertical_chroma<const PAD: usize>(
     cr.set_rectangle::<8, 8, 64>(left + 2, top, &new_cr);
 }
 
-/// Filters the eight lines of Cb and the eight of Cr across a horizontal edge at strengths of 0 to
-/// 3. The edge has `top + 4` rows above it, and `left` columns left of its first line.
+/// Filters the eight lines of Cb and the eight of Cr across a horizontal edge. The edge has `top +
+/// 4` rows above it, and `left` columns left of its first line.
 #[inline(never)]
-fn weak_horizontal<const PAD: usize>(
-    cb: &mut Plane<PAD>,
-    cr: &mut Plane<PAD>,
-    left: usize,
-    top: usize,
-    settings: WeakSettings<'_>,
-)
-    requires cb { HasRectangle left top 8 8 cb.old }
-    requires cr { HasRectangle left top 8 8 cr.old }
-    ensures cb { (setting : ℕ → Setting) → AreWeakChroma settings.entry setting →
-        cb.new ≡ edge_filtered setting false left (top + 4) 8 cb.old }
-    ensures cr { (setting : ℕ → Setting) → AreWeakChroma settings.entry setting →
-        cr.new ≡ edge_filtered setting false left (top + 4) 8 cr.old }
-{
-    let _rows = cb.height();
-    let of_cb = cb.rectangle::<8, 8, 64>(left, top);
-    let of_cr = cr.rectangle::<8, 8, 64>(left, top);
-    let mut lines = beside(&of_cb, &of_cr);
-    filter_below_four(&mut lines, FourRows { from: 32 }, settings);
-    let new_cb = nearest(&lines, 0);
-    let new_cr = nearest(&lines, 8);
-    cb.set_rectangle::<8, 2, 16>(left, top + 3, &new_cb);
-    cr.set_rectangle::<8, 2, 16>(left, top + 3, &new_cr);
-}
-
-/// Filters the eight lines of Cb and the eight of Cr across a horizontal edge at strength 4.
-#[inline(never)]
-fn strong_horizontal<const PAD: usize>(
-    cb: &mut Plane<PAD>,
-    cr: &mut Plane<PAD>,
-    left: usize,
-    top: usize,
-    settings: StrongSettings<'_>,
-)
-    requires cb { HasRectangle left top 8 8 cb.old }
-    requires cr { HasRectangle left top 8 8 cr.old }
-    ensures cb { (setting : ℕ → Setting) → AreStrongChroma settings.entry setting →
-        cb.new ≡ edge_filtered setting false left (top + 4) 8 cb.old }
-    ensures cr { (setting : ℕ → Setting) → AreStrongChroma settings.entry setting →
-        cr.new ≡ edge_filtered setting false left (top + 4) 8 cr.old }
-{
-    let _rows = cb.height();
-    let of_cb = cb.rectangle::<8, 8, 64>(left, top);
-    let of_cr = cr.rectangle::<8, 8, 64>(left, top);
-    let mut lines = beside(&of_cb, &of_cr);
-    filter_at_four(&mut lines, FourRows { from: 32 }, settings);
-    let new_cb = nearest(&lines, 0);
-    let new_cr = nearest(&lines, 8);
-    cb.set_rectangle::<8, 2, 16>(left, top + 3, &new_cb);
-    cr.set_rectangle::<8, 2, 16>(left, top + 3, &new_cr);
-}
-
-/// Filters the eight lines of Cb and the eight of Cr across a horizontal edge at any strengths.
-#[inline(always)]
 #[tactic(auto, using(crate::proofs::EdgesOnPlane::edge_off))]
 pub fn horizontal_chroma<const PAD: usize>(
     cb: &mut Plane<PAD>,
@@ -203,14 +127,16 @@ pub fn horizontal_chroma<const PAD: usize>(
     ensures cr { (qp : Qps) → AreLimits settings.entry.limits.now qp → cr.new
         ≡ chroma_filtered (strengths_of settings.entry) qp false left (top + 4) cr.old }
 {
-    let limits = settings.limits;
-    if !limits.is_on {
+    if !settings.limits.is_on {
         return;
     }
-    match settings.strengths {
-        Strengths::Four => strong_horizontal(cb, cr, left, top, StrongSettings { limits }),
-        Strengths::BelowFour(strengths) => {
-            weak_horizontal(cb, cr, left, top, WeakSettings { strengths, limits })
-        }
-    }
+    let _rows = cb.height();
+    let of_cb = cb.rectangle::<8, 8, 64>(left, top);
+    let of_cr = cr.rectangle::<8, 8, 64>(left, top);
+    let mut lines = beside(&of_cb, &of_cr);
+    filter_chroma(&mut lines, FourRows { from: 32 }, settings);
+    let new_cb = nearest(&lines, 0);
+    let new_cr = nearest(&lines, 8);
+    cb.set_rectangle::<8, 2, 16>(left, top + 3, &new_cb);
+    cr.set_rectangle::<8, 2, 16>(left, top + 3, &new_cr);
 }
