@@ -8,7 +8,7 @@ ghost use Rattle.avc_deblock.specs.Places.{edges_at, AreLimitsAt};
 use crate::mb_info::MbInfo;
 use crate::place::Place;
 use crate::planes_edge::PairLimits;
-use avc_edges::{EdgeSettings, Strengths, horizontal_chroma, three_horizontal_luma};
+use avc_edges::{EdgeSettings, Strengths, filter_three_luma, horizontal_chroma};
 use avc_plane::Planes;
 
 /// Filters the three horizontal edges inside intra macroblock `q`.
@@ -28,7 +28,7 @@ pub(crate) fn inner_intra_edges<const PAD: usize>(
 {
     let _q = q;
     let (left, top) = (16 * place.column, 16 * place.row);
-    three_horizontal_luma(&mut planes.luma, left, top, &[3; 4], &limits.luma);
+    filter_three_luma::<false, PAD>(&mut planes.luma, left, top, &[3; 4], &limits.luma);
     let settings = EdgeSettings {
         strengths: &Strengths::BelowFour([3; 4]),
         limits: &limits.chroma,

@@ -14,8 +14,7 @@ use crate::edge_strengths::edge_strengths;
 use crate::mb_info::MbInfo;
 use crate::place::{EdgePlace, MbEdge, Place};
 use avc_edges::{
-    EdgeQp, EdgeSettings, QpLimits, Strengths, horizontal_chroma, horizontal_luma, vertical_chroma,
-    vertical_luma,
+    EdgeQp, EdgeSettings, QpLimits, Strengths, filter_luma, horizontal_chroma, vertical_chroma,
 };
 use avc_plane::{Plane, Planes};
 use avc_transform::chroma_qp;
@@ -77,9 +76,9 @@ pub(crate) fn luma_of<const PAD: usize>(
     let (left, top) = (16 * at.place.column, 16 * at.place.row);
     let behind = 4 * at.edge.n;
     if at.edge.is_vertical {
-        vertical_luma(luma, left + behind - 4, top, settings);
+        filter_luma::<true, PAD>(luma, left + behind - 4, top, settings);
     } else {
-        horizontal_luma(luma, left, top + behind - 4, settings);
+        filter_luma::<false, PAD>(luma, left, top + behind - 4, settings);
     }
 }
 

@@ -13,7 +13,7 @@ use crate::inner_edges::InnerEdges;
 use crate::mb_info::MbInfo;
 use crate::place::{EdgePlace, MbEdge, Place, VerticalEdge};
 use crate::planes_edge::{PairLimits, chroma_of, luma_of};
-use avc_edges::{EdgeSettings, Strengths, both, three_vertical_luma, two_vertical_chroma};
+use avc_edges::{EdgeSettings, Strengths, both, filter_three_luma, two_vertical_chroma};
 use avc_plane::{Plane, Planes};
 
 /// Filters the luma lines across a vertical edge of macroblock `q`. `p` is the macroblock on the
@@ -57,7 +57,7 @@ fn inner_luma<const PAD: usize>(luma: &mut Plane<PAD>, inner: InnerEdges<'_>, mi
     let (q, place, motion, limits) = (inner.q, inner.place, inner.motion, &inner.limits.luma);
     if q.is_intra {
         let left = 16 * place.column;
-        three_vertical_luma(luma, left, 16 * place.row, &[3; 4], limits);
+        filter_three_luma::<true, PAD>(luma, left, 16 * place.row, &[3; 4], limits);
         return;
     }
     let edge = MbEdge {

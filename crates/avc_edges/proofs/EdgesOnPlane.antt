@@ -96,12 +96,7 @@ module _ (xs : List ℕ) (at f : ℕ → ℕ) where
         sets_value n j u (λ k low. within k (omega arith)) (λ k some low. put k some (omega arith)),
       )
 
--- a coordinate of sample k of a line, from p3 to q3, where that of p3 is z: that across the edge, or that along it
-abbrev pub place : Bool → (z k : ℕ) → ℕ
-place true z k = z + k
-place false z k = z
-
--- that of q0
+-- the coordinate of q0 of a line, where that of p3 is z: that across the edge, or that along it
 abbrev pub from_p3 : Bool → ℕ → ℕ
 from_p3 true z = z + 4
 from_p3 false z = z

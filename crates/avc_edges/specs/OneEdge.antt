@@ -1,13 +1,13 @@
 -- The samples of one component after the lines of one edge, ITU-T H.264 clause 8.7.1.
 use Rattle.std.specs.Prelude.{◌≡◌, ℕ, ◌+◌, ◌*◌, ◌/◌, ◌==◌, ◌<◌, ◌≤◌, slice_index}
-use Rattle.std.specs.Prelude.{Bool, ◌||◌, true, false, if◌then◌else◌, List, [], ◌∷◌}
+use Rattle.std.specs.Prelude.{Bool, not, ◌||◌, true, false, if◌then◌else◌, List, [], ◌∷◌}
 use Rattle.std.specs.Coded.{Unit-prop, le_prop}
 use Rattle.std.specs.List.{range_with_len}
 use Rattle.avc_plane.specs.Plane.{Plane}
 use Rattle.avc_edges.specs.Line.{Setting, filtered, setting_of}
 use Rattle.avc_edges.specs.Line.{threshold_index, alpha_of, beta_of, tc0_of}
 use Rattle.avc_edges.specs.Rows.{IsWeak, line_near}
-use Rattle.avc_edges.specs.PlaneLine.{line_filtered}
+use Rattle.avc_edges.specs.PlaneLine.{line_filtered, place}
 use Rattle.avc_edges.specs.declared.strengths.Strengths.{Strengths}
 use Rattle.avc_edges.specs.declared.strengths.Strengths.TheVariants.{Four, BelowFour}
 use Rattle.avc_edges.specs.declared.thresholds.EdgeQp.{EdgeQp}
@@ -27,6 +27,11 @@ lines_filtered setting false x y (i ∷ is) s =
 unfoldable pub edge_filtered : (ℕ → Setting) → Bool → (x y n : ℕ) → Plane → Plane
 edge_filtered setting is_vertical x y n s =
     lines_filtered setting is_vertical x y (range_with_len 0 n) s
+
+-- sixteen lines, of which the first has q0 n samples behind (left, top)
+abbrev pub edge_behind : (ℕ → Setting) → Bool → (left top n : ℕ) → Plane → Plane
+edge_behind setting is_vertical left top n s =
+    edge_filtered setting is_vertical (place is_vertical left n) (place (not is_vertical) top n) 16 s
 
 -- ---- the settings of an edge's lines
 
@@ -57,6 +62,11 @@ chroma_setting strengths qp i =
 abbrev pub luma_filtered : (ℕ → ℕ) → EdgeQp → Bool → (x y : ℕ) → Plane → Plane
 luma_filtered strengths qp is_vertical x y s =
     edge_filtered (luma_setting strengths qp) is_vertical x y 16 s
+
+-- where q0 of the first lies n samples behind (left, top)
+abbrev pub luma_behind : (ℕ → ℕ) → EdgeQp → Bool → (left top n : ℕ) → Plane → Plane
+luma_behind strengths qp is_vertical left top n s =
+    edge_behind (luma_setting strengths qp) is_vertical left top n s
 
 -- and the eight of a component of chroma
 abbrev pub chroma_filtered : (ℕ → ℕ) → EdgeQp → Bool → (x y : ℕ) → Plane → Plane

@@ -1,6 +1,6 @@
 -- One line across an edge, in a plane of samples, ITU-T H.264 clause 8.7.2.
 use Rattle.std.specs.Prelude.{ℕ, ◌+◌, ◌-◌, Bool, true, false}
-use Rattle.avc_plane.specs.Plane.{Plane, sample, with_sample}
+use Rattle.avc_plane.specs.Plane.{Plane, sample, with_sample, HasRectangle}
 use Rattle.avc_edges.specs.Line.{Line, Setting, filtered}
 
 -- p0 to p3 and q0 to q3 of the line across a vertical or a horizontal edge at (x, y) (8.7.2)
@@ -39,3 +39,14 @@ with_line s false x y l =
 abbrev pub line_filtered : Setting → Bool → ℕ → ℕ → Plane → Plane
 line_filtered setting is_vertical x y s =
     with_line s is_vertical x y (filtered setting (line_at s is_vertical x y))
+
+-- a coordinate of what lies k samples behind p3 on a line, where that of p3 is z: that across the
+-- edge, or that along it
+abbrev pub place : (is_across : Bool) → (z k : ℕ) → ℕ
+place true z k = z + k
+place false z k = z
+
+-- the sixteen lines of an edge of which the first has p3 at (left, top) lie in a plane
+abbrev pub HasLines : (is_vertical : Bool) → (left top : ℕ) → Plane → Type 0
+HasLines true left top s = HasRectangle left top 8 16 s
+HasLines false left top s = HasRectangle left top 16 8 s

@@ -2,8 +2,9 @@
 
 ghost use Rattle.std.specs.Prelude.{◌≡◌, ℕ, ◌+◌, true, false};
 ghost use Rattle.avc_edges.specs.Line.{Setting};
-ghost use Rattle.avc_edges.specs.OneEdge.{edge_filtered};
+ghost use Rattle.avc_edges.specs.OneEdge.{edge_behind};
 ghost use Rattle.avc_plane.specs.Plane.{HasRectangle};
+ghost use Rattle.avc_edges.specs.PlaneLine.{HasLines};
 ghost use Rattle.avc_edges.specs.Settings.{AreStrongLuma, AreWeakLuma};
 
 use crate::block::{rows_of, rows_of_middle, strong_luma, transposed, weak_luma};
@@ -12,104 +13,83 @@ use crate::square::filter_rows;
 use crate::table::samples_from;
 use avc_plane::Plane;
 
-/// Filters the sixteen lines of luma across a horizontal edge at strengths of 0 to 3. The edge has
-/// `top + 4` rows above it, and `left` columns left of its first line.
+/// Filters the sixteen lines of luma across an edge at strengths of 0 to 3: a vertical edge where
+/// it is VERTICAL, else a horizontal one. The first sample p3 of the first line has `left` columns
+/// left of it and `top` rows above it.
 #[inline(always)]
-fn weak_horizontal<const PAD: usize>(
+fn weak_edge<const VERTICAL: bool, const PAD: usize>(
     plane: &mut Plane<PAD>,
     left: usize,
     top: usize,
     settings: WeakSettings<'_>,
 )
-    requires { HasRectangle left top 16 8 plane.old }
+    requires { HasLines VERTICAL left top plane.old }
     ensures width { plane.new.width ≡ plane.old.width }
     ensures height { plane.new.height ≡ plane.old.height }
     ensures lines { (setting : ℕ → Setting) → AreWeakLuma settings.entry setting →
-        plane.new ≡ edge_filtered setting false left (top + 4) 16 plane.old }
+        plane.new ≡ edge_behind setting VERTICAL left top 4 plane.old }
 {
-    let _rows = plane.height();
+    let (_columns, _rows) = (plane.width(), plane.height());
+    let limits = settings.of_luma();
+    if VERTICAL {
+        let block = plane.rectangle::<8, 16, 128>(left, top);
+        let mut lines = transposed::<8, 64, 128>(&block);
+        weak_luma(&mut lines, &limits);
+        let after = rows_of_middle(&lines);
+        plane.set_rectangle::<4, 16, 64>(left + 2, top, &after);
+        return;
+    }
     let mut lines = plane.rectangle::<16, 8, 128>(left, top);
-    weak_luma(&mut lines, &settings.of_luma());
+    weak_luma(&mut lines, &limits);
     let inner = samples_from::<128, 64>(&lines, 32);
     plane.set_rectangle::<16, 4, 64>(left, top + 2, &inner);
 }
 
-/// Filters the sixteen lines of luma across a vertical edge at strengths of 0 to 3, with `left + 4`
-/// columns left of it and `top` rows above its first line.
+/// Those across one edge, apart from its callers.
 #[inline(never)]
-pub(crate) fn one_vertical<const PAD: usize>(
+pub(crate) fn one_weak_edge<const VERTICAL: bool, const PAD: usize>(
     plane: &mut Plane<PAD>,
     left: usize,
     top: usize,
     settings: WeakSettings<'_>,
 )
-    requires { HasRectangle left top 8 16 plane.old }
+    requires { HasLines VERTICAL left top plane.old }
     ensures { (setting : ℕ → Setting) → AreWeakLuma settings.entry setting →
-        plane.new ≡ edge_filtered setting true (left + 4) top 16 plane.old }
+        plane.new ≡ edge_behind setting VERTICAL left top 4 plane.old }
 {
-    let _columns = plane.width();
-    let block = plane.rectangle::<8, 16, 128>(left, top);
-    let mut lines = transposed::<8, 64, 128>(&block);
-    weak_luma(&mut lines, &settings.of_luma());
-    let after = rows_of_middle(&lines);
-    plane.set_rectangle::<4, 16, 64>(left + 2, top, &after);
+    weak_edge::<VERTICAL, PAD>(plane, left, top, settings);
 }
 
-/// Filters the sixteen lines of luma across a horizontal edge at strength 4.
+/// Filters the sixteen lines of luma across an edge at strength 4.
 #[inline(never)]
-pub(crate) fn strong_horizontal<const PAD: usize>(
+pub(crate) fn strong_edge<const VERTICAL: bool, const PAD: usize>(
     plane: &mut Plane<PAD>,
     left: usize,
     top: usize,
     settings: StrongSettings<'_>,
 )
-    requires { HasRectangle left top 16 8 plane.old }
+    requires { HasLines VERTICAL left top plane.old }
     ensures { (setting : ℕ → Setting) → AreStrongLuma settings.entry setting →
-        plane.new ≡ edge_filtered setting false left (top + 4) 16 plane.old }
+        plane.new ≡ edge_behind setting VERTICAL left top 4 plane.old }
 {
+    let limits = settings.of_lines();
+    if VERTICAL {
+        let block = plane.rectangle::<8, 16, 128>(left, top);
+        let mut lines = transposed::<8, 64, 128>(&block);
+        strong_luma(&mut lines, &limits);
+        let after = rows_of(&lines);
+        plane.set_rectangle::<8, 16, 128>(left, top, &after);
+        return;
+    }
     let mut lines = plane.rectangle::<16, 8, 128>(left, top);
-    strong_luma(&mut lines, &settings.of_lines());
+    strong_luma(&mut lines, &limits);
     plane.set_rectangle::<16, 8, 128>(left, top, &lines);
 }
 
-/// Filters the sixteen lines of luma across a vertical edge at strength 4.
+/// Filters those across three edges with the same strengths of 0 to 3, each four samples behind the
+/// one before, which is filtered first.
 #[inline(never)]
-pub(crate) fn strong_vertical<const PAD: usize>(
-    plane: &mut Plane<PAD>,
-    left: usize,
-    top: usize,
-    settings: StrongSettings<'_>,
-)
-    requires { HasRectangle left top 8 16 plane.old }
-    ensures { (setting : ℕ → Setting) → AreStrongLuma settings.entry setting →
-        plane.new ≡ edge_filtered setting true (left + 4) top 16 plane.old }
-{
-    let block = plane.rectangle::<8, 16, 128>(left, top);
-    let mut lines = transposed::<8, 64, 128>(&block);
-    strong_luma(&mut lines, &settings.of_lines());
-    let after = rows_of(&lines);
-    plane.set_rectangle::<8, 16, 128>(left, top, &after);
-}
-
-/// The lines across one horizontal edge at strengths of 0 to 3, apart from its callers.
-#[inline(never)]
-pub(crate) fn one_horizontal<const PAD: usize>(
-    plane: &mut Plane<PAD>,
-    left: usize,
-    top: usize,
-    settings: WeakSettings<'_>,
-)
-    requires { HasRectangle left top 16 8 plane.old }
-    ensures { (setting : ℕ → Setting) → AreWeakLuma settings.entry setting →
-        plane.new ≡ edge_filtered setting false left (top + 4) 16 plane.old }
-{
-    weak_horizontal(plane, left, top, settings);
-}
-
-/// Those across three horizontal edges with the same strengths, each four rows below the one
-/// before, which is filtered first.
-#[inline(never)]
-pub(crate) fn three_horizontal<const PAD: usize>(
+pub(crate) fn three_weak_edges<const VERTICAL: bool, const PAD: usize>(
     plane: &mut Plane<PAD>,
     left: usize,
     top: usize,
@@ -117,36 +97,23 @@ pub(crate) fn three_horizontal<const PAD: usize>(
 )
     requires { HasRectangle left top 16 16 plane.old }
     ensures { (setting : ℕ → Setting) → AreWeakLuma settings.entry setting →
-        plane.new ≡ edge_filtered setting false left (top + 12) 16
-        (edge_filtered setting false left (top + 8) 16
-        (edge_filtered setting false left (top + 4) 16 plane.old)) }
+        plane.new ≡ edge_behind setting VERTICAL left top 12
+        (edge_behind setting VERTICAL left top 8
+        (edge_behind setting VERTICAL left top 4 plane.old)) }
 {
     let _rows = plane.height();
-    weak_horizontal(plane, left, top, settings);
-    weak_horizontal(plane, left, top + 4, settings);
-    weak_horizontal(plane, left, top + 8, settings);
-}
-
-/// Those across three vertical edges, each four columns right of the one before.
-#[inline(never)]
-pub(crate) fn three_vertical<const PAD: usize>(
-    plane: &mut Plane<PAD>,
-    left: usize,
-    top: usize,
-    settings: WeakSettings<'_>,
-)
-    requires { HasRectangle left top 16 16 plane.old }
-    ensures { (setting : ℕ → Setting) → AreWeakLuma settings.entry setting →
-        plane.new ≡ edge_filtered setting true (left + 12) top 16
-        (edge_filtered setting true (left + 8) top 16
-        (edge_filtered setting true (left + 4) top 16 plane.old)) }
-{
-    let square = plane.rectangle::<16, 16, 256>(left, top);
-    let mut lines = transposed::<16, 128, 256>(&square);
-    let limits = settings.of_luma();
-    filter_rows(&mut lines, 0, &limits);
-    filter_rows(&mut lines, 64, &limits);
-    filter_rows(&mut lines, 128, &limits);
-    let after = transposed::<16, 128, 256>(&lines);
-    plane.set_rectangle::<16, 16, 256>(left, top, &after);
+    if VERTICAL {
+        let square = plane.rectangle::<16, 16, 256>(left, top);
+        let mut lines = transposed::<16, 128, 256>(&square);
+        let limits = settings.of_luma();
+        filter_rows(&mut lines, 0, &limits);
+        filter_rows(&mut lines, 64, &limits);
+        filter_rows(&mut lines, 128, &limits);
+        let after = transposed::<16, 128, 256>(&lines);
+        plane.set_rectangle::<16, 16, 256>(left, top, &after);
+        return;
+    }
+    weak_edge::<false, PAD>(plane, left, top, settings);
+    weak_edge::<false, PAD>(plane, left, top + 4, settings);
+    weak_edge::<false, PAD>(plane, left, top + 8, settings);
 }

@@ -18,7 +18,7 @@ mod thresholds;
 
 pub use chroma_edge::{horizontal_chroma, two_vertical_chroma, vertical_chroma};
 pub use line::{all_three, both, either};
-pub use luma_edge::{horizontal_luma, three_horizontal_luma, three_vertical_luma, vertical_luma};
+pub use luma_edge::{filter_luma, filter_three_luma};
 pub use settings::EdgeSettings;
 pub use strengths::Strengths;
 pub use thresholds::{EdgeQp, LineLimits, QpLimits};

@@ -2,6 +2,14 @@
 pub mod Common
 unfoldable pub use Common.*
 
+-- ---- a const generic of type bool is the number 0 or 1
+
+pub set_flag : (n : ℕ) → (n ≡ 0 → ⊥) → not (n == 0) ≡ true
+set_flag n some = grind (arith, nat_tests)
+
+pub clear_flag : (n : ℕ) → n ≡ 0 → not (n == 0) ≡ false
+clear_flag n none = grind (arith, nat_tests)
+
 -- ---- what holds of each of four
 
 pub each_of_four : (P : ℕ → Type 0) → P 0 → P 1 → P 2 → P 3 → (k : ℕ) → k < 4 → P k

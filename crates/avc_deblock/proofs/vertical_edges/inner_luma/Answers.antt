@@ -4,8 +4,8 @@ use Rattle.avc_deblock.proofs.vertical_edges.inner_luma.Goals as goal
 
 pub returns-then-q : goal.returns-then-q
 returns-then-q g c =
-    intra_lines c.args.inner.place.column c.args.inner.place.row c.args.inner.q.now true (3 ∷ 3 ∷ 3 ∷ 3 ∷ []) c.args.luma.now c.three_vertical_luma.new.plane c.if-q.true threes
-    (c.three_vertical_luma.ensures (luma_qp_of c.args.inner.q.now c.args.inner.q.now) c.args.inner.own.luma)
+    intra_lines c.args.inner.place.column c.args.inner.place.row c.args.inner.q.now true (3 ∷ 3 ∷ 3 ∷ 3 ∷ []) c.args.luma.now c.filter_three_luma.new.plane c.if-q.true threes
+    (c.filter_three_luma.ensures (luma_qp_of c.args.inner.q.now c.args.inner.q.now) c.args.inner.own.luma)
 
 pub returns : goal.returns
 returns g c =

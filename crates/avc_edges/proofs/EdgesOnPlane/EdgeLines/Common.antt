@@ -17,10 +17,10 @@ pub use Rattle.avc_plane.proofs.PlaneMaps.{plane_of_same, inside, sample-with_bl
 pub use Rattle.avc_plane.specs.Plane.{Plane, sample, with_block, is_inside}
 pub use Rattle.avc_types.specs.Arithmetic.{clip1, distance}
 pub use lib.Lanes.{chunk, number_l, digits_l}
-pub use Rattle.avc_edges.specs.PlaneLine.{with_line, line_filtered, line_at}
+pub use Rattle.avc_edges.specs.PlaneLine.{with_line, line_filtered, line_at, place, HasLines}
 pub use Rattle.avc_edges.specs.Line.{Line, Setting, filtered, filtered_weakly, filtered_strongly, is_filtered, mirrored, strong_p0, strong_p1, strong_p2}
 pub use Rattle.avc_edges.specs.Line.{alpha_of, beta_of, tc0_of, setting_of}
-pub use Rattle.avc_edges.specs.OneEdge.{tc1_of, strength_along, AreLimits, AreStrengths, FitsWeak, lines_filtered, chroma_setting, chroma_filtered}
+pub use Rattle.avc_edges.specs.OneEdge.{tc1_of, strength_along, AreLimits, AreStrengths, FitsWeak, lines_filtered, edge_behind, chroma_setting, chroma_filtered}
 unfoldable pub use Rattle.avc_edges.specs.OneEdge.{edge_filtered}
 pub use Rattle.avc_edges.specs.Rows.{line, line_of, line_of_rows, line_within, line_inside, line_across, line_down, samples_at, line_near, IsTransposed, AreSet, IsKeptOutside}
 pub use Rattle.avc_edges.specs.Rows.{IsNearSet, IsWeak, slope, bend, held, IsStrong, IsRiffled, IsInnerSet}

@@ -1,5 +1,5 @@
 use Rattle.avc_edges.proofs.EdgesOnPlane.{arith, fits_weak, fits_strong}
-use Rattle.avc_edges.proofs.luma_edge.vertical_luma.Goals as goal
+use Rattle.avc_edges.proofs.luma_edge.filter_luma.Goals as goal
 
 pub returns-in-Four : goal.returns-in-Four
 returns-in-Four g c qp are = grind (arith, fits_strong)

@@ -1,5 +1,0 @@
-use Rattle.avc_edges.proofs.EdgesOnPlane.{arith, fits_weak}
-use Rattle.avc_edges.proofs.luma_edge.three_vertical_luma.Goals as goal
-
-pub returns : goal.returns
-returns g c qp are = grind (arith, fits_weak)
