@@ -16,7 +16,7 @@ use Rattle.avc_picture.specs.Memory.{MemoryState, AreTaken, LeavesAll, with_clos
 use Rattle.avc_slice.specs.declared.slice.Slice.{Slice}
 use Rattle.avc_types.specs.declared.fault.Fault.{Fault}
 use Rattle.avc_decoder.specs.SpareMemory.{AddsClosed, ClosesCurrent, LeavesCurrent, UsesOneAtMost, with_all_closed}
-use Rattle.avc_decoder.specs.States.{IsAnswerIn, current_in, picture_answer}
+use Rattle.avc_decoder.specs.States.{IsAnswerIn, current_in}
 use Rattle.avc_decoder.specs.declared.phase.CurrentPicture.{CurrentPicture}
 use Rattle.avc_decoder.specs.declared.phase.Phase.{Phase}
 use Rattle.avc_decoder.specs.declared.phase.Phase.TheVariants.{Running}
@@ -129,7 +129,7 @@ first_stays named current old new none leaves = stays named old new (subst (λ o
 
 -- ---- a further slice
 
-answered_sps : (d d' : Decoding 16) (s : Slice) (r : Result (Prim.Unit {0}) Fault) → IsSliceAnswer d s (picture_answer r) d' → d'.sps ≡ d.sps
+answered_sps : (d d' : Decoding 16) (s : Slice) (r : Result (Prim.Unit {0}) Fault) → IsSliceAnswer d s r d' → d'.sps ≡ d.sps
 answered_sps d d' s (Ok done) is = ap (λ (d : Decoding 16). d.sps) is.0
 answered_sps d d' s (Err f) is = ap (λ (d : Decoding 16). d.sps) is.0
 

@@ -5,9 +5,6 @@ use Rattle.std.specs.Prelude.{Result, Ok, Err, slice_get}
 use Rattle.std.specs.Option.{option_map}
 use Rattle.avc_types.specs.declared.fault.Fault.{Fault}
 use Rattle.avc_types.specs.declared.memory.OutOfMemory.{OutOfMemory}
-use Rattle.avc_types.specs.declared.picture_error.PictureError.{PictureError}
-use Rattle.avc_types.specs.declared.picture_error.PictureError.TheVariants.{Fault as Faulty}
-use Rattle.avc_types.specs.declared.picture_error.PictureError.TheVariants.{OutOfMemory as NoMemory}
 use Rattle.avc_annexb.specs.SplitterState.{SplitterState, new_splitter}
 use Rattle.avc_annexb.specs.Units.{units, units_begun, saturated}
 use Rattle.avc_annexb.specs.declared.unit.Unit.{Unit as Piece}
@@ -223,15 +220,6 @@ FitsPhase sets phase _ = Unit {0}
 
 -- ---- slices
 
--- what the picture decoder answers, which wants no memory for a slice
-abbrev pub picture_answer : Result (Unit {0}) Fault → Result (Unit {0}) PictureError
-picture_answer (Ok done) = Ok done
-picture_answer (Err f) = Err (Faulty f)
-
--- No memory was wanted.
-abbrev pub WantsNone : Result (Unit {0}) PictureError → Type 0
-WantsNone answer = (refusal : OutOfMemory) → answer ≡ Err (NoMemory refusal) → ⊥
-
 -- The picture decoder has read so many macroblocks more.
 pub record HasReadMore (d d' : Decoding 16) (read : ℕ) : Type 0 where
   pub before : ℕ
@@ -243,7 +231,7 @@ pub record HasReadMore (d d' : Decoding 16) (read : ℕ) : Type 0 where
 -- This is answered to one slice more, which is then the last one.
 pub record HasAnswered (c : CurrentPicture) (slice : Slice) (a : SliceAnswer)
     (c' : CurrentPicture) : Type 0 where
-  pub answer : IsSliceAnswer c.decoder slice (picture_answer a.answer) c'.decoder
+  pub answer : IsSliceAnswer c.decoder slice a.answer c'.decoder
   pub read : HasReadMore c.decoder c'.decoder a.read
   pub header : c'.last_header ≡ slice.header
   pub unit : c'.last_unit ≡ slice.unit

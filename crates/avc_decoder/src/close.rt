@@ -49,11 +49,10 @@ fn close_picture(stream: &mut Stream, current: CurrentPicture) -> Result<(), Out
     let last_unit = current.last_unit;
     let planes = match current.decoder.finish(&mut stream.memory) {
         Ok(planes) => planes,
-        Err(PictureError::Fault(fault)) => {
+        Err(fault) => {
             fail(stream, last_unit, fault)?;
             return Ok(());
         }
-        Err(PictureError::OutOfMemory(refusal)) => return Err(refusal),
     };
     let shared = SharedPlanes::new(stream.alloc, planes)?;
     match stream.sequence.close(shared) {

@@ -5,9 +5,9 @@ ghost use Rattle.avc_decoder.specs.Events.{after_first_slice, after_next_slice, 
 ghost use Rattle.avc_decoder.specs.Events.{sets_named};
 ghost use Rattle.avc_decoder.specs.SpareMemory.{AddsClosed, KeepsMemory, UsesOneForFirst};
 ghost use Rattle.avc_decoder.specs.PictureFrames.{frames_for, CanHave};
-ghost use Rattle.avc_decoder.specs.States.{current_in, more_read, phase_of, picture_answer};
+ghost use Rattle.avc_decoder.specs.States.{current_in, more_read, phase_of};
 ghost use Rattle.avc_decoder.specs.States.{DecodesIn, HasAnswered, HasOutcome, IsAnswerIn, IsPhase};
-ghost use Rattle.avc_decoder.specs.States.{IsStream, WantsNone};
+ghost use Rattle.avc_decoder.specs.States.{IsStream};
 ghost use Rattle.avc_decoder_core.specs.SequenceState.{current_history, AreFramesIn, AreStoredIn};
 ghost use Rattle.avc_params.specs.Tables.{sets_after};
 ghost use Rattle.avc_params.specs.Within.{IsPps, IsSps};
@@ -204,22 +204,7 @@ fn answer_in(current: &mut CurrentPicture, slice: &Slice, frames: &[Frame<PADDIN
     let read = current.decoder.read().saturating_sub(before);
     current.last_header = LastHeader::new(&slice.header);
     current.last_unit = slice.unit;
-    SliceAnswer {
-        answer: fault_of(answer),
-        read,
-    }
-}
-
-/// The fault alone of a picture's answer, where no memory was wanted.
-fn fault_of(answer: Result<(), PictureError>) -> Result<(), Fault>
-    requires { WantsNone answer }
-    ensures { answer ≡ picture_answer result }
-{
-    match answer {
-        Ok(()) => Ok(()),
-        Err(PictureError::Fault(fault)) => Err(fault),
-        Err(PictureError::OutOfMemory(_)) => unreachable!(),
-    }
+    SliceAnswer { answer, read }
 }
 
 /// So many macroblocks and more, as far as a u64 counts.

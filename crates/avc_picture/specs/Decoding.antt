@@ -4,9 +4,6 @@ use Rattle.std.specs.Prelude.{Result, Ok, Err}
 use Rattle.std.specs.Option.{option_map}
 use Rattle.avc_types.specs.declared.fault.Fault.{Fault}
 use Rattle.avc_types.specs.declared.fault.Fault.TheVariants.{MissingMacroblocks}
-use Rattle.avc_types.specs.declared.picture_error.PictureError.{PictureError}
-use Rattle.avc_types.specs.declared.picture_error.PictureError.TheVariants.{Fault as Faulty}
-use Rattle.avc_types.specs.declared.picture_error.PictureError.TheVariants.{OutOfMemory}
 use Rattle.avc_types.specs.References.{StandAt}
 use Rattle.avc_params.specs.declared.sps.Sps.{Sps}
 use Rattle.avc_params.specs.declared.pps.Pps.{Pps}
@@ -62,12 +59,11 @@ pub record Refuses {PAD : ℕ} (old : Decoding PAD) (s : Slice) (f : Fault)
   pub unit : HasNoFault old → (indices : List ℕ) → CanStandAt indices new →
       (progress_at indices new).fault ≡ Some (s.unit, f)
 
--- From `old`, one slice more may be answered so and leave `new`. No memory is wanted.
-abbrev pub IsSliceAnswer : {PAD : ℕ} → Decoding PAD → Slice → Result (Unit {0}) PictureError →
+-- From `old`, one slice more may be answered so and leave `new`.
+abbrev pub IsSliceAnswer : {PAD : ℕ} → Decoding PAD → Slice → Result (Unit {0}) Fault →
     (new : Decoding PAD) → Type 0
 IsSliceAnswer old s (Ok done) new = (new ≡ with_slice_more s old) × HasNoFault new
-IsSliceAnswer old s (Err (Faulty f)) new = (new ≡ with_slice_more s old) × Refuses old s f new
-IsSliceAnswer old s (Err (OutOfMemory _)) new = ⊥
+IsSliceAnswer old s (Err f) new = (new ≡ with_slice_more s old) × Refuses old s f new
 
 -- The next expected address is the number of macroblocks.
 abbrev pub IsFull : {PAD : ℕ} → (full : Bool) → Decoding PAD → Type 0
@@ -92,13 +88,11 @@ end_fault indices d =
     fault_at_end (progress_at indices d).fault
     (is_full (start_at indices d) (progress_at indices d))
 
--- The picture, or why there is none. No memory is wanted.
-abbrev pub IsFinishAnswer : {PAD : ℕ} → Decoding PAD → Result (PaddedPlanes PAD) PictureError →
-    Type 0
+-- The picture, or why there is none.
+abbrev pub IsFinishAnswer : {PAD : ℕ} → Decoding PAD → Result (PaddedPlanes PAD) Fault → Type 0
 IsFinishAnswer d (Ok planes) =
     ((indices : List ℕ) → CanStandAt indices d → end_fault indices d ≡ None)
     × ((indices : List ℕ) → CanStandAt indices d → padded_planes_of planes
     ≡ planes_after_slices (start_at indices d) d.slices)
-IsFinishAnswer d (Err (Faulty f)) =
+IsFinishAnswer d (Err f) =
     (indices : List ℕ) → CanStandAt indices d → end_fault indices d ≡ Some f
-IsFinishAnswer d (Err (OutOfMemory _)) = ⊥

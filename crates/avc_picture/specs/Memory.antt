@@ -3,8 +3,8 @@ use Rattle.std.specs.Prelude.{◌≡◌, ◌⊎◌, ℕ, ◌+◌, Option, Some, 
 use Rattle.avc_plane.specs.Planes.{Planes}
 use Rattle.avc_plane.specs.Spare.{Spare, no_spare, with_closed, with_open, left_over, HasOpen}
 use Rattle.avc_plane.specs.declared.frame.PaddedPlanes.{PaddedPlanes}
+use Rattle.avc_types.specs.declared.fault.Fault.{Fault}
 use Rattle.avc_types.specs.declared.memory.OutOfMemory.{OutOfMemory}
-use Rattle.avc_types.specs.declared.picture_error.PictureError.{PictureError}
 
 -- The planes that are left over, and the rows of info of one picture, if there are such: how many
 -- macroblocks they are wide.
@@ -64,6 +64,6 @@ pub record LeavesAll (width height : ℕ) (old new : MemoryState) : Type 0 where
 -- A picture of this size was closed: its rows of info are left over, and its planes too where it
 -- became no frame.
 abbrev pub LeavesMemory : {PAD : ℕ} → (width height : ℕ) → MemoryState →
-    Result (PaddedPlanes PAD) PictureError → MemoryState → Type 0
+    Result (PaddedPlanes PAD) Fault → MemoryState → Type 0
 LeavesMemory width height old (Ok planes) new = new ≡ with_info width old
-LeavesMemory width height old (Err error) new = LeavesAll width height old new
+LeavesMemory width height old (Err fault) new = LeavesAll width height old new

@@ -20,7 +20,7 @@ use avc_deblock::MbInfo;
 use avc_params::{Pps, Sps};
 use avc_plane::{Frame, PaddedPlanes};
 use avc_slice::Slice;
-use avc_types::{Fault, History, OutOfMemory, PictureError};
+use avc_types::{Fault, History, OutOfMemory};
 use std::alloc::Global;
 use std::marker::Model;
 
@@ -104,16 +104,15 @@ impl<const PAD: usize> PictureDecoder<PAD> {
     }
 
     /// Decodes one slice more, or answers the first fault in the slices so far, and the same from
-    /// then on. It takes no memory, and never wants any. `frames` are those that the picture began
-    /// with.
-    pub fn slice(&mut self, slice: &Slice, frames: &[Frame<PAD>]) -> Result<(), PictureError>
+    /// then on. It takes no memory. `frames` are those that the picture began with.
+    pub fn slice(&mut self, slice: &Slice, frames: &[Frame<PAD>]) -> Result<(), Fault>
         requires within { IsHeader self.old.sps self.old.pps slice.now.rbsp slice.now.header }
         requires frames { frames.now ≡ self.old.frames }
         ensures { IsSliceAnswer self.old slice.now result self.new }
     {
         if let Some(fault) = self.fault {
             self.slices = self.slices.with_newest(slice);
-            return Err(PictureError::Fault(fault));
+            return Err(fault);
         }
         let before = self.read;
         let decoded = decode_slice(
@@ -133,7 +132,7 @@ impl<const PAD: usize> PictureDecoder<PAD> {
             }
             Err(fault) => {
                 self.fault = Some(fault);
-                Err(PictureError::Fault(fault))
+                Err(fault)
             }
         }
     }
@@ -197,8 +196,8 @@ impl<const PAD: usize> PictureDecoder<PAD> {
 
     /// The samples of the picture after deblocking. Where the slices have a fault it answers the
     /// first, and else MissingMacroblocks where they do not hold all macroblocks. It takes no
-    /// memory, and never wants any.
-    pub fn finish(self, memory: &mut PictureMemory<PAD>) -> Result<PaddedPlanes<PAD>, PictureError>
+    /// memory.
+    pub fn finish(self, memory: &mut PictureMemory<PAD>) -> Result<PaddedPlanes<PAD>, Fault>
         ensures answer { IsFinishAnswer self.entry result }
         ensures sized { IfOk result
             (λ planes. AreSized (width_in_mbs self.entry.sps) (height_in_mbs self.entry.sps)
@@ -208,11 +207,11 @@ impl<const PAD: usize> PictureDecoder<PAD> {
     {
         if let Some(fault) = self.fault {
             self.macroblocks.discard(memory);
-            return Err(PictureError::Fault(fault));
+            return Err(fault);
         }
         if self.read != self.sps.size_in_mbs() {
             self.macroblocks.discard(memory);
-            return Err(PictureError::Fault(Fault::MissingMacroblocks));
+            return Err(Fault::MissingMacroblocks);
         }
         Ok(self.macroblocks.deblocked(memory).pad())
     }

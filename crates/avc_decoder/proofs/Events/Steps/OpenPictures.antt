@@ -256,19 +256,17 @@ short_alone None false f none e = (refl, cc)
 short_alone (Some found) full f none e = cc
 
 -- macroblocks are missing
-pub closes_short : (t t' : Stream) (c : CurrentPicture) {f : Fault} {e : PictureError} → IsOpenIn t.sequence c → e ≡ Faulty f
-    → IsFinishAnswer c.decoder (Err e)
+pub closes_short : (t t' : Stream) (c : CurrentPicture) {f : Fault} → IsOpenIn t.sequence c → IsFinishAnswer c.decoder (Err f)
     → WaitsAfter t (failed_at t.sequence.output (current_history t.sequence) c.last_unit f 0).events t'
     → HasOutcome t (closed_in t.sequence.output (phase_of t.sequence (Running (Some c)))) t'
-closes_short t t' c {f} w is answer stops =
+closes_short t t' c {f} w answer stops =
     let s = t.sequence in
     let o = opened_as s c.decoder w.last w.earlier in
     let h = current_history s in
     let start = start_on o h in
     let g = progress_on o h in
     let well = well_at s c w in
-    let ends = on_open s c w (λ x. fault_at_end x.fault (is_full start x) ≡ Some f)
-    (subst (λ x. IsFinishAnswer c.decoder (Err x)) is answer) in
+    let ends = on_open s c w (λ x. fault_at_end x.fault (is_full start x) ≡ Some f) answer in
     let short = short_alone g.fault (is_full start g) f well ends in
     fails t t' c f w (not_full o h (stands_as s c w) well short.0 ∙ rw (w.unit, short.1) refl) stops
 
@@ -536,7 +534,7 @@ pub answered_well : (s : SequenceState) (q : QueueState) (slice : Slice) (a : Sl
     (n n' : ℕ) → IfSome (current_in p) (λ c. CanHave s c.decoder slice)
     → IsAnswerIn p slice a p' → a.answer ≡ Ok tt → n' ≡ more_read n a.read → DecodesAs p slice s q n p' s q n'
 answered_well s q slice a (Running (Some c)) (Running (Some c')) n n' can is e counts =
-    let answer = subst (λ x. IsSliceAnswer c.decoder slice (picture_answer x) c'.decoder) e is.answer in
+    let answer = subst (λ x. IsSliceAnswer c.decoder slice x c'.decoder) e is.answer in
     let frames : HasItsFrames s slice.header c'.decoder = subst (HasItsFrames s slice.header) (sym answer.0)
     (with_one_more s c.decoder slice can) in
     let last = last_is c' _ slice.header slice.unit answer.0 is.header is.unit in
@@ -550,7 +548,7 @@ pub answered_faulty : (s s' : SequenceState) (q q' : QueueState) (slice : Slice)
     → Stops s.output q (failed_at s.output (current_history s) slice.unit f 0).events s' p' q'
     → n' ≡ more_read n a.read → DecodesAs p slice s q n p' s' q' n'
 answered_faulty s s' q q' slice a (Running (Some c)) (Running (Some c')) p' n n' f can well is e stops counts =
-    let answer = subst (λ x. IsSliceAnswer c.decoder slice (picture_answer x) c'.decoder) e is.answer in
+    let answer = subst (λ x. IsSliceAnswer c.decoder slice x c'.decoder) e is.answer in
     let refuses = subst (λ d. Refuses c.decoder slice f d) answer.0 answer.1 in
     rw stops.phase (
       (f, refused s c.decoder slice f can well refuses, stops.sequence, stops.queue),

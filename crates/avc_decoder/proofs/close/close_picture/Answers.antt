@@ -4,10 +4,10 @@ use Rattle.avc_decoder.proofs.SpareMemory.{closed_with_fault, left_so}
 use Rattle.avc_decoder.proofs.close.close_picture.Goals as goal
 
 -- macroblocks are missing
-pub returns-in-Err-Fault-clause-state : goal.returns-in-Err-Fault-clause-state
-returns-in-Err-Fault-clause-state c =
-    closes_short c.args.stream.now c.fail.new.stream c.args.current c.requires.picture c.in-Err-Fault.field-0-is
-    c.in-Err-Fault.ensures.answer c.in_ok-fail-in-Err-Fault.ensures.state
+pub returns-in-Err-clause-state : goal.returns-in-Err-clause-state
+returns-in-Err-clause-state c =
+    closes_short c.args.stream.now c.fail.new.stream c.args.current c.requires.picture
+    c.in-Err.ensures.answer c.in_ok-fail-in-Err.ensures.state
 
 pub new-requires : goal.new-requires
 new-requires c = (omega arith, (omega arith, subsampled_of_size _ _ (padded_planes_of c.in-Ok.planes) c.in-Ok.ensures.sized))
@@ -26,21 +26,21 @@ returns-in_ok-show-in-Ok-close-clause-state c =
     c.in_ok-shared.ensures c.in-Ok-close.ensures.ok c.in_ok-show-in-Ok-close.ensures)
 
 -- it could not be marked
-pub returns-in_ok-fail-in-Err-Fault-close-clause-state : goal.returns-in_ok-fail-in-Err-Fault-close-clause-state
-returns-in_ok-fail-in-Err-Fault-close-clause-state c =
-    closes_unmarked c.args.stream.now c.fail-in-Err-Fault-close.new.stream c.close.new.self c.args.current c.in-Ok.planes
-    c.in_ok-shared.shared c.requires.picture c.in-Ok.ensures.answer c.in_ok-shared.ensures c.in-Err-Fault-close.ensures.err
-    c.in-Err-Fault-close.field-0-is c.in_ok-fail-in-Err-Fault-close.ensures.state
+pub returns-in_ok-fail-in-Err-Fault-clause-state : goal.returns-in_ok-fail-in-Err-Fault-clause-state
+returns-in_ok-fail-in-Err-Fault-clause-state c =
+    closes_unmarked c.args.stream.now c.fail-in-Err-Fault.new.stream c.close.new.self c.args.current c.in-Ok.planes
+    c.in_ok-shared.shared c.requires.picture c.in-Ok.ensures.answer c.in_ok-shared.ensures c.in-Err-Fault.ensures.err
+    c.in-Err-Fault.field-0-is c.in_ok-fail-in-Err-Fault.ensures.state
 
-pub returns-in-Err-Fault-clause-memory : goal.returns-in-Err-Fault-clause-memory
-returns-in-Err-Fault-clause-memory c =
+pub returns-in-Err-clause-memory : goal.returns-in-Err-clause-memory
+returns-in-Err-clause-memory c =
     closed_with_fault c.args.current c.args.stream.now.phase c.args.stream.now.memory c.finish.new.memory c.fail.new.stream.memory
-    c.requires.rest c.in-Err-Fault.ensures.memory c.in_ok-fail-in-Err-Fault.ensures.memory
+    c.requires.rest c.in-Err.ensures.memory c.in_ok-fail-in-Err.ensures.memory
 
 pub returns-in_ok-show-in-Ok-close-clause-memory : goal.returns-in_ok-show-in-Ok-close-clause-memory
 returns-in_ok-show-in-Ok-close-clause-memory c = inl c.in-Ok.ensures.memory
 
-pub returns-in_ok-fail-in-Err-Fault-close-clause-memory : goal.returns-in_ok-fail-in-Err-Fault-close-clause-memory
-returns-in_ok-fail-in-Err-Fault-close-clause-memory c =
-    inl (left_so c.args.stream.now.phase c.finish.new.memory c.fail-in-Err-Fault-close.new.stream.memory c.requires.rest
-    c.in_ok-fail-in-Err-Fault-close.ensures.memory ∙ c.in-Ok.ensures.memory)
+pub returns-in_ok-fail-in-Err-Fault-clause-memory : goal.returns-in_ok-fail-in-Err-Fault-clause-memory
+returns-in_ok-fail-in-Err-Fault-clause-memory c =
+    inl (left_so c.args.stream.now.phase c.finish.new.memory c.fail-in-Err-Fault.new.stream.memory c.requires.rest
+    c.in_ok-fail-in-Err-Fault.ensures.memory ∙ c.in-Ok.ensures.memory)

@@ -73,7 +73,7 @@ pub use Rattle.avc_decoder.specs.OpenPictures.{IsOpenPictureAnswer}
 pub use Rattle.avc_decoder.specs.PictureFrames.{CanHave, HasItsFrames, IsISlice, frames_for, progress_on_history, read_of_slice, start_with}
 pub use Rattle.avc_decoder.specs.QueueState.{QueueState, IsBehind, after_queue_take, passed_on, with_events}
 pub use Rattle.avc_decoder.specs.States.{ComesTo, HasOutcome, IsOpenIn, Stops, WaitsAfter, closed_in, more_read, open_picture_from, phase_of, Decodes}
-pub use Rattle.avc_decoder.specs.States.{DecodesAs, IsNamed, Works, current_in, HasAnswered, IsAnswerIn, picture_answer, with_last, IsPhase, is_waiting_in}
+pub use Rattle.avc_decoder.specs.States.{DecodesAs, IsNamed, Works, current_in, HasAnswered, IsAnswerIn, with_last, IsPhase, is_waiting_in}
 pub use Rattle.avc_decoder.specs.States.{last_header_in, FitsPhase, HasStep, StreamState, after_stream_end, after_unit_in_stream, stream_state, EndsIn, FeedsIn}
 pub use Rattle.avc_decoder.specs.States.{HandlesAll, IsDecoded, IsDecoderState, after_units_in_stream, IsStream, queue_in, ArePassedOn, AreParts, IsWorking, HaveDecoded}
 pub use Rattle.avc_decoder.specs.States.{Feeds, FeedsUnit, FeedsUnitIn, Ends, IsNew, PartsOrRefusal, open_picture_start, frames_in, most_frames, one_if_any}
