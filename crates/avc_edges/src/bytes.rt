@@ -1,7 +1,7 @@
 //! Means, differences and sums of samples in eight bits: each becomes one or a few instructions on
 //! sixteen samples at once.
 
-ghost use Rattle.std.specs.Prelude.{◌≡◌, ℕ, ◌+◌, ◌-◌, ◌*◌, ◌/◌, ◌%◌, ◌≤◌, min, ℤ, pos, ◌+ℤ◌, ◌-ℤ◌};
+ghost use Rattle.std.specs.Prelude.{◌≡◌, ◌+◌, ◌-◌, ◌*◌, ◌/◌, ◌%◌, ◌≤◌, min, ℤ, pos, ◌+ℤ◌, ◌-ℤ◌};
 ghost use Rattle.avc_types.specs.Arithmetic.{distance, clip1};
 ghost use Rattle.avc_edges.specs.Rows.{slope, held, IsBiased};
 

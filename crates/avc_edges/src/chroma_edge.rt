@@ -1,6 +1,6 @@
 //! Edges of both chroma components together (8.7.2.2 to 8.7.2.4).
 
-ghost use Rattle.std.specs.Prelude.{◌≡◌, ℕ, ◌+◌, ◌≤◌, true, false};
+ghost use Rattle.std.specs.Prelude.{◌≡◌, ◌+◌, ◌≤◌, true, false};
 ghost use Rattle.avc_edges.specs.Rows.{IsNearSet};
 ghost use Rattle.avc_edges.specs.OneEdge.{chroma_filtered, chroma_setting};
 ghost use Rattle.avc_edges.specs.OneEdge.{AreChromaFiltered, AreLimits};

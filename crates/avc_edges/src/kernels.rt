@@ -1,6 +1,6 @@
 //! Sixteen lines of luma across an edge, in a plane.
 
-ghost use Rattle.std.specs.Prelude.{◌≡◌, ℕ, ◌+◌, true, false};
+ghost use Rattle.std.specs.Prelude.{◌≡◌, ℕ};
 ghost use Rattle.avc_edges.specs.Line.{Setting};
 ghost use Rattle.avc_edges.specs.OneEdge.{edge_behind};
 ghost use Rattle.avc_plane.specs.Plane.{HasRectangle};

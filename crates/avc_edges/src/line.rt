@@ -3,7 +3,7 @@
 ghost use Rattle.std.specs.Prelude.{◌≡◌, ◌≤◌, ℕ, ◌+◌, ◌*◌, ◌/◌, ◌==◌, pos, ◌+ℤ◌, nat_abs, nat_lt};
 ghost use Rattle.std.specs.Prelude.{true, false, if◌then◌else◌, ◌&&◌, ◌||◌, ℤ, Bool};
 ghost use Rattle.avc_types.specs.Arithmetic.{distance};
-ghost use Rattle.avc_edges.specs.Line.{Setting, filtered, strong_p0, strong_p1, strong_p2};
+ghost use Rattle.avc_edges.specs.Line.{Setting, filtered};
 ghost use Rattle.avc_edges.specs.Rows.{line, bend, held, IsStrong};
 ghost use Rattle.avc_edges.specs.Fits.{FitsWeakLine, FitsStrongLine};
 

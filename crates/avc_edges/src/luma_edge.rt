@@ -1,6 +1,6 @@
 //! An edge of luma, at the strengths of its blocks (8.7.2.2 to 8.7.2.4).
 
-ghost use Rattle.std.specs.Prelude.{◌≡◌, ℕ, ◌+◌, ◌<◌, ◌≤◌, slice_index};
+ghost use Rattle.std.specs.Prelude.{◌≡◌, ℕ, ◌<◌, slice_index};
 ghost use Rattle.avc_plane.specs.Plane.{HasRectangle};
 ghost use Rattle.avc_edges.specs.OneEdge.{luma_behind, strength_along, AreLimits, AreSpread};
 ghost use Rattle.avc_edges.specs.PlaneLine.{HasLines};
