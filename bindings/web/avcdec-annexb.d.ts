@@ -1,4 +1,5 @@
 // The types of avcdec-annexb.mjs.
+import type { PictureInfo } from './avcdec.mjs';
 
 export interface Unit {
     readonly start: number;
@@ -30,6 +31,9 @@ export class Avcc {
     /** A sample as a byte stream. */
     annexB(sample: BufferSource): Uint8Array;
 }
+
+/** What the info of a picture says of its colours; undefined where it says nothing. */
+export function colorSpaceOf(info: PictureInfo): VideoColorSpaceInit | undefined;
 
 export interface SequenceInfo {
     profile: number;

@@ -202,6 +202,19 @@ const MATRICES = { 1: 'bt709', 5: 'bt470bg', 6: 'smpte170m', 9: 'bt2020-ncl' };
 const PRIMARIES = { 1: 'bt709', 5: 'bt470bg', 6: 'smpte170m', 9: 'bt2020' };
 const TRANSFERS = { 1: 'bt709', 6: 'smpte170m', 13: 'iec61966-2-1' };
 
+/** A colour space as WebCodecs has it, by numbers of Tables E-3 to E-5. */
+function colorSpace(primaries, transfer, matrix, fullRange) {
+    return { primaries: PRIMARIES[primaries] ?? null, transfer: TRANSFERS[transfer] ?? null, matrix: MATRICES[matrix] ?? null, fullRange };
+}
+
+const UNTOLD = 2;
+
+/** What the info of a picture says of its colours, as WebCodecs has it; undefined where it says nothing. */
+export function colorSpaceOf({ colourPrimaries, transferCharacteristics, matrixCoefficients, videoFullRange }) {
+    const isTold = videoFullRange || [colourPrimaries, transferCharacteristics, matrixCoefficients].some(it => it !== UNTOLD);
+    return isTold ? colorSpace(colourPrimaries, transferCharacteristics, matrixCoefficients, videoFullRange) : undefined;
+}
+
 /** What a slice header asks of a sequence parameter set (7.3.2.1.1), which is read from behind seq_parameter_set_id up to frame_cropping_flag. */
 function sliceNumbers(bits) {
     const frameNumBits = bits.ue() + 4, orderKind = bits.ue();
@@ -261,8 +274,8 @@ export function sequenceInfo(unit) {
     if (bits.u(1)) {
         bits.skip(3);
         const fullRange = bits.u(1) === 1;
-        const [primaries, transfer, matrix] = bits.u(1) ? [bits.u(8), bits.u(8), bits.u(8)] : [2, 2, 2];
-        info.colorSpace = { primaries: PRIMARIES[primaries] ?? null, transfer: TRANSFERS[transfer] ?? null, matrix: MATRICES[matrix] ?? null, fullRange };
+        const colours = bits.u(1) ? [bits.u(8), bits.u(8), bits.u(8)] : [UNTOLD, UNTOLD, UNTOLD];
+        info.colorSpace = colorSpace(...colours, fullRange);
     }
     if (bits.u(1)) info.chromaLocation = bits.ue(), bits.ue(); // of the top field, which is that of a frame, and of the bottom field
     if (bits.u(1)) {

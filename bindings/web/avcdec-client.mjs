@@ -27,7 +27,6 @@ export class OwnPicture {
 
     constructor(fields, owner) {
         Object.assign(this, fields);
-        this.size = this.samples.length;
         this.#owner = owner;
     }
 
@@ -54,6 +53,28 @@ export class OwnPicture {
     }
 }
 
+/** A picture as a VideoFrame that the worker made. */
+export class FramedPicture {
+    #frame;
+
+    constructor({ videoFrame, ...fields }) {
+        Object.assign(this, fields);
+        this.#frame = videoFrame;
+    }
+
+    /** The VideoFrame, with this timestamp and displayed size: the picture has none afterwards. */
+    frame(init) {
+        const frame = new VideoFrame(this.#frame, init);
+        this.close();
+        return frame;
+    }
+
+    /** Lets go of the samples. */
+    close() {
+        this.#frame.close();
+    }
+}
+
 /** A decoder in a worker. Calls are answered in their order. */
 export class WorkerDecoder {
     #worker;
@@ -63,14 +84,15 @@ export class WorkerDecoder {
     #ready;
     #closed;
 
-    /** `module`: a URL of avcdec.wasm or a WebAssembly.Module. */
-    constructor({ early = false, module } = {}) {
-        this.#ready = this.#begin(early, module);
+    /** `module`: a URL of avcdec.wasm or a WebAssembly.Module. `frames`: pictures come as VideoFrames where workers have these: copied once, by
+     * the browser. */
+    constructor({ early = false, module, frames = false } = {}) {
+        this.#ready = this.#begin(module, { early, frames });
         this.#ready.catch(() => {}); // it is told to whoever calls
     }
 
-    async #begin(early, module) {
-        module = await compiled(module);
+    async #begin(from, words) {
+        const module = await compiled(from);
         // the URL stands in the call, where bundlers look for it
         const threads = typeof Worker === 'undefined' ? await import('node:worker_threads') : undefined;
         if (this.#closed) throw this.#closed;
@@ -78,10 +100,10 @@ export class WorkerDecoder {
         this.#worker = worker;
         const fail = message => this.#end(new DecoderError(`the worker failed: ${message}`));
         // a worker that is ended while it loads can take the process with it, so one that is closed sooner ends with its first answer
-        const told = message => this.#closed ? worker.terminate() : this.#told(message);
+        const told = message => this.#closed ? this.#left(worker, message) : this.#told(message);
         if (worker.on) worker.on('message', told).on('error', it => fail(it.message));
         else worker.onmessage = event => told(event.data), worker.onerror = event => fail(event.message);
-        return this.#put('open', { module, early });
+        return this.#put('open', { module, ...words });
     }
 
     #told({ id, told, error }) {
@@ -91,9 +113,14 @@ export class WorkerDecoder {
         else {
             if (told.memory) this.memory = told.memory, this.turns = told.turns;
             if (told.version) this.version = told.version;
-            told.events = told.events?.map(it => it.kind === 'picture' ? new OwnPicture(it, this) : it);
+            told.events = told.events?.map(it => it.kind !== 'picture' ? it : it.videoFrame ? new FramedPicture(it) : new OwnPicture(it, this));
             done(told);
         }
+    }
+
+    #left(worker, { told }) {
+        worker.terminate();
+        for (const { videoFrame } of told?.events ?? []) videoFrame?.close();
     }
 
     #ask(call, words, transfer) {
@@ -120,10 +147,10 @@ export class WorkerDecoder {
 
     /** Gives bytes (Annex B) and answers the events that they bring; with `endsUnit` they end with a whole access unit, and with `value` their units
      * are marked. All pictures of a call are answered together: give an access unit or 65,536 bytes at a time. With `transfer` the buffer of the
-     * bytes goes to the worker. */
-    async decode(bytes, { endsUnit = false, value, transfer = false } = {}) {
+     * bytes goes to the worker. `colorSpace`: that of VideoFrames (`frames`) from here on, in place of what the stream tells. */
+    async decode(bytes, { endsUnit = false, value, transfer = false, colorSpace } = {}) {
         await this.#ready;
-        return (await this.#ask('decode', { bytes, endsUnit, value }, transfer ? [bytes.buffer] : [])).events;
+        return (await this.#ask('decode', { bytes, endsUnit, value, colorSpace }, transfer ? [bytes.buffer] : [])).events;
     }
 
     /** Ends the stream; answers what was held. */

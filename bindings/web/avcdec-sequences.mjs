@@ -11,6 +11,9 @@ import { WorkerDecoder } from './avcdec-client.mjs';
 // Calls that may be on their way to one worker; pictures, and their bytes, that may be on their way through several.
 const CALLS_OF_ONE = 4, PICTURES_OF_SEVERAL = 512, BYTES_OF_SEVERAL = 2 ** 28;
 
+/** Lets go of an event that nobody takes. */
+const drop = event => event.close?.();
+
 /** A sequence that is not all out: the worker that decodes it, and its answers, each a list of events, up to where one has not come. */
 class Sequence {
     answers = [];
@@ -65,6 +68,7 @@ export class Sequences {
     close() {
         this.#isClosed = true;
         for (const worker of this.#workers) worker.close();
+        for (const { answers } of this.#open) for (const { events = [] } of answers) events.forEach(drop);
         this.#told();
     }
 
@@ -102,6 +106,7 @@ export class Sequences {
         sequence.unanswered++;
         this.#pictures += pictures;
         call(sequence.worker).then(events => { answer.events = events; }, thrown => { answer.thrown = thrown; }).then(() => {
+            if (this.#isClosed) answer.events?.forEach(drop);
             sequence.unanswered--;
             const picture = answer.events?.find(it => it.kind === 'picture');
             if (picture) this.#pictureSize = picture.size;
@@ -125,7 +130,10 @@ export class Sequences {
     #out({ events, thrown, pictures }, begins) {
         this.#pictures -= pictures;
         if (thrown) throw thrown;
-        for (const event of events) if (!this.#isClosed && event.unit >= begins.sets) this.#take(event, begins);
+        for (const event of events) {
+            if (!this.#isClosed && event.unit >= begins.sets) this.#take(event, begins);
+            else drop(event);
+        }
     }
 
     #told() {

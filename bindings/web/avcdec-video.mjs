@@ -7,7 +7,7 @@
 //
 // It decodes in a worker, or in this thread where there is none or `library` is given; with `workers: N` in as many, sequence by sequence.
 import { Decoder, load } from './avcdec.mjs';
-import { Avcc, byteStream, joined, ParameterSets, sequenceInfo } from './avcdec-annexb.mjs';
+import { Avcc, byteStream, colorSpaceOf, joined, ParameterSets } from './avcdec-annexb.mjs';
 import { WorkerDecoder } from './avcdec-client.mjs';
 import { Sequences } from './avcdec-sequences.mjs';
 
@@ -119,7 +119,7 @@ export class AvcVideoDecoder extends EventTarget {
         this.#error = error;
         this.#refused = refused;
         this.#isSeveral = worker && workers > 1;
-        this.#engineOf = async (early, told) => worker ? new Sequences({ make: () => new WorkerDecoder({ early, module }), most: workers, ...told })
+        this.#engineOf = async (early, told) => worker ? new Sequences({ make: () => new WorkerDecoder({ early, module, frames: true }), most: workers, ...told })
             : new Here(new Decoder(await (library ?? (library = load(module))), { early }), told);
     }
 
@@ -239,7 +239,7 @@ export class AvcVideoDecoder extends EventTarget {
             this.#engine?.close();
             this.#engine = undefined;
             const engine = await this.#engineOf(config.early, {
-                take: event => round === this.#round && this.#take(event),
+                take: event => round === this.#round ? this.#take(event) : event.close?.(),
                 failed: thrown => round === this.#round && this.#fail(thrown),
             });
             if (round !== this.#round) return engine.close();
@@ -263,7 +263,8 @@ export class AvcVideoDecoder extends EventTarget {
         const before = this.#sets.units, { idr } = this.#sets.note(bytes);
         const isNew = this.#isFresh || (this.#isSeveral && idr && !this.#sets.dropsPictures(bytes));
         this.#isFresh = false;
-        const begins = isNew ? { sets: before.length } : undefined, words = { endsUnit: true, value: this.#waiting.begin(chunk) };
+        const begins = isNew ? { sets: before.length } : undefined;
+        const words = { endsUnit: true, value: this.#waiting.begin(chunk), colorSpace: this.#config.colorSpace };
         await this.#engine.decode(isNew ? joined(byteStream(before), bytes) : bytes, words, begins);
     }
 
@@ -287,9 +288,8 @@ export class AvcVideoDecoder extends EventTarget {
     }
 
     /** Colour space and displayed size. */
-    #shape({ width, height }) {
-        const { colorSpace, displayAspectWidth: across, displayAspectHeight: down } = this.#config, sequence = this.#sets.sequence;
-        const shape = { colorSpace: colorSpace ?? (sequence && sequenceInfo(sequence).colorSpace) };
+    #shape({ width, height, info }) {
+        const { colorSpace, displayAspectWidth: across, displayAspectHeight: down } = this.#config, shape = { colorSpace: colorSpace ?? colorSpaceOf(info) };
         if (across && down) {
             const wide = Math.round(height * across / down);
             Object.assign(shape, wide >= width ? { displayWidth: wide, displayHeight: height } : { displayWidth: width, displayHeight: Math.round(width * down / across) });

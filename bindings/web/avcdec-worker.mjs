@@ -1,17 +1,24 @@
-// avcdec-worker.mjs: a worker with one decoder, for WorkerDecoder of avcdec-client.mjs. Samples are transferred, not copied.
+// avcdec-worker.mjs: a worker with one decoder, for WorkerDecoder of avcdec-client.mjs. Samples and VideoFrames are transferred, not copied.
 import { Decoder, load } from './avcdec.mjs';
+import { colorSpaceOf } from './avcdec-annexb.mjs';
 
 const port = typeof WorkerGlobalScope !== 'undefined' ? globalThis : (await import('node:worker_threads')).parentPort;
 const spare = []; // buffers that came back, for later pictures
 let decoder;
+let frames = false; // whether pictures leave as VideoFrames
+let colorSpace; // of these, where it is not what the stream tells
 
-/** A picture as it leaves: its samples as I420 without gaps. */
+/** A picture as it leaves: a VideoFrame, or its samples as I420 without gaps. */
 function parcel(picture) {
+    const { codedWidth, codedHeight, crop, width, height, size, unit, value, info } = picture;
+    const told = { kind: 'picture', codedWidth, codedHeight, crop, width, height, size, unit, value, info };
+    return frames ? { ...told, videoFrame: picture.frame({ timestamp: 0, colorSpace: colorSpace ?? colorSpaceOf(info) }) } : { ...told, samples: samplesOf(picture) };
+}
+
+function samplesOf(picture) {
     let buffer;
     while ((buffer = spare.pop()) && buffer.byteLength !== picture.size);
-    const samples = picture.copy(new Uint8Array(buffer ?? new ArrayBuffer(picture.size)));
-    const { codedWidth, codedHeight, crop, width, height, unit, value, info } = picture;
-    return { kind: 'picture', codedWidth, codedHeight, crop, width, height, unit, value, info, samples };
+    return picture.copy(new Uint8Array(buffer ?? new ArrayBuffer(picture.size)));
 }
 
 function taken(events) {
@@ -21,12 +28,14 @@ function taken(events) {
 }
 
 const calls = {
-    async open({ module, early }) {
+    async open({ module, early, ...words }) {
+        frames = words.frames && typeof VideoFrame !== 'undefined';
         const library = await load(module);
         decoder = new Decoder(library, { early });
         return { version: library.version };
     },
-    decode({ bytes, endsUnit, value }) {
+    decode({ bytes, endsUnit, value, ...words }) {
+        colorSpace = words.colorSpace;
         return { events: taken(decoder.decode(bytes, { endsUnit, value })) };
     },
     flush() {
@@ -45,7 +54,7 @@ async function answer({ id, call, words, buffers = [] }) {
     try {
         const told = await calls[call](words);
         if (decoder) told.memory = decoder.memory, told.turns = decoder.turns;
-        port.postMessage({ id, told }, (told.events ?? []).filter(it => it.samples).map(it => it.samples.buffer));
+        port.postMessage({ id, told }, (told.events ?? []).filter(it => it.kind === 'picture').map(it => it.videoFrame ?? it.samples.buffer));
     } catch (thrown) {
         port.postMessage({ id, error: { name: thrown.name, message: thrown.message, status: thrown.status } });
     }

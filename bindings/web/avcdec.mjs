@@ -242,8 +242,7 @@ export class Refusal {
     }
 }
 
-/** A VideoFrame that takes over samples as I420 without gaps. Of rows that lie apart, as in the module's memory, it would want the last one whole
- * too, up to where the next would begin. */
+/** A VideoFrame that takes over samples as I420 without gaps. */
 export function frameOf(samples, { width, height }, init) {
     return new VideoFrame(samples, { ...init, format: 'I420', codedWidth: width, codedHeight: height, transfer: [samples.buffer] });
 }
@@ -306,9 +305,14 @@ export class Picture {
         }
     }
 
-    /** A VideoFrame of its own. `init`: timestamp, in microseconds, and what else a VideoFrame of samples takes. */
+    /** A VideoFrame of its own, copied once, from where the rows lie. `init`: timestamp, in microseconds, and what else a VideoFrame of samples takes. */
     frame(init) {
-        return frameOf(this.copy(), this, init);
+        const places = this.#places(), { library } = this.#handle, { width: codedWidth, height: codedHeight } = this;
+        // it wants the last row whole too, up to where the next would begin: there the module's memory goes on, or else samples are copied together first
+        const from = Math.min(...places.map(it => it.at)), to = Math.max(...places.map(({ at, stride, rows }) => at + stride * rows));
+        if (to > library.memory) return frameOf(this.copy(), this, init);
+        const layout = places.map(({ at, stride }) => ({ offset: at - from, stride }));
+        return new VideoFrame(library.bytes(from, to - from), { ...init, format: 'I420', codedWidth, codedHeight, layout });
     }
 }
 

@@ -4,7 +4,9 @@
 # stands what comes where each picture's planes are looked at where they lie, and where each is copied as I420 (by copyTo, of VideoDecoder). The columns
 # before the last divide pictures in a second of the processor (of the thread that decodes, looked at, taken in turns) by the library's. Then a table
 # of files with each stream sixteen times and more, whose start doesn't count, copied: by decodeSequences in one worker and in as many as there are
-# processors, beside VideoDecoder (with optimizeForLatency or without, whichever is faster). Then the module's size. Wants a machine without other work, and about ten minutes beside building.
+# processors, beside VideoDecoder (with optimizeForLatency or without, whichever is faster). Then a table of AvcVideoDecoder in a worker beside
+# VideoDecoder, configured for each run over a stream, each frame copied, in turns. Then the module's size. Wants a machine without other work, and
+# a quarter of an hour beside building.
 set -eu
 here=$(cd "$(dirname "$0")" && pwd)
 top=$(cd "$here/../.." && pwd)
@@ -48,6 +50,15 @@ END {
     for (i = 1; i <= count; i++) {
         name = names[i]
         print "| " name " | " one("one", name) " | " one("all", name) " | " one("WebCodecs", name) " | " part("chromium-file-one", "chromium-file-WebCodecs", name, "copied") " | " part("chromium-file-all", "chromium-file-WebCodecs", name, "copied") " |"
+    }
+    print ""
+    print "| Stream | AvcVideoDecoder | VideoDecoder | of it |"
+    print "|---|---|---|---|"
+    for (i = 1; i <= count; i++) {
+        name = names[i]
+        ours = rate["chromium-shape", name, "ours"]
+        theirs = rate["chromium-shape", name, "theirs"]
+        if (theirs > 0) printf "| %s | %.0f | %.0f | %.2f |\n", name, ours, theirs, ours / theirs
     }
 }' "$work/told"
 for kind in wasm32 wasm64; do

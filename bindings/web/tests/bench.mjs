@@ -1,7 +1,8 @@
 // node [--experimental-wasm-memory64] bench.mjs FOLDER SECONDS: a line 'WAY STREAM read|copied PICTURES' for each stream of vectors/speed: pictures a
 // second of FOLDER/avcdec.wasm32.wasm and .wasm64.wasm in Node, and in Chromium, where it is there, beside its own VideoDecoder in software. The
 // word cpu stands for pictures in a second of the processor, of the thread that decodes, looked at where they lie, and of FOLDER/bench too. Ways with
-// the word file are those of a file with the stream seventeen times or more, of which the first times don't count.
+// the word file are those of a file with the stream seventeen times or more, of which the first times don't count; behind the word shape stand ours
+// and theirs, AvcVideoDecoder in a worker and VideoDecoder in turns.
 import { spawnSync } from 'node:child_process';
 import { readFileSync } from 'node:fs';
 import { availableParallelism } from 'node:os';
@@ -88,6 +89,7 @@ for (const name of STREAMS) {
     // a file of several sequences: VideoDecoder, and decodeSequences in one worker and in as many as there are processors
     for (const [way, workers] of [['file-WebCodecs', 0], ['file-one', 1], ['file-all', availableParallelism()]])
         ways.push([way, (_, page) => page.evaluate(`page.speedOfFile('speed/${name}', ${workers}, '/wasm32.wasm', { seconds: ${seconds} })`)]);
+    ways.push(['shape', (_, page) => page.evaluate(`page.speedOfShape('speed/${name}', 1, '/wasm32.wasm', { seconds: ${seconds} })`)]);
     for (const [way, speed] of ways)
         await attempt(`chromium-${way}`, name, async () => {
             const browser = new Browser(); // anew, so that nothing of an earlier one counts

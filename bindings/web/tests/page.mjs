@@ -7,7 +7,7 @@ import { AvcVideoDecoder } from '../avcdec-video.mjs';
 import { check } from './check.mjs';
 import { Md5 } from './md5.mjs';
 
-export { ours, speedOfFile, speedOfOurs, speedOfTheirs } from './speed.mjs';
+export { ours, speedOfFile, speedOfOurs, speedOfShape, speedOfTheirs } from './speed.mjs';
 
 export const module = '/module.wasm';
 const bytesOf = async name => new Uint8Array(await (await fetch(`/vectors/${name}.264`)).arrayBuffer());
@@ -121,6 +121,22 @@ export async function besides(name, words = {}) {
     if (theirs.out.length !== ours.out.length) return `theirs has ${theirs.out.length} pictures, ours ${ours.out.length}`;
     const at = ours.out.findIndex((it, i) => JSON.stringify(told(it)) !== JSON.stringify(told(theirs.out[i])));
     return at < 0 ? undefined : `picture ${at}: ${JSON.stringify(ours.out[at])}, theirs ${JSON.stringify(theirs.out[at])}`;
+}
+
+/** How many of the first frames of AvcVideoDecoder have this matrix and range: in this thread, in a worker, in three, and where `config` names another. */
+export async function coloured(name, matrix, fullRange) {
+    const units = accessUnits(await bytesOf(name)), counts = [];
+    const other = { matrix: 'bt2020-ncl', primaries: 'bt2020', transfer: 'bt709', fullRange: !fullRange };
+    for (const [words, colorSpace] of [[{ library: inPage }], [{ module }], [{ module, workers: 3 }], [{ module }, other]]) {
+        const told = [], has = it => it.matrix === matrix && it.fullRange === fullRange;
+        const decoder = new AvcVideoDecoder({ output: frame => { told.push(has(frame.colorSpace)); frame.close(); }, error: error => told.push(error.message), ...words });
+        decoder.configure({ codec: 'avc1.42E028', colorSpace });
+        units.forEach((unit, at) => decoder.decode(new EncodedVideoChunk({ type: unit.key ? 'key' : 'delta', timestamp: at, data: unit.bytes })));
+        await decoder.flush();
+        decoder.close();
+        counts.push([...told, false].indexOf(false));
+    }
+    return counts;
 }
 
 /** How a refusal comes out of AvcVideoDecoder. */

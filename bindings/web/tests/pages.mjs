@@ -10,6 +10,8 @@ import { bytesOf, streams, top, vectors } from './streams.mjs';
 const [, , file, part = 'calls', folder] = process.argv;
 const ALIKE = ['encoder/pub_x_aud', 'encoder/pub_x_keyint3', 'encoder/pub_x_crop_18x34', 'encoder/pub_x_allintra', 'speed/cif', 'speed/call',
     'encoder/pub_o_idr_listing', 'speed/720p', 'speed/1080i', 'speed/still'];
+// as ffprobe tells them of the first picture, and how many pictures it holds for: the second sequence of the last one has a set that says nothing
+const COLOURED = [['encoder/pub_x_hrd_vui', 'bt709', true, 12], ['encoder/pub_o_crop_150x90', 'bt709', false, 10], ['generated/pubgen_16', 'smpte170m', false, 8]];
 const LEAST_QUALITY = 60; // dB; chroma half a sample away gives at most 54
 // pictures with their width and height: chroma left, centred, and at the top left; BT.601 and 709, limited and full range; cropped
 const DRAWN = [['speed/cif', 17, 352, 288], ['speed/call', 30, 640, 360], ['encoder/pub_x_hrd_vui', 2, 96, 80], ['encoder/pub_o_crop_150x90', 3, 150, 90],
@@ -148,6 +150,8 @@ try {
             for (const name of there) await test(`${name} beside VideoDecoder, in the page's thread`, () => inPage(page, 'besides', name, { here: true }));
             for (const name of there) await test(`${name} beside VideoDecoder, in three workers`, () => inPage(page, 'besides', name, { workers: 3 }));
             await test(`${there[1]} beside VideoDecoder, from avcC`, () => inPage(page, 'besides', there[1], { avcc: true }));
+            for (const [name, matrix, fullRange, count] of COLOURED) await test(`colours of ${name}`, async () =>
+                differs(await inPage(page, 'coloured', name, matrix, fullRange), [count, count, count, 0]));
             told("beside Chromium's VideoDecoder");
         } else {
             console.log("web, beside Chromium's VideoDecoder: left out: this Chromium decodes no H.264");

@@ -2,6 +2,7 @@
 import { Decoder, load } from '../avcdec.mjs';
 import { accessUnits } from '../avcdec-annexb.mjs';
 import { decodeSequences } from '../avcdec-sequences.mjs';
+import { AvcVideoDecoder } from '../avcdec-video.mjs';
 
 const bytesOf = async name => new Uint8Array(await (await fetch(`/vectors/${name}.264`)).arrayBuffer());
 const WAYS = { read: false, copied: true };
@@ -53,14 +54,15 @@ export async function speedOfOurs(name, module, { seconds = 3, warm = 3 } = {}) 
     return told;
 }
 
-/** How the browser's own VideoDecoder, in software, decodes access units: `run(copies)` does it once and answers how many pictures there were, each copied
- * by copyTo where asked. */
-function theirs(units, config) {
+/** How the browser's own VideoDecoder in software, or another of its shape (`Kind`, `words`), decodes access units: `run(copies)` does it once and answers
+ * how many pictures there were, each copied by copyTo where asked. */
+function theirs(units, config, Kind = VideoDecoder, words = {}) {
     const room = new Uint8Array(1920 * 1088 * 2);
     let pictures = 0, made = 0, failed, copies = false, waits = [];
-    const decoder = new VideoDecoder({
+    const decoder = new Kind({
         output: frame => { pictures++; if (copies) waits.push(frame.copyTo(room).then(() => frame.close())); else frame.close(); },
         error: thrown => { failed = thrown; },
+        ...words,
     });
     const run = async way => {
         pictures = 0;
@@ -85,6 +87,21 @@ export async function speedOfTheirs(name, { seconds = 3, warm = 2 } = {}) {
     }, seconds, warm);
     close();
     return told;
+}
+
+/** Pictures a second of AvcVideoDecoder, in so many workers (0: in the page's thread), and of VideoDecoder in software: configured for each run over a
+ * stream, each frame copied, in turns. */
+export async function speedOfShape(name, workers, module, { seconds = 3, warm = 2 } = {}) {
+    const units = accessUnits(await bytesOf(name)), words = workers ? { module, workers } : { library: load(module) }, best = [0, 0];
+    const both = [theirs(units, { optimizeForLatency: true }, AvcVideoDecoder, words), theirs(units, { optimizeForLatency: true })];
+    for (const [time, counts] of [[warm, false], [seconds, true], [seconds, true]])
+        for (const [at, { run }] of both.entries())
+            for (const until = performance.now() + time * 1000; performance.now() < until;) {
+                const start = performance.now(), rate = await run(true) * 1000 / (performance.now() - start);
+                if (counts) best[at] = Math.max(best[at], rate);
+            }
+    for (const { close } of both) close();
+    return { ours: best[0], theirs: best[1] };
 }
 
 // so often a stream stands in a file, behind the first time, whose start doesn't count
