@@ -75,7 +75,7 @@ LINES
 # without the tests, the file that makes OutOfMemory, imports under their own names, types, and what stands in patterns
 grep -rE 'AllocError|AllocFailed|alloc::\*|(DecodeError|ErrorKind|Status)::OutOfMemory|RunFault::(Read|Endless|Write|Memory|Size)|CompareFault::(Ours|Theirs)|(DecodeError|RunFault|CompareFault|Status) as ' \
     crates/*/src --include='*.rt' |
-    grep -vE '^crates/(avc_tests|avc_stream_tests)/|^crates/avc_types/src/memory\.rt:|^[^:]*:(ghost|//)' |
+    grep -vE '^crates/avc_((syntax|sample|stream)_)?tests/|^crates/avc_types/src/memory\.rt:|^[^:]*:(ghost|//)' |
     sed -E 's|^crates/||; s|: *|: |' |
     awk '{
         rest = $0

@@ -29,7 +29,7 @@ if ! git -C "$top" rev-parse HEAD >/dev/null 2>&1 || ! has rt; then
 fi
 cat >"$work/gate" <<'GATE'
 test planes::keeps_what_is_set ... ok
-rt: avc_tests: its tests passed
+rt: avc_sample_tests: its tests passed
 95 passed, 0 failed
 GATE
 sed 's/0 failed/1 failed/' "$work/gate" >"$work/refused_gate"

@@ -206,7 +206,7 @@ library=$top/crates/avc_c/out/libavc_c.a
 [ -e "$library" ] || "$top/scripts/prove.py" avc_c || exit 1
 # The tests' programs are those that the gate has built, or are built now.
 wanted=
-for crate in avc_tests avc_stream_tests; do
+for crate in avc_syntax_tests avc_stream_tests; do
     [ -x "$top/crates/$crate/out/${crate}_tests" ] || wanted="$wanted $crate"
 done
 if [ -n "$wanted" ]; then
@@ -232,7 +232,7 @@ for words in decode 'decode --early' 'decode --from 0' units headers 'cut 0'; do
     beside failing_in_program "$here/corners/five_g121.264" $words
 done
 for test in calls_that_begin_anew slices_begin_anew pictures_begin_anew splitters_want_memory_from_then_on tables_stay_as_they_are bit_makers_want_memory_from_then_on; do
-    beside refused_in_test avc_tests "want_of_memory::$test"
+    beside refused_in_test avc_syntax_tests "want_of_memory::$test"
 done
 beside refused_in_test avc_stream_tests stream_texts::texts_and_pieces
 beside refused_in_test avc_stream_tests decoder_calls::decodes_again_after_want_of_memory

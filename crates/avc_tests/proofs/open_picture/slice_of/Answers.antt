@@ -1,5 +1,7 @@
-use Rattle.avc_tests.proofs.Following.{rules, ◌≡◌, ℕ, Some, subst, sym, sets_after, within_sets}
+use Rattle.std.proofs.Common.{rules, ◌≡◌, ℕ, Some, subst, sym}
+use Rattle.avc_params.specs.Tables.{sets_after}
 use Rattle.avc_slice.specs.Within.{IsHeader}
+use Rattle.avc_tests.proofs.SetsInForce.{within_sets}
 use Rattle.avc_tests.proofs.open_picture.slice_of.Goals as goal
 
 pub returns : goal.returns

@@ -1,4 +1,0 @@
-use Rattle.avc_tests.proofs.macroblock_types.all_coded.Goals as goal
-
-pub returns : goal.returns
-returns g c = let b = c.requires in (b, (b, (b, (b, (b, (b, (b, (b, (b, (b, (b, (b, (b, (b, (b, (b, tt))))))))))))))))

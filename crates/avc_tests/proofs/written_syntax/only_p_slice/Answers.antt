@@ -1,5 +1,0 @@
-use Rattle.avc_tests.proofs.Following.{refl, rules, true, coded}
-use Rattle.avc_tests.proofs.written_syntax.only_p_slice.Goals as goal
-
-pub returns : goal.returns
-returns c = coded _ true 1 c.requires.follow.0 (search rules) (λ e. cc) c.requires.few refl refl refl c.requires.follow.1
