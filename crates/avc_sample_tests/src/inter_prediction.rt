@@ -300,7 +300,8 @@ fn luma_is_its_table(rt: HostRuntime) -> Result<(), Fail> {
     Ok(())
 }
 
-// The same of chroma.
+// The first vector by which a chroma block differs: how far to the right and down, and its
+// fraction.
 fn differing_chroma(plane: &PaddedPlane<32>) -> Option<(i16, i16, i16)> {
     for right in WHOLE {
         for down in WHOLE {

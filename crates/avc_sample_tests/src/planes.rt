@@ -31,7 +31,8 @@ fn leave_open(alloc: Global, spare: &mut SparePlanes<4>) -> Result<(), OutOfMemo
     Ok(())
 }
 
-// The same by another way, and what still holds these.
+// Leaves shared planes of 2x1 macroblocks in which one sample is set, and gives what still holds
+// them.
 fn leave_held(alloc: Global, spare: &mut SparePlanes<4>) -> Result<SharedPlanes<4>, OutOfMemory> {
     let mut planes = Planes::of_size(alloc, 2, 1, spare)?;
     planes.luma.set(31, 15, 7);
@@ -49,7 +50,7 @@ fn taken_and_left(alloc: Global, spare: &mut SparePlanes<4>) -> Result<u8, OutOf
     Ok(sample)
 }
 
-// The same of planes that are not left.
+// That sample of planes of this size, which are let go and not left.
 fn taken(alloc: Global, spare: &mut SparePlanes<4>) -> Result<u8, OutOfMemory> {
     let planes = Planes::of_size(alloc, 2, 1, spare)?;
     Ok(planes.luma.get(31, 15))

@@ -1,5 +1,6 @@
-// How often a run reads and writes, and what it tells of a call that failed. No clause says this,
-// since the history of a reader or a writer has its bytes alone.
+//! How often a run reads and writes, and what it tells of a call that failed.
+
+// No clause says this, since the history of a reader or a writer has its bytes alone.
 use crate::limited_writer::Refusal;
 use crate::worked_streams::ONE_HELD;
 use avc_formats::{HeadedFormat, I420, Selected};

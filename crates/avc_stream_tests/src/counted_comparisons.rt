@@ -1,5 +1,6 @@
-// How often a comparison reads and writes, and what it tells of a call that failed. No clause says
-// this, since the history of a reader or a writer has its bytes alone.
+//! How often a comparison reads and writes, and what it tells of a call that failed.
+
+// No clause says this, since the history of a reader or a writer has its bytes alone.
 use crate::counted_calls::{CountingReader, CountingWriter, console_of, reader_of, writer_failing};
 use crate::limited_writer::Refusal;
 use crate::worked_streams::ONE_HELD;
@@ -29,7 +30,7 @@ fn compared(
     compared_as(alloc, false, &mut reader, &mut other, writer)
 }
 
-// The same with or without a line on how near each picture is.
+// Compares with or without a line on how near each picture is.
 fn compared_as(
     alloc: Global,
     has_psnr: bool,

@@ -136,7 +136,8 @@ fn pictures_by(alloc: Global, output: Output, bytes: &[u8]) -> Result<(usize, us
     Ok((seen.before.pictures, seen.after.pictures))
 }
 
-// The same of these parts, with full output and with early output.
+// How many pictures these parts give before the end of the stream, and after it: with full output,
+// and with early output.
 fn pictures_by_both(alloc: Global, parts: &[&[u8]]) -> Result<[(usize, usize); 2], Fail> {
     let bytes = joined(alloc, parts)?;
     let full = pictures_by(alloc, Output::Full, &bytes)?;

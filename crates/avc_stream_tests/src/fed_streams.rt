@@ -119,7 +119,8 @@ pub(crate) fn feed_stream(
     finish(decoder, seen)
 }
 
-/// The same with a new decoder, and how many macroblocks are counted.
+/// Feeds a new decoder a stream in pieces of this size, ends it, and says how many macroblocks are
+/// counted.
 pub(crate) fn decode_stream(
     alloc: Global,
     output: Output,

@@ -17,7 +17,8 @@ const PAIRS: [u8; 55] = [
     0xE4, 0x2B, 0xE0, 0, 0, 1, 0x41, 0xE6, 0x3F, 0x50, 0, 0, 1, 0x09, 0x10, 0,
 ];
 
-// The same sets of pictures of 3x3 macroblocks, and a P picture with mb_skip_run 9.
+// Sequence and picture parameter sets of pictures of 3x3 macroblocks, and a P picture with
+// mb_skip_run 9.
 const NINE: [u8; 24] = [
     0, 0, 1, 0x67, 0x42, 0xC0, 0x0A, 0xDA, 0x37, 0x10, 0, 0, 1, 0x68, 0xCE, 0x38, 0x80, 0, 0, 1,
     0x41, 0xE2, 0x22, 0xA0,

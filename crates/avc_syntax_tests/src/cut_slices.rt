@@ -92,7 +92,8 @@ fn first_differing(alloc: Global, table: &ParamTable) -> Result<Option<usize>, F
     Ok(None)
 }
 
-// The same of a new table, and what the whole slice is read as.
+// Puts the sets into a table, and gives the first number of bits that is not read as it should be,
+// and what the whole slice is read as.
 fn read_in(
     alloc: Global,
     table: &mut ParamTable,

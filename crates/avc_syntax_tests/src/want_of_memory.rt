@@ -113,7 +113,7 @@ fn begins(alloc: Global, sps: &Sps, pps: &Pps) -> Result<bool, OutOfMemory>
     given!(begins_in(alloc, sps, pps, &mut memory))
 }
 
-// The same of the sets that a table is given.
+// Puts the sets into a table, and says whether a picture of these begins.
 fn begins_under(alloc: Global, table: &mut ParamTable) -> Result<bool, OutOfMemory> {
     put_sets(table)?;
     match (table.sps(0), table.pps(0)) {

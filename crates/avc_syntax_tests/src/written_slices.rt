@@ -165,7 +165,7 @@ fn is_read_under(
     }
 }
 
-// the same of the bits after the header
+// Whether the bits after the header are read as these macroblocks, and as no more.
 fn has_macroblocks(
     alloc: Global,
     header: &Header,

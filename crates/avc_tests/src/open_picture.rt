@@ -129,7 +129,8 @@ fn decoded(
     two_slices(&mut picture, sps, upper, lower)
 }
 
-// The same under the sets of a table.
+// What is read and filtered of a new picture under the sets of a table, while the upper and the
+// lower slice are decoded.
 fn decoded_under(alloc: Global, table: &ParamTable) -> Result<[u32; 5], Fail> {
     let Some(sps) = table.sps(0) else {
         return Err(Fail::new("no sequence parameter set"));
