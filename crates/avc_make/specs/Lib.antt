@@ -1,12 +1,5 @@
-pub mod HeaderWriting
-pub mod PpsWriting
-pub mod SliceUnits
 pub mod SliceSteps
-pub mod SpsWriting
-pub mod Units
-pub mod VuiWriting
 pub mod BlockWriting
-pub mod WeightsWriting
 pub mod MbWriting
 pub mod DataWriting
 pub mod SliceMbs

@@ -1,26 +1,24 @@
 -- Macroblocks as bits (7.3.5): their elements in the order of the syntax, and the ranges in which
 -- they can be written.
 use Rattle.std.specs.Prelude.{◌≡◌, ℕ, zero, suc, ◌+◌, ◌-◌, ◌*◌, ◌%◌, ◌<◌, ◌≤◌, ℤ, pos, negsuc}
-use Rattle.std.specs.Prelude.{neg_ℤ, ◌≤ℤ◌, ◌<ℤ◌, Bool, true, false, not, ◌==◌, nat_le, List, []}
-use Rattle.std.specs.Prelude.{◌∷◌, ◌++◌, length, map, replicate, Option, Some, None, Ok}
+use Rattle.std.specs.Prelude.{◌≤ℤ◌, Bool, true, false, not, ◌==◌, nat_le, List, [], ◌∷◌, ◌++◌}
+use Rattle.std.specs.Prelude.{length, map, replicate, Option, Ok}
 use Rattle.std.specs.List.{flat_map, range_with_len}
 use Rattle.avc_types.specs.declared.macroblock.Mvd.{Mvd}
 use Rattle.avc_types.specs.declared.macroblock.PMbType.{PMbType}
 use Rattle.avc_types.specs.declared.macroblock.PMbType.TheVariants.{P16x16, P16x8, P8x16, P8x8}
 use Rattle.avc_types.specs.declared.macroblock.PMbType.TheVariants.{P8x8Ref0}
-use Rattle.avc_types.specs.declared.macroblock.SubMbType.{SubMbType}
-use Rattle.avc_types.specs.declared.macroblock.SubMbType.TheVariants.{Sub8x8, Sub8x4, Sub4x8}
-use Rattle.avc_types.specs.declared.macroblock.SubMbType.TheVariants.{Sub4x4}
 use Rattle.avc_types.specs.Macroblock.{Residual, MbSyntax, p_skip, i_pcm, i_nxn, i_16x16, p_inter}
 use Rattle.avc_types.specs.Macroblock.{total_coeff, parts_of, partitions}
-use Rattle.avc_bits.specs.Bits.{bits_of, byte_bits}
+use Rattle.avc_bits.specs.Bits.{byte_bits}
 use Rattle.avc_vlc.specs.Tables.{cbp_intra, cbp_inter}
 use Rattle.avc_neigh.specs.TotalCoeffs.{nc}
 use Rattle.avc_mbsyntax.specs.declared.context.Context.{Context}
 use Rattle.avc_mbsyntax.specs.Reading.{cb_side, cr_side, is_coded, luma_side, macroblock, qp_after}
 use Rattle.avc_rbsp.specs.Words.{joined, se_word, te_word, ue_word}
+use Rattle.avc_make_headers.specs.MbParts.{IsCodedMode, IsMvd, mode_bits, mvd_bits, sub_mb_number}
+use Rattle.avc_make_headers.specs.VuiWriting.{Each}
 use Rattle.avc_make.specs.BlockWriting.{IsWritable, block_bits}
-use Rattle.avc_make.specs.VuiWriting.{Each}
 
 -- ---- residual (7.3.5.3)
 
@@ -149,16 +147,6 @@ pub record IsPattern (r : Residual) : Type 0 where
 
 -- ---- I macroblocks
 
--- prev_intra4x4_pred_mode_flag, and rem_intra4x4_pred_mode where it is 0
-abbrev pub mode_bits : Option ℕ → List Bool
-mode_bits None = true ∷ []
-mode_bits (Some rem) = false ∷ bits_of 3 rem
-
--- rem_intra4x4_pred_mode, where it is coded, is 0 to 7 (7.4.5.1)
-abbrev pub IsCodedMode : Option ℕ → Type 0
-IsCodedMode None = Unit {0}
-IsCodedMode (Some rem) = rem < 8
-
 -- an I_NxN macroblock after mb_type: its modes, its pattern and its residual (7.3.5)
 abbrev pub i_nxn_bits : Context → List (Option ℕ) → (chroma_mode : ℕ) → Residual → List Bool
 i_nxn_bits c modes chroma_mode r =
@@ -189,13 +177,6 @@ pub record AreSamples (n : ℕ) (samples : List ℕ) : Type 0 where
   pub bytes : Each (λ v. v < 256) samples
 
 -- ---- P macroblocks
-
--- sub_mb_type (Table 7-17)
-abbrev pub sub_mb_number : SubMbType → ℕ
-sub_mb_number Sub8x8 = 0
-sub_mb_number Sub8x4 = 1
-sub_mb_number Sub4x8 = 2
-sub_mb_number Sub4x4 = 3
 
 -- sub_mb_type of each quarter, where there are quarters (7.3.5.2)
 abbrev pub sub_mb_types_bits : PMbType → List Bool
@@ -240,18 +221,6 @@ pub record AreIndices (num_ref_idx_active n : ℕ) (indices : List ℕ) : Type 0
 abbrev pub IsRefIdx : (num_ref_idx_active n : ℕ) → (coded : Bool) → List ℕ → Type 0
 IsRefIdx num_ref_idx_active n true indices = AreIndices num_ref_idx_active n indices
 IsRefIdx num_ref_idx_active n false indices = indices ≡ replicate n 0
-
--- mvd_l0: the horizontal component, then the vertical one (7.3.5.1)
-abbrev pub mvd_bits : Mvd → List Bool
-mvd_bits d = se_word d.x ++ se_word d.y
-
--- what se(v) can have (9.1.1)
-abbrev IsSe32 : ℤ → Type 0
-IsSe32 v = (neg_ℤ (pos 2147483648) <ℤ v) × (v <ℤ pos 2147483648)
-
--- both components can be written
-abbrev pub IsMvd : Mvd → Type 0
-IsMvd d = IsSe32 d.x × IsSe32 d.y
 
 -- an inter macroblock after mb_type (7.3.5.1, 7.3.5.2)
 abbrev pub p_inter_bits : Context → PMbType → (ref_idx : List ℕ) → (mvd : List Mvd) → Residual →

@@ -11,8 +11,8 @@ use Rattle.avc_slice.specs.Reading.{header_in_rbsp}
 use Rattle.avc_mbsyntax.specs.SliceData.{SliceStart, skipped, slice_data}
 use Rattle.avc_rbsp.specs.Rbsps.{IsUnit}
 use Rattle.avc_make.specs.DataWriting.{AreOthers, CanFollow, IsLike, data_bits}
-use Rattle.avc_make.specs.HeaderWriting.{IsHeader, header_bits, slice_unit_header}
-use Rattle.avc_make.specs.SliceUnits.{AreInForce, placed_header}
+use Rattle.avc_make_headers.specs.HeaderWriting.{IsHeader, header_bits, slice_unit_header}
+use Rattle.avc_make_headers.specs.SliceUnits.{AreInForce, placed_header}
 use Rattle.avc_make.specs.declared.slice.CodedSlice.{CodedSlice}
 
 -- What its data is written under: it is slice 1 of its picture, and slice 0 has all macroblocks

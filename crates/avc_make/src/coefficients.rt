@@ -1,5 +1,5 @@
 //! The levels of a block that are not 0.
-ghost use Rattle.std.specs.Prelude.{◌≡◌, ◌+◌, ◌≤◌, ◌<◌, ℕ, ℤ, pos, List, [], ◌∷◌, length, reverse};
+ghost use Rattle.std.specs.Prelude.{◌≡◌, ◌+◌, ◌≤◌, ◌<◌, ℕ, ℤ, pos, List, ◌∷◌, length, reverse};
 ghost use Rattle.std.specs.Prelude.{slice_index_or, take};
 ghost use Rattle.std.specs.List.{sum};
 ghost use Rattle.avc_make.specs.BlockWriting.{coded, ones_first, runs_of, values_of};

@@ -1,5 +1,5 @@
 //! Parts of an RBSP (7.2).
-ghost use Rattle.std.specs.Prelude.{◌≡◌, ◌++◌, false, length, take, IfOk};
+ghost use Rattle.std.specs.Prelude.{◌≡◌, false, take, IfOk};
 ghost use Rattle.avc_bits.specs.Bits.{bits_before_stop};
 ghost use Rattle.avc_rbsp.specs.Made.{Puts, nothing};
 ghost use Rattle.avc_rbsp.specs.Rbsps.{IsRbsp};

@@ -1,21 +1,20 @@
 //! Inter macroblocks whose vectors are coded (7.3.5.1, 7.3.5.2).
-ghost use Rattle.std.specs.Prelude.{◌≡◌, ◌≤◌, ◌<◌, ◌++◌, Bool, List, true, false, [], length, take};
+ghost use Rattle.std.specs.Prelude.{◌≡◌, ◌≤◌, ◌<◌, ◌++◌, true, false, [], length, take};
 ghost use Rattle.std.specs.List.{flat_map};
 ghost use Rattle.avc_types.specs.Macroblock.{parts_of, partitions};
 ghost use Rattle.avc_types.specs.MacroblockFields.{residual_of};
 ghost use Rattle.avc_rbsp.specs.Made.{Puts};
 ghost use Rattle.avc_rbsp.specs.Words.{te_word, ue_word};
-ghost use Rattle.avc_make.specs.MbWriting.{IsMvd, IsPInter, IsRefIdx, has_ref_idx, mvd_bits};
-ghost use Rattle.avc_make.specs.MbWriting.{p_inter_bits};
-ghost use Rattle.avc_make.specs.MbWriting.{p_mb_number, ref_idx_bits, sub_mb_number};
-ghost use Rattle.avc_make.specs.MbWriting.{sub_mb_types_bits};
-ghost use Rattle.avc_make.specs.VuiWriting.{Each};
+ghost use Rattle.avc_make.specs.MbWriting.{IsPInter, IsRefIdx, has_ref_idx, p_inter_bits};
+ghost use Rattle.avc_make.specs.MbWriting.{p_mb_number, ref_idx_bits, sub_mb_types_bits};
+ghost use Rattle.avc_make_headers.specs.MbParts.{IsMvd, mvd_bits};
+ghost use Rattle.avc_make_headers.specs.VuiWriting.{Each};
 
 use crate::macroblock_writing::put_pattern;
-use crate::part::{Part, put_each};
+use avc_make_headers::put_each;
 use avc_mbsyntax::{Context, part_count, partitions};
 use avc_rbsp::BitMaker;
-use avc_types::{BlockLevels, Mvd, OutOfMemory, PMbType, SubMbType};
+use avc_types::{BlockLevels, Mvd, OutOfMemory, PMbType};
 
 /// Puts mb_type and what follows it.
 pub(crate) fn put_p_inter(
@@ -130,40 +129,4 @@ fn put_indices(maker: &mut BitMaker, most: u32, ref_idx: &[u8]) -> Result<(), Ou
         maker.te(most, *index as u32)?;
     }
     Ok(())
-}
-
-// sub_mb_type
-impl Part for SubMbType {
-    ghost bits = { λ s. ue_word (sub_mb_number s) };
-
-    ghost fits = { λ _. Unit {0} };
-
-    fn put(&self, maker: &mut BitMaker) -> Result<(), OutOfMemory> {
-        maker.ue(sub_mb_number(*self))
-    }
-}
-
-// sub_mb_type (Table 7-17)
-fn sub_mb_number(sub_mb_type: SubMbType) -> u32
-    ensures value { result ≡ sub_mb_number sub_mb_type }
-    ensures few { result ≤ 3 }
-{
-    match sub_mb_type {
-        SubMbType::Sub8x8 => 0,
-        SubMbType::Sub8x4 => 1,
-        SubMbType::Sub4x8 => 2,
-        SubMbType::Sub4x4 => 3,
-    }
-}
-
-// mvd_l0
-impl Part for Mvd {
-    ghost bits = { mvd_bits };
-
-    ghost fits = { IsMvd };
-
-    fn put(&self, maker: &mut BitMaker) -> Result<(), OutOfMemory> {
-        maker.se(self.x)?;
-        maker.se(self.y)
-    }
 }

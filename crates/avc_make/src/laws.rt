@@ -4,24 +4,11 @@ ghost use Rattle.avc_make.specs.BlockWriting.{BlocksAreRead, BlocksAreWritable, 
 ghost use Rattle.avc_make.specs.DataWriting.{DataIsRead, DataStandsAlone};
 ghost use Rattle.avc_make.specs.MbWriting.{MbIsRead};
 ghost use Rattle.avc_make.specs.SliceMbs.{CodedSlicesAreRead};
-ghost use Rattle.avc_make.specs.SliceUnits.{HeaderIsRead};
-ghost use Rattle.avc_make.specs.Units.{PpsIsRead, SpsIsRead};
 
+pub use avc_make_headers::laws::{header_is_read, pps_is_read, sps_is_read};
 pub use avc_rbsp::laws::{
     escapes_are_removed, rbsps_are_read, words_are_codewords, words_are_read,
 };
-
-/// The unit of a picture parameter set in its ranges is read as that set, with no fault.
-pub fn pps_is_read()
-    ensures { PpsIsRead }
-{}
-
-/// The unit of a sequence parameter set in its ranges and of a size that is taken is read as that
-/// set, with no fault.
-#[tactic(auto, using(crate::proofs::Slices::sps_unit_is_read))]
-pub fn sps_is_read()
-    ensures { SpsIsRead }
-{}
 
 /// The bits of a residual block that has codes are read as that block, with no fault.
 #[tactic(auto, using(crate::proofs::Slices::block_back))]
@@ -38,12 +25,6 @@ pub fn small_levels_are_writable()
 /// Each block that is read can be written, and its bits are then those that were read.
 pub fn blocks_are_written_as_read()
     ensures { BlocksAreWritable }
-{}
-
-/// In the unit of a slice whose header is in its ranges, the header is read as it is, at its place,
-/// with no fault.
-pub fn header_is_read()
-    ensures { HeaderIsRead }
 {}
 
 /// The bits of a macroblock whose elements are in their ranges are read as that macroblock, with no

@@ -3,16 +3,14 @@ ghost use Rattle.std.specs.Prelude.{◌≡◌, ◌≤◌, ◌<◌, ◌+◌, ◌+
 ghost use Rattle.avc_types.specs.MacroblockFields.{residual_of, syntax_of};
 ghost use Rattle.avc_rbsp.specs.Made.{Puts};
 ghost use Rattle.avc_rbsp.specs.Words.{se_word, ue_word};
-ghost use Rattle.avc_make.specs.MbWriting.{HasRanges, IsCodedMode, IsI16x16, IsINxN, IsPattern};
-ghost use Rattle.avc_make.specs.MbWriting.{i_16x16_bits};
-ghost use Rattle.avc_make.specs.MbWriting.{i_nxn_bits, i_pcm_bits, i_type, mb_bits, mode_bits};
-ghost use Rattle.avc_make.specs.MbWriting.{pattern_bits};
+ghost use Rattle.avc_make.specs.MbWriting.{HasRanges, IsI16x16, IsINxN, IsPattern, i_16x16_bits};
+ghost use Rattle.avc_make.specs.MbWriting.{i_nxn_bits, i_pcm_bits, i_type, mb_bits, pattern_bits};
 ghost use Rattle.avc_make.specs.MbWriting.{pattern_number, pattern_of, qp_delta_bits, type_16x16};
 
 use crate::inter_writing::put_p_inter;
-use crate::part::{Part, put_each};
 use crate::pcm_writing::put_pcm_samples;
 use crate::residual_writing::{put_residual, put_residual_16x16};
+use avc_make_headers::put_each;
 use avc_mbsyntax::Context;
 use avc_rbsp::BitMaker;
 use avc_types::{BlockLevels, Levels, OutOfMemory, Syntax};
@@ -234,21 +232,4 @@ fn put_qp_delta(
         put_delta(maker, levels)?;
     }
     Ok(())
-}
-
-// prev_intra4x4_pred_mode_flag and rem_intra4x4_pred_mode
-impl Part for Option<u8> {
-    ghost bits = { mode_bits };
-
-    ghost fits = { IsCodedMode };
-
-    fn put(&self, maker: &mut BitMaker) -> Result<(), OutOfMemory> {
-        match *self {
-            None => maker.flag(true),
-            Some(rem) => {
-                maker.flag(false)?;
-                maker.put(3, u32::from(rem))
-            }
-        }
-    }
 }

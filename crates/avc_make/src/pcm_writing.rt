@@ -4,7 +4,7 @@ ghost use Rattle.avc_bits.specs.Bits.{byte_bits};
 ghost use Rattle.avc_rbsp.specs.Made.{Puts};
 ghost use Rattle.avc_make.specs.MbWriting.{i_pcm_bits, zeros_to_byte};
 
-use crate::part::put_each;
+use avc_make_headers::put_each;
 use avc_rbsp::BitMaker;
 use avc_types::OutOfMemory;
 

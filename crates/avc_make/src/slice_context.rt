@@ -1,5 +1,5 @@
 //! What the macroblocks of a slice know of those before them while they are written (6.4.9, 9.2.1).
-ghost use Rattle.std.specs.Prelude.{◌≡◌, List, ◌∷◌, [], ◌++◌, IfOk, map, replicate};
+ghost use Rattle.std.specs.Prelude.{◌≡◌, List, ◌∷◌, [], ◌++◌, IfOk, map};
 ghost use Rattle.std.specs.Option.{option_copied, option_map};
 ghost use Rattle.avc_types.specs.Macroblock.{Mb, total_coeff};
 ghost use Rattle.avc_types.specs.MacroblockFields.{residual_of, syntax_of};
@@ -7,7 +7,7 @@ ghost use Rattle.avc_types.specs.Pictures.{PicMb};
 ghost use Rattle.avc_neigh.specs.TotalCoeffs.{all_total_coeffs, residual_total_coeffs};
 ghost use Rattle.avc_neigh.specs.TotalCoeffs.{total_coeffs_of};
 ghost use Rattle.avc_mbsyntax.specs.SliceData.{SliceStart, context, placed};
-ghost use Rattle.avc_make.specs.HeaderWriting.{IsHeader};
+ghost use Rattle.avc_make_headers.specs.HeaderWriting.{IsHeader};
 ghost use Rattle.avc_make.specs.SliceMbs.{earlier_mbs, own_start};
 ghost use Rattle.avc_make.specs.SliceSteps.{IsOf, AreInfoOf};
 

@@ -1,7 +1,7 @@
 -- One macroblock more, and any slice.
 pub mod Common
 unfoldable pub use Common.*
-use Rattle.avc_make.specs.HeaderWriting.{IsHeader}
+use Rattle.avc_make_headers.specs.HeaderWriting.{IsHeader}
 
 -- ---- one macroblock more, and any slice
 

@@ -5,10 +5,11 @@ pub use Rattle.std.proofs.lemmas.Int.{ints}
 pub use Rattle.std.specs.List.{range_with_len}
 pub use Rattle.std.specs.Prelude.{◌==◌, nat_abs, replicate}
 pub use Rattle.avc_make.specs.DataWriting.{CanFollow}
-pub use Rattle.avc_make.specs.MbWriting.{qp_of, IsMvd, IsRefIdx, has_ref_idx, AreBlocks}
+pub use Rattle.avc_make.specs.MbWriting.{qp_of, IsRefIdx, has_ref_idx, AreBlocks}
 pub use Rattle.avc_make.specs.SliceMbs.{IsCodedSlice, earlier_mbs, own_start}
-pub use Rattle.avc_make.specs.VuiWriting.{Each}
 pub use Rattle.avc_make.specs.declared.slice.CodedSlice.{CodedSlice}
+pub use Rattle.avc_make_headers.specs.MbParts.{IsMvd}
+pub use Rattle.avc_make_headers.specs.VuiWriting.{Each}
 pub use Rattle.avc_mbsyntax.specs.Reading.{is_coded}
 pub use Rattle.avc_mbsyntax.specs.SliceData.{SliceStart, context, placed}
 pub use Rattle.avc_slice.specs.Header.{is_p, slice_qp}

@@ -1,17 +1,27 @@
 -- Residual blocks: their codes, what is put of them, and what reading says of them.
-pub mod Headers
-unfoldable pub use Headers.*
+pub mod Common
+unfoldable pub use Common.*
 use Rattle.avc_cavlc.specs.Block.{placed}
 use Rattle.avc_make.specs.BlockWriting.{IsWritable}
+
+-- ---- bits put and read
+
+pub zeros_put : (position count : ℕ) → count ≡ (8 - position % 8) % 8 → bits_of count 0 ≡ zeros_to_byte position
+zeros_put position count is = rw (is, bits_of-zero) refl
+
+-- any parts can be put that can be put whatever they are
+pub any_each : {A : Type 0} (xs : List A) → Each (λ _. Unit {0}) xs
+any_each [] = tt
+any_each (x ∷ xs) = (tt, any_each xs)
+
+-- the bit that is read, and none where none can be read
+pub bit_read : (b b' : Bits) (bit : Bool) → flag b ≡ Ok (bit, b') → b.ahead ≡ bit ∷ b'.ahead
+bit_read b b' bit read = grind arith
 
 -- ---- what is coded of a block, put step by step: lists
 
 pub sum-cons : (x : ℕ) (xs : List ℕ) → sum (x ∷ xs) ≡ x + sum xs
 sum-cons x xs = sum_by-cons (λ n. n) x xs
-
--- the place k of a list
-pub at_place : {A : Type 0} (xs : List A) (k : ℕ) (d x : A) → k < length xs → x ≡ get_or xs k d → drop k xs ≡ x ∷ drop (k + 1) xs
-at_place xs k d x within is = rw is (drop_more xs k d within)
 
 pub is_some_given : {A : Type 0} (given : Option A) (word : A → List Bool) (o : Option (List Bool)) → option_map word given ≡ o → is_some o ≡ true → is_some given ≡ true
 is_some_given given word o is some = grind arith

@@ -1,5 +1,0 @@
-use Rattle.avc_make.proofs.Slices.{pps_unit_is_read}
-use Rattle.avc_make.proofs.laws.pps_is_read.Goals as goal
-
-pub returns : goal.returns
-returns c = pps_unit_is_read
