@@ -159,7 +159,7 @@ impl<'a> BitReader<'a> {
         }
     }
 
-    // the same, where the stop bit may be near
+    // the next bits as a number, where the stop bit may be near
     #[cold]
     #[inline(never)]
     fn peek_near_end(self, count: u32) -> u32
@@ -346,7 +346,7 @@ impl<'a> BitReader<'a> {
         })
     }
 
-    // the same, of any length and anywhere
+    // a codeword of ue(v) of any length, also near the stop bit
     #[tactic(auto, using(crate::proofs::Reading::reading))]
     #[cold]
     #[inline(never)]
@@ -364,7 +364,7 @@ impl<'a> BitReader<'a> {
         self.ue_after(front.zeros)
     }
 
-    // the same, where so many zeros stand in front
+    // a codeword of ue(v) that begins with so many zeros
     #[tactic(auto, using(crate::proofs::Reading::reading))]
     fn ue_after(&mut self, zeros: u32) -> Result<u32, Fault>
         requires { zeros ≡ min (leading (reader_bits self.old).ahead) 32 }
@@ -402,7 +402,7 @@ impl<'a> BitReader<'a> {
         }
     }
 
-    // the same, of any length and anywhere
+    // a codeword of ue(v) of any length whose number is at most `top`, also near the stop bit
     #[cold]
     #[inline(never)]
     fn any_ue_to(&mut self, top: u32) -> Result<u32, Fault>
@@ -602,7 +602,7 @@ impl<'a> BitReader<'a> {
         8 * self.near as u128 + self.stop as u128 - 8 * self.byte as u128 - self.bit as u128
     }
 
-    // the same, at most so many
+    // how many bits stand ahead, at most so many, where the stop bit may be near
     #[cold]
     #[inline(never)]
     fn left_near(self, most: u32) -> u32
@@ -624,7 +624,7 @@ impl<'a> BitReader<'a> {
         }
     }
 
-    // the same for any number
+    // how many bits stand ahead, at most so many, of which there is no bound
     #[inline(always)]
     fn left_at_most(&self, most: u32) -> u32
         ensures { result ≡ min (left_of self.now) most }
@@ -652,7 +652,7 @@ impl<'a> BitReader<'a> {
         }
     }
 
-    // the same, of eight bytes that stand ahead
+    // the next bits as a number, where eight bytes stand ahead
     #[inline(always)]
     fn bits_of_eight(&self, count: u32) -> u32
         requires few { count ≤ 32 }

@@ -55,7 +55,7 @@ pub fn read_block_in_place<const MAXN: usize>(
     }
 }
 
-// The same where the stop bit is not near: coeff_token and the levels by one window.
+// A block where the stop bit is not near: coeff_token and the levels by one window.
 #[inline(always)]
 fn read_by_window<const MAXN: usize>(
     reader: &mut BitReader,
@@ -74,7 +74,7 @@ fn read_by_window<const MAXN: usize>(
     }
 }
 
-// The same behind the codeword of coeff_token that the window begins with.
+// A block whose coeff_token is the codeword that the window begins with.
 #[inline(always)]
 fn read_into<const MAXN: usize>(
     reader: &mut BitReader,

@@ -63,7 +63,7 @@ pub(crate) fn read_levels(
     read_others(reader, values, first, token.total as usize)
 }
 
-/// The same behind the codeword of coeff_token that a window begins with.
+/// The levels that are not 0 behind the codeword of coeff_token that a window begins with.
 #[inline(always)]
 pub(crate) fn read_levels_ahead(
     reader: &mut BitReader,
@@ -268,7 +268,7 @@ fn read_window(
     next
 }
 
-// The same where the stop bit is not near, behind the first bits of the window.
+// The levels from the next one on whose codewords are short, behind the first bits of a window.
 #[inline(always)]
 fn read_short_levels(
     reader: &mut BitReader,

@@ -76,7 +76,7 @@ fn place_first(
     }
 }
 
-// The same where the stop bit is not near, by one window.
+// Reads total_zeros and places the first values by one window, where the stop bit is not near.
 #[inline(always)]
 fn place_short(
     reader: &mut BitReader,

@@ -56,7 +56,7 @@ fn samples_of(picture: &SharedPicture, component: Component) -> u128
     of.height as u128 * of.width as u128
 }
 
-// The same of one component, from whose first sample on `left` bytes are left.
+// Reads the other's next bytes as long as they are a component's; `left` are left from its first.
 fn meet_component<O: Read>(
     picture: &SharedPicture,
     component: Component,
@@ -87,7 +87,7 @@ fn meet_component<O: Read>(
     Ok(met)
 }
 
-// The same of one row.
+// Reads the other's next bytes as long as they are a row's.
 fn meet_row<O: Read>(
     row: &[u8],
     left: u128,

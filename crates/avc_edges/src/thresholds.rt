@@ -187,7 +187,7 @@ pub struct QpLimits {
     /// Neither alpha nor beta is 0. Where one is, nothing is filtered.
     pub is_on: bool,
 
-    /// The same for sixteen lines at once: once made, it serves many edges.
+    /// The thresholds for sixteen lines at once: once made, they serve many edges.
     pub lines: LineLimits,
 }
 

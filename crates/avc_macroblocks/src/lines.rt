@@ -37,7 +37,7 @@ pub(crate) fn add_macroblock_line(
     )
 }
 
-// The same, where these are the vectors that are told.
+// Adds the line of a macroblock whose vectors these are.
 fn add_line(
     text: &mut String,
     has_coefficients: bool,

@@ -96,7 +96,7 @@ pub fn run_macroblocks<R: Read, W: Write>(
     }
 }
 
-// The same in this form.
+// Tells the macroblocks in this form.
 fn run_in<F: MacroblockForm + Drop, R: Read, W: Write>(
     alloc: Global,
     form: F,

@@ -112,7 +112,7 @@ pub fn total_coeffs_of(syntax: &Syntax) -> TotalCoeffs
     }
 }
 
-// the same number for each block
+// this total_coeff for each block
 fn all_total_coeffs(total_coeff: u8) -> TotalCoeffs
     ensures { result ≡ all_total_coeffs total_coeff }
 {

@@ -40,7 +40,7 @@ fn set_coded<const MAXN: usize>(total_coeffs: &mut TotalCoeffs, levels: &BlockLe
     set_counts(&mut total_coeffs.cr, &levels.cr_ac);
 }
 
-/// The same number for each block.
+/// Sets total_coeff of each block to this number.
 fn set_all(total_coeffs: &mut TotalCoeffs, count: u8)
     ensures { total_coeffs.new ≡ each_total_coeff count }
 {

@@ -4,7 +4,7 @@ use Rattle.std.specs.Prelude.{if◌then◌else◌, List, [], ◌∷◌, ◌++◌
 use Rattle.std.specs.Fmt.{decimal}
 use Rattle.avc_annexb.specs.Units.{saturated}
 use Rattle.avc_console.specs.declared.reporter.Counts.{Counts}
-use Rattle.avc_progress.specs.declared.progress.Place.{Place}
+use Rattle.avc_progress.specs.declared.progress.BytesRead.{BytesRead}
 use Rattle.avc_progress.specs.Rates.{new_search, Looks}
 use Rattle.avc_progress.specs.declared.progress_state.ProgressState.{ProgressState}
 
@@ -58,12 +58,12 @@ abbrev pub place_if_known : (read millis : ℕ) → (size : Option ℕ) → List
 place_if_known read millis None = []
 place_if_known read millis (Some size) = place_by read size millis
 
-abbrev pub place_text : Place → (millis : ℕ) → List ℕ
+abbrev pub place_text : BytesRead → (millis : ℕ) → List ℕ
 place_text p millis = place_if_known p.read millis p.size
 
 -- carriage return, with which a terminal begins the line again, and behind the text what erases the
 -- rest of the line (EL of ECMA-48)
-abbrev pub progress_line : Counts → Place → (millis : ℕ) → (rate : Option ℕ) → List ℕ
+abbrev pub progress_line : Counts → BytesRead → (millis : ℕ) → (rate : Option ℕ) → List ℕ
 progress_line c p millis rate =
     13 ∷ (counts_text c ++ speed_text c.pictures millis ++ times_text c.pictures millis rate
     ++ place_text p millis ++ 27 ∷ codes "[K")
@@ -75,11 +75,11 @@ abbrev pub no_counts : Counts
 no_counts = record { pictures = 0; refused = 0 }
 
 -- before any read
-abbrev pub first_place : (size : Option ℕ) → Place
+abbrev pub first_place : (size : Option ℕ) → BytesRead
 first_place size = record { read = 0; size = size }
 
 -- after a read of these bytes
-abbrev pub place_after : Place → (piece : List ℕ) → Place
+abbrev pub place_after : BytesRead → (piece : List ℕ) → BytesRead
 place_after p piece = record p { read = saturated (p.read + length piece) }
 
 -- whole milliseconds

@@ -17,7 +17,7 @@ use std::time::Instant;
 
 /// How far reading is.
 #[derive(Clone, Copy)]
-pub struct Place {
+pub struct BytesRead {
     /// How many bytes were read.
     pub read: u64,
 
@@ -146,7 +146,7 @@ impl Meter<'_> {
 pub fn progress_line(
     alloc: Global,
     counts: Counts,
-    place: Place,
+    place: BytesRead,
     millis: u64,
     rate: Option<u64>,
 ) -> Result<String, AllocError>
@@ -220,7 +220,7 @@ fn add_tenths(line: &mut String, tenths: u128) -> Result<(), AllocError>
     Ok(())
 }
 
-fn add_place(line: &mut String, place: Place, millis: u64) -> Result<(), AllocError>
+fn add_place(line: &mut String, place: BytesRead, millis: u64) -> Result<(), AllocError>
     ensures { OnOk result (string_bytes line.new ≡ string_bytes line.old
         ++ place_text place millis) }
 {

@@ -9,7 +9,7 @@ ghost use Rattle.avc_progress.specs.Progress.{no_counts};
 ghost use Rattle.avc_progress.specs.Progress.{place_after};
 ghost use Rattle.avc_progress.specs.Rates.{new_search, Looks};
 
-use crate::progress::{Place, progress_line};
+use crate::progress::{BytesRead, progress_line};
 use crate::rate::RateSearch;
 use avc_console::{Counts, RunFault, write_text};
 use std::alloc::Global;
@@ -23,7 +23,7 @@ const INTERVAL: u128 = 250;
 #[derive(Drop)]
 pub struct ProgressState {
     pub counts: Counts,
-    pub place: Place,
+    pub place: BytesRead,
     pub rate: RateSearch,
 
     /// Since the start.
@@ -43,7 +43,7 @@ impl ProgressState {
                 pictures: 0,
                 refused: 0,
             },
-            place: Place { read: 0, size },
+            place: BytesRead { read: 0, size },
             rate: RateSearch::new(alloc),
             told_at: Duration::ZERO,
         }

@@ -48,7 +48,7 @@ fn total_coeffs_of(mb: &Mb) -> TotalCoeffs
     }
 }
 
-/// The same number for each block.
+/// This total_coeff for each block.
 fn all(count: u8) -> TotalCoeffs
     ensures { result ≡ all_total_coeffs count }
 {

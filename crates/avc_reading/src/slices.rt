@@ -217,7 +217,7 @@ fn add_slice<F: MacroblockForm>(
     }
 }
 
-/// The same, where the picture is listed; else nothing.
+/// Adds the macroblocks of a slice where its picture is listed; else nothing.
 pub(crate) fn add_slice_if_listed<F: MacroblockForm>(
     telling: &Telling<F>,
     text: &mut String,

@@ -29,7 +29,7 @@ fn is_told_near(width: usize, address: u32, other: u64) -> bool
     is_near(width as u128, u128::from(address), u128::from(other))
 }
 
-/// The same of a picture that has columns.
+/// Whether an address is near another, in a picture that has columns.
 fn is_near(width: u128, address: u128, other: u128) -> bool
     requires wide { 0 < width }
     requires narrow { width < 2 ^ 64 }

@@ -84,7 +84,7 @@ struct Neighbour {
     info: Option<MbInfo>,
 }
 
-// The same of a macroblock where the picture has it, if that is kept.
+// What the filter is told of one beside it, where the picture has it, if that is kept.
 fn neighbour_at(picture: &PictureDecoder<PADDING>, has: bool, address: usize) -> Option<Neighbour>
     requires { HasNoFault picture.now }
     ensures { IfSome result (λ b. IsBeside has address picture.now b.info) }

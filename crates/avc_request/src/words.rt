@@ -396,7 +396,7 @@ pub fn requested(alloc: Global, words: &[String]) -> Result<Request<'_>, Error> 
     requested_by(alloc, &mut command_line, words)
 }
 
-// The same by this grammar.
+// What the words ask for, by this grammar.
 fn requested_by<'a>(
     alloc: Global,
     command_line: &mut Grammar<'a>,

@@ -40,7 +40,7 @@ pub fn is_told_more(rt: &HostRuntime, manner: &Manner) -> bool {
     is_more_told(manner, rt.stderr().is_terminal())
 }
 
-// The same where the standard error is a terminal or not.
+// Whether more is told, where the standard error is a terminal or not.
 fn is_more_told(manner: &Manner, to_terminal: bool) -> bool
     ensures { result ≡ is_more_told manner.now to_terminal }
 {
@@ -52,7 +52,7 @@ pub fn is_progress_told(rt: &HostRuntime, progress: Telling) -> bool {
     is_line_wanted(progress, rt.stderr().is_terminal())
 }
 
-// The same where the standard error is a terminal or not.
+// Whether a line of progress is wanted, where the standard error is a terminal or not.
 fn is_line_wanted(progress: Telling, to_terminal: bool) -> bool
     ensures { result ≡ is_line_wanted progress to_terminal }
 {

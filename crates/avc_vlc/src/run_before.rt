@@ -125,7 +125,7 @@ fn run_entry(code: Code<16>, zeros_left: u8) -> Entry<u8>
     }
 }
 
-// the same where more than six zeros are left
+// what a code ahead says of run_before where more than six zeros are left
 #[inline(always)]
 fn many_entry(code: Code<16>, zeros_left: u8) -> Entry<u8>
     requires { 6 < zeros_left }
@@ -134,7 +134,7 @@ fn many_entry(code: Code<16>, zeros_left: u8) -> Entry<u8>
     number_at(code, &RUNS_OF_MANY)
 }
 
-// the same where six zeros are left at most
+// what a code ahead says of run_before where six zeros are left at most
 #[inline(always)]
 fn few_entry(code: Code<16>, zeros_left: u8) -> Entry<u8>
     requires { zeros_left ≤ 6 }
@@ -151,7 +151,7 @@ fn few_entry(code: Code<16>, zeros_left: u8) -> Entry<u8>
     }
 }
 
-// the same where one to six are left
+// run_before of a code ahead where one to six zeros are left
 #[inline(always)]
 fn few_run(code: Code<16>, zeros_left: u8) -> Run
     requires some { 1 ≤ zeros_left }
@@ -274,7 +274,7 @@ macro_rules! runs8 {
     };
 }
 
-// The same where none is left, as if a run were coded then, and where more than six are left.
+// Runs where no zero is left, as if one were coded then, and where more than six are left.
 macro_rules! no_runs {
     () => {
         runs8!((0, 0), (0, 0), (0, 0), (0, 0), (1, 0), (1, 0), (1, 0), (1, 0))

@@ -70,7 +70,7 @@ fn entry_of_code(code: Code<16>, total: u8, chroma_dc: bool) -> Entry<u8>
     }
 }
 
-// the same for chroma DC
+// what a code ahead says of total_zeros of chroma DC
 #[inline(always)]
 fn chroma_dc_entry(code: Code<16>, total: u8) -> Entry<u8>
     requires { total ≤ 3 }
@@ -121,7 +121,7 @@ fn entry_near_end(reader: BitReader, total: u8) -> Entry<u8>
     zeros_entry(Code::<16>::look(&reader), total)
 }
 
-// the same for 4x4
+// what a code ahead says of total_zeros of a 4x4 block
 #[inline(always)]
 fn zeros_entry(code: Code<16>, total: u8) -> Entry<u8>
     requires { total ≤ 15 }
