@@ -7,8 +7,9 @@ With --toolchain the compiler's parts are taken from there.
 Crates that don't stand on each other are proved side by side, one a processor as far as memory holds, and first those with the longest way of
 others behind them. What a crate has proved is kept for those above it as statements alone, which are read sooner than proofs; a crate for
 which all others wait gets the processors that nobody else has. The toolchain's compiler is called for each as `rt lib` calls it.
-What was proved before is not proved again, also after an interrupt. Every half minute a line on standard error says what is being proved, and
-how long is left by the times of scripts/proof-times.txt and by how much longer or shorter the proofs so far took here.
+What was proved before is not proved again, also after an interrupt, nor what `rt ci` proved here since the last change. Every half minute a
+line on standard error says what is being proved, and how long is left by the times of scripts/proof-times.txt and by how much longer or
+shorter the proofs so far took here.
 
 --plan shows the order and how long it takes, and proves nothing. --times writes what each crate's proof took, for that list. --at-once tells how
 many proofs this machine has processors and memory for, and proves nothing."""
@@ -137,9 +138,37 @@ class Room:
     def has(self, name):
         try:
             with open(f"{self.library(name)}/../{name}.proved", encoding="utf-8") as file:
-                return file.read() == self.sum_of(name)
+                if file.read() == self.sum_of(name):
+                    return True
+        except OSError:
+            pass
+        return self.takes_from_gate(name)
+
+    def takes_from_gate(self, name):
+        """Takes the library that `rt ci` left here, where it is newer than all that its proof reads."""
+        made = f"{TOP}/crates/{name}/out/rlib/{name}.rlib"
+        try:
+            if os.path.getmtime(f"{made}/format") <= self.newest(name):
+                return False
+            shutil.rmtree(self.library(name), ignore_errors=True)
+            shutil.copytree(made, self.library(name))
         except OSError:
             return False
+        self.mark(name, self.sum_of(name))
+        return True
+
+    def newest(self, name):
+        """When what a proof reads was changed last: the toolchain, the list of crates, and the sources of the crate and of those below it."""
+        files = [f"{self.kit.at}/KIT-ID", f"{TOP}/crates.txt"]
+        for it in self.crates.with_below([name]):
+            for part in PARTS:
+                for at, _, found in os.walk(f"{TOP}/crates/{it}/{part}"):
+                    files += [at, *(f"{at}/{file}" for file in found)]
+        return max(os.path.getmtime(it) for it in files)
+
+    def mark(self, name, sources):
+        with open(f"{self.at}/{name}.proved", "w", encoding="utf-8") as file:
+            file.write(sources)
 
     def words(self, name):
         """What the compiler wants to know of a crate."""
@@ -172,8 +201,7 @@ class Room:
         if status == 0:
             if jobs == 1:
                 self.took[name] = time.time() - started
-            with open(mark, "w", encoding="utf-8") as file:
-                file.write(sum_before)
+            self.mark(name, sum_before)
         return status
 
     def fail(self, name):
