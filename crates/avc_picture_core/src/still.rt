@@ -60,6 +60,23 @@ fn copy_pieces(from: &[u8], start: usize, count: usize, rows: &mut [u8])
     copy_piece(from, start + copied, count - copied, rows);
 }
 
+/// From how many samples on that instruction is left to copy them, since it does not read first
+/// where it writes. A row of macroblocks has as many of luma where it has 944 columns or more.
+const LONG: usize = 16_384;
+
+/// Copies `count` samples to the same place of other rows, at once where they are many.
+fn copy_samples(from: &[u8], start: usize, count: usize, rows: &mut [u8])
+    requires source { start + count ≤ length from.now }
+    requires target { start + count ≤ length rows.old }
+    ensures { IsPieceOf from.now start count rows.old rows.new }
+{
+    if count >= LONG {
+        copy_piece(from, start, count, rows);
+    } else {
+        copy_pieces(from, start, count, rows);
+    }
+}
+
 /// Copies rows of a plane to the same place of another of its width, with the padding between them.
 fn copy_rows<const PAD: usize>(
     from: &PaddedPlane<PAD>,
@@ -76,7 +93,7 @@ fn copy_rows<const PAD: usize>(
     let _lines = from.height();
     let start = (top + PAD) * stride;
     let rows = plane.padded_rows_mut();
-    copy_pieces(from.padded_rows(), start, height * stride, rows);
+    copy_samples(from.padded_rows(), start, height * stride, rows);
 }
 
 /// Copies a rectangle of a plane to the same place of another, row by row, or all at once where it
