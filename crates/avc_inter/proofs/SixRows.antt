@@ -115,22 +115,17 @@ sixteen_more {columns} {w} {first} {stride} {f} {old} {mid} {new} y row lanes na
     (λ r x low column. is r x (omega (arith, line_ends columns lanes r low, narrow)) (omega (arith, narrow)))
 
 -- sixteen half samples more, or their means
-pub sixteen_between : {columns w first stride : ℕ} {old mid new : List ℕ} (y : ℕ) (from : RowsPlace) (by : ℕ) (whole : Option ℕ) (p : List ℕ) (half : ℕ → ℕ) → AreLanes columns → w ≤ columns → w ≤ stride →
+pub sixteen_between : {columns w first stride : ℕ} {old mid new : List ℕ} (y : ℕ) (row : List ℕ) (from : RowsPlace) (by : ℕ) (whole : Option ℕ) (p : List ℕ) → AreLanes columns → w ≤ columns → w ≤ stride →
     IsStridedSet w (16 / columns * y) first stride (λ x n. half_or_mean whole p (sample_place from x n) (half_along p (by + sample_place from x n) from.stride)) old mid →
-    IsStridedSet w (16 / columns) (first + y * (16 / columns * stride)) stride
-    (λ x r. half_or_mean whole p (from.first + y * (16 / columns * from.stride) + place_of columns from.stride (columns * r + x)) (half (columns * r + x))) mid new →
-    ((k : ℕ) → k < 16 → half k ≡ half_along p (from.first + y * (16 / columns * from.stride) + by + place_of columns from.stride k) from.stride) →
+    IsStridedSet w (16 / columns) (first + y * (16 / columns * stride)) stride (λ x r. slice_index row (columns * r + x)) mid new →
+    ((k : ℕ) → k < 16 → slice_index row k ≡ half_or_mean whole p (from.first + y * (16 / columns * from.stride) + place_of columns from.stride k)
+    (half_along p (from.first + y * (16 / columns * from.stride) + by + place_of columns from.stride k) from.stride)) →
     IsStridedSet w (16 / columns * (y + 1)) first stride (λ x n. half_or_mean whole p (sample_place from x n) (half_along p (by + sample_place from x n) from.stride)) old new
-sixteen_between {columns} {w} {first} {stride} {old} {mid} {new} y from by whole p half lanes narrow apart so_far put are =
-    strided_more w (16 / columns) y first stride _ _ old mid new apart so_far put
-    (λ r x low column.
+sixteen_between {columns} y row from by whole p lanes narrow apart so_far put are =
+    sixteen_more y row lanes narrow apart so_far put (λ r x low column.
     let here : from.first + y * (16 / columns * from.stride) + by + place_of columns from.stride (columns * r + x) ≡ by + (from.first + ((16 / columns * y + r) * from.stride + x)) =
-    omega (arith, place_in columns from.stride lanes from.first by y r x (omega (arith, narrow, column))) in
-    cc (
-      are (columns * r + x) (omega (arith, line_ends columns lanes r low, narrow, column)),
-      place_here columns from.stride lanes from.first y r x (omega (arith, narrow, column)),
-      here,
-    ))
+    omega (arith, place_in columns from.stride lanes from.first by y r x column) in
+    cc (are (columns * r + x) low, place_here columns from.stride lanes from.first y r x column, here))
 
 -- there is room for them
 pub row_room : (columns y count r : ℕ) {w h first stride : ℕ} {f : ℕ → ℕ → ℕ} {old mid : List ℕ} → AreLanes columns → y < count →
@@ -149,10 +144,6 @@ row_room columns y count r {w} {h} {first} {stride} lanes less room set low =
 pub row_first : (columns y count : ℕ) {w h first stride : ℕ} {f : ℕ → ℕ → ℕ} {old mid : List ℕ} → AreLanes columns → y < count →
     IsRoom w (16 / columns * count) first stride (length old) → IsStridedSet w h first stride f old mid → first + y * (16 / columns * stride) + w ≤ length mid
 row_first columns y count lanes less room set = omega (arith, row_room columns y count 0 lanes less room set (some_lines columns lanes))
-
--- sixteen samples of a block of 16 columns are one line
-pub one_line : (columns stride : ℕ) → columns ≡ 16 → 16 / columns * stride ≡ stride
-one_line columns stride is = ap (λ c. 16 / c * stride) is ∙ omega arith
 
 -- as many as are wanted
 pub rows_done : (n y count : ℕ) {w first stride : ℕ} {f : ℕ → ℕ → ℕ} {old new : List ℕ} → IsStridedSet w (n * y) first stride f old new → count ≤ y → y ≤ count →
@@ -190,6 +181,45 @@ sum_there {p = p} six k low =
 pub half_there : {columns stride : ℕ} {rows : SixRows} {p : List ℕ} {at step : ℕ} → AreSixRows columns stride rows p at step →
     (k : ℕ) → k < 16 → half_of rows k ≡ half_along p (at + place_of columns stride k) step
 half_there six k low = ap rounded_sum (sum_there six k low)
+
+-- ---- five rows of a block of 16 columns
+
+-- sixteen samples are one line
+one_line : (columns stride : ℕ) → columns ≡ 16 → 16 / columns * stride ≡ stride
+one_line columns stride is = ap (λ c. 16 / c * stride) is ∙ omega arith
+
+-- the next line
+pub next_line : (columns stride y : ℕ) → columns ≡ 16 → y * (16 / columns * stride) + stride ≡ (y + 1) * (16 / columns * stride)
+next_line columns stride y is = omega (arith, add-mul y 1 (16 / columns * stride), one_line columns stride is)
+
+-- the first line of the next pair
+pub next_pair : (columns stride pair : ℕ) → columns ≡ 16 → (2 * pair + 1) * (16 / columns * stride) + stride ≡ 2 * (pair + 1) * (16 / columns * stride)
+next_pair columns stride pair is = next_line columns stride (2 * pair + 1) is ∙ ap (λ n. n * (16 / columns * stride)) (omega arith)
+
+-- the same rows by another word for their place
+pub rows_from : {rows : FiveRows} {p : List ℕ} {at first stride : ℕ} → at ≡ first → AreFiveRows rows p at stride → AreFiveRows rows p first stride
+rows_from e rows = rw (← e) rows
+
+place_in_line : (columns stride k : ℕ) → columns ≡ 16 → k < 16 → place_of columns stride k ≡ k
+place_in_line columns stride k is low =
+    let none : k / 16 ≡ 0 = omega arith in
+    rw (is, none) (omega arith)
+
+-- the half samples of these and of a sixth
+lane_at : (p row : List ℕ) (at k place : ℕ) → row ≡ chunk at 16 p → k < 16 → at + k ≡ place → slice_index row k ≡ slice_index p place
+lane_at p row at k place is low here = ap (λ (v : List ℕ). slice_index v k) is ∙ get_or-chunk at 16 p k 0 low ∙ ap (slice_index p) here
+
+pub half_below : {rows : FiveRows} {p : List ℕ} {at stride : ℕ} (columns : ℕ) (sixth : List ℕ) → columns ≡ 16 → AreFiveRows rows p at stride → sixth ≡ chunk (at + 5 * stride) 16 p →
+    (k : ℕ) → k < 16 → half_with rows sixth k ≡ half_along p (at + place_of columns stride k) stride
+half_below {p = p} {at = at} {stride = stride} columns sixth is rows there k low =
+    let place = place_in_line columns stride k is low in
+    ap rounded_sum (same_taps _ _ _ _ _ _ _ _ _ _ _ _
+    (lane_at p _ at k _ rows.e low (omega (arith, place)))
+    (lane_at p _ _ k _ rows.f low (omega (arith, place)))
+    (lane_at p _ _ k _ rows.g low (omega (arith, place)))
+    (lane_at p _ _ k _ rows.h low (omega (arith, place)))
+    (lane_at p _ _ k _ rows.i low (omega (arith, place)))
+    (lane_at p _ _ k _ there low (omega (arith, place))))
 
 pub mean_turned : (a b : ℕ) → mean_of_two a b ≡ mean_of_two b a
 mean_turned a b = omega arith

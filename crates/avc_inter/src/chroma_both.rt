@@ -10,7 +10,7 @@ ghost use Rattle.avc_inter.specs.Laid.{HasRows, IsLaid};
 ghost use Rattle.avc_inter.specs.Bounds.{IsBlock};
 
 use crate::both::{BothPlaces, BothTargets, ChromaPlanes};
-use crate::eighths::lay_both;
+use crate::eighths::{lay_both, lay_rows};
 use crate::reference::WholeBlock;
 use crate::vector::{Eighths, MovedPlace, chroma_fraction, chroma_place};
 use crate::whole::predict_whole;
@@ -49,7 +49,7 @@ fn lay_far<const W: usize, const PAD: usize>(
         cb: patch,
         cr: patch,
     };
-    lay_both::<W>(&patch_cb, &patch_cr, patches, beyond, cb, cr, to);
+    lay_rows::<W>(&patch_cb, &patch_cr, patches, beyond, cb, cr, to);
 }
 
 /// Lays the samples between whole ones.

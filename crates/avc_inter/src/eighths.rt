@@ -129,7 +129,7 @@ fn lay_line<const W: usize>(
 
 /// Lays the samples of both between whole ones, two rows at a time.
 #[inline(always)]
-pub fn lay_both<const W: usize>(
+pub fn lay_rows<const W: usize>(
     cb: &[u8],
     cr: &[u8],
     from: BothPlaces,
@@ -162,5 +162,40 @@ pub fn lay_both<const W: usize>(
         let last = along_row(cb, cr, from, 2 * (y + 1), right);
         lay_line::<W>(down, &middle, &last, 2 * y + 1, out_cb, out_cr, to);
         row = last;
+    }
+}
+
+/// Lays the samples of both between whole ones. Where all lie straight below whole ones, or right
+/// of them, there is code of its own, in which nothing is multiplied by a fraction of 0.
+#[inline(always)]
+pub fn lay_both<const W: usize>(
+    cb: &[u8],
+    cr: &[u8],
+    from: BothPlaces,
+    beyond: Eighths,
+    out_cb: &mut [u8],
+    out_cr: &mut [u8],
+    to: BothTargets<W>,
+)
+    requires cb { HasRowsAround 8 (2 * to.pairs) from.cb cb.now }
+    requires cr { HasRowsAround 8 (2 * to.pairs) from.cr cr.now }
+    requires room_cb { HasRows W (2 * to.pairs) to.cb out_cb.old }
+    requires room_cr { HasRows W (2 * to.pairs) to.cr out_cr.old }
+    ensures cb { IsLaid W (2 * to.entry.pairs) to.entry.cb
+        (λ x y. eighth_at beyond.right beyond.down from.cb.stride cb.now (sample_place from.cb x y))
+        out_cb.old out_cb.new }
+    ensures cr { IsLaid W (2 * to.entry.pairs) to.entry.cr
+        (λ x y. eighth_at beyond.right beyond.down from.cr.stride cr.now (sample_place from.cr x y))
+        out_cr.old out_cr.new }
+{
+    let Eighths { right, down } = beyond;
+    if W == 8 && right == 0 {
+        let below = Eighths { right: 0, down };
+        lay_rows::<W>(cb, cr, from, below, out_cb, out_cr, to);
+    } else if W == 8 && down == 0 {
+        let beside = Eighths { right, down: 0 };
+        lay_rows::<W>(cb, cr, from, beside, out_cb, out_cr, to);
+    } else {
+        lay_rows::<W>(cb, cr, from, beyond, out_cb, out_cr, to);
     }
 }

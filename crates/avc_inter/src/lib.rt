@@ -10,6 +10,7 @@ mod chroma_both;
 mod chroma_prediction;
 mod columns;
 mod eighths;
+mod five_rows;
 mod lines;
 mod luma_prediction;
 mod positions;

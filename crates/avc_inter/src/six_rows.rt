@@ -37,19 +37,6 @@ impl SixRows {
         }
     }
 
-    /// Those a step further on, of which five are known.
-    #[inline(always)]
-    pub fn next<const L: usize>(self, source: Source<'_, L>, at: usize, step: usize) -> SixRows
-        requires rows { AreSixRows L source.stride self source.samples.now at step }
-        requires there { HasPlaces L source.stride 16 (at + 6 * step) source.samples.now }
-        ensures { AreSixRows L source.entry.stride result source.entry.samples.now (at + step)
-            step }
-    {
-        let (e, f, g, h, i) = (self.f, self.g, self.h, self.i, self.j);
-        let j = sixteen::<L>(source, at + 6 * step);
-        SixRows { e, f, g, h, i, j }
-    }
-
     /// The half samples.
     #[inline(always)]
     pub fn halves(self) -> [u8; 16]

@@ -1,6 +1,6 @@
 //! The six-tap filter over samples and over its unrounded sums, in sixteen bits (8.4.2.2.1).
 
-ghost use Rattle.std.specs.Prelude.{◌≡◌, ◌-ℤ◌, ◌+ℤ◌, ◌*ℤ◌, ◌≤ℤ◌, ◌<ℤ◌, pos, neg_ℤ};
+ghost use Rattle.std.specs.Prelude.{◌≡◌, ◌≤◌, ◌-ℤ◌, ◌+ℤ◌, ◌*ℤ◌, ◌≤ℤ◌, ◌<ℤ◌, pos, neg_ℤ};
 ghost use Rattle.avc_types.specs.Arithmetic.{◌>>ℤ◌, clip1, mean_of_two};
 ghost use Rattle.avc_inter.specs.Luma.{six_taps};
 ghost use Rattle.avc_samples.specs.Bounds.{IsSum};
@@ -30,18 +30,40 @@ fn rounded(sum: i16) -> i16
     (sum + 16) >> 5
 }
 
-/// Twice the taps over six samples and what rounds them. To multiply lanes by 10 is one
-/// instruction: 5 times would be taken apart into three.
+/// Twice the taps over six samples, which are wider numbers, and what rounds them. To multiply lanes
+/// by 10 is one instruction: 5 times would be taken apart into three.
+fn twice_rounded_of_wide(e: u16, f: u16, g: u16, h: u16, i: u16, j: u16) -> i16
+    requires e { e ≤ 255 }
+    requires f { f ≤ 255 }
+    requires g { g ≤ 255 }
+    requires h { h ≤ 255 }
+    requires i { i ≤ 255 }
+    requires j { j ≤ 255 }
+    ensures value { result
+        ≡ pos 2 *ℤ (six_taps (pos e) (pos f) (pos g) (pos h) (pos i) (pos j) +ℤ pos 16) }
+    ensures low { neg_ℤ (pos 5068) ≤ℤ result }
+    ensures high { result ≤ℤ pos 21452 }
+{
+    let outer = e + j + 16;
+    let middle = f + i;
+    let inner = 4 * (g + h);
+    10 * (inner as i16 - middle as i16) + (2 * outer) as i16
+}
+
 fn twice_rounded(e: u8, f: u8, g: u8, h: u8, i: u8, j: u8) -> i16
     ensures value { result
         ≡ pos 2 *ℤ (six_taps (pos e) (pos f) (pos g) (pos h) (pos i) (pos j) +ℤ pos 16) }
     ensures low { neg_ℤ (pos 5068) ≤ℤ result }
     ensures high { result ≤ℤ pos 21452 }
 {
-    let outer = u16::from(e) + u16::from(j) + 16;
-    let middle = u16::from(f) + u16::from(i);
-    let inner = 4 * (u16::from(g) + u16::from(h));
-    10 * (inner as i16 - middle as i16) + (2 * outer) as i16
+    twice_rounded_of_wide(
+        u16::from(e),
+        u16::from(f),
+        u16::from(g),
+        u16::from(h),
+        u16::from(i),
+        u16::from(j),
+    )
 }
 
 /// The half sample of its sum.
@@ -78,6 +100,20 @@ fn sixty_fourth(v: i16) -> i16
     ensures most { result ≤ℤ pos 32767 }
 {
     v >> 6
+}
+
+/// The half sample of six samples, which are wider numbers.
+pub fn half_of_wide(e: u16, f: u16, g: u16, h: u16, i: u16, j: u16) -> u8
+    requires e { e ≤ 255 }
+    requires f { f ≤ 255 }
+    requires g { g ≤ 255 }
+    requires h { h ≤ 255 }
+    requires i { i ≤ 255 }
+    requires j { j ≤ 255 }
+    ensures { result
+        ≡ clip1 (six_taps (pos e) (pos f) (pos g) (pos h) (pos i) (pos j) +ℤ pos 16 >>ℤ 5) }
+{
+    clipped(sixty_fourth(twice_rounded_of_wide(e, f, g, h, i, j)))
 }
 
 pub fn half(e: u8, f: u8, g: u8, h: u8, i: u8, j: u8) -> u8

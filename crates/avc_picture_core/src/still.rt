@@ -60,8 +60,8 @@ fn copy_pieces(from: &[u8], start: usize, count: usize, rows: &mut [u8])
     copy_piece(from, start + copied, count - copied, rows);
 }
 
-/// From how many samples on that instruction is left to copy them, since it does not read first
-/// where it writes. A row of macroblocks has as many of luma where it has 944 columns or more.
+/// From how many samples on they are copied at once all the same, which takes less time. A row of
+/// macroblocks has as many of luma where it has 944 columns or more.
 const LONG: usize = 16_384;
 
 /// Copies `count` samples to the same place of other rows, at once where they are many.

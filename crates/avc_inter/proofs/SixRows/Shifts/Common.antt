@@ -42,3 +42,5 @@ pub use Rattle.std.specs.Prelude.{Option}
 pub use Rattle.avc_inter.specs.SixRows.{place_of, HasPlaces, HasRoom, AreLanes, AreSixRows, taps_of, half_of, centre_of, AreSumsOf}
 pub use Rattle.avc_inter.specs.SixTapRow.{taps_at}
 pub use Rattle.avc_inter.specs.Weight.{weighted}
+pub use Rattle.avc_inter.specs.FiveRows.{AreFiveRows, half_with}
+pub use Rattle.avc_inter.specs.declared.five_rows.FiveRows.{FiveRows}

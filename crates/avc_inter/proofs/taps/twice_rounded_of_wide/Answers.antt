@@ -1,5 +1,5 @@
 use Rattle.avc_inter.proofs.SixRows.{arith, ints}
-use Rattle.avc_inter.proofs.taps.twice_rounded.Goals as goal
+use Rattle.avc_inter.proofs.taps.twice_rounded_of_wide.Goals as goal
 
 pub returns-clause-value : goal.returns-clause-value
 returns-clause-value c = omega (arith, ints)

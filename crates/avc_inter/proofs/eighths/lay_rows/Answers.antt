@@ -1,6 +1,6 @@
 use Rattle.avc_inter.proofs.SixRows.{◌+◌, ◌*◌, arith, refl, strided_to, rows_done, five_words}
 use Rattle.avc_inter.proofs.BothRows.{line_more, between_rows}
-use Rattle.avc_inter.proofs.eighths.lay_both.Goals as goal
+use Rattle.avc_inter.proofs.eighths.lay_rows.Goals as goal
 
 pub along_row-row-requires-clause-cb : goal.along_row-row-requires-clause-cb
 along_row-row-requires-clause-cb g c = c.requires.cb 0 (omega arith)

@@ -1,6 +1,6 @@
 use Rattle.avc_inter.proofs.SixRows.{◌+◌, ◌*◌, IsStridedSet}
 use Rattle.avc_inter.specs.Eighths.{eighth_at, AreAlong}
-use Rattle.avc_inter.proofs.eighths.lay_both.Given as goal
+use Rattle.avc_inter.proofs.eighths.lay_rows.Given as goal
 
 abbrev pub invariant-loop-y : goal.invariant-loop-y
 invariant-loop-y g l = record {
