@@ -7,7 +7,7 @@ ghost use Rattle.avc_deblock.specs.Places.{AreLimitsAt};
 
 use crate::mb_info::MbInfo;
 use crate::place::Place;
-use crate::planes_edge::{PairLimits, pair_limits};
+use crate::planes_edge::{NO_PAIR_LIMITS, PairLimits};
 use avc_edges::both;
 
 /// What the lines between macroblocks of two QPs are filtered with, at the offsets of one slice.
@@ -20,20 +20,27 @@ pub(crate) struct KeptLimits {
     pub(crate) limits: PairLimits,
 }
 
+/// What stands for limits that are not made yet.
+const NO_KEPT_LIMITS: KeptLimits = KeptLimits {
+    p_qp: 0,
+    q_qp: 0,
+    offset_a: 0,
+    offset_b: 0,
+    limits: NO_PAIR_LIMITS,
+};
+
 impl KeptLimits {
-    /// Those between `p` and `q`, which is at this place.
+    /// Makes them those between `p` and `q`, which is at this place.
     #[inline(never)]
-    fn of(p: &MbInfo, q: &MbInfo, place: Place) -> KeptLimits
-        ensures kept { AreKept result place.chroma_qp_index_offset }
-        ensures own { IsFor result p.now q.now }
+    fn set(&mut self, p: &MbInfo, q: &MbInfo, place: Place)
+        ensures kept { AreKept self.new place.chroma_qp_index_offset }
+        ensures own { IsFor self.new p.now q.now }
     {
-        KeptLimits {
-            p_qp: p.qp,
-            q_qp: q.qp,
-            offset_a: q.offset_a,
-            offset_b: q.offset_b,
-            limits: pair_limits(p, q, place),
-        }
+        self.p_qp = p.qp;
+        self.q_qp = q.qp;
+        self.offset_a = q.offset_a;
+        self.offset_b = q.offset_b;
+        self.limits.set(p, q, place);
     }
 
     #[inline(always)]
@@ -56,7 +63,7 @@ impl KeptLimits {
         if self.is_for(q, q) {
             return;
         }
-        *self = KeptLimits::of(q, q, place);
+        self.set(q, q, place);
     }
 
     /// Makes them those between `p` and `q`, where they are not yet; where no `p` is given they
@@ -78,7 +85,7 @@ impl KeptLimits {
         if p.qp == q.qp {
             *self = *inside;
         } else {
-            *self = KeptLimits::of(p, q, place);
+            self.set(p, q, place);
         }
     }
 }
@@ -101,7 +108,8 @@ impl RowLimits {
     pub(crate) fn of(q: &MbInfo, place: Place) -> RowLimits
         ensures { AreRowLimits result place.chroma_qp_index_offset }
     {
-        let inside = KeptLimits::of(q, q, place);
+        let mut inside = NO_KEPT_LIMITS;
+        inside.set(q, q, place);
         RowLimits {
             inside,
             left: inside,

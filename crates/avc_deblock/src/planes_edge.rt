@@ -14,7 +14,8 @@ use crate::edge_strengths::edge_strengths;
 use crate::mb_info::MbInfo;
 use crate::place::{EdgePlace, MbEdge, Place};
 use avc_edges::{
-    EdgeQp, EdgeSettings, QpLimits, Strengths, filter_luma, horizontal_chroma, vertical_chroma,
+    EdgeQp, EdgeSettings, NO_LIMITS, QpLimits, Strengths, filter_luma, horizontal_chroma,
+    vertical_chroma,
 };
 use avc_plane::{Plane, Planes};
 use avc_transform::chroma_qp;
@@ -50,14 +51,20 @@ fn chroma_qps(p: &MbInfo, q: &MbInfo, place: Place) -> EdgeQp
     }
 }
 
-/// Those between `p` and `q`, with the offsets of the slice of `q`.
-#[inline(never)]
-pub(crate) fn pair_limits(p: &MbInfo, q: &MbInfo, place: Place) -> PairLimits
-    ensures { AreLimitsAt place result p.now q.now }
-{
-    PairLimits {
-        luma: luma_qps(p, q).limits(),
-        chroma: chroma_qps(p, q, place).limits(),
+/// What stands for limits that are not made yet.
+pub(crate) const NO_PAIR_LIMITS: PairLimits = PairLimits {
+    luma: NO_LIMITS,
+    chroma: NO_LIMITS,
+};
+
+impl PairLimits {
+    /// Makes them those between `p` and `q`, with the offsets of the slice of `q`.
+    #[inline(always)]
+    pub(crate) fn set(&mut self, p: &MbInfo, q: &MbInfo, place: Place)
+        ensures { AreLimitsAt place self.new p.now q.now }
+    {
+        self.luma.set(luma_qps(p, q));
+        self.chroma.set(chroma_qps(p, q, place));
     }
 }
 
@@ -179,7 +186,8 @@ pub fn edge<const VERTICAL: bool, const PAD: usize>(
         ≡ edge_by_info VERTICAL place.column place.row n place.chroma_qp_index_offset p.now q.now
         (planes_of planes.old) }
 {
-    let limits = pair_limits(p, q, place);
+    let mut limits = NO_PAIR_LIMITS;
+    limits.set(p, q, place);
     let edge = MbEdge {
         is_vertical: VERTICAL,
         n,

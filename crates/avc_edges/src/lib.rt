@@ -21,4 +21,4 @@ pub use line::{all_three, both, either};
 pub use luma_edge::{filter_luma, filter_three_luma};
 pub use settings::EdgeSettings;
 pub use strengths::Strengths;
-pub use thresholds::{EdgeQp, LineLimits, QpLimits};
+pub use thresholds::{EdgeQp, LineLimits, NO_LIMITS, QpLimits};

@@ -204,17 +204,50 @@ pub struct LineLimits {
     pub tc1: [u8; 16],
 }
 
-#[inline(always)]
-fn line_limits(alpha1: u8, beta1: u8, index: ThresholdIndex) -> LineLimits
-    ensures alpha { (k : ℕ) → k < 16 → slice_index result.alpha1 k ≡ alpha1 }
-    ensures beta { (k : ℕ) → k < 16 → slice_index result.beta1 k ≡ beta1 }
-    ensures tc1 { (k : ℕ) → k < 4 → slice_index result.tc1 k ≡ tc1_of k index.value }
-    ensures tc1_small { (k : ℕ) → k < 16 → slice_index result.tc1 k ≤ 26 }
-{
-    LineLimits {
-        alpha1: repeated(alpha1),
-        beta1: repeated(beta1),
-        tc1: each_tc1(index),
+/// Limits at which nothing is filtered.
+pub const NO_LIMITS: QpLimits = QpLimits {
+    alpha1: 0,
+    beta1: 0,
+    index_a: 0,
+    is_on: false,
+    lines: LineLimits {
+        alpha1: [0; 16],
+        beta1: [0; 16],
+        tc1: [0; 16],
+    },
+};
+
+impl LineLimits {
+    /// Makes them these, where they stand.
+    #[inline(always)]
+    fn set(&mut self, alpha1: u8, beta1: u8, index: ThresholdIndex)
+        ensures alpha { (k : ℕ) → k < 16 → slice_index self.new.alpha1 k ≡ alpha1 }
+        ensures beta { (k : ℕ) → k < 16 → slice_index self.new.beta1 k ≡ beta1 }
+        ensures tc1 { (k : ℕ) → k < 4 → slice_index self.new.tc1 k ≡ tc1_of k index.value }
+        ensures tc1_small { (k : ℕ) → k < 16 → slice_index self.new.tc1 k ≤ 26 }
+    {
+        self.alpha1 = repeated(alpha1);
+        self.beta1 = repeated(beta1);
+        self.tc1 = each_tc1(index);
+    }
+}
+
+impl QpLimits {
+    /// Makes them what lines between samples of these QPs are filtered with (8.7.2.2). They are
+    /// written where they stand: a vector that is read in other pieces than it was written in, as
+    /// a copy of all would, waits until it has left the processor.
+    #[inline(always)]
+    pub fn set(&mut self, qp: EdgeQp)
+        ensures { AreLimits self.new qp }
+    {
+        let thresholds = qp.thresholds();
+        let alpha1 = less(thresholds.alpha, 1);
+        let beta1 = less(thresholds.beta, 1);
+        self.alpha1 = alpha1;
+        self.beta1 = beta1;
+        self.index_a = thresholds.index_a.value;
+        self.is_on = both(!is_zero(thresholds.alpha), !is_zero(thresholds.beta));
+        self.lines.set(alpha1, beta1, thresholds.index_a);
     }
 }
 
@@ -230,23 +263,6 @@ impl EdgeQp {
             index_a,
             alpha: alpha(index_a),
             beta: beta(index_of(self.p, self.q, self.offset_b)),
-        }
-    }
-
-    /// What lines between samples of these QPs are filtered with (8.7.2.2).
-    #[inline(always)]
-    pub fn limits(&self) -> QpLimits
-        ensures { AreLimits result self.now }
-    {
-        let thresholds = self.thresholds();
-        let alpha1 = less(thresholds.alpha, 1);
-        let beta1 = less(thresholds.beta, 1);
-        QpLimits {
-            alpha1,
-            beta1,
-            index_a: thresholds.index_a.value,
-            is_on: both(!is_zero(thresholds.alpha), !is_zero(thresholds.beta)),
-            lines: line_limits(alpha1, beta1, thresholds.index_a),
         }
     }
 }
