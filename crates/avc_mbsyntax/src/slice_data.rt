@@ -158,12 +158,13 @@ impl<'a> SliceData<'a> {
         if self.remaining == 0 {
             return Err(Fault::TooManyMacroblocks);
         }
-        let mut reader = self.reader;
-        let count = reader.ue()?;
+        // read in its place: a copy that goes back would wait for what was just written
+        let before = self.reader;
+        let count = self.reader.ue()?;
         if count > self.remaining {
+            self.reader = before;
             return Err(Fault::TooManyMacroblocks);
         }
-        self.reader = reader;
         self.stage = Stage::Skipped(count);
         Ok(count)
     }
@@ -230,10 +231,12 @@ impl<'a> SliceData<'a> {
             left,
             up,
         };
-        let mut reader = self.reader;
-        read_into(&mut reader, &context, mb)?;
-        self.stage = stage_after(&reader);
-        self.reader = reader;
+        let before = self.reader;
+        if let Err(fault) = read_into(&mut self.reader, &context, mb) {
+            self.reader = before;
+            return Err(fault);
+        }
+        self.stage = stage_after(&self.reader);
         self.remaining -= 1;
         self.qp = mb.qp;
         Ok(())
