@@ -33,9 +33,9 @@ fn line_of<const PAD: usize>(from: &PaddedPlane<PAD>, left: usize, y: usize, wid
     &from.padded_rows()[start..start + width]
 }
 
-/// How many samples are copied at once: where they are more, the C library takes an instruction
-/// that goes from byte to byte.
-const PIECE: usize = 4032;
+/// How many samples are copied at once: as many as vectors hold, so that no call is made for them.
+/// A call for all of a row of macroblocks takes as much time or more.
+const PIECE: usize = 256;
 
 /// Copies `count` samples to the same place of other rows, at once.
 fn copy_piece(from: &[u8], start: usize, count: usize, rows: &mut [u8])
@@ -60,23 +60,6 @@ fn copy_pieces(from: &[u8], start: usize, count: usize, rows: &mut [u8])
     copy_piece(from, start + copied, count - copied, rows);
 }
 
-/// From how many samples on they are copied at once all the same, which takes less time. A row of
-/// macroblocks has as many of luma where it has 944 columns or more.
-const LONG: usize = 16_384;
-
-/// Copies `count` samples to the same place of other rows, at once where they are many.
-fn copy_samples(from: &[u8], start: usize, count: usize, rows: &mut [u8])
-    requires source { start + count ≤ length from.now }
-    requires target { start + count ≤ length rows.old }
-    ensures { IsPieceOf from.now start count rows.old rows.new }
-{
-    if count >= LONG {
-        copy_piece(from, start, count, rows);
-    } else {
-        copy_pieces(from, start, count, rows);
-    }
-}
-
 /// Copies rows of a plane to the same place of another of its width, with the padding between them.
 fn copy_rows<const PAD: usize>(
     from: &PaddedPlane<PAD>,
@@ -93,7 +76,7 @@ fn copy_rows<const PAD: usize>(
     let _lines = from.height();
     let start = (top + PAD) * stride;
     let rows = plane.padded_rows_mut();
-    copy_samples(from.padded_rows(), start, height * stride, rows);
+    copy_pieces(from.padded_rows(), start, height * stride, rows);
 }
 
 /// Copies a rectangle of a plane to the same place of another, row by row, or all at once where it
