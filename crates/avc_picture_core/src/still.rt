@@ -33,8 +33,8 @@ fn line_of<const PAD: usize>(from: &PaddedPlane<PAD>, left: usize, y: usize, wid
     &from.padded_rows()[start..start + width]
 }
 
-/// How many samples are copied at once: as many as vectors hold, so that no call is made for them.
-/// A call for all of a row of macroblocks takes as much time or more.
+/// How many samples are copied at once: as many as vectors of 32 bytes hold, which take them without
+/// a call. A call for all of a row of macroblocks takes as much time or more.
 const PIECE: usize = 256;
 
 /// Copies `count` samples to the same place of other rows, at once.
