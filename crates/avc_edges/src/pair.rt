@@ -1,6 +1,9 @@
 //! Cb and Cr side by side, so that both are filtered at once.
 
-ghost use Rattle.std.specs.Prelude.{◌≡◌, ℕ, ◌+◌, ◌*◌, ◌/◌, ◌%◌, ◌<◌, ◌≤◌, slice_index};
+ghost use Rattle.std.specs.Prelude.{◌≡◌, ℕ, ◌+◌, ◌*◌, ◌/◌, ◌%◌, ◌<◌, ◌≤◌, length, slice_index};
+
+use crate::table::set_samples;
+use std::simd::prelude::*;
 
 /// Eight rows of eight samples, and behind them eight others.
 #[inline(always)]
@@ -16,6 +19,32 @@ pub(crate) fn joined(a: &[u8; 64], b: &[u8; 64]) -> [u8; 128]
     out
 }
 
+/// Eight samples, from a place on.
+#[inline(always)]
+fn eight(src: &[u8], at: usize) -> u8x8
+    requires { at + 8 ≤ length src.now }
+    ensures long { length result ≡ 8 }
+    ensures value { (k : ℕ) → k < 8 → slice_index result k ≡ slice_index src.now (at + k) }
+{
+    u8x8::from_slice(&src[at..])
+}
+
+/// Eight samples and then eight others.
+#[inline(always)]
+fn sixteen(first: u8x8, second: u8x8) -> [u8; 16]
+    requires first { length first ≡ 8 }
+    requires second { length second ≡ 8 }
+    ensures first { (k : ℕ) → k < 8 → slice_index result k ≡ slice_index first k }
+    ensures second { (k : ℕ) → k < 8 → slice_index result (8 + k) ≡ slice_index second k }
+{
+    first
+        .shuffle::<16>(
+            second,
+            [0, 1, 2, 3, 4, 5, 6, 7, 8, 9, 10, 11, 12, 13, 14, 15],
+        )
+        .to_array()
+}
+
 /// Eight rows of eight samples, and to their right eight others.
 #[inline(always)]
 pub(crate) fn beside(a: &[u8; 64], b: &[u8; 64]) -> [u8; 128]
@@ -26,10 +55,8 @@ pub(crate) fn beside(a: &[u8; 64], b: &[u8; 64]) -> [u8; 128]
 {
     let mut out = [0; 128];
     for r in 0..8 {
-        for c in 0..8 {
-            out[16 * r + c] = a[8 * r + c];
-            out[16 * r + (8 + c)] = b[8 * r + c];
-        }
+        let row = sixteen(eight(a.as_slice(), 8 * r), eight(b.as_slice(), 8 * r));
+        set_samples(&mut out, 16 * r, &row);
     }
     out
 }

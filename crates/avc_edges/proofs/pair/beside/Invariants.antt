@@ -7,12 +7,3 @@ invariant-loop-r l = record {
   left : (r c : ℕ) → r < l.r → c < 8 → slice_index l.out (16 * r + c) ≡ slice_index l.a (8 * r + c);
   right : (r c : ℕ) → r < l.r → c < 8 → slice_index l.out (16 * r + (8 + c)) ≡ slice_index l.b (8 * r + c);
 }
-
-abbrev pub invariant-loop-c : goal.invariant-loop-c
-invariant-loop-c l = record {
-  long : length l.out ≡ 128;
-  left : (r c : ℕ) → r < l.r → c < 8 → slice_index l.out (16 * r + c) ≡ slice_index l.a (8 * r + c);
-  right : (r c : ℕ) → r < l.r → c < 8 → slice_index l.out (16 * r + (8 + c)) ≡ slice_index l.b (8 * r + c);
-  left_here : (c : ℕ) → c < l.c → slice_index l.out (16 * l.r + c) ≡ slice_index l.a (8 * l.r + c);
-  right_here : (c : ℕ) → c < l.c → slice_index l.out (16 * l.r + (8 + c)) ≡ slice_index l.b (8 * l.r + c);
-}
