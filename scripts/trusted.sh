@@ -162,7 +162,7 @@ For ARM64 the same crates are proved anew; trusted beside are the toolchain's lo
 bindings/c/heap.c. The module for pages (bindings/web) is made of the library proved for x86-64, and rests on what no proof covers:
 bindings/web/make/port.py, and that the module means on WebAssembly what it means on x86-64 (addresses of 64 bits; on wasm32 the lower
 half of them); make/tune.py, which rewrites the optimized module before LLVM's back end (constants of addresses, short copies, the order of 8
-bytes), and that nothing lies in the first 65,536 bytes, on which that rests; LLVM's optimizer, which is told that the target is ARM64, its back
+bytes, the low bytes of lanes), and that nothing lies in the first 65,536 bytes, on which that rests; LLVM's optimizer, which is told that the target is ARM64, its back
 end for WebAssembly, and wasm-ld; the heap (make/heap.c, tested) and make/multi3.c; make/stack.py and wasm-objdump, which bound the stack of the linked module; avcdec.mjs, and where they are used
 the worker, AvcVideoDecoder and its avcC; the engine; and that nobody else writes to the module's memory.
 

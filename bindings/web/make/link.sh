@@ -3,7 +3,8 @@
 #
 # LLVM's optimizer asks the target what vectors cost. WebAssembly's answers leave much arithmetic of samples in single bytes, which is a fifth
 # slower; so while it optimizes, the target is ARM64 with addresses of as many bits, whose vectors have 16 bytes too. Where a function often
-# has nothing to do, what it asks first is made part of its callers (partial inlining): a call costs more here than on a processor.
+# has nothing to do, what it asks first is made part of its callers (partial inlining): a call costs more here than on a processor. Products
+# whose factors don't change in a loop are left where they stand: taken together before it, they kept samples of chroma from vectors.
 set -eu
 here=$(cd "$(dirname "$0")" && pwd)
 clang=$(dirname "$(rt doc)")/toolchain/bin/clang
@@ -23,7 +24,8 @@ aim() {
 }
 echo | "$clang" "--target=$costs" -x c -S -emit-llvm -o "$work/costs.ll" -
 aim "$work/library.ll" "$work/costs.ll" "$work/plain.ll"
-"$clang" "--target=$costs" -O3 --no-default-config -mllvm -sink-common-insts=false -mllvm -enable-partial-inlining \
+"$clang" "--target=$costs" -O3 --no-default-config -mllvm -sink-common-insts=false -mllvm -licm-max-num-int-reassociations=0 \
+    -mllvm -enable-partial-inlining \
     -Wno-override-module -x ir "$work/plain.ll" -S -emit-llvm -o "$work/optimized.ll"
 aim "$work/optimized.ll" "$work/library.ll" "$work/aimed.ll"
 python3 "$here/tune.py" "$work/aimed.ll" "$work/ready.ll" "$kind"

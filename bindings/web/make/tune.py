@@ -6,6 +6,8 @@
 2. Up to 256 bytes, a constant number, that are set, copied or moved: by vectors and numbers in place of memory.fill and memory.copy, each of which
    is a call out of the module in engines. All is read before any is written.
 3. The order of 8 bytes turned round: by i8x16.swizzle in place of 21 shifts and masks.
+4. The low bytes of the lanes of a half or a quarter of a vector: by i8x16.narrow_i16x8_u and i16x8.narrow_i32x4_u of what is below 256, or
+   65,536, of each, in place of i8x16.shuffle, for which engines make a vector of places each time.
 
 Only the back end comes behind it, so no optimizer draws anything from this."""
 import math
@@ -18,12 +20,16 @@ index = {"wasm64": "i64", "wasm32": "i32"}[kind]
 kinds = {16: "<16 x i8>", 8: "i64", 4: "i32", 2: "i16", 1: "i8"}
 REVERSED = ", ".join(f"i8 {it}" for it in [7, 6, 5, 4, 3, 2, 1, 0] * 2)
 SWIZZLE = "<16 x i8> @llvm.wasm.swizzle(<16 x i8>"
+VECTOR = 128  # bits
+# of lanes of so many bits, from two vectors into one
+NARROW = {16: "<16 x i8> @llvm.wasm.narrow.unsigned.v16i8.v8i16(<8 x i16>", 32: "<8 x i16> @llvm.wasm.narrow.unsigned.v8i16.v4i32(<4 x i32>"}
 
 behind = re.compile(r"(\s+%\S+ = getelementptr )((?:inbounds |nusw )*)(i8, ptr [^,]+, i(?:32|64) (\d+)(?:, !.*)?)$")
 moves = re.compile(
     r"\s+(?:tail )?call void @llvm\.(memset|memcpy|memmove)\.\S+\((ptr [^,]*), ((?:ptr|i8) [^,]*), i(?:32|64) (\d+), i1 false\)(?:, !.*)?(?: #\d+)?$")
+shortened = re.compile(r"(\s+%\S+ = )trunc ((?:nuw |nsw )*)<([248]) x i(16|32)> (%\S+) to <[248] x i(8|16)>(?:, !.*)?$")
 turned = re.compile(r"(\s+%\S+ = )(?:tail )?call (?:noundef )?i64 @llvm\.bswap\.i64\(i64 (?:noundef )?(%\S+)\)(?: #\d+)?$")
-lines, fresh, done = [], 0, {"addresses": 0, "moves": 0, "turned": 0}
+lines, fresh, done = [], 0, {"addresses": 0, "moves": 0, "turned": 0, "shortened": 0}
 
 
 def name():
@@ -95,6 +101,30 @@ def reversed_bytes(before, number):
     ]
 
 
+def picked(before, kind, number, lanes):
+    """The lanes at these places of a vector; None where nobody reads one."""
+    places = ", ".join("i32 poison" if it is None else f"i32 {it}" for it in lanes)
+    return f"{before}shufflevector {kind} {number}, {kind} poison, <{len(lanes)} x i32> <{places}>"
+
+
+def low_parts(before, fits, count, bits, number, to):
+    """The lowest `to` bits of so many lanes, which are at most a vector; `fits` says that there is nothing above these."""
+    made, lanes = [], VECTOR // bits
+    if count < lanes:
+        wide = name()
+        made.append(picked(f"  {wide} = ", f"<{count} x i{bits}>", number, [*range(count)] + [None] * (lanes - count)))
+        number = wide
+    if not fits:
+        low = name()
+        made.append(f"  {low} = and <{lanes} x i{bits}> {number}, splat (i{bits} {2 ** to - 1})")
+        number = low
+    while bits > to:
+        short, words = name(), NARROW[bits]
+        made.append(f"  {short} = call {words} {number}, {words.split('(')[1]} {number})")
+        number, bits = short, bits // 2
+    return made + [picked(before, f"<{VECTOR // bits} x i{bits}>", number, range(count))]
+
+
 def tuned(line):
     """What stands in place of a line, and what is counted; nothing where it stays."""
     found = behind.match(line)
@@ -109,6 +139,9 @@ def tuned(line):
     found = turned.match(line)
     if found:
         return reversed_bytes(found[1], found[2]), "turned"
+    found = shortened.match(line)
+    if found and int(found[3]) * int(found[4]) <= VECTOR:
+        return low_parts(found[1], "nuw" in found[2], int(found[3]), int(found[4]), found[5], int(found[6])), "shortened"
     return None, None
 
 
@@ -122,5 +155,6 @@ for line in text.split("\n"):
         lines += instead
 if not re.search(r"^declare .*@llvm\.wasm\.swizzle\(", text, re.M):
     lines.append(f"declare {SWIZZLE}, <16 x i8>)")
+lines += [f"declare {words}, {words.split('(')[1]})" for words in NARROW.values()]
 open(target, "w").write("\n".join(lines) + "\n")
 print("tuned:", ", ".join(f"{count} {what}" for what, count in done.items()))
