@@ -1,7 +1,7 @@
 -- A stream from a cut point on, unit by unit.
-use Rattle.avc_tools.proofs.Taking.{◌≡◌, ◌≤◌, ◌^◌, ℕ, zero, suc, Bool, true, false, List, [], ◌∷◌, ◌++◌, length, Option, Some, None, Result, Ok, Err, if◌then◌else◌}
+use Rattle.avc_tools.proofs.Taking.{◌≡◌, ◌≤◌, ◌^◌, ℕ, zero, suc, Bool, true, false, List, [], ◌∷◌, ◌++◌, length, Option, Some, None, Result, if◌then◌else◌}
 use Rattle.avc_tools.proofs.Taking.{refl, ap, sym, ◌∙◌, subst, arith, append_assoc, append-nil, length-append, flat_map, flat_map-append, written, Unit, units, UnitsStay}
-use Rattle.avc_tools.proofs.Taking.{SplitterState, is_start, OnlyGrows, units_left, after_units_left, AreLeft, drained, whole_units, Cutter, CutPhase, StandsAt, IsCutOn}
+use Rattle.avc_tools.proofs.Taking.{SplitterState, is_start, OnlyGrows, units_left, after_units_left, AreLeft, drained, whole_units, Cutter, CutPhase, StandsAt, IsCutOn, on_ok}
 use Rattle.avc_tools.proofs.Taking.{next, writing, Stage, ◌⊎◌, sets_in_force, filter, leads, after_slices}
 use Rattle.std.specs.Prelude.{OnOk}
 use Rattle.avc_tools.specs.Stages.{waiting}
@@ -49,10 +49,6 @@ waits_by : (left : Option ℕ) (before : List Unit) (c now : Cutter) (u : Unit) 
     → ((s : Stage) → StandsAt s c → IsCutOn s (next s u) now piece more) → IsTailOn left before (u ∷ []) now piece more
 waits_by (Some left) before c now u piece more is h step = one_by left before u (is_start u) now piece more refl (step (waiting left before) h)
 waits_by None before c now u piece more is h step = absurd (no_both c.phase is h)
-
-on_ok : {T E A B : Type 0} (r : Result T E) → (A → B) → OnOk r A → OnOk r B
-on_ok (Ok x) f h = f h
-on_ok (Err e) f h = h
 
 pub waits_in_tail : {T E : Type 0} (c now : Cutter) (u : Unit) (piece more : List ℕ) (r : Result T E) → c.phase ≡ phases.Waiting
     → OnOk r ((s : Stage) → StandsAt s c → IsCutOn s (next s u) now piece more) → OnOk r (IsTailFrom c now piece more (u ∷ []))

@@ -63,6 +63,10 @@ all_taken max old s new next holds i going gives takes is =
 
 -- ---- an answer that is kept where it is a refusal
 
+pub on_ok : {T E A B : Type 0} (r : Result T E) → (A → B) → OnOk r A → OnOk r B
+on_ok (Ok x) f h = f h
+on_ok (Err e) f h = h
+
 held : {T E A : Type 0} (answer : Result T E) (refused : Bool) → OnErr answer (refused ≡ true) → OnOk answer A → refused ≡ false → A
 held (Ok x) refused err ok going = ok
 held (Err e) refused err ok going = cc
@@ -109,12 +113,21 @@ none_taken max s d =
     let none : length (units_left max s) ≡ 0 = ap length (drop_all s.taken (units max s.bytes s.ended) (omega (arith, d.taken))) in
     ap (λ n. record s { taken = n }) (omega (arith, none))
 
-pub taken_past_feed : (max : ℕ) (s : SplitterState) (piece : List ℕ) → IsDrained max s → s.ended ≡ true → s ≡ after_units_left max (after_feed s piece)
-taken_past_feed max s piece d e =
+pub taken_past_end : (max : ℕ) (s : SplitterState) (piece : List ℕ) (ends : Bool) → IsDrained max s → s.ended ≡ true → s ≡ after_units_left max (after_more s piece ends)
+taken_past_end max s piece true d e = none_taken max s d ∙ ap (λ x. after_units_left max (record s { ended = x })) e
+taken_past_end max s piece false d e =
     none_taken max s d ∙ ap (λ x. after_units_left max (if x then s else record s { bytes = s.bytes ++ piece })) (sym e)
 
-pub taken_past_end : (max : ℕ) (s : SplitterState) → IsDrained max s → s.ended ≡ true → s ≡ after_units_left max (after_finish s)
-taken_past_end max s d e = none_taken max s d ∙ ap (λ x. after_units_left max (record s { ended = x })) e
+-- where the end comes, or has come
+pub ends_too : (ends ended : Bool) → ended ≡ true → ended ≡ (ends || ended)
+ends_too ends ended e = grind arith
+
+pub ends_alone : (ends ended : Bool) → ended ≡ false → (ends || ended) ≡ ends
+ends_alone ends ended e = grind arith
+
+pub more_ends : (s new : SplitterState) (piece : List ℕ) (ends ended : Bool) → new ≡ after_more s piece ends → ended ≡ s.ended → (ends || ended) ≡ new.ended
+more_ends s new piece true ended is same = rw is refl
+more_ends s new piece false ended is same = rw (is, same) (grind arith)
 
 pub nothing_added : (text added : List ℕ) → added ≡ [] → text ≡ text ++ added
 nothing_added text added none = sym (append-nil text) ∙ ap (λ l. text ++ l) (sym none)
@@ -283,18 +296,23 @@ stays_as_it_is _ u c piece h is = cc
 no_writing : (x : CutPhase) → x ≡ phases.Writing → (x ≡ phases.Waiting) ⊎ (x ≡ phases.Over) → ⊥
 no_writing x e h = grind arith
 
-pub nothing_held : (s : Stage) (c : Cutter) (piece : List ℕ) → StandsAt s c → (c.phase ≡ phases.Waiting) ⊎ (c.phase ≡ phases.Over) → IsCutOff s piece piece
-nothing_held (waiting left before) c piece h w = record { added = []; defined = refl; written_on = sym (append-nil piece) }
-nothing_held (over before cut after) c piece h w = record { added = []; defined = sym (append-nil (text_of (over before cut after) false)); written_on = sym (append-nil piece) }
-nothing_held (writing before cut after) c piece h w = absurd (no_writing c.phase h.phase w)
+pub nothing_held : (s : Stage) (ends : Bool) (c : Cutter) (piece : List ℕ) → StandsAt s c → (c.phase ≡ phases.Waiting) ⊎ (c.phase ≡ phases.Over) → IsCutOff s ends piece piece
+nothing_held (waiting left before) ends c piece h w = record { added = []; defined = refl; written_on = sym (append-nil piece) }
+nothing_held (over before cut after) ends c piece h w = record { added = []; defined = sym (append-nil (text_of (over before cut after) false)); written_on = sym (append-nil piece) }
+nothing_held (writing before cut after) ends c piece h w = absurd (no_writing c.phase h.phase w)
 
-pub held_written : (s : Stage) (c : Cutter) (piece more : List ℕ) → StandsAt s c → c.phase ≡ phases.Writing → more ≡ piece ++ c.held.items → IsCutOff s piece more
-held_written (writing before cut after) c piece more h is added = record {
+pub held_written : (s : Stage) (ends : Bool) (c : Cutter) (piece more : List ℕ) → StandsAt s c → c.phase ≡ phases.Writing → ends ≡ true → more ≡ piece ++ c.held.items → IsCutOff s ends piece more
+held_written (writing before cut after) true c piece more h is e added = record {
   added = flat_map written (after_slices after);
   defined = added_at_end before cut after;
   written_on = added ∙ ap (λ t. piece ++ t) h.holds.all;
 }
-held_written _ c piece more h is added = cc
+held_written _ ends c piece more h is e added = cc
+
+-- nor before it
+pub goes_on_still : (s : Stage) (ends : Bool) (piece : List ℕ) → ends ≡ false → IsCutOff s ends piece piece
+goes_on_still s true piece e = cc
+goes_on_still s false piece e = record { added = []; defined = sym (append-nil (text_of s false)); written_on = sym (append-nil piece) }
 
 -- ---- a piece whose stream comes is written as far as it is settled: unit by unit
 
@@ -331,43 +349,23 @@ cutting_again max number old mid new before ended c now piece h left is end_is c
   stands = subst (λ t. StandsAt t now) (stage_is max number old mid new left is) (cut (stage_of max number old) h.stands).stands;
 }
 
-pub feed_keeps_end : (s new : SplitterState) (piece : List ℕ) → new ≡ after_feed s piece → s.ended ≡ new.ended
-feed_keeps_end s new piece is = rw is (grind arith)
-
 -- After some units that were left the text has what these bring, and then what is added there.
-text_added : (max number : ℕ) (old mid new : SplitterState) (ended : Bool) (c now : Cutter) (part more : List ℕ) (t : Stage) → IsCutting max number old ended c
-    → ended ≡ false → AreLeft max old mid → new ≡ after_units_left max mid → IsCutFrom c now part (units_left max mid) → length new.bytes ≤ max
-    → t ≡ stage_after (stage_of max number old) (units_left max mid) → text_of t mid.ended ≡ text_of t false ++ more
-    → piece_text number new.bytes new.ended ≡ piece_text number old.bytes old.ended ++ (part ++ more)
-text_added max number old mid new ended c now part more t h open_end left is cut short t_is adds =
+pub text_added : (max number : ℕ) (old mid new : SplitterState) (ended ends : Bool) (c now : Cutter) (part all : List ℕ) → IsCutting max number old ended c
+    → ended ≡ false → AreLeft max old mid → new ≡ after_units_left max mid → (ends || ended) ≡ mid.ended → IsCutFrom c now part (units_left max mid)
+    → ((s : Stage) → StandsAt s now → IsCutOff s ends part all) → length new.bytes ≤ max
+    → piece_text number new.bytes new.ended ≡ piece_text number old.bytes old.ended ++ all
+text_added max number old mid new ended ends c now part all h open_end left is end_is cut rest short =
     let before = stage_of max number old in
+    let t = stage_after before (units_left max mid) in
     let on = cut before h.stands in
+    let off = rest t on.stands in
+    let at_end : mid.ended ≡ ends = sym end_is ∙ ends_alone ends ended open_end in
     let same : length new.bytes ≡ length mid.bytes = ap (λ (s : SplitterState). length s.bytes) is in
     ap (λ (s : SplitterState). piece_text number s.bytes s.ended) is
-    ∙ text_behind max number mid.bytes old.bytes mid.ended old.ended (units_left max mid) (part ++ more) (omega (arith, short, same))
+    ∙ text_behind max number mid.bytes old.bytes mid.ended old.ended (units_left max mid) (on.added ++ off.added) (omega (arith, short, same))
     (omega (arith, short, same, left.no_fewer)) (sym h.end_is ∙ open_end) left.all
-    (ap (λ s. text_of s mid.ended) (sym t_is) ∙ adds ∙ ap (λ s. text_of s false ++ more) t_is ∙ ap (λ l. l ++ more) on.defined
-    ∙ append_assoc (text_of before false) on.added more ∙ ap (λ l. text_of before false ++ (l ++ more)) (sym on.written_on))
-
--- by a piece
-pub text_fed : (max number : ℕ) (old mid new : SplitterState) (ended : Bool) (c now : Cutter) (part : List ℕ) → IsCutting max number old ended c
-    → ended ≡ false → AreLeft max old mid → new ≡ after_units_left max mid → mid.ended ≡ false → IsCutFrom c now part (units_left max mid)
-    → length new.bytes ≤ max → piece_text number new.bytes new.ended ≡ piece_text number old.bytes old.ended ++ part
-text_fed max number old mid new ended c now part h open_end left is piece_goes_on cut short =
-    let t = stage_after (stage_of max number old) (units_left max mid) in
-    text_added max number old mid new ended c now part [] t h open_end left is cut short refl (ap (text_of t) piece_goes_on ∙ sym (append-nil (text_of t false)))
-    ∙ ap (λ l. piece_text number old.bytes old.ended ++ l) (append-nil part)
-
--- at the end
-pub text_ended : (max number : ℕ) (old mid new : SplitterState) (ended : Bool) (c now : Cutter) (part all : List ℕ) → IsCutting max number old ended c
-    → ended ≡ false → AreLeft max old mid → new ≡ after_units_left max mid → mid.ended ≡ true → IsCutFrom c now part (units_left max mid)
-    → ((s : Stage) → StandsAt s now → IsCutOff s part all) → length new.bytes ≤ max
-    → piece_text number new.bytes new.ended ≡ piece_text number old.bytes old.ended ++ all
-text_ended max number old mid new ended c now part all h open_end left is at_end cut rest short =
-    let t = stage_after (stage_of max number old) (units_left max mid) in
-    let off = rest t (cut (stage_of max number old) h.stands).stands in
-    text_added max number old mid new ended c now part off.added t h open_end left is cut short refl (ap (text_of t) at_end ∙ off.defined)
-    ∙ ap (λ l. piece_text number old.bytes old.ended ++ l) (sym off.written_on)
+    (ap (text_of t) at_end ∙ off.defined ∙ ap (λ l. l ++ off.added) on.defined ∙ append_assoc (text_of before false) on.added off.added)
+    ∙ ap (λ l. piece_text number old.bytes old.ended ++ l) (sym (off.written_on ∙ ap (λ l. l ++ off.added) on.written_on))
 
 -- ---- what the code tells
 
@@ -555,34 +553,22 @@ added_behind form max bytes front ended false others c now lines open_end short 
     rw (lines_are, now_is, c_is) (ap (λ k. cut_point_lines form (counted_all none_counted us) others ++ last_line form k ended) (counted-append none_counted us others)) in
     cut_point_lines_behind form max bytes front ended others short front_short is ∙ ap (λ l. cut_point_lines_so_far form front false ++ l) more
 
-pub cut_point_lines_added : (form : PieceForm) (max : ℕ) (old mid new : SplitterState) (before : Bool) (c now : CountedPieces) (lines : List ℕ) → AreCounted max old before c
-    → before ≡ false → AreLeft max old mid → new ≡ after_units_left max mid → lines ≡ cut_point_lines form c (units_left max mid) → now ≡ counted_all c (units_left max mid)
-    → length new.bytes ≤ max → cut_point_lines_so_far form new.bytes new.ended ≡ cut_point_lines_so_far form old.bytes old.ended ++ (lines ++ last_line form now mid.ended)
-cut_point_lines_added form max old mid new before c now lines h open_end left is lines_are counted_on short =
+last_by : (form : PieceForm) (c : CountedPieces) (ends : Bool) → last_line form c ends ≡ line_of_piece form (if ends then c.piece else None)
+last_by form c true = refl
+last_by form c false = refl
+
+pub cut_point_lines_added : (form : PieceForm) (max : ℕ) (old mid new : SplitterState) (ends before : Bool) (c now : CountedPieces) (lines all : List ℕ) (piece : Option PieceFacts)
+    → AreCounted max old before c → before ≡ false → AreLeft max old mid → new ≡ after_units_left max mid → lines ≡ cut_point_lines form c (units_left max mid)
+    → now ≡ counted_all c (units_left max mid) → (ends || before) ≡ mid.ended → piece ≡ (if ends then now.piece else None) → all ≡ lines ++ line_of_piece form piece
+    → length new.bytes ≤ max → cut_point_lines_so_far form new.bytes new.ended ≡ cut_point_lines_so_far form old.bytes old.ended ++ all
+cut_point_lines_added form max old mid new ends before c now lines all piece h open_end left is lines_are counted_on end_is piece_is all_is short =
     let fits : length mid.bytes ≤ max = (rw is at short) in
+    let at_end : mid.ended ≡ ends = sym end_is ∙ ends_alone ends before open_end in
     rw is
     (added_behind form max mid.bytes old.bytes mid.ended old.ended (units_left max mid) c now lines (sym h.end_is ∙ open_end) fits (omega (arith, fits, left.no_fewer))
     left.all h.counts_are lines_are counted_on)
-
--- by a piece
-pub cut_point_lines_fed : (form : PieceForm) (max : ℕ) (old mid new : SplitterState) (before : Bool) (c now : CountedPieces) (lines : List ℕ) → AreCounted max old before c
-    → before ≡ false → AreLeft max old mid → new ≡ after_units_left max mid → lines ≡ cut_point_lines form c (units_left max mid) → now ≡ counted_all c (units_left max mid)
-    → mid.ended ≡ false → length new.bytes ≤ max → cut_point_lines_so_far form new.bytes new.ended ≡ cut_point_lines_so_far form old.bytes old.ended ++ lines
-cut_point_lines_fed form max old mid new before c now lines h open_end left is lines_are counted_on goes_on short =
-    cut_point_lines_added form max old mid new before c now lines h open_end left is lines_are counted_on short
-    ∙ ap (λ e. cut_point_lines_so_far form old.bytes old.ended ++ (lines ++ last_line form now e)) goes_on
-    ∙ ap (λ l. cut_point_lines_so_far form old.bytes old.ended ++ l) (append-nil lines)
-
--- at the end
-pub cut_point_lines_ended : (form : PieceForm) (max : ℕ) (old mid new : SplitterState) (before : Bool) (c now : CountedPieces) (lines all : List ℕ) (piece : Option PieceFacts)
-    → AreCounted max old before c → before ≡ false → AreLeft max old mid → new ≡ after_units_left max mid → lines ≡ cut_point_lines form c (units_left max mid)
-    → now ≡ counted_all c (units_left max mid) → mid.ended ≡ true → piece ≡ now.piece → all ≡ lines ++ line_of_piece form piece
-    → length new.bytes ≤ max → cut_point_lines_so_far form new.bytes new.ended ≡ cut_point_lines_so_far form old.bytes old.ended ++ all
-cut_point_lines_ended form max old mid new before c now lines all piece h open_end left is lines_are counted_on at_end piece_is all_is short =
-    cut_point_lines_added form max old mid new before c now lines h open_end left is lines_are counted_on short
-    ∙ ap (λ e. cut_point_lines_so_far form old.bytes old.ended ++ (lines ++ last_line form now e)) at_end
-    ∙ ap (λ p. cut_point_lines_so_far form old.bytes old.ended ++ (lines ++ line_of_piece form p)) (sym piece_is)
-    ∙ ap (λ l. cut_point_lines_so_far form old.bytes old.ended ++ l) (sym all_is)
+    ∙ ap (λ l. cut_point_lines_so_far form old.bytes old.ended ++ l)
+    (ap (λ e. lines ++ last_line form now e) at_end ∙ ap (λ l. lines ++ l) (last_by form now ends ∙ ap (line_of_piece form) (sym piece_is)) ∙ sym all_is)
 
 pub cut_point_lines_grow : (form : PieceForm) → UnitsStay → OnlyGrows (cut_point_lines_so_far form)
 cut_point_lines_grow form stay bytes more ended short =

@@ -2,7 +2,6 @@
 -- over meanwhile (this decoder's rule).
 use Rattle.std.specs.Prelude.{ℕ, ◌+◌, Bool, true, not, ◌&&◌, if◌then◌else◌, Option, Some, None}
 use Rattle.avc_annexb.specs.SplitterState.{SplitterState, after_next_unit, new_splitter}
-use Rattle.avc_annexb.specs.SplitterState.{next_unit_of}
 use Rattle.avc_annexb.specs.Units.{forbidden_zero_bit, saturated}
 use Rattle.avc_annexb.specs.declared.unit.Unit.{Unit}
 use Rattle.avc_units.specs.Grouping.{is_start}

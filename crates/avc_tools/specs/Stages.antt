@@ -1,5 +1,5 @@
 -- Cutting out one piece unit by unit: these words are the crate's own.
-use Rattle.std.specs.Prelude.{◌≡◌, ℕ, zero, suc, Bool, true, false, not, List, [], ◌∷◌, ◌++◌}
+use Rattle.std.specs.Prelude.{◌≡◌, ℕ, zero, suc, Bool, false, not, List, [], ◌∷◌, ◌++◌}
 use Rattle.std.specs.Prelude.{if◌then◌else◌, Option, Some, None}
 use Rattle.std.specs.List.{filter, flat_map}
 use Rattle.avc_annexb.specs.SplitterState.{SplitterState}
@@ -105,10 +105,10 @@ pub record IsCutOn (before now : Stage) (c : Cutter) (old new : List ℕ) : Type
   pub defined : text_of now false ≡ text_of before false ++ added
   pub written_on : new ≡ old ++ added
 
--- The stream has ended there, and what this adds to the piece is written.
-pub record IsCutOff (s : Stage) (old new : List ℕ) : Type 0 where
+-- The stream has ended there or not, and what this adds to the piece is written.
+pub record IsCutOff (s : Stage) (ended : Bool) (old new : List ℕ) : Type 0 where
   pub added : List ℕ
-  pub defined : text_of s true ≡ text_of s false ++ added
+  pub defined : text_of s ended ≡ text_of s false ++ added
   pub written_on : new ≡ old ++ added
 
 -- where the piece of a number stands after all units whose end has been seen

@@ -1,8 +1,8 @@
 -- What tools keep of a stream that comes in pieces.
-use Rattle.std.specs.Prelude.{◌≡◌, ℕ, ◌+◌, ◌-◌, ◌^◌, ◌<◌, Bool, true, false, if◌then◌else◌, List}
-use Rattle.std.specs.Prelude.{[], ◌++◌, length, drop}
+use Rattle.std.specs.Prelude.{◌≡◌, ℕ, ◌+◌, ◌-◌, ◌^◌, ◌<◌, ◌≤◌, Bool, true, false, if◌then◌else◌}
+use Rattle.std.specs.Prelude.{List, [], ◌++◌, length, drop}
 use Rattle.avc_annexb.specs.Units.{units}
-use Rattle.avc_annexb.specs.SplitterState.{SplitterState}
+use Rattle.avc_annexb.specs.SplitterState.{SplitterState, after_feed, after_finish}
 use Rattle.avc_annexb.specs.declared.unit.Unit.{Unit}
 
 -- The bytes that came, whether they are all, and whether memory was refused.
@@ -53,3 +53,14 @@ after_units_left max s = record s { taken = s.taken + length (units_left max s) 
 pub record IsDrained (max : ℕ) (s : SplitterState) : Type 0 where
   pub going : s.failed ≡ false
   pub taken : s.taken ≡ length (units max s.bytes s.ended)
+
+-- the splitter after the next bytes, or after the end
+abbrev pub after_more : SplitterState → List ℕ → (ends : Bool) → SplitterState
+after_more s piece ends = if ends then after_finish s else after_feed s piece
+
+-- Where all units were taken before, those that have come since are left.
+pub record AreLeft (max : ℕ) (old new : SplitterState) : Type 0 where
+  pub all : units max new.bytes new.ended ≡ units max old.bytes old.ended ++ units_left max new
+  pub taken : new.taken ≡ length (units max old.bytes old.ended)
+  pub going : new.failed ≡ false
+  pub no_fewer : length old.bytes ≤ length new.bytes

@@ -1,18 +1,17 @@
 //! Where the pieces of a stream begin, and how many pictures each has.
 
-ghost use Rattle.std.specs.Prelude.{◌≡◌, ◌++◌, ◌^◌, ◌<◌, false, true, length, IfOk, OnOk};
+ghost use Rattle.std.specs.Prelude.{◌≡◌, ◌++◌, ◌^◌, ◌<◌, ◌||◌, false, length, IfOk, OnOk};
 ghost use Rattle.std.specs.Prelude.{string_bytes};
-ghost use Rattle.avc_annexb.specs.SplitterState.{after_feed, after_finish};
 ghost use Rattle.avc_tools.specs.CutPoints.{AreCounted, counted, counted_all, cut_point_line};
 ghost use Rattle.avc_tools.specs.CutPoints.{cut_point_lines, cut_point_lines_so_far};
 ghost use Rattle.avc_tools.specs.CutPoints.{line_of_piece, piece_over};
-ghost use Rattle.avc_tools.specs.Streams.{after_units_left, max_unit, units_left};
+ghost use Rattle.avc_tools.specs.Streams.{after_more, after_units_left, max_unit, units_left};
 
 use crate::listing_form::ListingForm;
 use crate::piece_counts::PieceCounts;
 use crate::piece_facts::PieceFacts;
 use crate::stream_text::StreamText;
-use crate::units::MAX_UNIT;
+use crate::units::{MAX_UNIT, take_more};
 use avc_annexb::laws::units_stay;
 use avc_annexb::{Splitter, Unit};
 use avc_types::{OutOfMemory, WantOfMemory};
@@ -77,25 +76,28 @@ impl<F: ListingForm> StreamText for CutPointLines<F> {
 
     fn feed(&mut self, piece: &[u8]) -> Result<Vec<u8>, OutOfMemory> {
         self.failed.check()?;
-        let lines = lines_fed(
+        let lines = lines_of_more(
             self.alloc,
             &self.form,
             &mut self.splitter,
             &mut self.counts,
             self.ended,
             piece,
+            false,
         );
         self.failed.keep(lines)
     }
 
     fn finish(&mut self) -> Result<Vec<u8>, OutOfMemory> {
         self.failed.check()?;
-        let lines = lines_at_end(
+        let lines = lines_of_more(
             self.alloc,
             &self.form,
             &mut self.splitter,
             &mut self.counts,
             self.ended,
+            &[],
+            true,
         );
         self.ended = true;
         self.failed.keep(lines)
@@ -110,55 +112,31 @@ impl<F: ListingForm> StreamText for CutPointLines<F> {
     }
 }
 
-// Takes the next bytes of the stream, and makes the lines that come of them: past its end none.
-fn lines_fed<F: ListingForm>(
+// Takes the next bytes of the stream, or its end, and makes the lines that come of it: past the end
+// none.
+fn lines_of_more<F: ListingForm>(
     alloc: Global,
     form: &F,
     splitter: &mut Splitter<MAX_UNIT>,
     counts: &mut PieceCounts,
     ended: bool,
     piece: &[u8],
+    ends: bool,
 ) -> Result<Vec<u8>, OutOfMemory>
     requires { AreCounted max_unit splitter.old ended counts.old }
     ensures taken { OnOk result (splitter.new
-        ≡ after_units_left max_unit (after_feed splitter.old piece.now)) }
-    ensures counted { OnOk result (AreCounted max_unit splitter.new ended counts.new) }
+        ≡ after_units_left max_unit (after_more splitter.old piece.now ends)) }
+    ensures counted { OnOk result (AreCounted max_unit splitter.new (ends || ended) counts.new) }
     ensures added { IfOk result (λ added. length splitter.new.bytes < 2 ^ 64 →
         cut_point_lines_so_far F.of_piece splitter.new.bytes splitter.new.ended
         ≡ cut_point_lines_so_far F.of_piece splitter.old.bytes splitter.old.ended ++ added.items) }
 {
-    units_stay();
     if ended {
         return Ok(Vec::new(alloc));
     }
-    splitter.feed(piece)?;
-    let lines = lines_of_units_left(alloc, form, splitter, counts)?;
-    Ok(lines.into_bytes())
-}
-
-// Takes the end of the stream, and makes the lines that are then left: past it none.
-fn lines_at_end<F: ListingForm>(
-    alloc: Global,
-    form: &F,
-    splitter: &mut Splitter<MAX_UNIT>,
-    counts: &mut PieceCounts,
-    ended: bool,
-) -> Result<Vec<u8>, OutOfMemory>
-    requires { AreCounted max_unit splitter.old ended counts.old }
-    ensures taken { OnOk result (splitter.new
-        ≡ after_units_left max_unit (after_finish splitter.old)) }
-    ensures counted { OnOk result (AreCounted max_unit splitter.new true counts.new) }
-    ensures added { IfOk result (λ added. length splitter.new.bytes < 2 ^ 64 →
-        cut_point_lines_so_far F.of_piece splitter.new.bytes splitter.new.ended
-        ≡ cut_point_lines_so_far F.of_piece splitter.old.bytes splitter.old.ended ++ added.items) }
-{
-    units_stay();
-    if ended {
-        return Ok(Vec::new(alloc));
-    }
-    splitter.finish()?;
+    take_more(splitter, piece, ends)?;
     let mut lines = lines_of_units_left(alloc, form, splitter, counts)?;
-    add_line(alloc, form, &mut lines, counts.piece())?;
+    add_line(alloc, form, &mut lines, counts.last(ends))?;
     Ok(lines.into_bytes())
 }
 

@@ -167,11 +167,14 @@ impl Cutter {
         Ok(())
     }
 
-    /// At the end of the stream, adds what was held.
-    pub(crate) fn write_held(&self, piece: &mut Vec<u8>) -> Result<(), OutOfMemory>
+    /// Where the stream ends, adds what was held.
+    pub(crate) fn write_held(&self, piece: &mut Vec<u8>, ends: bool) -> Result<(), OutOfMemory>
         ensures { OnOk result ((s : Stage) → StandsAt s self.now →
-            IsCutOff s piece.old.items piece.new.items) }
+            IsCutOff s ends piece.old.items piece.new.items) }
     {
+        if !ends {
+            return Ok(());
+        }
         match self.phase {
             CutPhase::Waiting | CutPhase::Over => Ok(()),
             CutPhase::Writing => {

@@ -4,12 +4,12 @@ ghost use Rattle.std.specs.Prelude.{◌≡◌, [], ◌∷◌, ◌++◌, ◌+◌,
 ghost use Rattle.std.specs.Prelude.{◌^◌, ◌<◌, length, string_bytes};
 ghost use Rattle.std.specs.Fmt.{decimal};
 ghost use Rattle.std.specs.Option.{option_copied};
-ghost use Rattle.avc_annexb.specs.SplitterState.{after_feed, after_finish, new_splitter};
+ghost use Rattle.avc_annexb.specs.SplitterState.{new_splitter};
 ghost use Rattle.avc_params.specs.Tables.{sets_after};
 ghost use Rattle.avc_slice.specs.Header.{slice_qp};
 ghost use Rattle.avc_units.specs.Grouping.{set_units};
 ghost use Rattle.avc_tools.specs.Showing.{AreShown, header_lines_under};
-ghost use Rattle.avc_tools.specs.Streams.{after_units_left, max_unit, units_left};
+ghost use Rattle.avc_tools.specs.Streams.{after_more, after_units_left, max_unit, units_left};
 ghost use Rattle.avc_tools.specs.Lines.{flag_number, header_line, header_lines};
 ghost use Rattle.avc_tools.specs.Lines.{header_lines_so_far, line_of};
 ghost use Rattle.avc_tools.specs.Lines.{newline, order_type, pps_fields};
@@ -23,7 +23,7 @@ ghost use Rattle.avc_tools.specs.Lines.{sps_text, text_of, type_name};
 
 use crate::listing_form::{ForPeople, ListingForm};
 use crate::stream_text::StreamText;
-use crate::units::MAX_UNIT;
+use crate::units::{MAX_UNIT, take_more};
 use avc_annexb::laws::units_stay;
 use avc_annexb::{Splitter, Unit};
 use avc_params::{OrderCount, Pps, Sps};
@@ -116,19 +116,27 @@ impl<F: ListingForm> StreamText for HeaderLines<F> {
 
     fn feed(&mut self, piece: &[u8]) -> Result<Vec<u8>, OutOfMemory> {
         self.failed.check()?;
-        let lines = lines_fed(
+        let lines = lines_of_more(
             self.alloc,
             &self.form,
             &mut self.splitter,
             &mut self.reader,
             piece,
+            false,
         );
         self.failed.keep(lines)
     }
 
     fn finish(&mut self) -> Result<Vec<u8>, OutOfMemory> {
         self.failed.check()?;
-        let lines = lines_at_end(self.alloc, &self.form, &mut self.splitter, &mut self.reader);
+        let lines = lines_of_more(
+            self.alloc,
+            &self.form,
+            &mut self.splitter,
+            &mut self.reader,
+            &[],
+            true,
+        );
         self.failed.keep(lines)
     }
 
@@ -141,45 +149,24 @@ impl<F: ListingForm> StreamText for HeaderLines<F> {
     }
 }
 
-// Takes the next bytes of the stream, and makes the lines that come of them.
-fn lines_fed<F: ListingForm>(
+// Takes the next bytes of the stream, or its end, and makes the lines that come of it.
+fn lines_of_more<F: ListingForm>(
     alloc: Global,
     form: &F,
     splitter: &mut Splitter<MAX_UNIT>,
     reader: &mut HeaderReader,
     piece: &[u8],
+    ends: bool,
 ) -> Result<Vec<u8>, OutOfMemory>
     requires { AreShown max_unit splitter.old reader.old }
     ensures taken { OnOk result (splitter.new
-        ≡ after_units_left max_unit (after_feed splitter.old piece.now)) }
+        ≡ after_units_left max_unit (after_more splitter.old piece.now ends)) }
     ensures shown { OnOk result (AreShown max_unit splitter.new reader.new) }
     ensures added { IfOk result (λ added. length splitter.new.bytes < 2 ^ 64 →
         header_lines_so_far F.of_header splitter.new.bytes splitter.new.ended
         ≡ header_lines_so_far F.of_header splitter.old.bytes splitter.old.ended ++ added.items) }
 {
-    units_stay();
-    splitter.feed(piece)?;
-    let lines = lines_of_headers_left(alloc, form, splitter, reader)?;
-    Ok(lines.into_bytes())
-}
-
-// Takes the end of the stream, and makes the lines that are then left.
-fn lines_at_end<F: ListingForm>(
-    alloc: Global,
-    form: &F,
-    splitter: &mut Splitter<MAX_UNIT>,
-    reader: &mut HeaderReader,
-) -> Result<Vec<u8>, OutOfMemory>
-    requires { AreShown max_unit splitter.old reader.old }
-    ensures taken { OnOk result (splitter.new
-        ≡ after_units_left max_unit (after_finish splitter.old)) }
-    ensures shown { OnOk result (AreShown max_unit splitter.new reader.new) }
-    ensures added { IfOk result (λ added. length splitter.new.bytes < 2 ^ 64 →
-        header_lines_so_far F.of_header splitter.new.bytes splitter.new.ended
-        ≡ header_lines_so_far F.of_header splitter.old.bytes splitter.old.ended ++ added.items) }
-{
-    units_stay();
-    splitter.finish()?;
+    take_more(splitter, piece, ends)?;
     let lines = lines_of_headers_left(alloc, form, splitter, reader)?;
     Ok(lines.into_bytes())
 }

@@ -68,11 +68,11 @@ impl PieceCounts {
         Ok(over)
     }
 
-    /// The piece that goes on, with its pictures so far, if one has begun.
-    pub fn piece(&self) -> Option<PieceFacts>
-        ensures { result ≡ self.now.piece }
+    /// The piece that is over with the end of the stream, where that has come and one has begun.
+    pub fn last(&self, ends: bool) -> Option<PieceFacts>
+        ensures { result ≡ (if ends then self.now.piece else None) }
     {
-        self.piece
+        over_if(ends, self.piece)
     }
 }
 
@@ -99,11 +99,11 @@ fn last_behind(last: Option<PictureFields>, brought: &Brought) -> Option<Picture
     }
 }
 
-// The piece that is over, where the next one starts.
-fn over_if(starts: bool, piece: Option<PieceFacts>) -> Option<PieceFacts>
-    ensures { result ≡ (if starts then piece else None) }
+// The piece that is over, where the next one starts or the stream ends.
+fn over_if(ends: bool, piece: Option<PieceFacts>) -> Option<PieceFacts>
+    ensures { result ≡ (if ends then piece else None) }
 {
-    if starts { piece } else { None }
+    if ends { piece } else { None }
 }
 
 // The piece in which a unit lies, by whether one starts with it.

@@ -1,14 +1,14 @@
 //! A piece of a stream that comes in pieces itself.
 
-ghost use Rattle.std.specs.Prelude.{◌≡◌, ◌++◌, ◌^◌, ◌<◌, [], ℕ, false, true, length, IfOk, OnOk};
-ghost use Rattle.avc_annexb.specs.SplitterState.{after_feed, after_finish};
+ghost use Rattle.std.specs.Prelude.{◌≡◌, ◌++◌, ◌^◌, ◌<◌, ◌||◌, [], ℕ, false, length, IfOk, OnOk};
 ghost use Rattle.avc_tools.specs.PieceSoFar.{piece_text};
 ghost use Rattle.avc_tools.specs.Stages.{IsCutOn, IsCutting, Stage, StandsAt, stage_after};
-ghost use Rattle.avc_tools.specs.Streams.{IsDrained, after_units_left, max_unit, units_left};
+ghost use Rattle.avc_tools.specs.Streams.{IsDrained, after_more, after_units_left, max_unit};
+ghost use Rattle.avc_tools.specs.Streams.{units_left};
 
 use crate::cutter::{CutPhase, Cutter};
 use crate::stream_text::StreamText;
-use crate::units::MAX_UNIT;
+use crate::units::{MAX_UNIT, take_more};
 use avc_annexb::Splitter;
 use avc_annexb::laws::units_stay;
 use avc_types::{OutOfMemory, WantOfMemory};
@@ -90,19 +90,27 @@ impl StreamText for PieceText {
 
     fn feed(&mut self, piece: &[u8]) -> Result<Vec<u8>, OutOfMemory> {
         self.failed.check()?;
-        let added = cut_on(
+        let added = piece_of_more(
             self.alloc,
             &mut self.splitter,
             &mut self.cutter,
             self.ended,
             piece,
+            false,
         );
         self.failed.keep(added)
     }
 
     fn finish(&mut self) -> Result<Vec<u8>, OutOfMemory> {
         self.failed.check()?;
-        let added = cut_off(self.alloc, &mut self.splitter, &mut self.cutter, self.ended);
+        let added = piece_of_more(
+            self.alloc,
+            &mut self.splitter,
+            &mut self.cutter,
+            self.ended,
+            &[],
+            true,
+        );
         self.ended = true;
         self.failed.keep(added)
     }
@@ -120,63 +128,35 @@ impl StreamText for PieceText {
     }
 }
 
-// Takes the next bytes of the stream, and makes what they bring to the piece: past its end nothing.
-fn cut_on(
+// Takes the next bytes of the stream, or its end, and makes what this brings to the piece: past the
+// end nothing.
+fn piece_of_more(
     alloc: Global,
     splitter: &mut Splitter<MAX_UNIT>,
     cutter: &mut Cutter,
     ended: bool,
     piece: &[u8],
+    ends: bool,
 ) -> Result<Vec<u8>, OutOfMemory>
     requires drained { IsDrained max_unit splitter.old }
     requires ended { ended ≡ splitter.old.ended }
     ensures taken { OnOk result (splitter.new
-        ≡ after_units_left max_unit (after_feed splitter.old piece.now)) }
+        ≡ after_units_left max_unit (after_more splitter.old piece.now ends)) }
     ensures cutting { OnOk result ((number : ℕ) →
         IsCutting max_unit number splitter.old ended cutter.old
-        → IsCutting max_unit number splitter.new ended cutter.new) }
+        → IsCutting max_unit number splitter.new (ends || ended) cutter.new) }
     ensures added { IfOk result (λ added. (number : ℕ) →
         IsCutting max_unit number splitter.old ended cutter.old →
         length splitter.new.bytes < 2 ^ 64
         → piece_text number splitter.new.bytes splitter.new.ended
         ≡ piece_text number splitter.old.bytes splitter.old.ended ++ added.items) }
 {
-    units_stay();
     if ended {
         return Ok(Vec::new(alloc));
     }
-    splitter.feed(piece)?;
-    let added = cut_units_left(alloc, splitter, cutter)?;
-    Ok(added)
-}
-
-// Takes the end of the stream, and makes what is then left of the piece: past it nothing.
-fn cut_off(
-    alloc: Global,
-    splitter: &mut Splitter<MAX_UNIT>,
-    cutter: &mut Cutter,
-    ended: bool,
-) -> Result<Vec<u8>, OutOfMemory>
-    requires drained { IsDrained max_unit splitter.old }
-    requires ended { ended ≡ splitter.old.ended }
-    ensures taken { OnOk result (splitter.new
-        ≡ after_units_left max_unit (after_finish splitter.old)) }
-    ensures cutting { OnOk result ((number : ℕ) →
-        IsCutting max_unit number splitter.old ended cutter.old
-        → IsCutting max_unit number splitter.new true cutter.new) }
-    ensures added { IfOk result (λ added. (number : ℕ) →
-        IsCutting max_unit number splitter.old ended cutter.old →
-        length splitter.new.bytes < 2 ^ 64
-        → piece_text number splitter.new.bytes splitter.new.ended
-        ≡ piece_text number splitter.old.bytes splitter.old.ended ++ added.items) }
-{
-    units_stay();
-    if ended {
-        return Ok(Vec::new(alloc));
-    }
-    splitter.finish()?;
+    take_more(splitter, piece, ends)?;
     let mut added = cut_units_left(alloc, splitter, cutter)?;
-    cutter.write_held(&mut added)?;
+    cutter.write_held(&mut added, ends)?;
     Ok(added)
 }
 

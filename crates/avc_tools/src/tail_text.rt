@@ -1,13 +1,13 @@
 //! A stream from one of its cut points on.
 
 ghost use Rattle.std.specs.Prelude.{◌≡◌, ◌∷◌, ◌++◌, ◌^◌, ◌<◌, [], ℕ, false, length, IfOk, OnOk};
-ghost use Rattle.avc_annexb.specs.SplitterState.{after_feed, after_finish};
-ghost use Rattle.avc_tools.specs.Streams.{IsDrained, after_units_left, max_unit, units_left};
+ghost use Rattle.avc_tools.specs.Streams.{IsDrained, after_more, after_units_left, max_unit};
+ghost use Rattle.avc_tools.specs.Streams.{units_left};
 ghost use Rattle.avc_tools.specs.Tail.{IsInTail, IsTailFrom, tail_text};
 
 use crate::cutter::{CutPhase, Cutter};
 use crate::stream_text::StreamText;
-use crate::units::MAX_UNIT;
+use crate::units::{MAX_UNIT, take_more};
 use crate::writing::write_unit;
 use avc_annexb::laws::units_stay;
 use avc_annexb::{Splitter, Unit};
@@ -74,13 +74,19 @@ impl StreamText for TailText {
 
     fn feed(&mut self, piece: &[u8]) -> Result<Vec<u8>, OutOfMemory> {
         self.failed.check()?;
-        let added = tail_on(self.alloc, &mut self.splitter, &mut self.cutter, piece);
+        let added = tail_of_more(
+            self.alloc,
+            &mut self.splitter,
+            &mut self.cutter,
+            piece,
+            false,
+        );
         self.failed.keep(added)
     }
 
     fn finish(&mut self) -> Result<Vec<u8>, OutOfMemory> {
         self.failed.check()?;
-        let added = tail_off(self.alloc, &mut self.splitter, &mut self.cutter);
+        let added = tail_of_more(self.alloc, &mut self.splitter, &mut self.cutter, &[], true);
         self.failed.keep(added)
     }
 
@@ -93,16 +99,17 @@ impl StreamText for TailText {
     }
 }
 
-// Takes the next bytes of the stream, and makes what they bring to the tail.
-fn tail_on(
+// Takes the next bytes of the stream, or its end, and makes what this brings to the tail.
+fn tail_of_more(
     alloc: Global,
     splitter: &mut Splitter<MAX_UNIT>,
     cutter: &mut Cutter,
     piece: &[u8],
+    ends: bool,
 ) -> Result<Vec<u8>, OutOfMemory>
     requires { IsDrained max_unit splitter.old }
     ensures taken { OnOk result (splitter.new
-        ≡ after_units_left max_unit (after_feed splitter.old piece.now)) }
+        ≡ after_units_left max_unit (after_more splitter.old piece.now ends)) }
     ensures tail { OnOk result ((number : ℕ) → IsInTail max_unit number splitter.old cutter.old →
         IsInTail max_unit number splitter.new cutter.new) }
     ensures added { IfOk result (λ added. (number : ℕ) →
@@ -110,30 +117,7 @@ fn tail_on(
         → tail_text number splitter.new.bytes splitter.new.ended
         ≡ tail_text number splitter.old.bytes splitter.old.ended ++ added.items) }
 {
-    units_stay();
-    splitter.feed(piece)?;
-    let added = tail_units_left(alloc, splitter, cutter)?;
-    Ok(added)
-}
-
-// Takes the end of the stream, and makes what is then left of the tail.
-fn tail_off(
-    alloc: Global,
-    splitter: &mut Splitter<MAX_UNIT>,
-    cutter: &mut Cutter,
-) -> Result<Vec<u8>, OutOfMemory>
-    requires { IsDrained max_unit splitter.old }
-    ensures taken { OnOk result (splitter.new
-        ≡ after_units_left max_unit (after_finish splitter.old)) }
-    ensures tail { OnOk result ((number : ℕ) → IsInTail max_unit number splitter.old cutter.old →
-        IsInTail max_unit number splitter.new cutter.new) }
-    ensures added { IfOk result (λ added. (number : ℕ) →
-        IsInTail max_unit number splitter.old cutter.old → length splitter.new.bytes < 2 ^ 64
-        → tail_text number splitter.new.bytes splitter.new.ended
-        ≡ tail_text number splitter.old.bytes splitter.old.ended ++ added.items) }
-{
-    units_stay();
-    splitter.finish()?;
+    take_more(splitter, piece, ends)?;
     let added = tail_units_left(alloc, splitter, cutter)?;
     Ok(added)
 }

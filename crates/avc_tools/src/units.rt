@@ -3,10 +3,11 @@
 ghost use Rattle.std.specs.Prelude.{◌≡◌, ◌++◌, [], false, true, length, IfOk, OnOk};
 ghost use Rattle.std.specs.Prelude.{string_bytes};
 ghost use Rattle.std.specs.List.{flat_map};
-ghost use Rattle.avc_annexb.specs.SplitterState.{after_feed, after_finish, new_splitter};
+ghost use Rattle.avc_annexb.specs.SplitterState.{new_splitter};
 ghost use Rattle.avc_annexb.specs.Units.{units};
 ghost use Rattle.avc_tools.specs.Lines.{line_of_unit, unit_line, unit_lines, unit_lines_so_far};
-ghost use Rattle.avc_tools.specs.Streams.{IsDrained, after_units_left, max_unit, units_left};
+ghost use Rattle.avc_tools.specs.Streams.{AreLeft, IsDrained, after_more, after_units_left};
+ghost use Rattle.avc_tools.specs.Streams.{max_unit, units_left};
 
 use crate::listing_form::{ForPeople, ListingForm};
 use crate::stream_text::StreamText;
@@ -99,13 +100,13 @@ impl<F: ListingForm> StreamText for UnitLines<F> {
 
     fn feed(&mut self, piece: &[u8]) -> Result<Vec<u8>, OutOfMemory> {
         self.failed.check()?;
-        let lines = lines_fed(self.alloc, &self.form, &mut self.splitter, piece);
+        let lines = lines_of_more(self.alloc, &self.form, &mut self.splitter, piece, false);
         self.failed.keep(lines)
     }
 
     fn finish(&mut self) -> Result<Vec<u8>, OutOfMemory> {
         self.failed.check()?;
-        let lines = lines_at_end(self.alloc, &self.form, &mut self.splitter);
+        let lines = lines_of_more(self.alloc, &self.form, &mut self.splitter, &[], true);
         self.failed.keep(lines)
     }
 
@@ -118,42 +119,41 @@ impl<F: ListingForm> StreamText for UnitLines<F> {
     }
 }
 
-// Takes the next bytes of the stream, and makes the lines that come of them.
-fn lines_fed<F: ListingForm>(
+/// Takes the next bytes of a stream, or its end.
+pub(crate) fn take_more<const MAX: usize>(
+    splitter: &mut Splitter<MAX>,
+    piece: &[u8],
+    ends: bool,
+) -> Result<(), OutOfMemory>
+    requires { IsDrained MAX splitter.old }
+    ensures came { OnOk result (splitter.new ≡ after_more splitter.old piece.now ends) }
+    ensures left { OnOk result (AreLeft MAX splitter.old splitter.new) }
+{
+    units_stay();
+    if ends {
+        splitter.finish()
+    } else {
+        splitter.feed(piece)
+    }
+}
+
+// Takes the next bytes of the stream, or its end, and makes the lines that come of it.
+fn lines_of_more<F: ListingForm>(
     alloc: Global,
     form: &F,
     splitter: &mut Splitter<1>,
     piece: &[u8],
+    ends: bool,
 ) -> Result<Vec<u8>, OutOfMemory>
     requires { IsDrained 1 splitter.old }
     ensures taken { OnOk result (splitter.new
-        ≡ after_units_left 1 (after_feed splitter.old piece.now)) }
+        ≡ after_units_left 1 (after_more splitter.old piece.now ends)) }
     ensures drained { OnOk result (IsDrained 1 splitter.new) }
     ensures added { IfOk result
         (λ added. unit_lines_so_far F.of_unit splitter.new.bytes splitter.new.ended
         ≡ unit_lines_so_far F.of_unit splitter.old.bytes splitter.old.ended ++ added.items) }
 {
-    units_stay();
-    splitter.feed(piece)?;
-    let lines = lines_of_units_left(alloc, form, splitter)?;
-    Ok(lines.into_bytes())
-}
-
-// Takes the end of the stream, and makes the lines that are then left.
-fn lines_at_end<F: ListingForm>(
-    alloc: Global,
-    form: &F,
-    splitter: &mut Splitter<1>,
-) -> Result<Vec<u8>, OutOfMemory>
-    requires { IsDrained 1 splitter.old }
-    ensures taken { OnOk result (splitter.new ≡ after_units_left 1 (after_finish splitter.old)) }
-    ensures drained { OnOk result (IsDrained 1 splitter.new) }
-    ensures added { IfOk result
-        (λ added. unit_lines_so_far F.of_unit splitter.new.bytes splitter.new.ended
-        ≡ unit_lines_so_far F.of_unit splitter.old.bytes splitter.old.ended ++ added.items) }
-{
-    units_stay();
-    splitter.finish()?;
+    take_more(splitter, piece, ends)?;
     let lines = lines_of_units_left(alloc, form, splitter)?;
     Ok(lines.into_bytes())
 }

@@ -67,7 +67,7 @@ pub use Rattle.avc_tools.specs.Pieces.{after_slices, is_left_out, is_slice, rest
 pub use Rattle.avc_tools.specs.Showing.{AreShown, header_lines_under}
 pub use Rattle.avc_tools.specs.Stages.{Stage, begun, made, next, over, piece_of, stage_after, staying, text_of, writing, IsCutOff, IsCutOn, StandsAt, leading}
 pub use Rattle.avc_tools.specs.Stages.{IsCutting, phase_of, stage_of}
-pub use Rattle.avc_tools.specs.Streams.{OnlyGrows, IsDrained, after_units_left, units_left, max_unit, StreamSoFar, after_end, after_piece}
+pub use Rattle.avc_tools.specs.Streams.{OnlyGrows, IsDrained, AreLeft, after_more, after_units_left, units_left, max_unit, StreamSoFar, after_end, after_piece}
 pub use Rattle.avc_tools.specs.declared.cutter.CutPhase.{CutPhase}
 pub use Rattle.avc_tools.specs.declared.cutter.Cutter.{Cutter}
 pub use Rattle.avc_tools.specs.declared.piece_facts.PieceFacts.{PieceFacts}

@@ -2,12 +2,12 @@ use Rattle.avc_tools.proofs.Taking.{kept, kept_if, kept_so, so_far_fed, max_unit
 use Rattle.avc_tools.proofs.tail_text.TailTextStreamText.feed.Goals as goal
 
 pub invariant_of-self : goal.invariant_of-self
-invariant_of-self c = λ on. kept _ _ _ c.keep.ensures.same c.keep.ensures.refused c.tail_on-added.ensures.tail on c.self.inside.number (c.self.invariant c.in_ok-check.ensures.going)
+invariant_of-self c = λ on. kept _ _ _ c.keep.ensures.same c.keep.ensures.refused c.tail_of_more-added.ensures.tail on c.self.inside.number (c.self.invariant c.in_ok-check.ensures.going)
 
 pub returns-clause-so_far : goal.returns-clause-so_far
 returns-clause-so_far c =
-    rw (← c.self.view_is) (kept_so _ _ c.keep.ensures.same c.tail_on-added.ensures.taken c.keep.ensures.going (λ taken same. so_far_fed max_unit c.self.inside.splitter c.tail_on-added.new.splitter c.self.inside.failed c.keep.new.self c.args.piece.now taken same))
+    rw (← c.self.view_is) (kept_so _ _ c.keep.ensures.same c.tail_of_more-added.ensures.taken c.keep.ensures.going (λ taken same. so_far_fed max_unit c.self.inside.splitter c.tail_of_more-added.new.splitter c.self.inside.failed c.keep.new.self c.args.piece.now taken same))
 
 pub returns-clause-added : goal.returns-clause-added
 returns-clause-added c =
-    rw (← c.self.view_is) (kept_if _ _ c.keep.ensures.same c.tail_on-added.ensures.added (λ added more short. more c.self.inside.number (c.self.invariant c.in_ok-check.ensures.going) short))
+    rw (← c.self.view_is) (kept_if _ _ c.keep.ensures.same c.tail_of_more-added.ensures.added (λ added more short. more c.self.inside.number (c.self.invariant c.in_ok-check.ensures.going) short))

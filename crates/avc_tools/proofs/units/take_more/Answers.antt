@@ -1,0 +1,8 @@
+use Rattle.avc_tools.proofs.Taking.{true, false, left_by_more, on_ok}
+use Rattle.avc_tools.proofs.units.take_more.Goals as goal
+
+pub returns-then-ends-clause-left : goal.returns-then-ends-clause-left
+returns-then-ends-clause-left g c = on_ok c.finish.result (left_by_more c.units_stay.ensures g.row.MAX c.args.splitter.now _ c.args.piece.now true c.requires) c.finish.ensures.ok
+
+pub returns-else-ends-clause-left : goal.returns-else-ends-clause-left
+returns-else-ends-clause-left g c = on_ok c.feed.result (left_by_more c.units_stay.ensures g.row.MAX c.args.splitter.now _ c.args.piece.now false c.requires) c.feed.ensures.ok
