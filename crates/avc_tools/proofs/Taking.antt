@@ -61,51 +61,9 @@ all_taken max old s new next holds i going gives takes is =
       takes ∙ ap (λ x. after_next_unit s x) is ∙ i.state ∙ ap (λ us. record old { taken = old.taken + length us }) (sym all),
     )
 
--- ---- an answer that is kept where it is a refusal
-
 pub on_ok : {T E A B : Type 0} (r : Result T E) → (A → B) → OnOk r A → OnOk r B
 on_ok (Ok x) f h = f h
 on_ok (Err e) f h = h
-
-held : {T E A : Type 0} (answer : Result T E) (refused : Bool) → OnErr answer (refused ≡ true) → OnOk answer A → refused ≡ false → A
-held (Ok x) refused err ok going = ok
-held (Err e) refused err ok going = cc
-
--- where no memory was refused the answer has come
-pub kept : {T E A : Type 0} (r answer : Result T E) (refused : Bool) → r ≡ answer → OnErr r (refused ≡ true) → OnOk answer A → refused ≡ false → A
-kept r answer refused same err ok going = held answer refused (rw same at err) ok going
-
-both : {T E A B C : Type 0} (answer : Result T E) → OnOk answer A → OnOk answer B → (A → B → C) → OnOk answer C
-both (Ok x) a b f = f a b
-both (Err e) a b f = tt
-
-pub kept_so : {T E A B C : Type 0} (r answer : Result T E) → r ≡ answer → OnOk answer A → OnOk r B → (A → B → C) → OnOk r C
-kept_so r answer same a b f = rw same (both answer a (rw same at b) f)
-
-told : {T E : Type 0} {P Q : T → Type 0} (answer : Result T E) → IfOk answer P → ((x : T) → P x → Q x) → IfOk answer Q
-told (Ok x) p f = f x p
-told (Err e) p f = tt
-
-pub kept_if : {T E : Type 0} {P Q : T → Type 0} (r answer : Result T E) → r ≡ answer → IfOk answer P → ((x : T) → P x → Q x) → IfOk r Q
-kept_if r answer same p f = rw same (told answer p f)
-
--- what came of the stream that a splitter takes
-abbrev so_far_of : SplitterState → (failed : Bool) → StreamSoFar
-so_far_of s failed = record { bytes = s.bytes; ended = s.ended; failed = failed }
-
-piece_came : (bytes : List ℕ) (ended : Bool) (taken : ℕ) (going failed : Bool) (piece : List ℕ)
-    → so_far_of (after_feed (splitter_at bytes ended taken going) piece) failed ≡ after_piece (so_far_of (splitter_at bytes ended taken going) failed) piece
-piece_came bytes true taken going failed piece = refl
-piece_came bytes false taken going failed piece = refl
-
-pub so_far_fed : (max : ℕ) (old new : SplitterState) (before failed : Bool) (piece : List ℕ) → new ≡ after_units_left max (after_feed old piece) → failed ≡ before
-    → so_far_of new failed ≡ after_piece (so_far_of old before) piece
-so_far_fed max old new before failed piece is same =
-    ap (λ s. so_far_of s failed) is ∙ ap (so_far_of (after_feed old piece)) same ∙ piece_came old.bytes old.ended old.taken old.failed before piece
-
-pub so_far_ended : (max : ℕ) (old new : SplitterState) (before failed : Bool) → new ≡ after_units_left max (after_finish old) → failed ≡ before
-    → so_far_of new failed ≡ after_end (so_far_of old before)
-so_far_ended max old new before failed is same = ap (λ s. so_far_of s failed) is ∙ ap (so_far_of (after_finish old)) same
 
 -- past the end nothing is taken
 none_taken : (max : ℕ) (s : SplitterState) → IsDrained max s → s ≡ after_units_left max s
@@ -125,9 +83,12 @@ ends_too ends ended e = grind arith
 pub ends_alone : (ends ended : Bool) → ended ≡ false → (ends || ended) ≡ ends
 ends_alone ends ended e = grind arith
 
+pub feed_keeps_end : (s new : SplitterState) (piece : List ℕ) → new ≡ after_feed s piece → s.ended ≡ new.ended
+feed_keeps_end s new piece is = rw is (grind arith)
+
 pub more_ends : (s new : SplitterState) (piece : List ℕ) (ends ended : Bool) → new ≡ after_more s piece ends → ended ≡ s.ended → (ends || ended) ≡ new.ended
 more_ends s new piece true ended is same = rw is refl
-more_ends s new piece false ended is same = rw (is, same) (grind arith)
+more_ends s new piece false ended is same = same ∙ feed_keeps_end s new piece is
 
 pub nothing_added : (text added : List ℕ) → added ≡ [] → text ≡ text ++ added
 nothing_added text added none = sym (append-nil text) ∙ ap (λ l. text ++ l) (sym none)

@@ -379,6 +379,10 @@ fed stay max bytes false taken failed piece d =
     let more = stay max bytes piece false in
     left_behind max _ _ more.0 d more.1 refl refl (omega (arith, length-append bytes piece))
 
+-- by a piece
+pub left_by_feed : UnitsStay → (max : ℕ) (old new : SplitterState) (piece : List ℕ) → IsDrained max old → new ≡ after_feed old piece → AreLeft max old new
+left_by_feed stay max old new piece d is = rw is (fed stay max old.bytes old.ended old.taken old.failed piece d)
+
 finished : UnitsStay → (max : ℕ) (bytes : List ℕ) (ended : Bool) (taken : ℕ) (failed : Bool) → IsDrained max (splitter_at bytes ended taken failed)
     → AreLeft max (splitter_at bytes ended taken failed) (splitter_at bytes true taken failed)
 finished stay max bytes true taken failed d = left_behind max _ _ [] d (sym (append-nil (units max bytes true))) refl refl (omega arith)
@@ -386,9 +390,9 @@ finished stay max bytes false taken failed d =
     let more = stay max bytes [] true in
     left_behind max _ _ more.0 d (rw (append-nil bytes) at more.1) refl refl (omega arith)
 
-pub left_by_more : UnitsStay → (max : ℕ) (old new : SplitterState) (piece : List ℕ) (ends : Bool) → IsDrained max old → new ≡ after_more old piece ends → AreLeft max old new
-left_by_more stay max old new piece true d is = rw is (finished stay max old.bytes old.ended old.taken old.failed d)
-left_by_more stay max old new piece false d is = rw is (fed stay max old.bytes old.ended old.taken old.failed piece d)
+-- by the end
+pub left_by_finish : UnitsStay → (max : ℕ) (old new : SplitterState) → IsDrained max old → new ≡ after_finish old → AreLeft max old new
+left_by_finish stay max old new d is = rw is (finished stay max old.bytes old.ended old.taken old.failed d)
 
 -- and nothing is left once these were taken
 pub drained : (max : ℕ) (old mid new : SplitterState) → AreLeft max old mid → new ≡ after_units_left max mid → IsDrained max new
