@@ -4,7 +4,6 @@ ghost use Rattle.std.specs.Prelude.{◌≡◌, [], ◌∷◌, ◌++◌, ◌+◌,
 ghost use Rattle.std.specs.Prelude.{◌^◌, ◌<◌, length, string_bytes};
 ghost use Rattle.std.specs.Fmt.{decimal};
 ghost use Rattle.std.specs.Option.{option_copied};
-ghost use Rattle.avc_annexb.specs.SplitterState.{new_splitter};
 ghost use Rattle.avc_params.specs.Tables.{sets_after};
 ghost use Rattle.avc_slice.specs.Header.{slice_qp};
 ghost use Rattle.avc_units.specs.Grouping.{set_units};
@@ -41,22 +40,10 @@ pub fn show_headers(alloc: Global, bytes: &[u8]) -> Result<String, OutOfMemory>
     ensures { IfOk result (λ text. string_bytes text ≡ header_lines bytes.now) }
 {
     let mut splitter = Splitter::<MAX_UNIT>::new(alloc);
-    show_headers_by(alloc, &mut splitter, bytes)
-}
-
-// By a splitter that has taken nothing yet.
-fn show_headers_by(
-    alloc: Global,
-    splitter: &mut Splitter<MAX_UNIT>,
-    bytes: &[u8],
-) -> Result<String, OutOfMemory>
-    requires { splitter.old ≡ new_splitter }
-    ensures { IfOk result (λ text. string_bytes text ≡ header_lines bytes.now) }
-{
     splitter.feed(bytes)?;
     splitter.finish()?;
     let mut reader = HeaderReader::new(alloc);
-    let text = lines_of_headers_left(alloc, &ForPeople, splitter, &mut reader)?;
+    let text = lines_of_headers_left(alloc, &ForPeople, &mut splitter, &mut reader)?;
     Ok(text)
 }
 

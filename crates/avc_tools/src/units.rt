@@ -3,7 +3,6 @@
 ghost use Rattle.std.specs.Prelude.{◌≡◌, ◌++◌, [], false, true, length, IfOk, OnOk};
 ghost use Rattle.std.specs.Prelude.{string_bytes};
 ghost use Rattle.std.specs.List.{flat_map};
-ghost use Rattle.avc_annexb.specs.SplitterState.{new_splitter};
 ghost use Rattle.avc_annexb.specs.Units.{units};
 ghost use Rattle.avc_tools.specs.Lines.{line_of_unit, unit_line, unit_lines, unit_lines_so_far};
 ghost use Rattle.avc_tools.specs.Streams.{AreLeft, IsDrained, after_more, after_units_left};
@@ -28,21 +27,9 @@ pub fn list_units(alloc: Global, bytes: &[u8]) -> Result<String, OutOfMemory>
     ensures { IfOk result (λ text. string_bytes text ≡ unit_lines bytes.now) }
 {
     let mut splitter = Splitter::<1>::new(alloc);
-    list_units_by(alloc, &mut splitter, bytes)
-}
-
-// By a splitter that has taken nothing yet.
-fn list_units_by(
-    alloc: Global,
-    splitter: &mut Splitter<1>,
-    bytes: &[u8],
-) -> Result<String, OutOfMemory>
-    requires { splitter.old ≡ new_splitter }
-    ensures { IfOk result (λ text. string_bytes text ≡ unit_lines bytes.now) }
-{
     splitter.feed(bytes)?;
     splitter.finish()?;
-    let text = lines_of_units_left(alloc, &ForPeople, splitter)?;
+    let text = lines_of_units_left(alloc, &ForPeople, &mut splitter)?;
     Ok(text)
 }
 
@@ -206,22 +193,10 @@ pub(crate) fn all_units(alloc: Global, bytes: &[u8]) -> Result<Vec<Unit>, OutOfM
     ensures { IfOk result (λ all. all.items ≡ units (length bytes.now) bytes.now true) }
 {
     let mut parts = Splitter::<MAX_UNIT>::new(alloc);
-    all_units_by(alloc, &mut parts, bytes)
-}
-
-// By a splitter that has taken nothing yet.
-fn all_units_by(
-    alloc: Global,
-    parts: &mut Splitter<MAX_UNIT>,
-    bytes: &[u8],
-) -> Result<Vec<Unit>, OutOfMemory>
-    requires { parts.old ≡ new_splitter }
-    ensures { IfOk result (λ all. all.items ≡ units (length bytes.now) bytes.now true) }
-{
     parts.feed(bytes)?;
     parts.finish()?;
     let mut all = Vec::new(alloc);
-    take_units_left(parts, &mut all)?;
+    take_units_left(&mut parts, &mut all)?;
     Ok(all)
 }
 
