@@ -107,6 +107,7 @@ impl<F: ListingForm> StreamText for CutPointLines<F> {
         false
     }
 
+    #[tactic(auto, using(crate::proofs::Taking::cut_point_lines_grow))]
     fn text_only_grows(&self) {
         units_stay();
     }

@@ -131,6 +131,7 @@ impl<F: ListingForm> StreamText for HeaderLines<F> {
         false
     }
 
+    #[tactic(auto, using(crate::proofs::Taking::header_lines_grow))]
     fn text_only_grows(&self) {
         units_stay();
     }

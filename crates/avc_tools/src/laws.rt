@@ -6,6 +6,7 @@ use avc_annexb::laws::units_stay;
 
 /// A piece whose stream comes is at the end the one that the whole stream has, and once the next
 /// has begun it stays as it is, whatever follows.
+#[tactic(auto, using(crate::proofs::Taking::pieces_are_whole, crate::proofs::Taking::pieces_stay))]
 pub fn pieces_come_whole()
     ensures whole { PiecesAreWhole }
     ensures stay { PiecesStay }

@@ -123,6 +123,7 @@ impl StreamText for PieceText {
         }
     }
 
+    #[tactic(auto, using(crate::proofs::Taking::piece_text_grows))]
     fn text_only_grows(&self) {
         units_stay();
     }

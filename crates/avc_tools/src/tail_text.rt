@@ -94,6 +94,7 @@ impl StreamText for TailText {
         false
     }
 
+    #[tactic(auto, using(crate::proofs::Tails::tail_text_grows))]
     fn text_only_grows(&self) {
         units_stay();
     }

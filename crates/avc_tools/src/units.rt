@@ -101,6 +101,7 @@ impl<F: ListingForm> StreamText for UnitLines<F> {
         false
     }
 
+    #[tactic(auto, using(crate::proofs::Taking::unit_lines_grow))]
     fn text_only_grows(&self) {
         units_stay();
     }

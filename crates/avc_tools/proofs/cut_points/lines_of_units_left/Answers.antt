@@ -15,11 +15,7 @@ loop-unit-preserved g c = record {
       (counted_more g.F.ListingForm.of_piece c.args.counts.now _ _ _ _ c.in-Some.unit c.in_ok-add_unit.ensures.counts c.in_ok-add_unit.ensures.text);
 }
 
-pub returns-clause-text : goal.returns-clause-text
-returns-clause-text g c = (all_taken max_unit _ _ _ _ _ c.loop-unit.invariant.draining c.requires c.next_unit.ensures.unit c.next_unit.ensures.taken c.in_default.is).0.lines
-
-pub returns-clause-counts : goal.returns-clause-counts
-returns-clause-counts g c = (all_taken max_unit _ _ _ _ _ c.loop-unit.invariant.draining c.requires c.next_unit.ensures.unit c.next_unit.ensures.taken c.in_default.is).0.counts
-
-pub returns-clause-taken : goal.returns-clause-taken
-returns-clause-taken g c = (all_taken max_unit _ _ _ _ _ c.loop-unit.invariant.draining c.requires c.next_unit.ensures.unit c.next_unit.ensures.taken c.in_default.is).1
+pub returns : goal.returns
+returns g c =
+    let all = all_taken max_unit _ _ _ _ _ c.loop-unit.invariant.draining c.requires c.next_unit.ensures.unit c.next_unit.ensures.taken c.in_default.is in
+    record { text = all.0.lines; counts = all.0.counts; taken = all.1 }

@@ -15,11 +15,7 @@ loop-unit-preserved g c = record {
       (shown_more g.F.ListingForm.of_header c.args.reader.now _ _ _ _ c.in-Some.unit c.in_ok-add_header.ensures.sets c.in_ok-add_header.ensures.text);
 }
 
-pub returns-clause-text : goal.returns-clause-text
-returns-clause-text g c = (all_taken max_unit _ _ _ _ _ c.loop-unit.invariant.draining c.requires c.next_unit.ensures.unit c.next_unit.ensures.taken c.in_default.is).0.lines
-
-pub returns-clause-sets : goal.returns-clause-sets
-returns-clause-sets g c = (all_taken max_unit _ _ _ _ _ c.loop-unit.invariant.draining c.requires c.next_unit.ensures.unit c.next_unit.ensures.taken c.in_default.is).0.sets
-
-pub returns-clause-taken : goal.returns-clause-taken
-returns-clause-taken g c = (all_taken max_unit _ _ _ _ _ c.loop-unit.invariant.draining c.requires c.next_unit.ensures.unit c.next_unit.ensures.taken c.in_default.is).1
+pub returns : goal.returns
+returns g c =
+    let all = all_taken max_unit _ _ _ _ _ c.loop-unit.invariant.draining c.requires c.next_unit.ensures.unit c.next_unit.ensures.taken c.in_default.is in
+    record { text = all.0.lines; sets = all.0.sets; taken = all.1 }

@@ -18,8 +18,7 @@ loop-unit-preserved c = record {
       (cut_more c.args.cutter.now _ _ _ _ c.in-Some.unit c.in_ok-take_in.ensures);
 }
 
-pub returns-clause-piece : goal.returns-clause-piece
-returns-clause-piece c = (all_taken max_unit _ _ _ _ _ c.loop-unit.invariant.draining c.requires c.next_unit.ensures.unit c.next_unit.ensures.taken c.in_default.is).0
-
-pub returns-clause-taken : goal.returns-clause-taken
-returns-clause-taken c = (all_taken max_unit _ _ _ _ _ c.loop-unit.invariant.draining c.requires c.next_unit.ensures.unit c.next_unit.ensures.taken c.in_default.is).1
+pub returns : goal.returns
+returns c =
+    let all = all_taken max_unit _ _ _ _ _ c.loop-unit.invariant.draining c.requires c.next_unit.ensures.unit c.next_unit.ensures.taken c.in_default.is in
+    record { piece = all.0; taken = all.1 }

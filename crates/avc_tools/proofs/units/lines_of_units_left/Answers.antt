@@ -19,8 +19,7 @@ loop-unit-preserved g c = record {
       (λ done so_far. line_more (line_of_unit g.F.ListingForm.of_unit) done c.in-Some.unit _ _ c.in_ok-add_line.ensures so_far);
 }
 
-pub returns-clause-text : goal.returns-clause-text
-returns-clause-text g c = (all_taken 1 _ _ _ _ _ c.loop-unit.invariant.draining c.requires c.next_unit.ensures.unit c.next_unit.ensures.taken c.in_default.is).0
-
-pub returns-clause-taken : goal.returns-clause-taken
-returns-clause-taken g c = (all_taken 1 _ _ _ _ _ c.loop-unit.invariant.draining c.requires c.next_unit.ensures.unit c.next_unit.ensures.taken c.in_default.is).1
+pub returns : goal.returns
+returns g c =
+    let all = all_taken 1 _ _ _ _ _ c.loop-unit.invariant.draining c.requires c.next_unit.ensures.unit c.next_unit.ensures.taken c.in_default.is in
+    record { text = all.0; taken = all.1 }
