@@ -1,7 +1,6 @@
 //! The lines of `units`.
 
-ghost use Rattle.std.specs.Prelude.{◌≡◌, ◌++◌, [], false, true, length, IfOk, OnOk};
-ghost use Rattle.std.specs.Prelude.{string_bytes};
+ghost use Rattle.std.specs.Prelude.{◌≡◌, ◌++◌, [], false, true, length, IfOk, OnOk, string_bytes};
 ghost use Rattle.std.specs.List.{flat_map};
 ghost use Rattle.avc_annexb.specs.Units.{units};
 ghost use Rattle.avc_tools.specs.Lines.{line_of_unit, unit_line, unit_lines, unit_lines_so_far};
