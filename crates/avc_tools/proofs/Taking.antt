@@ -108,9 +108,6 @@ one_if p u b e = grind (arith, append-nil)
 filtered_more : (p : Unit → Bool) (us : List Unit) (u : Unit) → flat_map written (filter p (us ++ u ∷ [])) ≡ flat_map written (filter p us) ++ (if p u then written u else [])
 filtered_more p us u = rw (filter-append p us (u ∷ []), flat_map-append written (filter p us), one_if p u (p u) refl) refl
 
-pub leading_none : (before : List Unit) (u : Unit) → is_slice u ≡ true → leading (before ++ u ∷ []) ≡ []
-leading_none before u e = ap (λ us. flat_map written (filter leads us)) (after_slice before u e)
-
 pub leading_more : (before : List Unit) (u : Unit) (old new : List ℕ) → is_slice u ≡ false → new ≡ old ++ (if leads u then written u else []) → old ≡ leading before → new ≡ leading (before ++ u ∷ [])
 leading_more before u old new e is h = rw (is, h, after_other before u e) (sym (filtered_more leads (after_slices before) u))
 
@@ -269,11 +266,6 @@ held_written (writing before cut after) true c piece more h is e added = record 
   written_on = added ∙ ap (λ t. piece ++ t) h.holds.all;
 }
 held_written _ ends c piece more h is e added = cc
-
--- nor before it
-pub goes_on_still : (s : Stage) (ends : Bool) (piece : List ℕ) → ends ≡ false → IsCutOff s ends piece piece
-goes_on_still s true piece e = cc
-goes_on_still s false piece e = record { added = []; defined = sym (append-nil (text_of s false)); written_on = sym (append-nil piece) }
 
 -- ---- a piece whose stream comes is written as far as it is settled: unit by unit
 

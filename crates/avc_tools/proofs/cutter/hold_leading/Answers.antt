@@ -1,8 +1,5 @@
-use Rattle.avc_tools.proofs.Taking.{◌++◌, [], ap, sym, ◌∙◌, if◌then◌else◌, written, leading_more, leading_none}
+use Rattle.avc_tools.proofs.Taking.{◌++◌, [], ap, sym, ◌∙◌, if◌then◌else◌, written, leading_more}
 use Rattle.avc_tools.proofs.cutter.hold_leading.Goals as goal
-
-pub returns-then-is_slice : goal.returns-then-is_slice
-returns-then-is_slice c = λ before h. c.clear.ensures.items ∙ sym (leading_none before c.args.unit.now (sym c.is_slice.ensures ∙ c.if-is_slice.true))
 
 pub returns : goal.returns
 returns c =

@@ -1,8 +1,5 @@
-use Rattle.avc_tools.proofs.Taking.{◌++◌, ap, ◌∙◌, goes_on_still, held_written, nothing_held}
+use Rattle.avc_tools.proofs.Taking.{◌++◌, ap, ◌∙◌, held_written, nothing_held}
 use Rattle.avc_tools.proofs.cutter.Cutter.write_held.Goals as goal
-
-pub returns-then-not-ends : goal.returns-then-not-ends
-returns-then-not-ends c = λ s h. goes_on_still s c.args.ends c.args.piece.now.items c.if-not-ends.true
 
 pub returns-in-Waiting : goal.returns-in-Waiting
 returns-in-Waiting c = λ s h. nothing_held s c.args.ends c.args.self.now c.args.piece.now.items h c.in-Waiting.is
