@@ -9,8 +9,8 @@ pub use Rattle.avc_units.proofs.SetUnits.{set_units_more, sets_then}
 pub use Rattle.avc_units.specs.Bringing.{brought}
 pub use Rattle.avc_units.specs.Grouping.{set_units}
 pub use Rattle.avc_tools.proofs.Taking.{IsDraining, all_taken, draining_begun, one_more, sets_again}
-pub use Rattle.avc_tools.proofs.Taking.Stages.{AreLeft, drained, left_by_feed}
-pub use Rattle.avc_tools.specs.Streams.{after_units_left, max_unit, units_left}
+pub use Rattle.avc_tools.proofs.Taking.Stages.{drained, left_by_feed}
+pub use Rattle.avc_tools.specs.Streams.{AreLeft, after_units_left, max_unit, units_left}
 pub use Rattle.avc_sequence.specs.Finding.{said_after, said_with, AreTaken}
 pub use Rattle.avc_sequence.specs.declared.sequence_facts.SequenceFacts.{SequenceFacts}
 

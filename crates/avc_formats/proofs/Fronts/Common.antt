@@ -24,9 +24,9 @@ pub use Rattle.avc_presentation.specs.Presenting.{no_presentation, Says}
 pub use Rattle.avc_presentation.specs.Ratios.{ratio_word}
 pub use Rattle.avc_presentation.specs.declared.presentation.Presentation.{Presentation}
 pub use Rattle.avc_tools.proofs.Taking.{IsDraining, one_more, all_taken}
-pub use Rattle.avc_tools.proofs.Taking.Stages.{AreLeft, drained, left_by_feed, left_by_finish}
+pub use Rattle.avc_tools.proofs.Taking.Stages.{drained, left_by_feed, left_by_finish}
 pub use Rattle.avc_units.proofs.SetUnits.{set_units-append, set_units_more, sets_then}
-pub use Rattle.avc_tools.specs.Streams.{units_left}
+pub use Rattle.avc_tools.specs.Streams.{AreLeft, units_left}
 pub use Rattle.avc_units.specs.Grouping.{set_units}
 pub use Rattle.avc_yuv.specs.I420.{i420}
 pub use Rattle.hex.specs.Hex.{encode_lower}

@@ -8,9 +8,9 @@ pub use Rattle.avc_annexb.specs.declared.unit.Unit.{Unit}
 pub use Rattle.avc_params.specs.Tables.{sets_after}
 pub use Rattle.avc_params.specs.declared.set_unit.SetUnit.{SetUnit}
 pub use Rattle.avc_tools.proofs.Taking.{IsDraining, all_taken, draining_begun, one_more, sets_again, feed_keeps_end}
-pub use Rattle.avc_tools.proofs.Taking.Stages.{AreLeft, drained, left_by_finish, left_by_feed, whole_units}
+pub use Rattle.avc_tools.proofs.Taking.Stages.{drained, left_by_finish, left_by_feed, whole_units}
 pub use Rattle.avc_units.proofs.SetUnits.{set_units-append, set_units_more, sets_then}
-pub use Rattle.avc_tools.specs.Streams.{StreamSoFar, after_end, after_piece, after_units_left, units_left, max_unit}
+pub use Rattle.avc_tools.specs.Streams.{AreLeft, StreamSoFar, after_end, after_piece, after_units_left, units_left, max_unit}
 pub use Rattle.avc_units.specs.Grouping.{list_of, set_unit, set_units}
 unfoldable pub use Rattle.serde_json.proofs.OnLiterals.{serde_json_on_literals}
 pub use Rattle.serde_json.proofs.Views.{view-Object}

@@ -37,8 +37,8 @@ pub use Rattle.avc_mbsyntax.specs.declared.slice_data.SliceData.{SliceData}
 pub use Rattle.avc_units.proofs.SetUnits.{set_units-append, set_units_more, sets_then}
 pub use Rattle.avc_units.specs.Grouping.{set_units}
 pub use Rattle.avc_tools.proofs.Taking.{IsDraining, all_taken, draining_begun, one_more, sets_again}
-pub use Rattle.avc_tools.proofs.Taking.Stages.{AreLeft, drained, left_by_feed, left_by_finish, whole_units}
-pub use Rattle.avc_tools.specs.Streams.{OnlyGrows, after_units_left, max_unit, new_stream, units_left}
+pub use Rattle.avc_tools.proofs.Taking.Stages.{drained, left_by_feed, left_by_finish, whole_units}
+pub use Rattle.avc_tools.specs.Streams.{AreLeft, OnlyGrows, after_units_left, max_unit, new_stream, units_left}
 pub use Rattle.avc_reading.specs.Asked.{Asked, addresses, form_in, macroblock_of_text, selection_of_text, text_number}
 pub use Rattle.avc_selection.specs.Selected.{is_listed}
 pub use Rattle.avc_reading.specs.Derived.{all_derived, coded_up_to, derived_of, had}
