@@ -13,7 +13,6 @@ use Rattle.avc_neigh.specs.declared.neighbour_info.Motion.TheVariants.{Inter as 
 use Rattle.avc_motion.specs.Motion.{is_intra, zero_vector}
 use Rattle.avc_deblock.specs.Edges.{mb_at, slice_at, filter_qp, has_coefficients, picture_named}
 use Rattle.avc_deblock.specs.declared.mb_info.MbInfo.{MbInfo}
-use Rattle.avc_deblock.specs.declared.inner_motion.InnerMotion.{InnerMotion}
 
 -- The numbers of stored frames: the decoding index of that with number n. No two have one.
 pub record Names : Type 0 where
@@ -77,25 +76,6 @@ pub record HaveOneMotion (p : MbInfo) (kp : ℕ) (q : MbInfo) (kq : ℕ) : Type 
   pub picture : slice_index p.pictures (kp / 4) ≡ slice_index q.pictures (kq / 4)
   pub vector : vector_at p kp ≡ vector_at q kq
 
--- the quarters have one picture
-abbrev pub HasOnePicture : MbInfo → Type 0
-HasOnePicture f = (k : ℕ) → k < 4 → slice_index f.pictures k ≡ slice_index f.pictures 0
-
--- each block k has the vector of block other(k)
-abbrev pub HasVectors : MbInfo → (other : ℕ → ℕ) → Type 0
-HasVectors f other = (k : ℕ) → k < 16 → vector_at f k ≡ vector_at f (other k)
-
--- an inter macroblock whose blocks have one picture and one vector
-pub record IsOfOneMotion (f : MbInfo) : Type 0 where
-  pub inter : f.is_intra ≡ false
-  pub pictures_are : HasOnePicture f
-  pub vectors_are : HasVectors f (λ _. 0)
-
--- an inter macroblock in each 8x8 quarter of which the blocks have one vector
-pub record IsOfFourVectors (f : MbInfo) : Type 0 where
-  pub inter : f.is_intra ≡ false
-  pub vectors_are : HasVectors f (λ k. 4 * (k / 4))
-
 -- An inter macroblock that stands still in the frame with this number: without coefficients, with
 -- that picture and a zero vector in each block (8.7.2.1).
 pub record StandsStill (frame : ℕ) (f : MbInfo) : Type 0 where
@@ -118,29 +98,6 @@ edge_block false n k = block_at (4 * k) (4 * n)
 -- bS between the blocks of two inter macroblocks in the k-th quarter of edge n (8.7.2.1)
 abbrev pub strength_beside : (p q : MbInfo) → Bool → (n k : ℕ) → ℕ
 strength_beside p q v n k = inter_strength p (edge_block v ((n + 3) % 4) k) q (edge_block v n k)
-
--- in each quarter of edge n the blocks of both sides have one picture and one vector
-abbrev pub HaveOneMotionBeside : (p q : MbInfo) → Bool → (n : ℕ) → Type 0
-HaveOneMotionBeside p q v n =
-    (k : ℕ) → k < 4 → HaveOneMotion p (edge_block v ((n + 3) % 4) k) q (edge_block v n k)
-
--- Along edge n between two inter macroblocks bS is s wherever the blocks have no coefficients.
-pub record HasByMotion (p q : MbInfo) (v : Bool) (n s : ℕ) : Type 0 where
-  pub p_inter : p.is_intra ≡ false
-  pub q_inter : q.is_intra ≡ false
-  pub low : s < 3
-  pub each : (k : ℕ) → k < 4 →
-      motion_strength p (edge_block v ((n + 3) % 4) k) q (edge_block v n k) ≡ s
-
--- at edge n inside a macroblock no strength comes of motion
-abbrev pub IsStillAt : MbInfo → Bool → (n : ℕ) → Type 0
-IsStillAt f v n = HasByMotion f f v n 0
-
--- What is said of the motion inside a macroblock holds of it.
-pub record IsToldOf (f : MbInfo) (m : InnerMotion) : Type 0 where
-  pub middle : m.is_still_in_middle ≡ true → (v : Bool) → IsStillAt f v 2
-  pub first : m.is_still_beside ≡ true → (v : Bool) → IsStillAt f v 1
-  pub last : m.is_still_beside ≡ true → (v : Bool) → IsStillAt f v 3
 
 -- the macroblock on the p side of edge n of macroblock a
 abbrev pub p_address : Coded → Bool → (n a : ℕ) → ℕ

@@ -11,6 +11,7 @@ ghost use Rattle.avc_deblock.specs.FilterInfo.{Names, HaveInfo};
 ghost use Rattle.avc_deblock.specs.ByInfo.{row_by_info};
 
 use crate::kept_limits::RowLimits;
+use crate::known_mb::KnownMb;
 use crate::macroblock::macroblock;
 use crate::mb_info::MbInfo;
 use crate::place::Place;
@@ -45,11 +46,12 @@ pub fn row<const PAD: usize>(
         chroma_qp_index_offset,
     };
     let mut kept = RowLimits::of(&info[0], first);
+    let mut left = KnownMb::of(&info[0]);
     for column in 0..info.len() {
-        let left = &info[column.max(1) - 1];
+        let mb = KnownMb::of(&info[column]);
         macroblock(
             planes,
-            &info[column],
+            mb,
             left,
             &above[column],
             &mut kept,
@@ -59,6 +61,7 @@ pub fn row<const PAD: usize>(
                 chroma_qp_index_offset,
             },
         );
+        left = mb;
     }
 }
 

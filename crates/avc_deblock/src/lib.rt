@@ -1,19 +1,20 @@
 //! The deblocking filter (8.7).
 #![tactic(auto)]
 
+mod block_rows;
 mod block_strength;
 mod edge_strengths;
 mod filter;
 mod horizontal_edges;
 mod inner_edges;
-mod inner_motion;
 mod kept_limits;
+mod known_mb;
 pub mod laws;
 mod macroblock;
 mod mb_info;
+mod mb_strengths;
 mod place;
 mod planes_edge;
-mod still;
 mod vertical_edges;
 
 pub use block_strength::strength;

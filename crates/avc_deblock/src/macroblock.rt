@@ -2,20 +2,21 @@
 
 ghost use Rattle.std.specs.Prelude.{◌≡◌, ℕ, ◌+◌, ◌*◌, ◌<◌, ◌≤◌, ◌&&◌, true, false};
 ghost use Rattle.avc_plane.specs.Frames.{planes_of};
-ghost use Rattle.avc_edges.specs.OneEdge.{AreStrengths};
+ghost use Rattle.avc_edges.specs.OneEdge.{AreStrengths, strength_along};
 ghost use Rattle.avc_deblock.specs.OneEdge.{HasRoom, KeepsRoom};
 ghost use Rattle.avc_deblock.specs.FilterInfo.{filters_between};
 ghost use Rattle.avc_deblock.specs.MbLimits.{AreRowLimits};
+ghost use Rattle.avc_deblock.specs.MbStrengths.{AreFrom};
 ghost use Rattle.avc_deblock.specs.ByInfo.{mb_by_info, strength_of, HasStrengths};
 ghost use Rattle.avc_deblock.specs.Places.{edges_at, AreLimitsAt};
 ghost use Rattle.avc_deblock.specs.InnerEdges.{inner_edge_at, inner_edges_at};
 
-use crate::edge_strengths::{edge_strengths, inner_strengths};
 use crate::horizontal_edges::inner_intra_edges;
 use crate::inner_edges::InnerEdges;
-use crate::inner_motion::KnownMb;
 use crate::kept_limits::RowLimits;
+use crate::known_mb::KnownMb;
 use crate::mb_info::MbInfo;
+use crate::mb_strengths::MbStrengths;
 use crate::place::{EdgePlace, MbEdge, Place};
 use crate::planes_edge::{PairLimits, edge_at};
 use crate::vertical_edges::vertical_edges;
@@ -46,32 +47,49 @@ struct OuterEdge {
     strengths: Strengths,
 }
 
-impl KnownMb<'_> {
-    /// The outer edge to `other`, where `other` exists.
+impl MbInfo {
+    /// The strengths along the outer edge to `other`, by those of this macroblock.
     #[inline(always)]
-    fn edge_to(self, other: &MbInfo, is_vertical: bool, exists: bool) -> OuterEdge
-        ensures on { result.is_filtered ≡ true →
-            (exists && filters_between self.entry.info.now other.now) ≡ true }
-        ensures off { result.is_filtered ≡ false →
-            (exists && filters_between self.entry.info.now other.now) ≡ true →
-            (k : ℕ) → k < 4 → strength_of other.now self.entry.info.now is_vertical 0 k ≡ 0 }
-        ensures low { AreStrengths result.strengths }
-        ensures strengths { result.is_filtered ≡ true →
-            HasStrengths result.strengths other.now self.entry.info.now is_vertical 0 }
+    fn outer_strengths(
+        &self,
+        other: &MbInfo,
+        is_vertical: bool,
+        strengths: &MbStrengths,
+    ) -> Strengths
+        requires { AreFrom strengths.now is_vertical other.now self.now }
+        ensures low { AreStrengths result }
+        ensures value { (k : ℕ) → k < 4 →
+            strength_along result k ≡ strength_of other.now self.now is_vertical 0 k }
     {
-        let q = self.info;
-        if !both(exists, q.filters_edge_to(other)) || other.meets_quietly(q, is_vertical) {
-            return OuterEdge {
-                is_filtered: false,
-                strengths: Strengths::BelowFour([0; 4]),
-            };
+        if self.is_intra | other.is_intra {
+            Strengths::Four
+        } else {
+            Strengths::BelowFour(strengths.at(is_vertical, 0))
         }
-        let by_motion = self.strength_by_motion(other);
-        let edge = MbEdge { is_vertical, n: 0 };
-        let strengths = edge_strengths(other, q, edge, by_motion);
+    }
+
+    /// The outer edge to `other`, where `other` exists. `strengths` are those of this macroblock.
+    #[inline(always)]
+    fn edge_to(
+        &self,
+        other: &MbInfo,
+        is_vertical: bool,
+        exists: bool,
+        strengths: &MbStrengths,
+    ) -> OuterEdge
+        requires { AreFrom strengths.now is_vertical other.now self.now }
+        ensures on { result.is_filtered ≡ true →
+            (exists && filters_between self.now other.now) ≡ true }
+        ensures off { result.is_filtered ≡ false →
+            (exists && filters_between self.now other.now) ≡ true →
+            (k : ℕ) → k < 4 → strength_of other.now self.now is_vertical 0 k ≡ 0 }
+        ensures strengths { HasStrengths result.strengths other.now self.now is_vertical 0 }
+    {
+        let along = self.outer_strengths(other, is_vertical, strengths);
+        let may = both(exists, self.filters_edge_to(other));
         OuterEdge {
-            is_filtered: !strengths.are_zero(),
-            strengths,
+            is_filtered: both(may, !along.are_zero()),
+            strengths: along,
         }
     }
 }
@@ -123,7 +141,7 @@ fn inner_edge<const PAD: usize>(
 {
     let (q, place) = (inner.q, inner.place);
     let edge = MbEdge { is_vertical, n };
-    let strengths = inner_strengths(q, edge, inner.motion.is_still_at(n));
+    let strengths = inner.strengths_at(is_vertical, n);
     if strengths.are_zero() {
         return;
     }
@@ -197,8 +215,8 @@ fn inner_horizontal<const PAD: usize>(planes: &mut Planes<PAD>, inner: InnerEdge
 /// where there is none.
 pub(crate) fn macroblock<const PAD: usize>(
     planes: &mut Planes<PAD>,
-    mb: &MbInfo,
-    left: &MbInfo,
+    mb: KnownMb<'_>,
+    left: KnownMb<'_>,
     above: &MbInfo,
     kept: &mut RowLimits,
     place: Place,
@@ -208,16 +226,14 @@ pub(crate) fn macroblock<const PAD: usize>(
     ensures room { KeepsRoom (planes_of planes.old) (planes_of planes.new) }
     ensures kept { AreRowLimits kept.new place.chroma_qp_index_offset }
     ensures lines { planes_of planes.new
-        ≡ mb_by_info place.chroma_qp_index_offset place.column place.row left.now above.now mb.now
-        (planes_of planes.old) }
+        ≡ mb_by_info place.chroma_qp_index_offset place.column place.row left.entry.info.now above.now
+        mb.entry.info.now (planes_of planes.old) }
 {
-    let known = KnownMb {
-        info: mb,
-        is_of_one_motion: mb.is_of_one_motion(),
-    };
-    let are_filtered = both(mb.filters_edge_to(mb), !known.is_still());
-    let from_left = known.edge_to(left, true, place.column > 0);
-    let from_above = known.edge_to(above, false, place.row > 0);
+    let strengths = MbStrengths::of(mb, left, above);
+    let (q, p) = (mb.info, left.info);
+    let are_filtered = both(q.filters_edge_to(q), !strengths.are_zero_inside());
+    let from_left = q.edge_to(p, true, place.column > 0, &strengths);
+    let from_above = q.edge_to(above, false, place.row > 0, &strengths);
     let idle = all_three(
         !are_filtered,
         !from_left.is_filtered,
@@ -227,23 +243,23 @@ pub(crate) fn macroblock<const PAD: usize>(
         return;
     }
     kept.fit(
-        mb,
-        from_left.is_filtered.then_some(left),
+        q,
+        from_left.is_filtered.then_some(p),
         from_above.is_filtered.then_some(above),
         place,
     );
     let inner = InnerEdges {
-        q: mb,
+        q,
         place,
         are_filtered,
-        motion: known.inner_motion(),
+        strengths: &strengths,
         limits: &kept.inside.limits,
     };
-    all_vertical(planes, left, from_left, &kept.left.limits, inner);
+    all_vertical(planes, p, from_left, &kept.left.limits, inner);
     outer_edge(
         planes,
         above,
-        mb,
+        q,
         false,
         from_above,
         &kept.above.limits,

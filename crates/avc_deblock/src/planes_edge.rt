@@ -160,7 +160,7 @@ pub(crate) fn edge_between<const PAD: usize>(
     ensures room { KeepsRoom (planes_of planes.old) (planes_of planes.new) }
     ensures lines { planes_of planes.new ≡ edge_at at p.now q.now (planes_of planes.old) }
 {
-    let strengths = edge_strengths(p, q, at.edge, None);
+    let strengths = edge_strengths(p, q, at.edge);
     if strengths.are_zero() {
         return;
     }

@@ -8,7 +8,6 @@ ghost use Rattle.avc_deblock.specs.ByInfo.{luma_qp_of, chroma_qp_of, HasStrength
 ghost use Rattle.avc_deblock.specs.Places.{edges_at, vertical_chroma_at, vertical_luma_at};
 ghost use Rattle.avc_deblock.specs.Places.{inner_luma_at, AreLimitsAt, HasSettings};
 
-use crate::edge_strengths::inner_strengths;
 use crate::inner_edges::InnerEdges;
 use crate::mb_info::MbInfo;
 use crate::place::{EdgePlace, MbEdge, Place, VerticalEdge};
@@ -54,17 +53,13 @@ fn inner_luma<const PAD: usize>(luma: &mut Plane<PAD>, inner: InnerEdges<'_>, mi
     requires middle { HasStrengths middle.now inner.q.now inner.q.now true 2 }
     ensures { luma.new ≡ inner_luma_at inner.entry.place inner.entry.q.now luma.old }
 {
-    let (q, place, motion, limits) = (inner.q, inner.place, inner.motion, &inner.limits.luma);
+    let (q, place, limits) = (inner.q, inner.place, &inner.limits.luma);
     if q.is_intra {
         let left = 16 * place.column;
         filter_three_luma::<true, PAD>(luma, left, 16 * place.row, &[3; 4], limits);
         return;
     }
-    let edge = MbEdge {
-        is_vertical: true,
-        n: 1,
-    };
-    let second = inner_strengths(q, edge, motion.is_still_beside);
+    let second = inner.strengths_at(true, 1);
     let before = EdgeSettings {
         strengths: &second,
         limits,
@@ -75,11 +70,7 @@ fn inner_luma<const PAD: usize>(luma: &mut Plane<PAD>, inner: InnerEdges<'_>, mi
         limits,
     };
     luma_between(luma, q, q, VerticalEdge { n: 2, place }, middle);
-    let edge = MbEdge {
-        is_vertical: true,
-        n: 3,
-    };
-    let last = inner_strengths(q, edge, motion.is_still_beside);
+    let last = inner.strengths_at(true, 3);
     let behind = EdgeSettings {
         strengths: &last,
         limits,
@@ -176,11 +167,7 @@ pub(crate) fn vertical_edges<const PAD: usize>(
         (planes_of planes.old)) }
 {
     let (q, place) = (inner.q, inner.place);
-    let edge = MbEdge {
-        is_vertical: true,
-        n: 2,
-    };
-    let strengths = inner_strengths(q, edge, inner.motion.is_still_in_middle);
+    let strengths = inner.strengths_at(true, 2);
     let first = EdgeSettings {
         strengths: outer,
         limits: &left.luma,

@@ -454,6 +454,14 @@ stored_below P xs n v room here before =
     (λ k low. let other : k ≢ n = omega arith in rw (get_or-set_other) (before k low))
     (rw (get_or-set_same) here)
 
+-- ---- strengths are low
+
+pub low_inter : (p q : MbInfo) (j k : ℕ) → inter_strength p j q k < 4
+low_inter p q j k = grind (arith, nat_tests)
+
+pub low_inside : (q : MbInfo) (v : Bool) (n k : ℕ) → 1 ≤ n → strength_of q q v n k < 4
+low_inside q v n k some = grind (arith, nat_tests, low_inter)
+
 -- ---- the edges inside an intra macroblock: all strengths are 3
 
 pub threes : (k : ℕ) → k < 4 → slice_index (3 ∷ 3 ∷ 3 ∷ 3 ∷ []) k ≡ 3
@@ -509,13 +517,7 @@ both_false a b e = grind (arith, nat_tests)
 pub low_block : (v : Bool) (n k : ℕ) → n < 4 → k < 4 → edge_block v n k < 16
 low_block v n k n_low k_low = grind (arith, nat_tests)
 
-pub in_order : (k : ℕ) → k < 16 → slice_index (0 ∷ 1 ∷ 2 ∷ 3 ∷ 4 ∷ 5 ∷ 6 ∷ 7 ∷ 8 ∷ 9 ∷ 10 ∷ 11 ∷ 12 ∷ 13 ∷ 14 ∷ 15 ∷ []) k ≡ k
-in_order = same_below 16 (slice_index (0 ∷ 1 ∷ 2 ∷ 3 ∷ 4 ∷ 5 ∷ 6 ∷ 7 ∷ 8 ∷ 9 ∷ 10 ∷ 11 ∷ 12 ∷ 13 ∷ 14 ∷ 15 ∷ [])) (λ (k : ℕ). k) refl
-
--- ---- where all blocks of a macroblock have one motion and none has coefficients, all strengths inside it are 0
-
-no_bit : (k : ℕ) → has_bit 0 k ≡ false
-no_bit k = ap (λ n. n % 2 == 1) (zero-div (2 ^ k))
+-- ---- between blocks that stand still in one frame the strength is 0
 
 not_far : (u : Mv) → are_far u u ≡ false
 not_far u = grind (arith, nat_tests)
@@ -527,104 +529,25 @@ one_picture m = grind (arith, nat_tests)
 pub quiet : (p : MbInfo) (kp : ℕ) (q : MbInfo) (kq : ℕ) → HaveOneMotion p kp q kq → inter_strength p kp q kq ≡ 0
 quiet p kp q kq h = rw (h.no_p_levels, h.no_q_levels, h.picture, h.vector, one_picture (slice_index q.pictures (kq / 4)), not_far (slice_index_or q.vectors kq zero_vector)) refl
 
-pub one_motion : (f : MbInfo) → IsOfOneMotion f → f.coefficients ≡ 0 → (j k : ℕ) → j < 16 → k < 16 → inter_strength f j f k ≡ 0
-one_motion f one none j k j_low k_low = quiet f j f k (record {
-  no_p_levels = rw (none) (no_bit j);
-  no_q_levels = rw (none) (no_bit k);
-  picture = one.pictures_are (j / 4) (omega arith) ∙ sym (one.pictures_are (k / 4) (omega arith));
-  vector = one.vectors_are j j_low ∙ sym (one.vectors_are k k_low);
-})
+-- ---- a macroblock with strengths of 0 inside has no edge inside it that is filtered
 
--- between macroblocks of one motion each all strengths by motion are that between their first blocks
-pub same_motion : (p q : MbInfo) → IsOfOneMotion p → IsOfOneMotion q → (j k : ℕ) → j < 16 → k < 16 → motion_strength p j q k ≡ motion_strength p 0 q 0
-same_motion p q one other j k j_low k_low =
-    rw (one.pictures_are (j / 4) (omega arith), other.pictures_are (k / 4) (omega arith), one.vectors_are j j_low, other.vectors_are k k_low) refl
-
--- between such macroblocks one comparison tells what all strengths by motion are
-pub by_motion_of : (p q : MbInfo) → IsOfOneMotion p → IsOfOneMotion q → (s : ℕ) → s ≡ motion_strength p 0 q 0 → s < 3 → (v : Bool) (n : ℕ) → n < 4 → HasByMotion p q v n s
-by_motion_of p q one other s is low v n n_low = record {
-  p_inter = one.inter;
-  q_inter = other.inter;
-  low = low;
-  each = λ k k_low. same_motion p q one other _ _ (low_block v ((n + 3) % 4) k (omega arith) k_low) (low_block v n k n_low k_low) ∙ sym is;
-}
-
-pub known_at : (p q : MbInfo) (v : Bool) (n : ℕ) → n < 4 → (by_motion : Option ℕ) → IfSome by_motion (λ s. (v : Bool) (n : ℕ) → n < 4 → HasByMotion p q v n s) →
-    IfSome by_motion (HasByMotion p q v n)
-known_at p q v n low None h = h
-known_at p q v n low (Some s) h = h v n low
-
-still_motion : (f : MbInfo) (j k : ℕ) → j / 4 ≡ k / 4 → slice_index_or f.vectors j zero_vector ≡ slice_index_or f.vectors k zero_vector → motion_strength f j f k ≡ 0
-still_motion f j k picture vector = rw (picture, vector, one_picture (slice_index f.pictures (k / 4)), not_far (slice_index_or f.vectors k zero_vector)) refl
-
-pub still_of_one : (f : MbInfo) → IsOfOneMotion f → (v : Bool) (n : ℕ) → n < 4 → IsStillAt f v n
-still_of_one f one v n low = by_motion_of f f one one 0 (sym (still_motion f 0 0 refl refl)) (omega arith) v n low
-
--- the blocks on both sides of an edge inside a quarter lie in that quarter
-quarter_first : (v : Bool) (k : ℕ) → k < 4 → edge_block v 0 k / 4 ≡ edge_block v 1 k / 4
-quarter_first true k low = omega arith
-quarter_first false k low = omega arith
-
-quarter_last : (v : Bool) (k : ℕ) → k < 4 → edge_block v 2 k / 4 ≡ edge_block v 3 k / 4
-quarter_last true k low = omega arith
-quarter_last false k low = omega arith
-
-still_in_quarter : (f : MbInfo) → IsOfFourVectors f → (j k : ℕ) → j < 16 → k < 16 → j / 4 ≡ k / 4 → motion_strength f j f k ≡ 0
-still_in_quarter f four j k j_low k_low same =
-    still_motion f j k same
-    (four.vectors_are j j_low ∙ ap (λ (quarter : ℕ). slice_index_or f.vectors (4 * quarter) zero_vector) same ∙ sym (four.vectors_are k k_low))
-
-still_beside : (f : MbInfo) → IsOfFourVectors f → (v : Bool) (n : ℕ) → n < 4 → ((k : ℕ) → k < 4 → edge_block v ((n + 3) % 4) k / 4 ≡ edge_block v n k / 4) → IsStillAt f v n
-still_beside f four v n low same = record {
-  p_inter = four.inter;
-  q_inter = four.inter;
-  low = omega arith;
-  each = λ k k_low. still_in_quarter f four _ _ (low_block v ((n + 3) % 4) k (omega arith) k_low) (low_block v n k low k_low) (same k k_low);
-}
-
-pub still_first : (f : MbInfo) → IsOfFourVectors f → (v : Bool) → IsStillAt f v 1
-still_first f four v = still_beside f four v 1 (omega arith) (quarter_first v)
-
-pub still_last : (f : MbInfo) → IsOfFourVectors f → (v : Bool) → IsStillAt f v 3
-still_last f four v = still_beside f four v 3 (omega arith) (quarter_last v)
-
--- what is told of the motion inside, at each edge
-pub told_at : (f : MbInfo) (m : InnerMotion) (v : Bool) (n : ℕ) → IsToldOf f m → 1 ≤ n → n < 4 → (if n == 2 then m.is_still_in_middle else m.is_still_beside) ≡ true → IsStillAt f v n
-told_at f m v zero told some low still = absurd (omega arith)
-told_at f m v (suc zero) told some low still = told.first still v
-told_at f m v (suc (suc zero)) told some low still = told.middle still v
-told_at f m v (suc (suc (suc zero))) told some low still = told.last still v
-told_at f m v (suc (suc (suc (suc n)))) told some low still = absurd (omega arith)
-
-pub without_levels : (p q : MbInfo) (j k : ℕ) → has_bit p.coefficients j ≡ false → has_bit q.coefficients k ≡ false → inter_strength p j q k ≡ motion_strength p j q k
-without_levels p q j k e f = rw (e, f) refl
-
-pub fours : (s k : ℕ) → k < 4 → slice_index (s ∷ s ∷ s ∷ s ∷ []) k ≡ s
-fours s zero low = refl
-fours s (suc zero) low = refl
-fours s (suc (suc zero)) low = refl
-fours s (suc (suc (suc zero))) low = refl
-fours s (suc (suc (suc (suc k)))) low = absurd (omega (arith, low))
-
--- ---- a macroblock of one motion without coefficients has no edge inside it that is filtered
-
-module _ (column row : ℕ) (offset : ℤ) (f : MbInfo) (inter : f.is_intra ≡ false) (none : (j k : ℕ) → j < 16 → k < 16 → inter_strength f j f k ≡ 0) (v : Bool) where
-  still_edge : (n : ℕ) → suc n < 4 → (s : Planes) → edge_by_info v column row (suc n) offset f f s ≡ s
-  still_edge n low s =
-      edge_zero v column row (suc n) (strength_of f f v (suc n)) (luma_qp_of f f) (chroma_qp_of offset f f) s
-      (λ k k_low. rw (inter) (none (edge_block v ((suc n + 3) % 4) k) (edge_block v (suc n) k) (low_block v ((suc n + 3) % 4) k (omega arith) k_low) (low_block v (suc n) k low k_low)))
+module _ (column row : ℕ) (offset : ℤ) (f : MbInfo) (v : Bool) (none : (n k : ℕ) → 1 ≤ n → n < 4 → k < 4 → strength_of f f v n k ≡ 0) where
+  still_edge : (n : ℕ) → 1 ≤ n → n < 4 → (s : Planes) → edge_by_info v column row n offset f f s ≡ s
+  still_edge n some low s =
+      edge_zero v column row n (strength_of f f v n) (luma_qp_of f f) (chroma_qp_of offset f f) s (λ k k_low. none n k some low k_low)
 
   still_edges : (inner : Bool) (s : Planes) → edges_by_info v column row offset false inner f f s ≡ s
   still_edges false s = refl
   still_edges true s =
-      ap (λ t. edge_by_info v column row 3 offset f f (edge_by_info v column row 2 offset f f t)) (still_edge 0 (omega arith) s)
-      ∙ ap (edge_by_info v column row 3 offset f f) (still_edge 1 (omega arith) s) ∙ still_edge 2 (omega arith) s
+      ap (λ t. edge_by_info v column row 3 offset f f (edge_by_info v column row 2 offset f f t)) (still_edge 1 (omega arith) (omega arith) s)
+      ∙ ap (edge_by_info v column row 3 offset f f) (still_edge 2 (omega arith) (omega arith) s) ∙ still_edge 3 (omega arith) (omega arith) s
 
--- Edges inside a macroblock that is still can go.
-pub without_still : (column row : ℕ) (offset : ℤ) (f : MbInfo) (still : Bool) → (still ≡ true → f.is_intra ≡ false) →
-    (still ≡ true → (j k : ℕ) → j < 16 → k < 16 → inter_strength f j f k ≡ 0) → (v inner : Bool) (s : Planes) →
+-- Edges inside such a macroblock can go.
+pub without_still : (column row : ℕ) (offset : ℤ) (f : MbInfo) (still : Bool) →
+    (still ≡ true → (v : Bool) (n k : ℕ) → 1 ≤ n → n < 4 → k < 4 → strength_of f f v n k ≡ 0) → (v inner : Bool) (s : Planes) →
     edges_by_info v column row offset false (inner && not still) f f s ≡ edges_by_info v column row offset false inner f f s
-without_still column row offset f still inter none v inner s = grind (arith, nat_tests, still_edges)
+without_still column row offset f false none v inner s = grind (arith, nat_tests)
+without_still column row offset f true none v inner s = grind (arith, nat_tests, still_edges column row offset f v (none refl v))
 
 -- ---- a macroblock
 
@@ -641,7 +564,7 @@ outer_kept : (v : Bool) (column row : ℕ) (e : ℤ) (p q : MbInfo) (acts joins 
 outer_kept v column row e p q acts joins on off s = grind (arith, nat_tests, edge_zero)
 
 module _ (column row : ℕ) (e : ℤ) (left above mb : MbInfo) (still i l u : Bool)
-    (inter : still ≡ true → mb.is_intra ≡ false) (none : still ≡ true → (j k : ℕ) → j < 16 → k < 16 → inter_strength mb j mb k ≡ 0)
+    (none : still ≡ true → (v : Bool) (n k : ℕ) → 1 ≤ n → n < 4 → k < 4 → strength_of mb mb v n k ≡ 0)
     (inner_is : i ≡ (filters_between mb mb && not still)) (left_on : l ≡ true → (nat_lt 0 column && filters_between mb left) ≡ true)
     (left_off : l ≡ false → (nat_lt 0 column && filters_between mb left) ≡ true → (k : ℕ) → k < 4 → strength_of left mb true 0 k ≡ 0)
     (top_on : u ≡ true → (nat_lt 0 row && filters_between mb above) ≡ true)
@@ -651,8 +574,8 @@ module _ (column row : ℕ) (e : ℤ) (left above mb : MbInfo) (still i l u : Bo
   mb_kept =
       rw (
         inner_is,
-        without_still column row e mb still inter none false,
-        without_still column row e mb still inter none true,
+        without_still column row e mb still none false,
+        without_still column row e mb still none true,
         outer_kept false column row e above mb u (nat_lt 0 row && filters_between mb above) top_on top_off,
         outer_kept true column row e left mb l (nat_lt 0 column && filters_between mb left) left_on left_off s,
         over false,

@@ -32,13 +32,12 @@ pub use Rattle.avc_deblock.specs.Edges.{LineFilter, in_component, step_filtered,
 pub use Rattle.avc_deblock.specs.Edges.{edges_below, vertical_lines, horizontal_lines, component_lines, mb_at, mb_lines, picture_named, moves_differently}
 unfoldable pub use Rattle.avc_deblock.specs.Edges.{row_lines}
 pub use Rattle.avc_deblock.specs.FilterInfo.{edge_block, p_address, IsAt, Names, HasInfo, HaveInfo, filters_at, filters_between, are_far, inter_strength}
-pub use Rattle.avc_deblock.specs.FilterInfo.{has_bit, HasMotion, HaveOneMotion, IsOfOneMotion, IsOfFourVectors, HasByMotion, IsStillAt, IsToldOf, motion_strength}
+pub use Rattle.avc_deblock.specs.FilterInfo.{has_bit, HasMotion, HaveOneMotion, motion_strength}
 pub use Rattle.avc_edges.specs.Line.{Setting, setting_of}
 pub use Rattle.avc_deblock.specs.Locality.{AgreesAbove, ChangesWithin, AgreesToRow, ChangesInRow, HasRow}
 pub use Rattle.avc_edges.specs.OneEdge.{strength_along, lines_filtered, chroma_setting, luma_setting}
 pub use Rattle.avc_deblock.specs.OneEdge.{component_edge, planes_edge, lines_of_edge, HasRoom, planes_edges, planes_mb, chroma_of_edge, luma_of_edge}
 unfoldable pub use Rattle.avc_edges.specs.OneEdge.{edge_filtered}
-pub use Rattle.avc_deblock.specs.declared.inner_motion.InnerMotion.{InnerMotion}
 pub use Rattle.avc_deblock.specs.declared.mb_info.MbInfo.{MbInfo}
 pub use Rattle.avc_edges.specs.declared.strengths.Strengths.TheVariants.{BelowFour}
 pub use Rattle.avc_edges.specs.declared.thresholds.EdgeQp.{EdgeQp}

@@ -1,4 +1,4 @@
-use Rattle.avc_deblock.proofs.FilteredPictures.{◌≡◌, ◌∙◌, ℕ, suc, ◌+◌, ◌-◌, ℤ, w8, to_z, of_z, to_z-of_z, length, arith, refl, ap, slice_index_or, get_or_default}
+use Rattle.avc_deblock.proofs.FilteredPictures.{◌≡◌, ◌∙◌, ℕ, suc, ◌+◌, ℤ, w8, to_z, of_z, to_z-of_z, length, arith, refl, ap, slice_index_or, get_or_default}
 use Rattle.avc_deblock.proofs.FilteredPictures.{planes_of, Planes, MbInfo, mb_by_info, row_by_info, no_info}
 use Rattle.avc_deblock.proofs.filter.row.Goals as goal
 
@@ -16,15 +16,15 @@ pub loop-column-preserved : goal.loop-column-preserved
 loop-column-preserved g c = record {
   room = λ column row h. c.macroblock.ensures.room column row (c.loop-column.invariant.room column row h);
   kept = c.macroblock.ensures.kept;
+  left = ap (λ b. b.now) c.of-mb.ensures ∙ get_or_default c.args.info.now c.loop-column.column _ no_info (omega arith) ∙ ap (λ (k : ℕ). slice_index_or c.args.info.now k no_info) (omega arith);
   lines =
       let n = c.loop-column.column in
       let above = c.args.above.now in
       let info = c.args.info.now in
-      let back : c.max.result - 1 ≡ n - 1 = omega (arith, c.max.ensures) in
       let next : suc n ≡ n + 1 = omega arith in
       same_mb (to_z w8 (of_z w8 c.args.chroma_qp_index_offset)) (to_z w8 (of_z w8 c.args.chroma_qp_index_offset)) n c.args.row _ _ _ _ _ _ (planes_of c.macroblock.new.planes) _ _ refl
-      (get_or_default info (c.max.result - 1) _ no_info (omega (arith, back)) ∙ ap (λ (k : ℕ). slice_index_or info k no_info) back)
-      (get_or_default above n _ no_info (omega (arith, c.requires.same))) (get_or_default info n _ no_info (omega arith)) c.loop-column.invariant.lines c.macroblock.ensures.lines
+      c.loop-column.invariant.left
+      (get_or_default above n _ no_info (omega (arith, c.requires.same))) (ap (λ b. b.now) c.of-mb.ensures ∙ get_or_default info n _ no_info (omega arith)) c.loop-column.invariant.lines c.macroblock.ensures.lines
       ∙ ap (λ (k : ℕ). row_by_info (to_z w8 (of_z w8 c.args.chroma_qp_index_offset)) c.args.row above info k (planes_of c.args.planes.now)) next;
 }
 

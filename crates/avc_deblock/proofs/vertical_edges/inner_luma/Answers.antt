@@ -13,9 +13,3 @@ returns g c =
     let next : ℕ → Plane → Plane =
     λ (n : ℕ) (s : Plane). edge_filtered (luma_setting (strength_of q q true n) (luma_qp_of q q)) true (16 * c.args.inner.place.column + 4 * n) (16 * c.args.inner.place.row) 16 s in
     c.luma_between-3.ensures.lines ∙ ap (next 3) (c.luma_between-2.ensures.lines ∙ ap (next 2) c.luma_between.ensures.lines)
-
-pub inner_strengths-second-requires : goal.inner_strengths-second-requires
-inner_strengths-second-requires g c t = c.args.inner.told.first t true
-
-pub inner_strengths-last-requires : goal.inner_strengths-last-requires
-inner_strengths-last-requires g c t = c.args.inner.told.last t true

@@ -15,6 +15,3 @@ pub returns-clause-room : goal.returns-clause-room
 returns-clause-room g c =
     let new : Planes = record { luma = c.inner_luma.new.luma; cb = c.chroma_edges.new.cb; cr = c.chroma_edges.new.cr } in
     edges_room c.args.inner.place.column c.args.inner.place.row c.args.inner.place.chroma_qp_index_offset c.args.p.now c.args.inner.q.now (planes_of c.args.planes.now) new (returns-clause-lines g c)
-
-pub inner_strengths-strengths-requires : goal.inner_strengths-strengths-requires
-inner_strengths-strengths-requires g c t = c.args.inner.told.middle t true
